@@ -1,0 +1,49 @@
+-- A block of sixteen bytes and the two numbers that hold it know each other.
+use mathlib.Core.Path.{_≡_, sym, ap, ap₂, _∙_}
+use mathlib.Core.List.{List, [], _++_, append-nil}
+use Prim.Native.Nat.{ℕ, _+_, _-_, _^_, _<_}
+use native.Mathlib.Omega.{arith}
+use lib.ListN.{length, take, drop, drop-of-length-le, length-append, length-drop}
+use lib.Seq.{take-at, drop-at}
+use Rattle.words.specs.Words.{xor}
+use Rattle.words.specs.Bytes.{AllBytes, bytes}
+use Rattle.words.specs.Xors.{xors}
+use Rattle.words.specs.declared.block.Block.{Block}
+use Rattle.words.specs.Blocks.{wide}
+use Rattle.words.proofs.Lists.{all-append}
+use Rattle.words.proofs.Bytes.{length-bytes, all-bytes, bytes-inj}
+use Rattle.words.proofs.Xors.{bytes-xor, xors-append}
+
+pub length-wide : (a b : ℕ) → length (bytes 8 a ++ bytes 8 b) ≡ 16
+length-wide a b = length-append (bytes 8 a) (bytes 8 b) ∙ omega (arith, length-bytes 8 a, length-bytes 8 b)
+
+pub all-wide : (a b : ℕ) → AllBytes (bytes 8 a ++ bytes 8 b)
+all-wide a b = all-append (bytes 8 a) (bytes 8 b) (all-bytes 8 a) (all-bytes 8 b)
+
+pub wide-xor : (a b c d : ℕ) → bytes 8 (xor a c) ++ bytes 8 (xor b d) ≡ xors (bytes 8 a ++ bytes 8 b) (bytes 8 c ++ bytes 8 d)
+wide-xor a b c d =
+    ap₂ (λ (x y : List ℕ). x ++ y) (bytes-xor 8 a c) (bytes-xor 8 b d)
+    ∙ sym (xors-append (bytes 8 a) (bytes 8 b) (bytes 8 c) (bytes 8 d) (length-bytes 8 a ∙ sym (length-bytes 8 c)))
+
+pub first-eight : (a b : ℕ) → take 8 (bytes 8 a ++ bytes 8 b) ≡ bytes 8 a
+first-eight a b = take-at (bytes 8 a) (bytes 8 b) 8 (length-bytes 8 a)
+
+pub last-eight : (a b : ℕ) → drop 8 (bytes 8 a ++ bytes 8 b) ≡ bytes 8 b
+last-eight a b = drop-at (bytes 8 a) (bytes 8 b) 8 (length-bytes 8 a)
+
+-- the two halves of a list of sixteen, each overwritten
+pub two-puts : (out p q : List ℕ) → length out ≡ 16 → length p ≡ 8 → length q ≡ 8
+    → take 8 (p ++ drop 8 out) ++ (q ++ drop 8 (drop 8 (p ++ drop 8 out))) ≡ p ++ q
+two-puts out p q lo lp lq =
+    let r : List ℕ = p ++ drop 8 out in
+    let lr : length r ≡ 16 = length-append p (drop 8 out) ∙ omega (arith, length-drop 8 out) in
+    let e : drop 8 (drop 8 r) ≡ [] = drop-of-length-le (drop 8 r) {i = 8} (omega (arith, length-drop 8 r)) in
+    ap₂ (λ (x y : List ℕ). x ++ (q ++ y)) (take-at p (drop 8 out) 8 lp) e
+    ∙ ap (λ (x : List ℕ). p ++ x) (append-nil q)
+
+-- a block is known by its bytes: a contract that fixes them fixes it
+pub wide-told : (x y : Block) → x .a < 2 ^ 64 → x .b < 2 ^ 64 → y .a < 2 ^ 64 → y .b < 2 ^ 64 → wide x ≡ wide y → x ≡ y
+wide-told x y xa xb ya yb e =
+    let p : x .a ≡ y .a = bytes-inj 8 xa ya (sym (first-eight (x .a) (x .b)) ∙ ap (take 8) e ∙ first-eight (y .a) (y .b)) in
+    let q : x .b ≡ y .b = bytes-inj 8 xb yb (sym (last-eight (x .a) (x .b)) ∙ ap (drop 8) e ∙ last-eight (y .a) (y .b)) in
+    ap₂ (λ (c d : ℕ). record { a = c; b = d }) p q

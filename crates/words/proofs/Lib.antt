@@ -1,0 +1,9 @@
+pub mod Xor
+pub mod Rotate
+pub mod Add
+pub mod Lists
+pub mod Bytes
+pub mod Xors
+pub mod Fill
+pub mod Table
+pub mod Blocks

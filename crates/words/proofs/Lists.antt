@@ -1,0 +1,94 @@
+-- Lists of bytes: what keeps every element a byte, and lists written out element by element.
+use mathlib.Core.Path.{_≡_, refl, sym, ap, ap₂, _∙_}
+use mathlib.Core.List.{List, [], _∷_, _++_, append-nil}
+use Prim.Native.Nat.{ℕ, zero, suc, _+_, _-_, _≤_, _<_}
+use native.Mathlib.Numerals.{add-one}
+use native.Mathlib.Omega.{arith}
+use lib.ListN.{length, getD, set, take, drop, replicate, drop-of-length-le, take-append-drop, length-drop}
+use lib.Seq.{drop-cons, take-all, sets, sets-eq}
+use Rattle.words.specs.Bytes.{AllBytes, part, Each}
+
+pub nil-of : (l : List ℕ) → length l ≡ 0 → l ≡ []
+nil-of [] e = refl
+nil-of (x ∷ l) e = absurd (native.Mathlib.Nat.suc-ne-zero (length l) e)
+
+-- ---- every element is a byte
+
+pub all-nil : AllBytes []
+all-nil i = omega arith
+
+pub all-tail : (a : ℕ) (s : List ℕ) → AllBytes (a ∷ s) → AllBytes s
+all-tail a s h i = h (suc i)
+
+pub all-cons : (a : ℕ) (s : List ℕ) → a < 256 → AllBytes s → AllBytes (a ∷ s)
+all-cons a s h k zero = h
+all-cons a s h k (suc i) = k i
+
+pub all-take : (n : ℕ) (s : List ℕ) → AllBytes s → AllBytes (take n s)
+all-take zero s h i = omega arith
+all-take (suc n) [] h i = omega arith
+all-take (suc n) (a ∷ s) h zero = h zero
+all-take (suc n) (a ∷ s) h (suc i) = all-take n s (all-tail a s h) i
+
+pub all-drop : (n : ℕ) (s : List ℕ) → AllBytes s → AllBytes (drop n s)
+all-drop zero s h i = h i
+all-drop (suc n) [] h i = omega arith
+all-drop (suc n) (a ∷ s) h i = all-drop n s (all-tail a s h) i
+
+pub all-append : (s t : List ℕ) → AllBytes s → AllBytes t → AllBytes (s ++ t)
+all-append [] t hs ht i = ht i
+all-append (a ∷ s) t hs ht zero = hs zero
+all-append (a ∷ s) t hs ht (suc i) = all-append s t (all-tail a s hs) ht i
+
+pub all-replicate : (n a : ℕ) → a < 256 → AllBytes (replicate n a)
+all-replicate zero a h i = omega arith
+all-replicate (suc n) a h zero = h
+all-replicate (suc n) a h (suc i) = all-replicate n a h i
+
+pub all-set : (l : List ℕ) (i v : ℕ) → AllBytes l → v < 256 → AllBytes (set l i v)
+all-set [] i v h k j = h j
+all-set (a ∷ l) zero v h k zero = k
+all-set (a ∷ l) zero v h k (suc j) = h (suc j)
+all-set (a ∷ l) (suc i) v h k zero = h zero
+all-set (a ∷ l) (suc i) v h k (suc j) = all-set l i v (all-tail a l h) k j
+
+-- ---- lists written out
+
+pub length-part : (n : ℕ) (l : List ℕ) (i : ℕ) → length (part n l i) ≡ n
+length-part zero l i = refl
+length-part (suc n) l i = ap suc (length-part n l (i + 1))
+
+pub all-part : (n : ℕ) (l : List ℕ) (i : ℕ) → AllBytes l → AllBytes (part n l i)
+all-part zero l i h j = omega arith
+all-part (suc n) l i h zero = h i
+all-part (suc n) l i h (suc j) = all-part n l (i + 1) h j
+
+pub part-take : (n : ℕ) (l : List ℕ) (i : ℕ) → i + n ≤ length l → part n l i ≡ take n (drop i l)
+part-take zero l i h = refl
+part-take (suc n) l i h =
+    let k : i < length l = omega arith in
+    ap (λ (t : List ℕ). getD l i 0 ∷ t) (part-take n l (i + 1) (omega arith) ∙ ap (λ (j : ℕ). take n (drop j l)) (add-one i))
+    ∙ sym (ap (take (suc n)) (drop-cons l i 0 k))
+
+-- a list of n elements, written out
+pub part-whole : (n : ℕ) (l : List ℕ) → length l ≡ n → part n l 0 ≡ l
+part-whole n l e = part-take n l 0 (omega arith) ∙ take-all n l (omega arith)
+
+pub each-eq : (l m : List ℕ) → Each l m → l ≡ m
+each-eq [] [] e = refl
+each-eq [] (y ∷ m) e = absurd e
+each-eq (x ∷ l) [] e = absurd e
+each-eq (x ∷ l) (y ∷ m) e = ap₂ (λ (a : ℕ) (t : List ℕ). a ∷ t) (e .0) (each-eq l m (e .1))
+
+-- stores over a whole list
+pub overwrite : (vs d : List ℕ) → length d ≡ length vs → sets d 0 vs ≡ vs
+overwrite vs d e =
+    sets-eq vs d 0 (omega arith)
+    ∙ ap (λ (t : List ℕ). vs ++ t) (drop-of-length-le d {i = 0 + length vs} (omega arith))
+    ∙ append-nil vs
+
+-- the two halves of a list of 2 n elements
+pub two-takes : (n : ℕ) (b : List ℕ) → length b ≡ n + n → take n b ++ take n (drop n b) ≡ b
+two-takes n b e =
+    ap (λ (x : List ℕ). take n b ++ x) (take-all n (drop n b) (omega (arith, length-drop n b)))
+    ∙ take-append-drop n b

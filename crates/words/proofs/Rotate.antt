@@ -1,0 +1,51 @@
+-- A rotation swaps the low bits with the high ones, so it stays in its width and another rotation undoes it.
+use mathlib.Core.Path.{_≡_, sym, ap, ap₂, _∙_, subst}
+use Prim.Native.Nat.{ℕ, _+_, _-_, _*_, _/_, _%_, _^_, _≤_, _<_}
+use native.Mathlib.Nat.{mod-lt, sub-add-cancel, add-sub-cancel, mul-mod-left, add-zero, add-comm}
+use native.Mathlib.Omega.{arith}
+use lib.Arith.{digits-lt}
+use lib.Pow.{pow-pos, pow-add, split, high, low, mod-pow-add, shl-shr, shr-lt}
+use Rattle.words.specs.Words.{rotl, rotr}
+
+-- the j low bits change place with the k bits above them
+turn : ℕ → ℕ → ℕ → ℕ
+turn j k x = (x % 2 ^ j) * 2 ^ k + x / 2 ^ j
+
+turn-lt : (j k : ℕ) {x : ℕ} → x < 2 ^ (j + k) → turn j k x < 2 ^ (j + k)
+unfolding turn
+turn-lt j k {x} h =
+    subst (λ (n : ℕ). (x % 2 ^ j) * 2 ^ k + x / 2 ^ j < n) (sym (pow-add 2 j k))
+    (digits-lt (mod-lt x (pow-pos j)) (shr-lt k j (subst (λ (n : ℕ). x < 2 ^ n) (add-comm j k) h)))
+
+turn-turn : (j k : ℕ) {x : ℕ} → x < 2 ^ (j + k) → turn k j (turn j k x) ≡ x
+unfolding turn
+turn-turn j k {x} h =
+    let hi : x / 2 ^ j < 2 ^ k = shr-lt k j (subst (λ (n : ℕ). x < 2 ^ n) (add-comm j k) h) in
+    ap₂ (λ (a b : ℕ). a * 2 ^ j + b) (low (x % 2 ^ j) k hi) (high (x % 2 ^ j) k hi) ∙ split x j
+
+rotl-turn : (j k x : ℕ) → rotl (j + k) k x ≡ turn j k x
+unfolding turn
+rotl-turn j k x =
+    ap₂ (λ (a b : ℕ). a + x / 2 ^ b)
+    (mod-pow-add (x * 2 ^ k) j k
+    ∙ ap₂ (λ (a b : ℕ). (a % 2 ^ j) * 2 ^ k + b) (shl-shr x k) (mul-mod-left x (2 ^ k))
+    ∙ add-zero ((x % 2 ^ j) * 2 ^ k)) (add-sub-cancel j k)
+
+rotl-is : (w k x : ℕ) → k ≤ w → rotl w k x ≡ turn (w - k) k x
+rotl-is w k x h = ap (λ (n : ℕ). (x * 2 ^ k) % 2 ^ n + x / 2 ^ (n - k)) (sym (sub-add-cancel h)) ∙ rotl-turn (w - k) k x
+
+pub rotl-lt : (w k : ℕ) {x : ℕ} → k ≤ w → x < 2 ^ w → rotl w k x < 2 ^ w
+rotl-lt w k {x} h hx =
+    subst (λ (n : ℕ). n < 2 ^ w) (sym (rotl-is w k x h))
+    (subst (λ (n : ℕ). turn (w - k) k x < 2 ^ n) (sub-add-cancel h)
+    (turn-lt (w - k) k (subst (λ (n : ℕ). x < 2 ^ n) (sym (sub-add-cancel h)) hx)))
+
+-- rotating right by k undoes rotating left by k
+pub rotr-rotl : (w k : ℕ) {x : ℕ} → k ≤ w → x < 2 ^ w → rotr w k (rotl w k x) ≡ x
+rotr-rotl w k {x} h hx =
+    rotl-is w (w - k) (rotl w k x) (omega arith)
+    ∙ ap₂ (λ (j y : ℕ). turn j (w - k) y) (omega arith) (rotl-is w k x h)
+    ∙ turn-turn (w - k) k (subst (λ (n : ℕ). x < 2 ^ n) (sym (sub-add-cancel h)) hx)
+
+pub rotl-inj : (w k : ℕ) {x y : ℕ} → k ≤ w → x < 2 ^ w → y < 2 ^ w → rotl w k x ≡ rotl w k y → x ≡ y
+rotl-inj w k {x} {y} h hx hy e = sym (rotr-rotl w k h hx) ∙ ap (rotr w k) e ∙ rotr-rotl w k h hy

@@ -1,0 +1,80 @@
+-- The exclusive or of two strings of bytes: the laws of one byte, at every place.
+use mathlib.Core.Path.{_≡_, refl, sym, ap, ap₂, _∙_}
+use mathlib.Core.List.{List, [], _∷_, _++_}
+use Prim.Native.Nat.{ℕ, zero, suc, _/_, _%_, _≤_, _<_}
+use native.Mathlib.Nat.{le-of-suc-le-suc, not-suc-le-zero, suc-inj, suc-ne-zero}
+use lib.ListN.{length, getD, take}
+use Rattle.words.specs.Words.{xor}
+use Rattle.words.specs.Bytes.{AllBytes, bytes}
+use Rattle.words.specs.Xors.{xors}
+use Rattle.words.proofs.Xor.{assoc, comm, twice, below, low, high}
+use Rattle.words.proofs.Lists.{all-tail}
+
+pub length-xors : (s t : List ℕ) → length s ≤ length t → length (xors s t) ≡ length s
+length-xors [] t h = refl
+length-xors (a ∷ s) [] h = absurd (not-suc-le-zero h)
+length-xors (a ∷ s) (b ∷ t) h = ap suc (length-xors s t (le-of-suc-le-suc h))
+
+pub all-xors : (s t : List ℕ) → AllBytes s → AllBytes t → AllBytes (xors s t)
+all-xors [] t hs ht i = hs i
+all-xors (a ∷ s) [] hs ht i = ht i
+all-xors (a ∷ s) (b ∷ t) hs ht zero = below 8 (hs zero) (ht zero)
+all-xors (a ∷ s) (b ∷ t) hs ht (suc i) = all-xors s t (all-tail a s hs) (all-tail b t ht) i
+
+pub xors-assoc : (s t u : List ℕ) → xors (xors s t) u ≡ xors s (xors t u)
+xors-assoc [] t u = refl
+xors-assoc (a ∷ s) [] u = refl
+xors-assoc (a ∷ s) (b ∷ t) [] = refl
+xors-assoc (a ∷ s) (b ∷ t) (c ∷ u) = ap₂ (λ (x : ℕ) (r : List ℕ). x ∷ r) (assoc a b c) (xors-assoc s t u)
+
+pub xors-comm : (s t : List ℕ) → xors s t ≡ xors t s
+xors-comm [] [] = refl
+xors-comm [] (b ∷ t) = refl
+xors-comm (a ∷ s) [] = refl
+xors-comm (a ∷ s) (b ∷ t) = ap₂ (λ (x : ℕ) (r : List ℕ). x ∷ r) (comm a b) (xors-comm s t)
+
+-- put on and taken off again
+pub xors-cancel : (s t : List ℕ) → length s ≤ length t → xors (xors s t) t ≡ s
+xors-cancel [] t h = refl
+xors-cancel (a ∷ s) [] h = absurd (not-suc-le-zero h)
+xors-cancel (a ∷ s) (b ∷ t) h =
+    ap₂ (λ (x : ℕ) (r : List ℕ). x ∷ r) (comm (xor a b) b ∙ ap (xor b) (comm a b) ∙ twice b a) (xors-cancel s t (le-of-suc-le-suc h))
+
+-- so equal sums with one string come from equal strings
+pub xors-inj : (x p q : List ℕ) → length p ≤ length x → length q ≤ length x → xors x p ≡ xors x q → p ≡ q
+xors-inj x p q hp hq e =
+    sym (xors-cancel p x hp) ∙ ap (λ (l : List ℕ). xors l x) (xors-comm p x ∙ e ∙ xors-comm x q) ∙ xors-cancel q x hq
+
+-- the XOR of the first n bytes is the first n of the XOR
+pub take-xors : (n : ℕ) (s t : List ℕ) → take n (xors s t) ≡ xors (take n s) (take n t)
+take-xors zero s t = refl
+take-xors (suc n) [] t = refl
+take-xors (suc n) (a ∷ s) [] = refl
+take-xors (suc n) (a ∷ s) (b ∷ t) = ap (λ (r : List ℕ). xor a b ∷ r) (take-xors n s t)
+
+-- what is past the end of the first does not count
+pub xors-take : (s t : List ℕ) (n : ℕ) → length s ≤ n → xors s (take n t) ≡ xors s t
+xors-take [] t n h = refl
+xors-take (a ∷ s) t zero h = absurd (not-suc-le-zero h)
+xors-take (a ∷ s) [] (suc n) h = refl
+xors-take (a ∷ s) (b ∷ t) (suc n) h = ap (λ (r : List ℕ). xor a b ∷ r) (xors-take s t n (le-of-suc-le-suc h))
+
+pub getD-xors : (s t : List ℕ) (i : ℕ) → i < length s → i < length t → getD (xors s t) i 0 ≡ xor (getD s i 0) (getD t i 0)
+getD-xors [] t i h k = absurd (not-suc-le-zero h)
+getD-xors (a ∷ s) [] i h k = absurd (not-suc-le-zero k)
+getD-xors (a ∷ s) (b ∷ t) zero h k = refl
+getD-xors (a ∷ s) (b ∷ t) (suc i) h k = getD-xors s t i (le-of-suc-le-suc h) (le-of-suc-le-suc k)
+
+pub xors-append : (s t u v : List ℕ) → length s ≡ length u → xors (s ++ t) (u ++ v) ≡ xors s u ++ xors t v
+xors-append [] t [] v e = refl
+xors-append [] t (b ∷ u) v e = absurd (suc-ne-zero (length u) (sym e))
+xors-append (a ∷ s) t [] v e = absurd (suc-ne-zero (length s) e)
+xors-append (a ∷ s) t (b ∷ u) v e = ap (λ (r : List ℕ). xor a b ∷ r) (xors-append s t u v (suc-inj e))
+
+-- the XOR of two numbers goes byte by byte
+pub bytes-xor : (k x y : ℕ) → bytes k (xor x y) ≡ xors (bytes k x) (bytes k y)
+unfolding bytes
+bytes-xor zero x y = refl
+bytes-xor (suc k) x y =
+    ap₂ (λ (b r : ℕ). b ∷ bytes k r) (low x y 8) (high x y 8)
+    ∙ ap (λ (t : List ℕ). xor (x % 256) (y % 256) ∷ t) (bytes-xor k (x / 256) (y / 256))

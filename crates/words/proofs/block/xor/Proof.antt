@@ -1,0 +1,15 @@
+use Prim.Native.Nat.{_-_}
+use Rattle.words.specs.Words.{xor}
+use Rattle.words.proofs.Blocks.{wide-xor}
+use Rattle.words.proofs.block.xor.Statement.{statement}
+use Rattle.words.proofs.block.xor.Tie as tie
+
+returns : tie.Need-returns
+unfolding xor
+returns c =
+    let x = c .before .before .before .before .args .x in
+    let y = c .before .before .before .before .args .y in
+    wide-xor (x .a) (x .b) (y .a) (y .b)
+
+pub xor-spec : {M : Type 1} → statement M
+xor-spec = tie.close (tie.spec returns)

@@ -1,0 +1,35 @@
+-- Bytes and the words they make: byte 0 is the least significant, and word 0 stands first (document 01, "Bytes, words and the two states").
+use mathlib.Core.List.{List, [], _∷_}
+use mathlib.Core.Path.{_≡_}
+use Prim.Native.Nat.{ℕ, zero, suc, _+_, _*_, _/_, _%_, _<_}
+use lib.ListN.{getD}
+
+-- every element is a byte: past the end `getD` gives 0
+abbrev pub AllBytes : List ℕ → Type 0
+AllBytes l = (i : ℕ) → getD l i 0 < 256
+
+-- the number whose bytes these are
+unfoldable pub value : List ℕ → ℕ
+value [] = 0
+value (b ∷ bs) = b + 256 * value bs
+
+-- the n low bytes of a number
+unfoldable pub bytes : ℕ → ℕ → List ℕ
+bytes zero x = []
+bytes (suc n) x = x % 256 ∷ bytes n (x / 256)
+
+-- the n elements of a list from place i on
+abbrev pub part : ℕ → List ℕ → ℕ → List ℕ
+part zero l i = []
+part (suc n) l i = getD l i 0 ∷ part n l (i + 1)
+
+-- the word of n bytes at place i of a list of bytes
+abbrev pub word : ℕ → List ℕ → ℕ → ℕ
+word n l i = value (part n l i)
+
+-- two lists are equal element by element: as a contract this is a row of equations
+abbrev pub Each : List ℕ → List ℕ → Type 0
+Each [] [] = Unit
+Each [] (y ∷ ys) = ⊥
+Each (x ∷ xs) [] = ⊥
+Each (x ∷ xs) (y ∷ ys) = (x ≡ y) × Each xs ys

@@ -1,0 +1,4 @@
+pub mod Words
+pub mod Bytes
+pub mod Xors
+pub mod Blocks

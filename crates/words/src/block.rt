@@ -1,0 +1,212 @@
+// Blocks of sixteen bytes as two words of 64 bits.
+ghost use mathlib.Core.Path.{_≡_};
+ghost use mathlib.Core.List.{[], _∷_, _++_};
+ghost use Prim.Native.Nat.{_-_, _≤_};
+ghost use lib.ListN.{length, take, replicate};
+ghost use Rattle.words.specs.Bytes.{value, bytes};
+ghost use Rattle.words.specs.Xors.{xors};
+ghost use Rattle.words.specs.Blocks.{wide};
+
+// Bytes 0 to 7 and 8 to 15, the least first.
+pub struct Block {
+    pub a: u64,
+    pub b: u64,
+}
+
+// The XOR of two blocks.
+pub fn xor(x: Block, y: Block) -> Block
+    ensures { λ r. ⌜ wide r ≡ xors (wide x) (wide y) ⌝ }
+{
+    Block {
+        a: x.a ^ y.a,
+        b: x.b ^ y.b,
+    }
+}
+
+// Eight bytes as a number.
+fn le64(a: u8, b: u8, c: u8, d: u8, e: u8, f: u8, g: u8, h: u8) -> u64
+    ensures { λ r. ⌜ r ≡ value (a ∷ b ∷ c ∷ d ∷ e ∷ f ∷ g ∷ h ∷ []) ⌝ }
+{
+    a as u64
+        + ((b as u64) << 8)
+        + ((c as u64) << 16)
+        + ((d as u64) << 24)
+        + ((e as u64) << 32)
+        + ((f as u64) << 40)
+        + ((g as u64) << 48)
+        + ((h as u64) << 56)
+}
+
+// The number in eight bytes.
+fn load8(b: &[u8]) -> u64
+    requires { ⌜ length (now b) ≡ 8 ⌝ }
+    ensures { λ r. ⌜ bytes 8 r ≡ now (b .entry) ⌝ }
+{
+    le64(b[0], b[1], b[2], b[3], b[4], b[5], b[6], b[7])
+}
+
+// The number, into eight bytes.
+fn put8(x: u64, out: &mut [u8])
+    requires { ⌜ length (now out) ≡ 8 ⌝ }
+    ensures { λ _. ⌜ now (out .exit) ≡ bytes 8 x ⌝ }
+{
+    let x1 = x >> 8;
+    let x2 = x1 >> 8;
+    let x3 = x2 >> 8;
+    let x4 = x3 >> 8;
+    let x5 = x4 >> 8;
+    let x6 = x5 >> 8;
+    let x7 = x6 >> 8;
+    out[0] = (x % 256) as u8;
+    out[1] = (x1 % 256) as u8;
+    out[2] = (x2 % 256) as u8;
+    out[3] = (x3 % 256) as u8;
+    out[4] = (x4 % 256) as u8;
+    out[5] = (x5 % 256) as u8;
+    out[6] = (x6 % 256) as u8;
+    out[7] = (x7 % 256) as u8;
+}
+
+// The bytes of a block.
+pub fn bytes_of(x: Block) -> [u8; 16]
+    ensures { λ r. ⌜ r ≡ wide x ⌝ }
+{
+    let a = x.a;
+    let a1 = a >> 8;
+    let a2 = a1 >> 8;
+    let a3 = a2 >> 8;
+    let a4 = a3 >> 8;
+    let a5 = a4 >> 8;
+    let a6 = a5 >> 8;
+    let a7 = a6 >> 8;
+    let b = x.b;
+    let b1 = b >> 8;
+    let b2 = b1 >> 8;
+    let b3 = b2 >> 8;
+    let b4 = b3 >> 8;
+    let b5 = b4 >> 8;
+    let b6 = b5 >> 8;
+    let b7 = b6 >> 8;
+    [
+        (a % 256) as u8,
+        (a1 % 256) as u8,
+        (a2 % 256) as u8,
+        (a3 % 256) as u8,
+        (a4 % 256) as u8,
+        (a5 % 256) as u8,
+        (a6 % 256) as u8,
+        (a7 % 256) as u8,
+        (b % 256) as u8,
+        (b1 % 256) as u8,
+        (b2 % 256) as u8,
+        (b3 % 256) as u8,
+        (b4 % 256) as u8,
+        (b5 % 256) as u8,
+        (b6 % 256) as u8,
+        (b7 % 256) as u8,
+    ]
+}
+
+// The block of these bytes.
+pub fn block_of(s: [u8; 16]) -> Block
+    ensures { λ r. ⌜ wide r ≡ s ⌝ }
+{
+    Block {
+        a: le64(s[0], s[1], s[2], s[3], s[4], s[5], s[6], s[7]),
+        b: le64(s[8], s[9], s[10], s[11], s[12], s[13], s[14], s[15]),
+    }
+}
+
+// The first eight bytes of a block.
+pub fn low_bytes(x: Block) -> [u8; 8]
+    ensures { λ r. ⌜ r ≡ bytes 8 (x .a) ⌝ }
+{
+    let a = x.a;
+    let a1 = a >> 8;
+    let a2 = a1 >> 8;
+    let a3 = a2 >> 8;
+    let a4 = a3 >> 8;
+    let a5 = a4 >> 8;
+    let a6 = a5 >> 8;
+    let a7 = a6 >> 8;
+    [
+        (a % 256) as u8,
+        (a1 % 256) as u8,
+        (a2 % 256) as u8,
+        (a3 % 256) as u8,
+        (a4 % 256) as u8,
+        (a5 % 256) as u8,
+        (a6 % 256) as u8,
+        (a7 % 256) as u8,
+    ]
+}
+
+// The block that starts with these bytes, and has zeros behind them.
+pub fn low_block(s: [u8; 8]) -> Block
+    ensures { λ r. ⌜ wide r ≡ s ++ replicate 8 0 ⌝ }
+{
+    Block {
+        a: le64(s[0], s[1], s[2], s[3], s[4], s[5], s[6], s[7]),
+        b: 0,
+    }
+}
+
+// At most sixteen bytes, and zeros behind them, one by one.
+pub fn filled_bytes(b: &[u8]) -> [u8; 16]
+    requires { ⌜ length (now b) ≤ 16 ⌝ }
+    ensures { λ r. ⌜ r ≡ now (b .entry) ++ replicate (16 - length (now (b .entry))) 0 ⌝ }
+{
+    let mut r = [0u8; 16];
+    let mut i: usize = 0;
+    while i < b.len() {
+        r[i] = b[i];
+        i += 1;
+    }
+    r
+}
+
+// At most sixteen bytes, and zeros behind them.
+pub fn filled(b: &[u8]) -> Block
+    requires { ⌜ length (now b) ≤ 16 ⌝ }
+    ensures { λ r. ⌜ wide r ≡ now (b .entry) ++ replicate (16 - length (now (b .entry))) 0 ⌝ }
+{
+    if b.len() == 16 {
+        let lo = load8(&b[0..8]);
+        let hi = load8(&b[8..16]);
+        return Block { a: lo, b: hi };
+    }
+    if b.len() == 8 {
+        let lo = load8(b);
+        return Block { a: lo, b: 0 };
+    }
+    block_of(filled_bytes(b))
+}
+
+// Writes the first bytes of t, one by one.
+fn put_bytes(t: [u8; 16], out: &mut [u8])
+    requires { ⌜ length (now out) ≤ 16 ⌝ }
+    ensures { λ _. ⌜ now (out .exit) ≡ take (length (now (out .entry))) t ⌝ }
+{
+    let mut i: usize = 0;
+    while i < out.len() {
+        out[i] = t[i];
+        i += 1;
+    }
+}
+
+// Writes the first bytes of x.
+pub fn put(x: Block, out: &mut [u8])
+    requires { ⌜ length (now out) ≤ 16 ⌝ }
+    ensures { λ _. ⌜ now (out .exit) ≡ take (length (now (out .entry))) (wide x) ⌝ }
+{
+    if out.len() == 16 {
+        put8(x.a, &mut out[0..8]);
+        put8(x.b, &mut out[8..16]);
+        return;
+    }
+    if out.len() == 8 {
+        put8(x.a, out);
+        return;
+    }
+    put_bytes(bytes_of(x), out);
+}

@@ -1,0 +1,3 @@
+// Bytes and words: what every crate above reads, turns, adds and writes by.
+pub mod arx;
+pub mod block;
