@@ -77,11 +77,7 @@ struct State<const N: usize, E> {
 impl<E: Fn(&[u8; 16], &[u8; 16]) -> [u8; 16]> State<16, E> {
     fn start(encrypt: E, key: &[u8; 16], nonce: &[u8]) -> Self {
         let z = encrypt(key, nonce.try_into().unwrap());
-        State {
-            y: *key,
-            z,
-            encrypt,
-        }
+        State { y: *key, z, encrypt }
     }
 }
 
@@ -91,11 +87,7 @@ impl<E: Fn(&[u8; 16], &[u8; 8]) -> [u8; 8]> State<8, E> {
         for (byte, n) in z.iter_mut().zip(nonce) {
             *byte ^= n;
         }
-        State {
-            y: encrypt(key, &[0; 8]),
-            z,
-            encrypt,
-        }
+        State { y: encrypt(key, &[0; 8]), z, encrypt }
     }
 }
 
@@ -137,28 +129,16 @@ impl<const N: usize, E: Fn(&[u8; 16], &[u8; N]) -> [u8; N]> State<N, E> {
 }
 
 /// Works on a record whose lengths were checked; gives the tag in the first bytes.
-fn run(
-    suite: u8,
-    kind: Text,
-    key: &[u8],
-    nonce: &[u8],
-    ad: &[u8],
-    text: &[u8],
-    out: &mut [u8],
-) -> [u8; 16] {
+fn run(suite: u8, kind: Text, key: &[u8], nonce: &[u8], ad: &[u8], text: &[u8], out: &mut [u8]) -> [u8; 16] {
     let key: &[u8; 16] = key.try_into().unwrap();
     let mut tag = [0; 16];
     match suite {
         1 => tag = State::<16, _>::start(aes::encrypt, key, nonce).run(kind, ad, text, out),
-        2 => {
-            tag = State::<16, _>::start(cham::cham128::encrypt, key, nonce).run(kind, ad, text, out)
+        2 => tag = State::<16, _>::start(cham::cham128::encrypt, key, nonce).run(kind, ad, text, out),
+        3 => tag[..8].copy_from_slice(&State::<8, _>::start(speck::encrypt, key, nonce).run(kind, ad, text, out)),
+        _ => {
+            tag[..8].copy_from_slice(&State::<8, _>::start(cham::cham64::encrypt, key, nonce).run(kind, ad, text, out))
         }
-        3 => tag[..8].copy_from_slice(
-            &State::<8, _>::start(speck::encrypt, key, nonce).run(kind, ad, text, out),
-        ),
-        _ => tag[..8].copy_from_slice(
-            &State::<8, _>::start(cham::cham64::encrypt, key, nonce).run(kind, ad, text, out),
-        ),
     }
     tag
 }
@@ -184,32 +164,14 @@ fn refusal(suite: u8, l: Lengths) -> u32 {
         (6, l.out != l.text),
         (7, l.tag != block_size(suite)),
     ];
-    table
-        .iter()
-        .find(|(_, applies)| *applies)
-        .map_or(0, |(number, _)| *number)
+    table.iter().find(|(_, applies)| *applies).map_or(0, |(number, _)| *number)
 }
 
 /// Seals a message: the ciphertext into `out`, the tag into `tag`. On a refusal both are unchanged.
-pub fn seal(
-    suite: u8,
-    key: &[u8],
-    nonce: &[u8],
-    ad: &[u8],
-    msg: &[u8],
-    out: &mut [u8],
-    tag: &mut [u8],
-) -> u32 {
+pub fn seal(suite: u8, key: &[u8], nonce: &[u8], ad: &[u8], msg: &[u8], out: &mut [u8], tag: &mut [u8]) -> u32 {
     let number = refusal(
         suite,
-        Lengths {
-            key: key.len(),
-            nonce: nonce.len(),
-            ad: ad.len(),
-            text: msg.len(),
-            out: out.len(),
-            tag: tag.len(),
-        },
+        Lengths { key: key.len(), nonce: nonce.len(), ad: ad.len(), text: msg.len(), out: out.len(), tag: tag.len() },
     );
     if number == 0 {
         let made = run(suite, Text::Message, key, nonce, ad, msg, out);
@@ -219,25 +181,10 @@ pub fn seal(
 }
 
 /// Opens a ciphertext into `out`. On 8 every byte of `out` is 0; on another refusal it is unchanged.
-pub fn open(
-    suite: u8,
-    key: &[u8],
-    nonce: &[u8],
-    ad: &[u8],
-    text: &[u8],
-    tag: &[u8],
-    out: &mut [u8],
-) -> u32 {
+pub fn open(suite: u8, key: &[u8], nonce: &[u8], ad: &[u8], text: &[u8], tag: &[u8], out: &mut [u8]) -> u32 {
     let number = refusal(
         suite,
-        Lengths {
-            key: key.len(),
-            nonce: nonce.len(),
-            ad: ad.len(),
-            text: text.len(),
-            out: out.len(),
-            tag: tag.len(),
-        },
+        Lengths { key: key.len(), nonce: nonce.len(), ad: ad.len(), text: text.len(), out: out.len(), tag: tag.len() },
     );
     if number != 0 {
         return number;
@@ -248,6 +195,13 @@ pub fn open(
         return 8;
     }
     0
+}
+
+/// The tag that fits a ciphertext, whatever the message behind it. Every length is right.
+pub fn fitting_tag(suite: u8, key: &[u8], nonce: &[u8], ad: &[u8], text: &[u8]) -> Vec<u8> {
+    let mut out = vec![0; text.len()];
+    let tag = run(suite, Text::Ciphertext, key, nonce, ad, text, &mut out);
+    tag[..block_size(suite)].to_vec()
 }
 
 /// The suite's cipher on one block.
@@ -276,17 +230,8 @@ mod tests {
             seen.borrow_mut().push(before ^ z[15]);
             [0; N]
         };
-        let state = State {
-            y: [0; N],
-            z: [0; 16],
-            encrypt,
-        };
-        state.run(
-            Text::Message,
-            &vec![0; ad],
-            &vec![0; message],
-            &mut vec![0; message],
-        );
+        let state = State { y: [0; N], z: [0; 16], encrypt };
+        state.run(Text::Message, &vec![0; ad], &vec![0; message], &mut vec![0; message]);
         seen.into_inner()
     }
 

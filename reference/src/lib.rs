@@ -2,9 +2,19 @@
 //!
 //! It is written from the papers and document 01 alone and shares nothing with the proved crates:
 //! what both say is said twice, by two hands.
+//!
+//! `aes`, `cham`, `speck`, `comet` and `shift` are the implementation. The rest makes inputs of it:
+//! `random`, `draft` and `calls` say what a call is, and `data` holds the calls that the test programs
+//! run and compare with.
 
 pub mod aes;
 pub mod cham;
 pub mod comet;
 pub mod shift;
 pub mod speck;
+
+pub mod calls;
+pub mod data;
+pub mod draft;
+pub mod random;
+pub mod show;

@@ -74,11 +74,7 @@ fn check_header(file: &[u8]) -> u32 {
 /// Numbers 25 to 30 of row i, and 0 where none applies. The rows before it have passed.
 fn check_row(file: &[u8], i: usize) -> u32 {
     let this = row(file, i);
-    let start = if i == 0 {
-        HEADER + ROW * count(file)
-    } else {
-        row(file, i - 1).end()
-    };
+    let start = if i == 0 { HEADER + ROW * count(file) } else { row(file, i - 1).end() };
     if i > 0 && this.job <= row(file, i - 1).job {
         25
     } else if !(1..=4).contains(&this.suite) || this.key > 15 {
@@ -109,11 +105,7 @@ pub fn check(file: &[u8]) -> Answer {
             return (number, i as u32);
         }
     }
-    let end = if n == 0 {
-        HEADER
-    } else {
-        row(file, n - 1).end()
-    };
+    let end = if n == 0 { HEADER } else { row(file, n - 1).end() };
     (if end == file.len() { 0 } else { 31 }, 0)
 }
 

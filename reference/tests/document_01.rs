@@ -5,12 +5,7 @@ use reference::shift::{associated, check, lookup, open_job};
 
 #[test]
 fn doubling() {
-    let values = [
-        (0, 0),
-        (1, 2),
-        (1 << 63, 0x1b),
-        (u64::MAX, 0xffff_ffff_ffff_ffe5),
-    ];
+    let values = [(0, 0), (1, 2), (1 << 63, 0x1b), (u64::MAX, 0xffff_ffff_ffff_ffe5)];
     for (x, doubled) in values {
         assert_eq!(double(x), doubled);
     }
@@ -24,10 +19,7 @@ fn block<const N: usize>(words: [u32; 4]) -> [u8; N] {
 
 #[test]
 fn shuffling() {
-    assert_eq!(
-        shuffle::<16>(&block([1, 1, 2, 3])),
-        block([2, 3, 0x8000_0000, 1])
-    );
+    assert_eq!(shuffle::<16>(&block([1, 1, 2, 3])), block([2, 3, 0x8000_0000, 1]));
     assert_eq!(shuffle::<8>(&block([1, 1, 2, 3])), block([2, 3, 0x8000, 1]));
 }
 
@@ -42,10 +34,7 @@ fn padding() {
 fn limits_of_the_sealer() {
     let (key, nonce, message) = ([0; 16], [0; 15], vec![0; 65_537]);
     let (mut out, mut tag) = (vec![0; 65_537], [0; 8]);
-    assert_eq!(
-        seal(3, &key, &nonce, &[], &message[1..], &mut out[1..], &mut tag),
-        0
-    );
+    assert_eq!(seal(3, &key, &nonce, &[], &message[1..], &mut out[1..], &mut tag), 0);
     assert_eq!(seal(3, &key, &nonce, &[], &message, &mut out, &mut tag), 5);
     assert_eq!(seal(3, &key, &nonce, &message, &[], &mut [], &mut tag), 4);
     assert_eq!(seal(9, &key[1..], &nonce, &[], &[], &mut [], &mut tag), 1);
@@ -55,10 +44,7 @@ fn limits_of_the_sealer() {
 fn a_wrong_tag_leaves_zeros() {
     let (key, nonce) = ([7; 16], [9; 16]);
     let (mut out, mut tag, mut back) = ([0; 40], [0; 16], [5; 40]);
-    assert_eq!(
-        seal(1, &key, &nonce, b"ad", &[3; 40], &mut out, &mut tag),
-        0
-    );
+    assert_eq!(seal(1, &key, &nonce, b"ad", &[3; 40], &mut out, &mut tag), 0);
     assert_eq!(open(1, &key, &nonce, b"ad", &out, &tag, &mut back), 0);
     assert_eq!(back, [3; 40]);
     tag[15] ^= 1;
@@ -73,18 +59,7 @@ fn smallest(ring: &[u8; 256]) -> Vec<u8> {
     file.extend([0; 16]);
     file.extend([7, 0, 0, 0, 1]);
     let mut tag = [0; 8];
-    assert_eq!(
-        seal(
-            3,
-            &ring[..16],
-            &[0; 15],
-            &[7, 0, 0, 0, 1],
-            &[],
-            &mut [],
-            &mut tag
-        ),
-        0
-    );
+    assert_eq!(seal(3, &ring[..16], &[0; 15], &[7, 0, 0, 0, 1], &[], &mut [], &mut tag), 0);
     file.extend(tag);
     file
 }
@@ -94,10 +69,7 @@ fn smallest_file() {
     let ring = std::array::from_fn(|i| i as u8);
     let mut file = smallest(&ring);
     assert_eq!(file.len(), 53);
-    assert_eq!(
-        (check(&file), lookup(&file, 7), lookup(&file, 8)),
-        ((0, 0), (0, 0), (32, 0))
-    );
+    assert_eq!((check(&file), lookup(&file, 7), lookup(&file, 8)), ((0, 0), (0, 0), (32, 0)));
     assert_eq!(associated(&file, 7), [7, 0, 0, 0, 1]);
     assert_eq!(associated(&file, 8), []);
     assert_eq!(open_job(&file, &ring, 7, &mut []), (0, 0));

@@ -1,0 +1,167 @@
+//! Calls of the sealer, the opener and the shift file, and what an implementation answers to them.
+
+use crate::show::{fold, shown};
+use crate::{comet, shift};
+
+/// What lent buffers hold before a call.
+pub const FILLER: u8 = 0xa5;
+
+pub type Seal = fn(u8, &[u8], &[u8], &[u8], &[u8], &mut [u8], &mut [u8]) -> u32;
+pub type Open = fn(u8, &[u8], &[u8], &[u8], &[u8], &[u8], &mut [u8]) -> u32;
+
+/// An implementation. `associated` gives the lookup's number, and place and length in the file.
+#[derive(Clone, Copy)]
+pub struct Library {
+    pub seal: Seal,
+    pub open: Open,
+    pub check: fn(&[u8]) -> shift::Answer,
+    pub lookup: fn(&[u8], u32) -> shift::Answer,
+    pub associated: fn(&[u8], u32) -> (u32, usize, usize),
+    pub open_job: fn(&[u8], &[u8], u32, &mut [u8]) -> shift::Answer,
+}
+
+pub const REFERENCE: Library = Library {
+    seal: comet::seal,
+    open: comet::open,
+    check: shift::check,
+    lookup: shift::lookup,
+    associated: |file, job| {
+        let (at, length) = shift::associated_place(file, job);
+        (shift::lookup(file, job).0, at, length)
+    },
+    open_job: shift::open_job,
+};
+
+/// A call of the sealer or the opener. The sealer's `tag` is what its buffer holds before.
+#[derive(Clone)]
+pub struct Call {
+    pub opens: bool,
+    pub suite: u8,
+    pub key: Vec<u8>,
+    pub nonce: Vec<u8>,
+    pub ad: Vec<u8>,
+    pub text: Vec<u8>,
+    pub out: usize,
+    pub tag: Vec<u8>,
+}
+
+/// The number, and every byte of what was lent for writing (for the opener, `tag` is as it was).
+#[derive(PartialEq, Debug)]
+pub struct Outcome {
+    pub number: u32,
+    pub out: Vec<u8>,
+    pub tag: Vec<u8>,
+}
+
+impl Call {
+    pub fn answer(&self, by: &Library) -> Outcome {
+        let mut out = vec![FILLER; self.out];
+        let mut tag = self.tag.clone();
+        let number = if self.opens {
+            (by.open)(self.suite, &self.key, &self.nonce, &self.ad, &self.text, &tag, &mut out)
+        } else {
+            (by.seal)(self.suite, &self.key, &self.nonce, &self.ad, &self.text, &mut out, &mut tag)
+        };
+        Outcome { number, out, tag }
+    }
+
+    /// The call that opens what this one seals.
+    pub fn reopened(&self) -> Call {
+        let sealed = self.answer(&REFERENCE);
+        assert!(!self.opens && sealed.number == 0);
+        Call { opens: true, text: sealed.out, tag: sealed.tag, ..self.clone() }
+    }
+
+    /// The call as the program `cases` reads it.
+    pub fn record(&self) -> Vec<u8> {
+        let mut bytes = vec![self.opens as u8, self.suite];
+        let lengths = [&self.key, &self.nonce, &self.ad, &self.text].map(|part| part.len());
+        for length in lengths.into_iter().chain([self.out, self.tag.len()]) {
+            bytes.extend((length as u32).to_le_bytes());
+        }
+        for part in [&self.key, &self.nonce, &self.ad, &self.text] {
+            bytes.extend(part);
+        }
+        if self.opens {
+            bytes.extend(&self.tag);
+        }
+        bytes
+    }
+
+    /// The answer as the program `cases` writes it.
+    pub fn line(&self) -> String {
+        let Outcome { number, out, tag } = self.answer(&REFERENCE);
+        if self.opens {
+            format!("{number} {}\n", shown(&out))
+        } else {
+            format!("{number} {} {}\n", shown(&out), shown(&tag))
+        }
+    }
+}
+
+/// A call of the shift file's four routines.
+#[derive(Clone)]
+pub struct FileCall {
+    pub file: Vec<u8>,
+    pub ring: Vec<u8>,
+    pub job: u32,
+    pub out: usize,
+}
+
+#[derive(PartialEq, Debug)]
+pub struct FileOutcome {
+    pub check: shift::Answer,
+    pub lookup: shift::Answer,
+    pub associated: (u32, usize, usize),
+    pub open: shift::Answer,
+    pub out: Vec<u8>,
+}
+
+impl FileCall {
+    pub fn answer(&self, by: &Library) -> FileOutcome {
+        let mut out = vec![FILLER; self.out];
+        FileOutcome {
+            check: (by.check)(&self.file),
+            lookup: (by.lookup)(&self.file, self.job),
+            associated: (by.associated)(&self.file, self.job),
+            open: (by.open_job)(&self.file, &self.ring, self.job, &mut out),
+            out,
+        }
+    }
+
+    /// The call as the program `files` reads it; op 0 is one answer, op 1 every single-byte damage.
+    pub fn record(&self, op: u8) -> Vec<u8> {
+        let mut bytes = vec![op];
+        let lengths = [self.file.len(), self.ring.len(), self.out];
+        for number in [self.job].into_iter().chain(lengths.map(|length| length as u32)) {
+            bytes.extend(number.to_le_bytes());
+        }
+        bytes.extend(&self.file);
+        bytes.extend(&self.ring);
+        bytes
+    }
+
+    /// The answer as the program `files` writes it under op 0.
+    pub fn line(&self) -> String {
+        let FileOutcome { check, lookup, associated: (_, at, length), open, out } = self.answer(&REFERENCE);
+        let out = shown(&out);
+        format!("{} {} {} {} {at} {length} {} {} {out}\n", check.0, check.1, lookup.0, lookup.1, open.0, open.1)
+    }
+
+    /// The lines of op 1: for each place of the file, the fold of the answers to its 255 damages.
+    pub fn damage_lines(&self) -> String {
+        let mut damaged = self.clone();
+        let mut lines = String::new();
+        for place in 0..self.file.len() {
+            let mut answers = vec![];
+            for x in 1..=255 {
+                damaged.file[place] = self.file[place] ^ x;
+                let FileOutcome { check, lookup, open, .. } = damaged.answer(&REFERENCE);
+                answers.extend([check.0, check.1, lookup.0, lookup.1, open.0].map(|number| number as u8));
+            }
+            damaged.file[place] = self.file[place];
+            lines += &format!("{}\n", fold(&answers));
+        }
+        lines
+    }
+}

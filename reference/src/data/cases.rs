@@ -1,0 +1,210 @@
+//! The program `cases`: calls of the sealer and the opener.
+
+use super::Part;
+use crate::calls::{Call, FILLER, REFERENCE};
+use crate::comet::{block_size, fitting_tag, nonce_size, LIMIT};
+use crate::random::Random;
+
+/// A call that seals, with every length right.
+pub fn sealing(random: &mut Random, suite: u8, ad: usize, message: usize) -> Call {
+    Call {
+        opens: false,
+        suite,
+        key: random.bytes(16),
+        nonce: random.bytes(nonce_size(suite)),
+        ad: random.bytes(ad),
+        text: random.bytes(message),
+        out: message,
+        tag: vec![FILLER; block_size(suite)],
+    }
+}
+
+/// Pairs of lengths: each of 0 to 3 blocks + 1 alone and with one of the other that walks through all;
+/// and, of one suite for each block size, all pairs up to a block + 1.
+fn lengths(suite: u8) -> Vec<(usize, usize)> {
+    let block = block_size(suite);
+    let all = 3 * block + 2;
+    let paired = if suite % 2 == 1 { block + 2 } else { 0 };
+    let alone = (0..all).flat_map(|i| [(i, 0), (0, i)]);
+    let walks = (0..all).flat_map(|i| [(i, (7 * i + 3) % all), ((11 * i + 5) % all, i)]);
+    let pairs = (0..paired).flat_map(|ad| (0..paired).map(move |message| (ad, message)));
+    alone.chain(walks).chain(pairs).collect()
+}
+
+/// Every length, sealed and opened.
+pub fn by_length(random: &mut Random) -> Vec<Call> {
+    let mut calls = vec![];
+    for suite in 1..=4 {
+        for (ad, message) in lengths(suite) {
+            let call = sealing(random, suite, ad, message);
+            let reopened = call.reopened();
+            calls.extend([call, reopened]);
+        }
+    }
+    calls
+}
+
+/// Opening with one bit wrong, in each byte of tag, text, associated data, nonce and key; and with the
+/// border between associated data and text moved.
+pub fn damaged(random: &mut Random) -> Vec<Call> {
+    let mut calls = vec![];
+    for suite in 1..=4 {
+        let block = block_size(suite);
+        let good = sealing(random, suite, block + 1, 2 * block + 3).reopened();
+        let parts: [fn(&mut Call) -> &mut Vec<u8>; 5] =
+            [|c| &mut c.tag, |c| &mut c.text, |c| &mut c.ad, |c| &mut c.nonce, |c| &mut c.key];
+        for part in parts {
+            for place in 0..part(&mut good.clone()).len() {
+                let mut call = good.clone();
+                part(&mut call)[place] ^= 1 << random.below(8);
+                calls.push(call);
+            }
+        }
+        let mut moved = good.clone();
+        moved.ad.push(moved.text.remove(0));
+        moved.out -= 1;
+        calls.push(moved);
+        let mut shorter = good;
+        shorter.text.pop();
+        shorter.out -= 1;
+        calls.push(shorter);
+    }
+    calls
+}
+
+/// Puts the fault of one number into a call; `turn` chooses among its kinds.
+pub fn fault(call: &mut Call, number: u32, turn: usize) {
+    let other = |length: usize, lengths: &[usize]| {
+        let others: Vec<usize> = lengths.iter().copied().filter(|other| *other != length).collect();
+        others[turn % others.len()]
+    };
+    let resize = |bytes: &mut Vec<u8>, lengths: &[usize]| bytes.resize(other(bytes.len(), lengths), FILLER);
+    let block = block_size(call.suite);
+    match number {
+        1 => call.suite = [0, 5, 255, 6, 128][turn % 5],
+        2 => resize(&mut call.key, &[15, 17, 0, 1, 8, 32, 40]),
+        3 => resize(&mut call.nonce, &[15, 16, 14, 17, 0, 8, 40]),
+        4 => call.ad = vec![0; LIMIT + 1],
+        5 => {
+            if call.out == call.text.len() {
+                call.out = LIMIT + 1;
+            }
+            call.text = vec![0; LIMIT + 1];
+        }
+        6 => call.out = other(call.out, &[call.out + 1, call.out.max(1) - 1, 0, LIMIT, LIMIT + 4]),
+        7 => resize(&mut call.tag, &[8, 16, 0, block.max(1) - 1, block + 1, 40]),
+        8 => call.tag[turn % block] ^= 0x80,
+        _ => unreachable!("no fault {number}"),
+    }
+}
+
+/// A call for faults: sealing or opening, with a message that is not empty.
+fn subject(random: &mut Random, suite: u8, opens: bool) -> Call {
+    let message = 3 + random.below(20);
+    let call = sealing(random, suite, 5, message);
+    if opens {
+        call.reopened()
+    } else {
+        call
+    }
+}
+
+/// The call, once it is seen to give the number that it was made for.
+fn expected(call: Call, number: u32) -> Call {
+    assert_eq!(call.answer(&REFERENCE).number, number);
+    call
+}
+
+const SMALL_FAULTS: [u32; 6] = [1, 2, 3, 6, 7, 8];
+
+/// Each number alone in all its kinds, and in pairs with each other; but for those of a long input.
+pub fn refused(random: &mut Random) -> Vec<Call> {
+    let mut calls = vec![];
+    for suite in 1..=4 {
+        for opens in [false, true] {
+            let faults: Vec<u32> = SMALL_FAULTS.into_iter().filter(|number| opens || *number != 8).collect();
+            for (i, first) in faults.iter().enumerate() {
+                for turn in 0..6 {
+                    let mut call = subject(random, suite, opens);
+                    fault(&mut call, *first, turn);
+                    calls.push(expected(call, *first));
+                }
+                for later in &faults[i + 1..] {
+                    let mut call = subject(random, suite, opens);
+                    let turn = random.below(5);
+                    fault(&mut call, *later, turn);
+                    fault(&mut call, *first, turn);
+                    calls.push(expected(call, *first));
+                }
+            }
+        }
+    }
+    calls
+}
+
+/// Over the limits by one byte: 4 and 5 alone, with each earlier number, and with all later ones at once
+/// (a long input is costly here, and who looks at any later one first gives that).
+pub fn too_long(random: &mut Random) -> Vec<Call> {
+    let groups: [(bool, &[u32]); 10] = [
+        (false, &[4]),
+        (false, &[5]),
+        (true, &[4, 5, 6, 7, 8]),
+        (true, &[5, 6, 7, 8]),
+        (false, &[1, 4]),
+        (true, &[1, 5]),
+        (true, &[2, 4]),
+        (false, &[2, 5]),
+        (false, &[3, 4]),
+        (true, &[3, 5]),
+    ];
+    let mut calls = vec![];
+    for (turn, (opens, faults)) in groups.into_iter().enumerate() {
+        let mut call = sealing(random, 1 + (turn % 4) as u8, 5, 0);
+        if opens {
+            call = call.reopened();
+        }
+        for number in faults.iter().rev() {
+            fault(&mut call, *number, turn);
+        }
+        calls.push(expected(call, faults[0]));
+    }
+    calls
+}
+
+/// A string that is long and easily packed.
+fn pattern(length: usize) -> Vec<u8> {
+    (0..length).map(|i| (i % 251) as u8).collect()
+}
+
+/// At the limits: 65,536 bytes of message sealed under each suite, 65,536 of ciphertext opened (all zeros,
+/// under the tag that fits them), 65,536 of associated data.
+pub fn longest(random: &mut Random) -> Vec<Call> {
+    let mut calls = vec![];
+    for suite in 1..=4 {
+        let mut call = sealing(random, suite, 5, 0);
+        (call.text, call.out) = (pattern(LIMIT), LIMIT);
+        calls.push(call.clone());
+        call.opens = true;
+        call.text = vec![0; LIMIT];
+        call.tag = fitting_tag(suite, &call.key, &call.nonce, &call.ad, &call.text);
+        calls.push(call);
+    }
+    let mut call = sealing(random, 2, 0, 9);
+    call.ad = pattern(LIMIT);
+    calls.push(call);
+    calls
+}
+
+/// All calls of the program.
+pub fn calls() -> Vec<Call> {
+    let mut random = Random::new(2);
+    let groups = [by_length, damaged, refused, too_long, longest];
+    groups.into_iter().flat_map(|group| group(&mut random)).collect()
+}
+
+pub fn parts() -> [Part; 2] {
+    let calls = calls();
+    let stdin = calls.iter().flat_map(Call::record).collect();
+    let stdout: String = calls.iter().map(Call::line).collect();
+    [("stdin", stdin), ("stdout", stdout.into_bytes())]
+}

@@ -1,0 +1,344 @@
+//! The program `files`: calls of the shift file's routines.
+
+use super::{samples, Part};
+use crate::calls::{FileCall, REFERENCE};
+use crate::comet::{block_size, fitting_tag, nonce_size, LIMIT};
+use crate::draft::{row_at, Draft, Entry};
+use crate::random::Random;
+use crate::shift;
+
+fn call(file: Vec<u8>, job: u32, out: usize) -> FileCall {
+    FileCall { file, ring: samples::ring(), job, out }
+}
+
+/// The call, once its full check is seen to give the number and the row that it was made for.
+/// It comes with no ring and an output of no job's length: the check's number stands before theirs.
+fn expected(file: Vec<u8>, number: u32, row: usize) -> FileCall {
+    let call = FileCall { file, ring: vec![], job: 20, out: 2 };
+    assert_eq!(call.answer(&REFERENCE).check, (number, row as u32));
+    call
+}
+
+/// Document 01's smallest file with a row: job 7, suite 3, key 0, unit 1, no message, zero nonce.
+pub fn smallest() -> Vec<u8> {
+    let file = Draft::new(vec![Entry::new(7, 3, 0, 1, [0; 16], b"")]).file(&samples::ring());
+    assert_eq!(file[..8], [1, 0, 1, 0, 0x35, 0, 0, 0]);
+    assert_eq!(file[8..24], [7, 0, 0, 0, 3, 0, 5, 0, 0x28, 0, 0, 0, 0, 0, 0, 0]);
+    assert_eq!((&file[24..40], &file[40..45]), (&[0; 16][..], &[7, 0, 0, 0, 1][..]));
+    file
+}
+
+/// A small good file of three rows under suites 3, 1 and 4: jobs 10, 20 and 30.
+pub fn three_rows() -> Draft {
+    let mut random = Random::new(6);
+    Draft::new(vec![
+        Entry::new(10, 3, 1, 1, random.array(), b"ten"),
+        Entry::new(20, 1, 2, 2, random.array(), b"20 "),
+        Entry::new(30, 4, 15, 1, random.array(), b"thirty jobs"),
+    ])
+}
+
+/// The worked values, and the lengths 0 to 8 of a file.
+fn worked(_: &mut Random) -> Vec<FileCall> {
+    let empty = Draft::new(vec![]).file(&[]);
+    assert_eq!(empty, [1, 0, 0, 0, 8, 0, 0, 0]);
+    let mut calls: Vec<FileCall> = (0..=8).map(|length| call(empty[..length].to_vec(), 7, 0)).collect();
+    for job in [7, 0, 6, 8] {
+        calls.push(call(smallest(), job, 0));
+    }
+    for (job, out) in [(10, 3), (20, 3), (30, 11), (11, 3)] {
+        calls.push(call(three_rows().file(&samples::ring()), job, out));
+    }
+    calls
+}
+
+/// A file of many rows without messages, job 10 i in row i.
+fn many_rows(rows: usize) -> Vec<u8> {
+    let entry = |i: usize| {
+        let mut nonce = [0; 16];
+        nonce[..2].copy_from_slice(&(i as u16).to_le_bytes());
+        Entry::new(10 * i as u32, 3 + (i % 2) as u8, (i % 16) as u8, 1, nonce, b"")
+    };
+    Draft::new((0..rows).map(entry).collect()).file(&samples::ring())
+}
+
+/// 512 rows pass and 513 do not; a nonce is compared with that of every earlier row.
+fn full_tables(_: &mut Random) -> Vec<FileCall> {
+    let mut clash = many_rows(40);
+    clash.copy_within(row_at(1) + 16..row_at(1) + 32, row_at(39) + 16);
+    vec![call(many_rows(512), 5110, 0), expected(many_rows(513), 22, 0), expected(clash, 29, 39)]
+}
+
+/// A good file of exactly the longest length, job i + 1 in row i, whose ciphertexts are zeros.
+fn longest() -> Vec<u8> {
+    let rows = 16;
+    let ring = samples::ring();
+    let mut table = vec![];
+    let mut bodies: Vec<u8> = vec![];
+    for i in 0..rows {
+        let (job, suite, key) = (i as u32 + 1, 1 + (i % 4) as u8, i as u8);
+        let Entry { ad, .. } = Entry::new(job, suite, key, 2, [0; 16], b"");
+        let offset = row_at(rows) + bodies.len();
+        let room = shift::LONGEST - offset - ad.len() - block_size(suite);
+        let text = vec![0; if i + 1 < rows { LIMIT } else { room }];
+        let nonce = [key; 16];
+        table.extend(job.to_le_bytes());
+        table.extend([suite, key, ad.len() as u8, 0]);
+        table.extend((offset as u32).to_le_bytes());
+        table.extend((text.len() as u32).to_le_bytes());
+        table.extend(nonce);
+        let key = &ring[16 * key as usize..][..16];
+        let tag = fitting_tag(suite, key, &nonce[..nonce_size(suite)], &ad, &text);
+        bodies.extend([ad, text, tag].concat());
+    }
+    let header = [&[1, 0, rows as u8, 0][..], &(shift::LONGEST as u32).to_le_bytes()].concat();
+    [header, table, bodies].concat()
+}
+
+/// 1,048,576 bytes pass and 1,048,577 do not.
+fn longest_files(_: &mut Random) -> Vec<FileCall> {
+    let file = longest();
+    let good = call(file.clone(), 15, LIMIT);
+    assert_eq!((file.len(), good.answer(&REFERENCE).open), (shift::LONGEST, (0, 0)));
+    let mut longer = file;
+    longer.push(0);
+    longer[4..8].copy_from_slice(&(shift::LONGEST as u32 + 1).to_le_bytes());
+    vec![good, expected(longer, 20, 0)]
+}
+
+/// Puts the fault of one number into a draft, in the row where the number has one.
+pub fn fault(draft: &mut Draft, number: u32, row: usize) {
+    let previous = draft.entries[row.max(1) - 1].job;
+    let nonce = draft.entries[0].nonce;
+    let entry = &mut draft.entries[row];
+    match number {
+        21 => draft.edition = 2,
+        22 => draft.count = Some(513),
+        23 => draft.longer = 1,
+        24 => draft.count = draft.count.or(Some(512)),
+        25 => {
+            entry.job = previous;
+            entry.ad[..4].copy_from_slice(&previous.to_le_bytes());
+        }
+        26 => draft.patches.push((row_at(row) + 5, 16)),
+        27 => entry.ad.truncate(4),
+        28 => draft.gaps.push(row),
+        29 => entry.nonce = nonce,
+        30 => entry.ad[3] ^= 1,
+        31 => draft.tail = 1,
+        _ => unreachable!("no fault {number}"),
+    }
+}
+
+/// Whether a number's fault can stand in a row: row 0 has no row before it.
+fn fits(number: u32, row: usize) -> bool {
+    row > 0 || ![25, 29].contains(&number)
+}
+
+/// Each number alone in each row, beside each later one in the same row, and beside each in a later row.
+fn refused(_: &mut Random) -> Vec<FileCall> {
+    let ring = samples::ring();
+    let mut calls = vec![];
+    let mut add = |faults: &[(u32, usize)], number: u32, row: usize| {
+        let mut draft = three_rows();
+        for (number, row) in faults {
+            fault(&mut draft, *number, *row);
+        }
+        calls.push(expected(draft.file(&ring), number, if number < 31 { row } else { 0 }));
+    };
+    for number in [21, 23, 31] {
+        add(&[(number, 0)], number, 0);
+    }
+    for number in 25..=30 {
+        for row in (0..3).filter(|row| fits(number, *row)) {
+            add(&[(number, row)], number, row);
+        }
+    }
+    for number in 21..=30 {
+        let row = if number < 25 { 0 } else { 1 };
+        for later in number + 1..=31 {
+            add(&[(number, 1), (later, 1)], number, row);
+        }
+    }
+    for number in (25..=30).filter(|number| fits(*number, 0)) {
+        for other in 25..=30 {
+            add(&[(number, 0), (other, 1)], number, 0);
+        }
+    }
+    calls
+}
+
+/// A file with some of its bytes replaced.
+fn patched(file: &[u8], patches: &[(usize, &[u8])]) -> Vec<u8> {
+    let mut file = file.to_vec();
+    for (place, bytes) in patches {
+        file[*place..*place + bytes.len()].copy_from_slice(bytes);
+    }
+    file
+}
+
+/// The kinds of each number that `fault` does not choose, in the header and then in a row.
+fn other_kinds(_: &mut Random) -> Vec<FileCall> {
+    let file = three_rows().file(&samples::ring());
+    let length = file.len() as u32;
+    let body = u32::from_le_bytes(file[row_at(1) + 8..row_at(1) + 12].try_into().unwrap());
+    let long = (LIMIT as u32 + 1).to_le_bytes();
+    let header: [(u32, usize, &[u8]); 8] = [
+        (21, 0, &[0]),
+        (21, 1, &[1]),
+        (21, 0, &[0xff, 0xff]),
+        (22, 2, &[0xff, 0xff]),
+        (23, 4, &(length - 1).to_le_bytes()),
+        (23, 4, &[0; 4]),
+        (23, 7, &[1]),
+        (24, 2, &[100]),
+    ];
+    let row: [(u32, usize, &[u8]); 20] = [
+        (25, 0, &[0; 4]),
+        (25, 0, &[9]),
+        (26, 4, &[0]),
+        (26, 4, &[5]),
+        (26, 4, &[255]),
+        (26, 5, &[255]),
+        (27, 6, &[4]),
+        (27, 6, &[0]),
+        (27, 6, &[1, 4]),
+        (27, 6, &[0xff, 0xff]),
+        (27, 12, &long),
+        (27, 12, &[0xff; 4]),
+        (28, 8, &(body - 1).to_le_bytes()),
+        (28, 8, &(body + 1).to_le_bytes()),
+        (28, 8, &[0; 4]),
+        (28, 8, &[0xff; 4]),
+        (28, 12, &[0, 0, 1]),
+        (30, 0, &[21]),
+        (30, 3, &[0x80]),
+        (28, 4, &[3, 2, 0, 4]),
+    ];
+    let header = header.map(|(number, at, bytes)| expected(patched(&file, &[(at, bytes)]), number, 0));
+    let row = row.map(|(number, at, bytes)| expected(patched(&file, &[(row_at(1) + at, bytes)]), number, 1));
+    header.into_iter().chain(row).chain(bodies(&file, body as usize)).collect()
+}
+
+/// Associated data too long, faults in the body of row 1, at the file's end, and a table that is cut short.
+fn bodies(file: &[u8], body: usize) -> Vec<FileCall> {
+    let mut long = three_rows();
+    long.entries[1].ad.resize(1025, 0);
+    let mut calls = vec![expected(long.file(&samples::ring()), 27, 1)];
+    for (place, byte) in [(0, 21), (1, 1), (2, 1), (3, 1), (4, 0), (4, 3), (4, 255)] {
+        calls.push(expected(patched(file, &[(body + place, &[byte])]), 30, 1));
+    }
+    for length in [file.len() - 1, file.len() - 20] {
+        calls.push(expected(file[..length].to_vec(), 23, 0));
+        calls.push(expected(patched(&file[..length], &[(4, &[length as u8])]), 28, 2));
+    }
+    for length in [8, 9, 39] {
+        let short = patched(&smallest()[..length], &[(4, &[length as u8])]);
+        calls.push(expected(short, 24, 0));
+    }
+    calls.push(expected(patched(&smallest()[..40], &[(4, &[40])]), 28, 0));
+    calls.push(expected(vec![1, 0, 0, 0, 9, 0, 0, 0, 0], 31, 0));
+    calls.push(expected(vec![1, 0, 0, 0, 8, 0, 0, 0, 0], 23, 0));
+    calls
+}
+
+/// What just passes: job numbers 0 and 2^32 - 1 and one above 2^31, associated data of 1,024 bytes, nonces
+/// of suite 3 that differ in the sixteenth byte alone.
+fn just_good(_: &mut Random) -> Vec<FileCall> {
+    let mut nonce = [9; 16];
+    let mut entries = vec![];
+    for (job, suite) in [(0, 3), (1, 3), (0x8000_0000, 4), (0xffff_ffff, 2)] {
+        entries.push(Entry::new(job, suite, 15, 2, nonce, b"edge"));
+        nonce[15] += 1;
+    }
+    entries[3].ad.resize(1024, 0);
+    let file = Draft::new(entries).file(&samples::ring());
+    [0, 1, 2, 0x8000_0000, 0xffff_ffff].into_iter().map(|job| call(file.clone(), job, 4)).collect()
+}
+
+/// Opening: 32, 2, 6 and 8 in all their pairs, the earlier wins; and each thing that a tag covers.
+fn openings(_: &mut Random) -> Vec<FileCall> {
+    let good = call(three_rows().file(&samples::ring()), 20, 3);
+    let body = row_at(3) + 5 + 3 + 8;
+    let mut calls = vec![];
+    for faults in 0..16 {
+        let mut call = good.clone();
+        call.job = if faults & 1 != 0 { 21 } else { 20 };
+        call.ring.truncate(if faults & 2 != 0 { 255 } else { 256 });
+        call.out = if faults & 4 != 0 { 4 } else { 3 };
+        call.file[body + 8] ^= if faults & 8 != 0 { 1 } else { 0 };
+        calls.push(call);
+    }
+    for length in [0, 1, 16, 257, 300] {
+        let mut call = good.clone();
+        call.ring.resize(length, 0);
+        calls.push(call);
+    }
+    for length in [0, 2, 65_540] {
+        calls.push(FileCall { out: length, ..good.clone() });
+    }
+    for place in [row_at(1) + 16, row_at(1) + 31, body + 4, body + 5, body + 7, body + 23] {
+        let mut call = good.clone();
+        call.file[place] ^= 3;
+        calls.push(call);
+    }
+    let mut other_key = good.clone();
+    other_key.ring[16 * 2 + 15] ^= 1;
+    calls.push(other_key);
+    calls
+}
+
+/// A good file of random entries.
+pub fn random_draft(random: &mut Random, rows: usize, longest: usize) -> Draft {
+    let mut job = random.below(100) as u32;
+    let mut entries = vec![];
+    for _ in 0..rows {
+        let message_length = random.below(longest + 1);
+        let message = random.bytes(message_length);
+        let (suite, key, unit) = (1 + random.below(4) as u8, random.below(16) as u8, 1 + random.below(2) as u8);
+        let mut entry = Entry::new(job, suite, key, unit, random.array(), &message);
+        let more = random.below(40);
+        entry.ad.extend(random.bytes(more));
+        entries.push(entry);
+        job += 1 + random.below(1000) as u32;
+    }
+    Draft::new(entries)
+}
+
+/// Files of several rows, each job opened.
+fn good_files(random: &mut Random) -> Vec<FileCall> {
+    let mut calls = vec![];
+    for rows in 1..=8 {
+        let draft = random_draft(random, rows, 150);
+        let file = draft.file(&samples::ring());
+        for entry in &draft.entries {
+            let call = call(file.clone(), entry.job, entry.message.len());
+            assert_eq!(call.answer(&REFERENCE).out, entry.message);
+            calls.push(call);
+        }
+    }
+    calls
+}
+
+/// All calls of the program that are one answer each.
+pub fn calls() -> Vec<FileCall> {
+    let mut random = Random::new(3);
+    let groups = [worked, full_tables, longest_files, refused, other_kinds, just_good, openings, good_files];
+    groups.into_iter().flat_map(|group| group(&mut random)).collect()
+}
+
+/// The calls whose files are damaged in every byte.
+pub fn damaged_calls() -> [FileCall; 2] {
+    [call(smallest(), 7, 0), call(three_rows().file(&samples::ring()), 20, 3)]
+}
+
+pub fn parts() -> [Part; 2] {
+    let (calls, damaged) = (calls(), damaged_calls());
+    let mut stdin: Vec<u8> = calls.iter().flat_map(|call| call.record(0)).collect();
+    let mut stdout: String = calls.iter().map(FileCall::line).collect();
+    for call in damaged {
+        stdin.extend(call.record(1));
+        stdout += &call.damage_lines();
+    }
+    [("stdin", stdin), ("stdout", stdout.into_bytes())]
+}

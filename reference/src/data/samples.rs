@@ -1,0 +1,78 @@
+//! A day's file and a ring to try, and the run of the program `job` on them.
+
+use super::Part;
+use crate::draft::{Draft, Entry};
+use crate::random::Random;
+use crate::shift;
+use crate::show::hex;
+
+pub fn ring() -> Vec<u8> {
+    Random::new(4).bytes(shift::RING)
+}
+
+/// Six jobs of a day: job, suite, key, unit, and the torque record that is sealed.
+const DAY: [(u32, u8, u8, u8, &str); 6] = [
+    (
+        4101,
+        1,
+        0,
+        1,
+        "gearbox 4101 bolt M10x60 count 12 torque 48.5 48.7 48.4 48.6 48.5 48.8 48.5 48.6 48.4 48.7 48.5 48.6",
+    ),
+    (4102, 2, 1, 1, "gearbox 4102 bolt M8x40 count 8 torque 24.9 25.1 25.0 25.2 24.8 25.0 25.1 24.9"),
+    (4103, 3, 2, 2, "gearbox 4103 bolt 1/4-28 count 6 torque 106 108 107 107 106 109"),
+    (4105, 4, 3, 2, "gearbox 4105 bolt 10-32 count 4 torque 31 32 31 31"),
+    (4110, 3, 2, 1, ""),
+    (4200, 1, 15, 1, "gearbox 4200 plug M22 count 1 torque 60.0, refitted after leak test"),
+];
+
+/// What stands in the associated data after the unit, where a station adds its name.
+const STATION: &[u8] = b"line 2 station 7";
+
+/// The job that the program `job` is run on.
+const OPENED: u32 = 4103;
+
+fn entries() -> Vec<Entry> {
+    let mut random = Random::new(5);
+    let entry = |(job, suite, key, unit, record): (u32, u8, u8, u8, &str)| {
+        let mut entry = Entry::new(job, suite, key, unit, random.array(), record.as_bytes());
+        if job != 4110 {
+            entry.ad.extend(STATION);
+        }
+        entry
+    };
+    DAY.into_iter().map(entry).collect()
+}
+
+pub fn day() -> Vec<u8> {
+    Draft::new(entries()).file(&ring())
+}
+
+pub fn parts() -> [Part; 2] {
+    [("day.shift", day()), ("ring.keys", ring())]
+}
+
+/// What `job FILE RING JOB` writes: the opening's number and row and, on 0, unit, associated data and message.
+pub fn job_lines(file: &[u8], ring: &[u8], job: u32, message: usize) -> String {
+    let mut out = vec![0; message];
+    let (number, row) = shift::open_job(file, ring, job, &mut out);
+    let mut lines = format!("{number} {row}\n");
+    if number == 0 {
+        let ad = shift::associated(file, job);
+        lines += &format!("{}\n{}\n{}\n", ad[4], hex(ad), hex(&out));
+    }
+    lines
+}
+
+/// The folder of the program `job`.
+pub fn job_parts() -> [Part; 4] {
+    let message = DAY.iter().find(|entry| entry.0 == OPENED).unwrap().4;
+    let stdout = job_lines(&day(), &ring(), OPENED, message.len());
+    assert!(stdout.ends_with(&format!("{}\n", hex(message.as_bytes()))));
+    [
+        ("args", format!("day.shift\nring.keys\n{OPENED}\n").into_bytes()),
+        ("data/day.shift", day()),
+        ("data/ring.keys", ring()),
+        ("stdout", stdout.into_bytes()),
+    ]
+}

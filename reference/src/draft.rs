@@ -1,0 +1,92 @@
+//! Shift files in the making: good ones, and ones with chosen faults.
+
+use crate::{comet, shift};
+
+/// One job before it is sealed. The associated data is the job number, the unit and what else is given.
+#[derive(Clone)]
+pub struct Entry {
+    pub job: u32,
+    pub suite: u8,
+    pub key: u8,
+    pub nonce: [u8; 16],
+    pub ad: Vec<u8>,
+    pub message: Vec<u8>,
+}
+
+impl Entry {
+    pub fn new(job: u32, suite: u8, key: u8, unit: u8, nonce: [u8; 16], message: &[u8]) -> Entry {
+        let mut ad = job.to_le_bytes().to_vec();
+        ad.push(unit);
+        Entry { job, suite, key, nonce, ad, message: message.to_vec() }
+    }
+
+    /// The body: associated data, ciphertext, tag.
+    fn body(&self, ring: &[u8]) -> Vec<u8> {
+        let key = &ring[16 * self.key as usize..][..16];
+        let nonce = &self.nonce[..comet::nonce_size(self.suite)];
+        let mut text = vec![0; self.message.len()];
+        let mut tag = vec![0; comet::block_size(self.suite)];
+        let number = comet::seal(self.suite, key, nonce, &self.ad, &self.message, &mut text, &mut tag);
+        assert_eq!(number, 0);
+        [self.ad.clone(), text, tag].concat()
+    }
+}
+
+/// A file in the making. `count` replaces the row count, `longer` is added to the total length that the
+/// header gives, a byte stands before the body of each row that `gaps` names, `tail` bytes after the last
+/// body, and each patch is a place in the file with its byte.
+#[derive(Clone)]
+pub struct Draft {
+    pub edition: u16,
+    pub count: Option<u16>,
+    pub longer: u32,
+    pub entries: Vec<Entry>,
+    pub gaps: Vec<usize>,
+    pub tail: usize,
+    pub patches: Vec<(usize, u8)>,
+}
+
+/// Where a row starts.
+pub fn row_at(row: usize) -> usize {
+    shift::HEADER + shift::ROW * row
+}
+
+impl Draft {
+    pub fn new(entries: Vec<Entry>) -> Draft {
+        Draft { edition: 1, count: None, longer: 0, entries, gaps: vec![], tail: 0, patches: vec![] }
+    }
+
+    pub fn file(&self, ring: &[u8]) -> Vec<u8> {
+        let mut table = vec![];
+        let mut bodies = vec![];
+        let start = row_at(self.entries.len());
+        for (i, entry) in self.entries.iter().enumerate() {
+            if self.gaps.contains(&i) {
+                bodies.push(0);
+            }
+            table.extend(entry.job.to_le_bytes());
+            table.extend([entry.suite, entry.key]);
+            table.extend((entry.ad.len() as u16).to_le_bytes());
+            table.extend(((start + bodies.len()) as u32).to_le_bytes());
+            table.extend((entry.message.len() as u32).to_le_bytes());
+            table.extend(entry.nonce);
+            bodies.extend(entry.body(ring));
+        }
+        bodies.resize(bodies.len() + self.tail, 0);
+        self.finish([table, bodies].concat())
+    }
+
+    /// The header before the rest, then the patches.
+    fn finish(&self, rest: Vec<u8>) -> Vec<u8> {
+        let count = self.count.unwrap_or(self.entries.len() as u16);
+        let total = ((shift::HEADER + rest.len()) as u32).wrapping_add(self.longer);
+        let mut file = self.edition.to_le_bytes().to_vec();
+        file.extend(count.to_le_bytes());
+        file.extend(total.to_le_bytes());
+        file.extend(rest);
+        for (place, byte) in &self.patches {
+            file[*place] = *byte;
+        }
+        file
+    }
+}
