@@ -89,8 +89,8 @@ impl Call {
     }
 
     /// The answer as the program `cases` writes it.
-    pub fn line(&self) -> String {
-        let Outcome { number, out, tag } = self.answer(&REFERENCE);
+    pub fn line(&self, by: &Library) -> String {
+        let Outcome { number, out, tag } = self.answer(by);
         if self.opens {
             format!("{number} {}\n", shown(&out))
         } else {
@@ -142,8 +142,8 @@ impl FileCall {
     }
 
     /// The answer as the program `files` writes it under op 0.
-    pub fn line(&self) -> String {
-        let FileOutcome { check, lookup, associated: (_, at, length), open, out } = self.answer(&REFERENCE);
+    pub fn line(&self, by: &Library) -> String {
+        let FileOutcome { check, lookup, associated: (_, at, length), open, out } = self.answer(by);
         let out = shown(&out);
         format!("{} {} {} {} {at} {length} {} {} {out}\n", check.0, check.1, lookup.0, lookup.1, open.0, open.1)
     }

@@ -4,8 +4,8 @@
 //! what both say is said twice, by two hands.
 //!
 //! `aes`, `cham`, `speck`, `comet` and `shift` are the implementation. The rest makes inputs of it:
-//! `random`, `draft` and `calls` say what a call is, and `data` holds the calls that the test programs
-//! run and compare with.
+//! `random`, `draft` and `calls` say what a call is, `data` holds the calls that the test programs run and
+//! compare with, and `trials` those of the comparison with the proved library.
 
 pub mod aes;
 pub mod cham;
@@ -18,3 +18,7 @@ pub mod data;
 pub mod draft;
 pub mod random;
 pub mod show;
+pub mod trials;
+
+#[cfg(feature = "linked")]
+pub mod linked;

@@ -20,17 +20,21 @@ fn u32_at(file: &[u8], at: usize) -> u32 {
 }
 
 /// A row of the table of contents.
-struct Row<'a> {
+struct Row {
     job: u32,
     suite: u8,
     key: u8,
     ad: usize,
     offset: usize,
     message: usize,
-    nonce: &'a [u8],
+    nonce: [u8; 16],
 }
 
-fn row(file: &[u8], i: usize) -> Row<'_> {
+fn nonce(file: &[u8], i: usize) -> [u8; 16] {
+    file[HEADER + ROW * i + 16..HEADER + ROW * (i + 1)].try_into().unwrap()
+}
+
+fn row(file: &[u8], i: usize) -> Row {
     let at = HEADER + ROW * i;
     Row {
         job: u32_at(file, at),
@@ -39,11 +43,11 @@ fn row(file: &[u8], i: usize) -> Row<'_> {
         ad: u16_at(file, at + 6),
         offset: u32_at(file, at + 8) as usize,
         message: u32_at(file, at + 12) as usize,
-        nonce: &file[at + 16..at + 32],
+        nonce: nonce(file, i),
     }
 }
 
-impl Row<'_> {
+impl Row {
     /// Where the body ends: associated data, ciphertext, tag.
     fn end(&self) -> usize {
         self.offset + self.ad + self.message + comet::block_size(self.suite)
@@ -83,7 +87,7 @@ fn check_row(file: &[u8], i: usize) -> u32 {
         27
     } else if this.offset != start || this.end() > file.len() {
         28
-    } else if (0..i).any(|earlier| row(file, earlier).nonce == this.nonce) {
+    } else if (0..i).any(|earlier| nonce(file, earlier) == this.nonce) {
         29
     } else if u32_at(file, this.offset) != this.job || ![1, 2].contains(&file[this.offset + 4]) {
         30

@@ -1,7 +1,9 @@
-//! The values of document 01, "Values to test against", and one test for each line of its tables.
+//! The values of document 01, "Values to test against".
 
 use reference::comet::{double, open, pad, seal, shuffle};
+use reference::data::{files, samples};
 use reference::shift::{associated, check, lookup, open_job};
+use reference::show::unhex;
 
 #[test]
 fn doubling() {
@@ -52,23 +54,15 @@ fn a_wrong_tag_leaves_zeros() {
     assert_eq!(back, [0; 40]);
 }
 
-/// The smallest file with a row: job 7, suite 3, key 0, unit 1, no message, zero nonce.
-fn smallest(ring: &[u8; 256]) -> Vec<u8> {
-    let mut file = vec![1, 0, 1, 0, 0x35, 0, 0, 0];
-    file.extend([7, 0, 0, 0, 3, 0, 5, 0, 0x28, 0, 0, 0, 0, 0, 0, 0]);
-    file.extend([0; 16]);
-    file.extend([7, 0, 0, 0, 1]);
-    let mut tag = [0; 8];
-    assert_eq!(seal(3, &ring[..16], &[0; 15], &[7, 0, 0, 0, 1], &[], &mut [], &mut tag), 0);
-    file.extend(tag);
-    file
-}
-
+/// Job 7, suite 3, key 0, unit 1, no message, zero nonce; the 8 bytes of the tag are worked out here.
 #[test]
 fn smallest_file() {
-    let ring = std::array::from_fn(|i| i as u8);
-    let mut file = smallest(&ring);
-    assert_eq!(file.len(), 53);
+    let ring = samples::ring();
+    let mut file = files::smallest();
+    let mut tag = [0; 8];
+    assert_eq!(seal(3, &ring[..16], &[0; 15], &[7, 0, 0, 0, 1], &[], &mut [], &mut tag), 0);
+    let printed = "01000100 35000000 07000000 03000500 28000000 00000000 0000000000000000 0000000000000000 0700000001";
+    assert_eq!(file, [unhex(printed), tag.to_vec()].concat());
     assert_eq!((check(&file), lookup(&file, 7), lookup(&file, 8)), ((0, 0), (0, 0), (32, 0)));
     assert_eq!(associated(&file, 7), [7, 0, 0, 0, 1]);
     assert_eq!(associated(&file, 8), []);
@@ -77,6 +71,12 @@ fn smallest_file() {
     assert_eq!(open_job(&file, &ring, 7, &mut [0]), (6, 0));
     file[44] = 2;
     assert_eq!(open_job(&file, &ring, 7, &mut []), (8, 0));
+}
+
+#[test]
+fn row_counts() {
+    assert_eq!(check(&files::many_rows(512)), (0, 0));
+    assert_eq!(check(&files::many_rows(513)), (22, 0));
 }
 
 #[test]

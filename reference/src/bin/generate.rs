@@ -3,7 +3,7 @@
 //!     generate [ROOT]           into the repository's samples/ and those program folders that exist
 //!     generate --all-to DIR     everything under DIR
 
-use reference::data::{cases, files, samples, vectors, Part};
+use reference::data::{parts, Part, FOLDERS};
 use std::path::{Path, PathBuf};
 
 fn write(folder: &Path, parts: &[Part]) {
@@ -12,7 +12,7 @@ fn write(folder: &Path, parts: &[Part]) {
         let parent = path.parent().expect("a folder");
         std::fs::create_dir_all(parent).unwrap_or_else(|e| panic!("{}: {e}", parent.display()));
         std::fs::write(&path, bytes).unwrap_or_else(|e| panic!("{}: {e}", path.display()));
-        println!("{} {}", bytes.len(), path.display());
+        println!("{:>8} bytes: {}", bytes.len(), path.display());
     }
 }
 
@@ -23,26 +23,15 @@ fn root(named: Option<&String>) -> PathBuf {
     found.expect("no repository (crates.txt) there: give its path, or --all-to DIR")
 }
 
-/// What stands in a program's folder.
-fn parts(program: &str) -> Vec<Part> {
-    match program {
-        "vectors" => vectors::parts().to_vec(),
-        "cases" => cases::parts().to_vec(),
-        "files" => files::parts().to_vec(),
-        _ => samples::job_parts().to_vec(),
-    }
-}
-
 fn main() {
     let arguments: Vec<String> = std::env::args().skip(1).collect();
     let (root, all) = match arguments.first().map(String::as_str) {
         Some("--all-to") => (PathBuf::from(arguments.get(1).expect("--all-to DIR")), true),
         _ => (root(arguments.first()), false),
     };
-    write(&root.join("samples"), &samples::parts());
-    for name in ["vectors", "cases", "files", "job"] {
-        let folder = root.join("crates").join(name);
-        if all || folder.is_dir() {
+    for name in FOLDERS {
+        let folder = root.join(name);
+        if all || name == "samples" || folder.is_dir() {
             write(&folder, &parts(name));
         } else {
             println!("skipped: {} is not there", folder.display());

@@ -205,6 +205,6 @@ pub fn calls() -> Vec<Call> {
 pub fn parts() -> [Part; 2] {
     let calls = calls();
     let stdin = calls.iter().flat_map(Call::record).collect();
-    let stdout: String = calls.iter().map(Call::line).collect();
+    let stdout: String = calls.iter().map(|call| call.line(&REFERENCE)).collect();
     [("stdin", stdin), ("stdout", stdout.into_bytes())]
 }

@@ -21,11 +21,7 @@ fn expected(file: Vec<u8>, number: u32, row: usize) -> FileCall {
 
 /// Document 01's smallest file with a row: job 7, suite 3, key 0, unit 1, no message, zero nonce.
 pub fn smallest() -> Vec<u8> {
-    let file = Draft::new(vec![Entry::new(7, 3, 0, 1, [0; 16], b"")]).file(&samples::ring());
-    assert_eq!(file[..8], [1, 0, 1, 0, 0x35, 0, 0, 0]);
-    assert_eq!(file[8..24], [7, 0, 0, 0, 3, 0, 5, 0, 0x28, 0, 0, 0, 0, 0, 0, 0]);
-    assert_eq!((&file[24..40], &file[40..45]), (&[0; 16][..], &[7, 0, 0, 0, 1][..]));
-    file
+    Draft::new(vec![Entry::new(7, 3, 0, 1, [0; 16], b"")]).file(&samples::ring())
 }
 
 /// A small good file of three rows under suites 3, 1 and 4: jobs 10, 20 and 30.
@@ -53,7 +49,7 @@ fn worked(_: &mut Random) -> Vec<FileCall> {
 }
 
 /// A file of many rows without messages, job 10 i in row i.
-fn many_rows(rows: usize) -> Vec<u8> {
+pub fn many_rows(rows: usize) -> Vec<u8> {
     let entry = |i: usize| {
         let mut nonce = [0; 16];
         nonce[..2].copy_from_slice(&(i as u16).to_le_bytes());
@@ -70,7 +66,7 @@ fn full_tables(_: &mut Random) -> Vec<FileCall> {
 }
 
 /// A good file of exactly the longest length, job i + 1 in row i, whose ciphertexts are zeros.
-fn longest() -> Vec<u8> {
+pub fn longest() -> Vec<u8> {
     let rows = 16;
     let ring = samples::ring();
     let mut table = vec![];
@@ -169,74 +165,73 @@ fn refused(_: &mut Random) -> Vec<FileCall> {
 }
 
 /// A file with some of its bytes replaced.
-fn patched(file: &[u8], patches: &[(usize, &[u8])]) -> Vec<u8> {
+fn patched(file: &[u8], at: usize, bytes: &[u8]) -> Vec<u8> {
     let mut file = file.to_vec();
-    for (place, bytes) in patches {
-        file[*place..*place + bytes.len()].copy_from_slice(bytes);
-    }
+    file[at..at + bytes.len()].copy_from_slice(bytes);
     file
 }
 
-/// The kinds of each number that `fault` does not choose, in the header and then in a row.
-fn other_kinds(_: &mut Random) -> Vec<FileCall> {
+/// The kinds of the header's numbers that `fault` does not choose.
+fn header_kinds(_: &mut Random) -> Vec<FileCall> {
     let file = three_rows().file(&samples::ring());
-    let length = file.len() as u32;
-    let body = u32::from_le_bytes(file[row_at(1) + 8..row_at(1) + 12].try_into().unwrap());
-    let long = (LIMIT as u32 + 1).to_le_bytes();
-    let header: [(u32, usize, &[u8]); 8] = [
+    let length = (file.len() as u32 - 1).to_le_bytes();
+    let kinds: [(u32, usize, &[u8]); 8] = [
         (21, 0, &[0]),
         (21, 1, &[1]),
         (21, 0, &[0xff, 0xff]),
         (22, 2, &[0xff, 0xff]),
-        (23, 4, &(length - 1).to_le_bytes()),
+        (23, 4, &length),
         (23, 4, &[0; 4]),
         (23, 7, &[1]),
         (24, 2, &[100]),
     ];
-    let row: [(u32, usize, &[u8]); 20] = [
-        (25, 0, &[0; 4]),
-        (25, 0, &[9]),
-        (26, 4, &[0]),
-        (26, 4, &[5]),
-        (26, 4, &[255]),
-        (26, 5, &[255]),
-        (27, 6, &[4]),
-        (27, 6, &[0]),
-        (27, 6, &[1, 4]),
-        (27, 6, &[0xff, 0xff]),
-        (27, 12, &long),
-        (27, 12, &[0xff; 4]),
-        (28, 8, &(body - 1).to_le_bytes()),
-        (28, 8, &(body + 1).to_le_bytes()),
-        (28, 8, &[0; 4]),
-        (28, 8, &[0xff; 4]),
-        (28, 12, &[0, 0, 1]),
-        (30, 0, &[21]),
-        (30, 3, &[0x80]),
-        (28, 4, &[3, 2, 0, 4]),
-    ];
-    let header = header.map(|(number, at, bytes)| expected(patched(&file, &[(at, bytes)]), number, 0));
-    let row = row.map(|(number, at, bytes)| expected(patched(&file, &[(row_at(1) + at, bytes)]), number, 1));
-    header.into_iter().chain(row).chain(bodies(&file, body as usize)).collect()
+    kinds.map(|(number, at, bytes)| expected(patched(&file, at, bytes), number, 0)).to_vec()
 }
 
-/// Associated data too long, faults in the body of row 1, at the file's end, and a table that is cut short.
-fn bodies(file: &[u8], body: usize) -> Vec<FileCall> {
+/// The kinds of a row's numbers that `fault` does not choose, in row 1 and in its body.
+fn row_kinds(_: &mut Random) -> Vec<FileCall> {
+    let file = three_rows().file(&samples::ring());
+    let at = row_at(1);
+    let body = u32::from_le_bytes(file[at + 8..at + 12].try_into().unwrap());
+    let numbers = |number: u32, place: usize, values: &[u32]| -> Vec<FileCall> {
+        let width = if place == 6 { 2 } else { 4 };
+        let patch = |value: &u32| expected(patched(&file, at + place, &value.to_le_bytes()[..width]), number, 1);
+        values.iter().map(patch).collect()
+    };
+    let bytes = |number: u32, at: usize, values: &[u8]| -> Vec<FileCall> {
+        values.iter().map(|value| expected(patched(&file, at, &[*value]), number, 1)).collect()
+    };
+    [
+        numbers(25, 0, &[0, 9]),
+        bytes(26, at + 4, &[0, 5, 255]),
+        bytes(26, at + 5, &[255]),
+        numbers(27, 6, &[0, 4, 1025, 0xffff]),
+        numbers(27, 12, &[LIMIT as u32 + 1, u32::MAX]),
+        numbers(28, 6, &[1024]),
+        numbers(28, 8, &[0, body - 1, body + 1, u32::MAX]),
+        numbers(28, 12, &[LIMIT as u32]),
+        numbers(30, 0, &[21, 20 + (1 << 31)]),
+        (0..4).flat_map(|place| bytes(30, body as usize + place, &[21])).collect(),
+        bytes(30, body as usize + 4, &[0, 3, 255]),
+    ]
+    .concat()
+}
+
+/// Associated data too long, a last body and a table that are cut short, and bytes after the end.
+fn ends(_: &mut Random) -> Vec<FileCall> {
     let mut long = three_rows();
     long.entries[1].ad.resize(1025, 0);
     let mut calls = vec![expected(long.file(&samples::ring()), 27, 1)];
-    for (place, byte) in [(0, 21), (1, 1), (2, 1), (3, 1), (4, 0), (4, 3), (4, 255)] {
-        calls.push(expected(patched(file, &[(body + place, &[byte])]), 30, 1));
-    }
+    let cut = |file: &[u8], length: usize| patched(&file[..length], 4, &[length as u8]);
+    let file = three_rows().file(&samples::ring());
     for length in [file.len() - 1, file.len() - 20] {
         calls.push(expected(file[..length].to_vec(), 23, 0));
-        calls.push(expected(patched(&file[..length], &[(4, &[length as u8])]), 28, 2));
+        calls.push(expected(cut(&file, length), 28, 2));
     }
     for length in [8, 9, 39] {
-        let short = patched(&smallest()[..length], &[(4, &[length as u8])]);
-        calls.push(expected(short, 24, 0));
+        calls.push(expected(cut(&smallest(), length), 24, 0));
     }
-    calls.push(expected(patched(&smallest()[..40], &[(4, &[40])]), 28, 0));
+    calls.push(expected(cut(&smallest(), 40), 28, 0));
     calls.push(expected(vec![1, 0, 0, 0, 9, 0, 0, 0, 0], 31, 0));
     calls.push(expected(vec![1, 0, 0, 0, 8, 0, 0, 0, 0], 23, 0));
     calls
@@ -323,7 +318,8 @@ fn good_files(random: &mut Random) -> Vec<FileCall> {
 /// All calls of the program that are one answer each.
 pub fn calls() -> Vec<FileCall> {
     let mut random = Random::new(3);
-    let groups = [worked, full_tables, longest_files, refused, other_kinds, just_good, openings, good_files];
+    let groups =
+        [worked, full_tables, longest_files, refused, header_kinds, row_kinds, ends, just_good, openings, good_files];
     groups.into_iter().flat_map(|group| group(&mut random)).collect()
 }
 
@@ -335,7 +331,7 @@ pub fn damaged_calls() -> [FileCall; 2] {
 pub fn parts() -> [Part; 2] {
     let (calls, damaged) = (calls(), damaged_calls());
     let mut stdin: Vec<u8> = calls.iter().flat_map(|call| call.record(0)).collect();
-    let mut stdout: String = calls.iter().map(FileCall::line).collect();
+    let mut stdout: String = calls.iter().map(|call| call.line(&REFERENCE)).collect();
     for call in damaged {
         stdin.extend(call.record(1));
         stdout += &call.damage_lines();

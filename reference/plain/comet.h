@@ -1,0 +1,21 @@
+/* The yardstick: COMET version 1 under the four suites and the shift file's check, in plain C. */
+#ifndef PLAIN_COMET_H
+#define PLAIN_COMET_H
+
+#include <stddef.h>
+#include <stdint.h>
+
+/* Document 01's number: 0, or 1 to 7 with out and tag unchanged. */
+uint32_t plain_seal(uint8_t suite, const uint8_t *key, size_t key_len, const uint8_t *nonce, size_t nonce_len,
+                    const uint8_t *ad, size_t ad_len, const uint8_t *msg, size_t msg_len,
+                    uint8_t *out, size_t out_len, uint8_t *tag, size_t tag_len);
+
+/* The same with 8 for a wrong tag, where every byte of out is 0. */
+uint32_t plain_open(uint8_t suite, const uint8_t *key, size_t key_len, const uint8_t *nonce, size_t nonce_len,
+                    const uint8_t *ad, size_t ad_len, const uint8_t *text, size_t text_len,
+                    const uint8_t *tag, size_t tag_len, uint8_t *out, size_t out_len);
+
+/* 0, or 20 to 31; *row is the row of 25 to 30, else 0. */
+uint32_t plain_check(const uint8_t *file, size_t file_len, uint32_t *row);
+
+#endif

@@ -1,0 +1,131 @@
+//! The yardstick: throughput of the proved library as a ratio to the reference and to the plain C, on the same
+//! buffers in one run. A ratio above 1 says that the proved library is the faster.
+//!
+//!     bench [REPETITIONS]
+
+use reference::calls::{Call, REFERENCE};
+use reference::data::{cases, samples};
+use reference::draft::{Draft, Entry};
+use reference::linked::{PLAIN, PROVED};
+use reference::random::Random;
+use reference::shift;
+use std::hint::black_box;
+use std::time::{Duration, Instant};
+
+const SIZES: [usize; 4] = [0, 64, 1_024, 65_536];
+const BATCH: Duration = Duration::from_micros(300);
+const LIBRARIES: [reference::calls::Library; 3] = [PROVED, REFERENCE, PLAIN];
+
+/// Nanoseconds of one turn, over a batch of them.
+fn time(turns: usize, turn: &mut dyn FnMut()) -> f64 {
+    let start = Instant::now();
+    (0..turns).for_each(|_| turn());
+    start.elapsed().as_nanos() as f64 / turns as f64
+}
+
+fn median(mut values: Vec<f64>) -> f64 {
+    values.sort_by(f64::total_cmp);
+    values[values.len() / 2]
+}
+
+/// What a measurement gives: nanoseconds of the proved library, and its throughput as a ratio to each other.
+#[derive(Clone, Copy)]
+struct Measured {
+    ours: f64,
+    to_reference: f64,
+    to_plain: f64,
+}
+
+impl Measured {
+    /// The ratio to the better of the two, as it is printed.
+    fn ratio(&self) -> f64 {
+        (100.0 * self.to_reference.min(self.to_plain)).round() / 100.0
+    }
+}
+
+/// Medians over repetitions in which the three take turns; each goes first equally often.
+fn measure(repetitions: usize, run: &mut dyn FnMut(usize)) -> Measured {
+    let once = time(3, &mut || run(2)).max(1.0);
+    let turns = (BATCH.as_nanos() as f64 / once).ceil() as usize;
+    let mut times: [Vec<f64>; 3] = Default::default();
+    for repetition in 0..repetitions + 3 {
+        for which in (0..3).map(|i| (i + repetition) % 3) {
+            let nanoseconds = time(turns, &mut || run(which));
+            if repetition >= 3 {
+                times[which].push(nanoseconds);
+            }
+        }
+    }
+    let ratio = |other: usize| median(times[other].iter().zip(&times[0]).map(|(other, ours)| other / ours).collect());
+    Measured { to_reference: ratio(1), to_plain: ratio(2), ours: median(times[0].clone()) }
+}
+
+/// Sealing or opening one record with the shift file's shortest associated data.
+fn measure_record(repetitions: usize, call: &Call) -> Measured {
+    let (mut out, mut tag) = (vec![0; call.out], call.tag.clone());
+    let Call { suite, key, nonce, ad, text, .. } = call;
+    measure(repetitions, &mut |which| {
+        let by = &LIBRARIES[which];
+        let number = if call.opens {
+            (by.open)(*suite, key, nonce, ad, black_box(text), &call.tag, &mut out)
+        } else {
+            (by.seal)(*suite, key, nonce, ad, black_box(text), &mut out, &mut tag)
+        };
+        assert_eq!(number, 0);
+        black_box((&out, &tag));
+    })
+}
+
+/// A file of one suite with as many messages of a size as it has room for, at most 512.
+fn file(random: &mut Random, suite: u8, size: usize) -> (usize, Vec<u8>) {
+    let rows = ((shift::LONGEST - shift::HEADER) / (shift::ROW + 5 + size + 16)).min(shift::MOST_ROWS);
+    let entry = |job| Entry::new(job as u32, suite, 0, 1, random.array(), &vec![0; size]);
+    (rows, Draft::new((0..rows).map(entry).collect()).file(&samples::ring()))
+}
+
+fn measure_check(repetitions: usize, file: &[u8]) -> Measured {
+    measure(repetitions, &mut |which| assert_eq!((LIBRARIES[which].check)(black_box(file)).0, 0))
+}
+
+fn line(suite: u8, what: &str, size: usize, m: Measured) {
+    let has_bytes = size > 0 && !what.starts_with("check");
+    let per_byte = if has_bytes { format!("{:.3}", m.ours / size as f64) } else { "-".to_string() };
+    println!("| {suite} | {what} | {size} | {:.0} | {per_byte} | {:.2} | {:.2} |", m.ours, m.to_reference, m.to_plain);
+}
+
+/// The targets of the base for sealing and opening; gives what is missed.
+fn misses(suite: u8, what: &str, measured: &[Measured; 4]) -> Vec<String> {
+    let mut missed = vec![];
+    for (i, target) in [(1, 0.9), (2, 1.0), (3, 1.0)] {
+        if measured[i].ratio() < target {
+            missed.push(format!("suite {suite}, {what} {} bytes: {:.2}, not {target}", SIZES[i], measured[i].ratio()));
+        }
+    }
+    let per_byte = |i: usize| measured[i].ours / SIZES[i] as f64;
+    if per_byte(3) > 1.1 * per_byte(2) {
+        missed.push(format!("suite {suite}, {what}: a byte costs more at 65536 than at 1024 by over a tenth"));
+    }
+    missed
+}
+
+fn main() {
+    let repetitions = std::env::args().nth(1).map_or(101, |count| count.parse().expect("REPETITIONS is a number"));
+    let mut random = Random::new(1);
+    let mut missed = vec![];
+    println!("| suite | what | message bytes | ours, ns | ns a byte | ours / reference | ours / plain C |");
+    println!("|---|---|---|---|---|---|---|");
+    for suite in 1..=4 {
+        let calls = SIZES.map(|size| cases::sealing(&mut random, suite, 5, size));
+        for (what, calls) in [("seal", calls.clone()), ("open", calls.map(|call| call.reopened()))] {
+            let measured = calls.each_ref().map(|call| measure_record(repetitions, call));
+            (0..4).for_each(|i| line(suite, what, SIZES[i], measured[i]));
+            missed.extend(misses(suite, what, &measured));
+        }
+        for size in SIZES {
+            let (rows, file) = file(&mut random, suite, size);
+            line(suite, &format!("check, {rows} rows"), size, measure_check(repetitions, &file));
+        }
+    }
+    println!("\n{} targets missed", missed.len());
+    missed.iter().for_each(|miss| println!("- {miss}"));
+}

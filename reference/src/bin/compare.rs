@@ -1,0 +1,94 @@
+//! Compares the proved library, and the plain C of the yardstick, with the reference: every answer and every
+//! byte of what is lent, over random and edge inputs. Ends with status 1 where anything differs.
+//!
+//!     compare [SEED]
+
+use reference::calls::{Call, FileCall, Library, REFERENCE};
+use reference::data::{cases, files};
+use reference::linked::{PLAIN, PROVED};
+use reference::random::Random;
+use reference::show::hex;
+use reference::trials;
+
+const LIBRARIES: [(&str, Library); 2] = [("the proved library", PROVED), ("the plain C", PLAIN)];
+
+const SHOWN_DIFFERENCES: usize = 10;
+
+#[derive(Default)]
+struct Tally {
+    cases: usize,
+    differences: usize,
+    reported: usize,
+}
+
+impl Tally {
+    /// Counts a difference, and writes the first few: who, the call, its answer and the reference's.
+    fn differs(&mut self, by: &str, record: &[u8], got: String, expected: String) {
+        self.differences += 1;
+        if self.differences <= SHOWN_DIFFERENCES {
+            println!("DIFFERENCE of {by} in the call {}\n  {got}  {expected}", hex(record));
+        }
+    }
+
+    fn call(&mut self, call: &Call) {
+        self.cases += 1;
+        let expected = call.answer(&REFERENCE);
+        for (by, library) in LIBRARIES {
+            if call.answer(&library) != expected {
+                self.differs(by, &call.record(), call.line(&library), call.line(&REFERENCE));
+            }
+        }
+    }
+
+    fn file(&mut self, call: &FileCall) {
+        self.cases += 1;
+        let expected = call.answer(&REFERENCE);
+        for (by, library) in LIBRARIES {
+            if call.answer(&library) != expected {
+                self.differs(by, &call.record(0), call.line(&library), call.line(&REFERENCE));
+            }
+        }
+    }
+
+    /// One line for the cases since the last one.
+    fn report(&mut self, group: &str) {
+        println!("{:>7} cases: {group}", self.cases - self.reported);
+        self.reported = self.cases;
+    }
+}
+
+fn compare_records(tally: &mut Tally, random: &mut Random) {
+    cases::calls().iter().for_each(|call| tally.call(call));
+    tally.report("the calls of the program cases");
+    trials::lengths(random, |call| tally.call(call));
+    tally.report("all lengths up to 3 blocks + 1, good and damaged");
+    trials::faults(random, |call| tally.call(call));
+    tally.report("refusals, alone and in pairs");
+    trials::limits(random, |call| tally.call(call));
+    tally.report("lengths around 65,536");
+    trials::records(random, 30_000, |call| tally.call(call));
+    tally.report("random records, good, damaged and faulty");
+}
+
+fn compare_files(tally: &mut Tally, random: &mut Random) {
+    files::calls().iter().for_each(|call| tally.file(call));
+    tally.report("the calls of the program files");
+    trials::single_bytes(|call| tally.file(call));
+    tally.report("every single-byte damage of two small files");
+    trials::shift_files(random, 60_000, |call| tally.file(call));
+    tally.report("random shift files, good and edited");
+    trials::long_files(random, |call| tally.file(call));
+    tally.report("long shift files");
+}
+
+fn main() {
+    let seed = std::env::args().nth(1).map_or(2026, |seed| seed.parse().expect("SEED is a number"));
+    let mut tally = Tally::default();
+    let mut random = Random::new(seed);
+    compare_records(&mut tally, &mut random);
+    compare_files(&mut tally, &mut random);
+    println!("{} cases, {} differences", tally.cases, tally.differences);
+    if tally.differences > 0 {
+        std::process::exit(1);
+    }
+}

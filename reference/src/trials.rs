@@ -1,0 +1,226 @@
+//! Random and edge inputs for the comparison with the proved library.
+
+use crate::calls::{Call, FileCall, FILLER};
+use crate::comet::{block_size, LIMIT};
+use crate::data::{cases, files, samples};
+use crate::draft::row_at;
+use crate::random::Random;
+use crate::shift;
+
+/// Each pair of lengths from 0 to 3 blocks + 1 under each suite: sealed, opened, and opened with one bit wrong.
+pub fn lengths(random: &mut Random, mut each: impl FnMut(&Call)) {
+    for suite in 1..=4 {
+        let all = 3 * block_size(suite) + 2;
+        for (ad, message) in (0..all * all).map(|i| (i / all, i % all)) {
+            let sealing = cases::sealing(random, suite, ad, message);
+            let opening = sealing.reopened();
+            each(&sealing);
+            each(&opening);
+            each(&damaged(random, opening));
+        }
+    }
+}
+
+/// One bit wrong, somewhere in the call's inputs.
+fn damaged(random: &mut Random, mut call: Call) -> Call {
+    let parts = [&mut call.key, &mut call.nonce, &mut call.ad, &mut call.text, &mut call.tag];
+    let mut bytes: Vec<&mut u8> = parts.into_iter().flatten().collect();
+    let place = random.below(bytes.len());
+    *bytes[place] ^= 1 << random.below(8);
+    call
+}
+
+/// Each number's fault alone and in all pairs, in all kinds, for the sealer and the opener of each suite.
+pub fn faults(random: &mut Random, mut each: impl FnMut(&Call)) {
+    for (suite, opens) in (1..=4).flat_map(|suite| [(suite, false), (suite, true)]) {
+        let last = if opens { 8 } else { 7 };
+        for (first, second) in (1..=last).flat_map(|first| (first..=last).map(move |second| (first, second))) {
+            for turn in 0..5 {
+                let message = 1 + random.below(40);
+                let sealing = cases::sealing(random, suite, 5, message);
+                let mut call = if opens { sealing.reopened() } else { sealing };
+                cases::fault(&mut call, second, turn);
+                if first != second {
+                    cases::fault(&mut call, first, turn + 1);
+                }
+                each(&call);
+            }
+        }
+    }
+}
+
+/// Lengths around the limit of associated data and message: sealed, opened, and opened with one bit wrong.
+pub fn limits(random: &mut Random, mut each: impl FnMut(&Call)) {
+    let around = [LIMIT - 1, LIMIT, LIMIT + 1];
+    for suite in 1..=4 {
+        for (ad, message) in around.iter().flat_map(|long| [(*long, 9), (5, *long), (*long, *long)]) {
+            let sealing = cases::sealing(random, suite, ad, message);
+            each(&sealing);
+            if ad <= LIMIT && message <= LIMIT {
+                let opening = sealing.reopened();
+                each(&opening);
+                each(&damaged(random, opening));
+            } else {
+                each(&Call { opens: true, ..sealing });
+            }
+        }
+    }
+}
+
+/// A length: mostly short, often at the border of a block, seldom long.
+fn length(random: &mut Random) -> usize {
+    match random.below(20) {
+        0 => random.below(5_000),
+        1 => 1_024,
+        2..=6 => (8 * random.below(20) + random.below(3)).max(1) - 1,
+        _ => random.below(70),
+    }
+}
+
+/// Records of random lengths; half of them opened, of these half damaged; one in eight with a fault or two.
+pub fn records(random: &mut Random, count: usize, mut each: impl FnMut(&Call)) {
+    for _ in 0..count {
+        let suite = 1 + random.below(4) as u8;
+        let (ad, message) = (length(random), length(random));
+        let mut call = cases::sealing(random, suite, ad, message);
+        if random.below(2) == 0 {
+            call = call.reopened();
+            if random.below(2) == 0 {
+                call = damaged(random, call);
+            }
+        }
+        for _ in 0..[0, 0, 0, 0, 0, 0, 0, 1 + random.below(2)][random.below(8)] {
+            let (number, turn) = ([7, 6, 3, 2, 1][random.below(5)], random.below(7));
+            cases::fault(&mut call, number, turn);
+        }
+        each(&call);
+    }
+}
+
+/// The calls whose files are damaged in every byte, each damage a call.
+pub fn single_bytes(mut each: impl FnMut(&FileCall)) {
+    for call in files::damaged_calls() {
+        let mut damaged = call.clone();
+        for place in 0..call.file.len() {
+            for x in 1..=255 {
+                damaged.file[place] = call.file[place] ^ x;
+                each(&damaged);
+            }
+            damaged.file[place] = call.file[place];
+        }
+    }
+}
+
+/// Good files with none to three edits each, a job that may be there, and now and then a wrong ring or output.
+pub fn shift_files(random: &mut Random, count: usize, mut each: impl FnMut(&FileCall)) {
+    for _ in 0..count {
+        let (rows, longest) = (random.below(9), [0, 20, 100][random.below(3)]);
+        let draft = files::random_draft(random, rows, longest);
+        let mut call = FileCall { file: draft.file(&samples::ring()), ring: samples::ring(), job: 5, out: 0 };
+        if rows > 0 {
+            let entry = &draft.entries[random.below(rows)];
+            (call.job, call.out) = (entry.job, entry.message.len());
+        }
+        for _ in 0..random.below(4) {
+            edit(random, &mut call.file, rows);
+        }
+        misuse(random, &mut call);
+        each(&call);
+    }
+}
+
+/// One call in eight gets another job, ring or output.
+fn misuse(random: &mut Random, call: &mut FileCall) {
+    match random.below(24) {
+        0 => call.job = call.job.wrapping_add(random.below(3) as u32).wrapping_sub(1),
+        1 => call.ring.resize([0, 255, 257, 16][random.below(4)], FILLER),
+        2 => call.out = [call.out + 1, call.out.max(1) - 1, 0, 300][random.below(4)],
+        _ => {}
+    }
+}
+
+/// One edit of a file: in the header, of a row, of any byte, or of its length.
+fn edit(random: &mut Random, file: &mut Vec<u8>, rows: usize) {
+    match random.below(8) {
+        0 => edit_header(random, file),
+        1 | 2 if !file.is_empty() => {
+            let place = random.below(file.len());
+            file[place] ^= 1 << random.below(8);
+        }
+        3 => {
+            let length = (file.len() + random.below(40)).max(20) - 20;
+            file.resize(length, 0);
+            if random.below(4) > 0 {
+                put(file, 4, &(length as u32).to_le_bytes());
+            }
+        }
+        _ if rows > 0 => edit_row(random, file, rows),
+        _ => {}
+    }
+}
+
+/// Writes bytes where the file has them.
+fn put(file: &mut [u8], at: usize, bytes: &[u8]) {
+    if at + bytes.len() <= file.len() {
+        file[at..at + bytes.len()].copy_from_slice(bytes);
+    }
+}
+
+fn edit_header(random: &mut Random, file: &mut [u8]) {
+    let number = [0, 1, 2, 3, 4, 512, 513, 0xffff][random.below(8)] as u16;
+    let at = 2 * random.below(4);
+    put(file, at, &number.to_le_bytes());
+}
+
+/// The number at a place, 0 where the file ends before it.
+fn u32_at(file: &[u8], at: usize) -> u32 {
+    file.get(at..at + 4).map_or(0, |bytes| u32::from_le_bytes(bytes.try_into().unwrap()))
+}
+
+/// A number near what stands at a place, or at an edge of what the check allows.
+fn near(random: &mut Random, file: &[u8], at: usize, edges: &[u32]) -> [u8; 4] {
+    let old = u32_at(file, at);
+    let step = random.below(5) as u32;
+    let edge = edges[random.below(edges.len())];
+    if random.below(2) == 0 { old.wrapping_add(step).wrapping_sub(2) } else { edge }.to_le_bytes()
+}
+
+/// An edit of a field of a row, or of the job number and unit at the start of its body.
+fn edit_row(random: &mut Random, file: &mut [u8], rows: usize) {
+    let (row, other) = (row_at(random.below(rows)), row_at(random.below(rows)));
+    let (at, bytes) = match random.below(8) {
+        0 => (row, near(random, file, other, &[0, u32::MAX]).to_vec()),
+        1 => (row + 4, vec![random.below(7) as u8]),
+        2 => (row + 5, vec![13 + random.below(5) as u8]),
+        3 => (row + 6, near(random, file, row + 6, &[0, 4, 5, 1024, 1025])[..2].to_vec()),
+        4 => (row + 8, near(random, file, row + 8, &[0, 8, 40, u32::MAX]).to_vec()),
+        5 => (row + 12, near(random, file, row + 12, &[0, 65_536, 65_537, u32::MAX]).to_vec()),
+        6 => (row + 16, file.get(other + 16..other + 32).unwrap_or_default().to_vec()),
+        _ => (u32_at(file, row + 8) as usize + random.below(5), vec![random.below(4) as u8]),
+    };
+    put(file, at, &bytes);
+}
+
+/// Long files: a table of 512 rows and one of 513 with edits, and files around the longest length.
+pub fn long_files(random: &mut Random, mut each: impl FnMut(&FileCall)) {
+    for rows in [512, 513] {
+        let good = files::many_rows(rows);
+        for turn in 0..40 {
+            let mut file = good.clone();
+            if turn > 0 {
+                edit_row(random, &mut file, rows);
+            }
+            let job = 10 * random.below(rows) as u32;
+            each(&FileCall { file, ring: samples::ring(), job, out: 0 });
+        }
+    }
+    let longest = files::longest();
+    for length in [shift::LONGEST - 1, shift::LONGEST, shift::LONGEST + 1] {
+        for job in 0..=17 {
+            let mut file = longest.clone();
+            file.resize(length, 0);
+            put(&mut file, 4, &(length as u32).to_le_bytes());
+            each(&FileCall { file, ring: samples::ring(), job, out: LIMIT });
+        }
+    }
+}

@@ -1,0 +1,37 @@
+//! The data of the test programs: it provokes every number, and the repository's files are what is generated.
+
+use reference::calls::REFERENCE;
+use reference::data::{cases, files, parts, FOLDERS};
+use std::collections::BTreeSet;
+use std::path::Path;
+
+#[test]
+fn cases_provoke_every_number() {
+    let numbers = |opens: bool| -> BTreeSet<u32> {
+        let calls = cases::calls().into_iter().filter(|call| call.opens == opens);
+        calls.map(|call| call.answer(&REFERENCE).number).collect()
+    };
+    assert_eq!(numbers(false), (0..=7).collect());
+    assert_eq!(numbers(true), (0..=8).collect());
+}
+
+#[test]
+fn files_provoke_every_number() {
+    let answers: Vec<_> = files::calls().iter().map(|call| call.answer(&REFERENCE)).collect();
+    let checks: BTreeSet<u32> = answers.iter().map(|answer| answer.check.0).collect();
+    let opens: BTreeSet<u32> = answers.iter().map(|answer| answer.open.0).collect();
+    assert_eq!(checks, [0].into_iter().chain(20..=31).collect());
+    assert_eq!(opens, [0, 2, 6, 8].into_iter().chain(20..=32).collect());
+}
+
+/// Holds for each folder that is there.
+#[test]
+fn the_repository_has_what_is_generated() {
+    for name in FOLDERS {
+        let folder = Path::new(env!("CARGO_MANIFEST_DIR")).join("..").join(name);
+        for (part, bytes) in parts(name).into_iter().filter(|_| folder.is_dir()) {
+            let found = std::fs::read(folder.join(part)).unwrap_or_default();
+            assert!(found == bytes, "{name}/{part} is not what `generate` writes");
+        }
+    }
+}
