@@ -6,6 +6,7 @@ use native.Mathlib.Nat.{pow-succ', pow-suc, mod-lt, zero-lt-suc, mul-comm, mul-a
 use native.Mathlib.Omega.{arith}
 use lib.ListN.{length, take, drop}
 use lib.Arith.{mod-mul}
+use lib.Pow.{pow-add}
 use Rattle.words.specs.Bytes.{AllBytes, value, bytes, part, word}
 use Rattle.words.proofs.Lists.{all-tail, length-part, all-part, part-take}
 
@@ -51,6 +52,13 @@ bytes-value (b ∷ l) h =
 -- so a number is known by its bytes
 pub bytes-inj : (n : ℕ) {x y : ℕ} → x < 256 ^ n → y < 256 ^ n → bytes n x ≡ bytes n y → x ≡ y
 bytes-inj n {x} {y} hx hy e = sym (value-bytes n x hx) ∙ ap value e ∙ value-bytes n y hy
+
+-- n bytes reach as far as 8 n bits
+pub reach : (n : ℕ) → 256 ^ n ≡ 2 ^ (8 * n)
+reach zero = refl
+reach (suc n) =
+    let e : 8 * suc n ≡ 8 * n + 8 = omega arith in
+    pow-suc 256 n ∙ ap (λ (m : ℕ). m * 256) (reach n) ∙ sym (ap (λ (m : ℕ). 2 ^ m) e ∙ pow-add 2 (8 * n) 8)
 
 -- ---- the word at a place of a list
 

@@ -7,3 +7,4 @@ pub mod Xors
 pub mod Fill
 pub mod Table
 pub mod Blocks
+pub mod Outcomes

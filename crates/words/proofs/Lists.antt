@@ -5,7 +5,7 @@ use Prim.Native.Nat.{ℕ, zero, suc, _+_, _-_, _≤_, _<_}
 use native.Mathlib.Numerals.{add-one}
 use native.Mathlib.Omega.{arith}
 use lib.ListN.{length, getD, set, take, drop, replicate, drop-of-length-le, take-append-drop, length-drop}
-use lib.Seq.{drop-cons, take-all, sets, sets-eq}
+use lib.Seq.{drop-cons, take-all, take-at, drop-at, take-append-seam, drop-append-seam, sets, sets-eq}
 use Rattle.words.specs.Bytes.{AllBytes, part, Each}
 
 pub nil-of : (l : List ℕ) → length l ≡ 0 → l ≡ []
@@ -92,3 +92,10 @@ pub two-takes : (n : ℕ) (b : List ℕ) → length b ≡ n + n → take n b ++ 
 two-takes n b e =
     ap (λ (x : List ℕ). take n b ++ x) (take-all n (drop n b) (omega (arith, length-drop n b)))
     ∙ take-append-drop n b
+
+-- two parts of known length, side by side, are known from the whole
+pub append-inj : (p q s t : List ℕ) → length p ≡ length s → p ++ q ≡ s ++ t → (p ≡ s) × (q ≡ t)
+append-inj p q s t n e = (
+  sym (take-append-seam p q) ∙ ap (take (length p)) e ∙ take-at s t (length p) (sym n),
+  sym (drop-append-seam p q) ∙ ap (drop (length p)) e ∙ drop-at s t (length p) (sym n),
+)

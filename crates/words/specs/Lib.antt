@@ -3,3 +3,4 @@ pub mod Words
 pub mod Bytes
 pub mod Xors
 pub mod Blocks
+pub mod Outcome

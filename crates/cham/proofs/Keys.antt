@@ -1,0 +1,31 @@
+-- The table of round keys, one word of the key at a time: over the width w.
+use mathlib.Core.Path.{_≡_, ap, ap₂, _∙_}
+use mathlib.Core.List.{List}
+use Prim.Native.Nat.{ℕ, _+_, _*_, _^_, _<_}
+use native.Mathlib.Nat.{pow-suc}
+use native.Mathlib.Numerals.{add-one}
+use native.Mathlib.Omega.{arith}
+use lib.Bits.{bitXor}
+use lib.Pow.{pow-pos}
+use lib.ListN.{set}
+use Rattle.words.specs.Words.{xor}
+use Rattle.words.proofs.Xor.{below}
+use Rattle.cham.specs.Cham.{keyWord, mixed, secondPlace, placed}
+
+-- the second place is within the table, as the code works it out
+pub place-lt : (e i : ℕ) → i < 2 ^ e → bitXor (i + 2 ^ e) 1 < 2 ^ (e + 1)
+unfolding xor
+place-lt e i h =
+    let p : 2 ^ (e + 1) ≡ 2 ^ e * 2 = ap (λ (n : ℕ). 2 ^ n) (add-one e) ∙ pow-suc 2 e in
+    let a : i + 2 ^ e < 2 ^ (e + 1) = omega arith in
+    let b : 1 < 2 ^ (e + 1) = omega (arith, pow-pos e) in
+    below (e + 1) a b
+
+-- word i of the key puts in its two round keys
+pub one-more : (w : ℕ) (key keys : List ℕ) (i k a b : ℕ) → keys ≡ placed w key i → k ≡ keyWord w key i → a ≡ mixed w 8 k → b ≡ mixed w 11 k
+    → set (set keys i a) (secondPlace w i) b ≡ placed w key (i + 1)
+unfolding placed
+one-more w key keys i k a b p q r s =
+    rw add-one
+    (ap₂ (λ (l : List ℕ) (x : ℕ). set (set l i x) (secondPlace w i) b) p (r ∙ ap (mixed w 8) q)
+    ∙ ap (set (set (placed w key i) i (mixed w 8 (keyWord w key i))) (secondPlace w i)) (s ∙ ap (mixed w 11) q))

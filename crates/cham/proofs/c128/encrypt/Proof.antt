@@ -1,0 +1,120 @@
+-- `cham::c128::encrypt` meets its contract: before round i the loop holds the state after i rounds, and i goes by fours.
+use borrow.Author.Needs.{needs}
+use Prim.Native.Nat.{_≤_, _-_, _%_}
+use mathlib.Core.Path.{_≡_, refl}
+use native.Mathlib.Omega.{arith}
+use Rattle.cham.specs.declared.c128.Words.{Words}
+use Rattle.cham.specs.Cham.{State, state, rounds}
+use Rattle.cham.proofs.Rounds.{same-state, four, done}
+use Rattle.cham.proofs.c128.encrypt.Statement.{statement}
+use Rattle.cham.proofs.c128.encrypt.Tie as tie
+
+abbrev told : Words → State
+told x = state (x .s0) (x .s1) (x .s2) (x .s3)
+
+abbrev Inv-loop : tie.InvT-loop
+Inv-loop keys s₀ i₀ s i = (i ≤ 80) × (i % 4 ≡ 0) × (rounds 32 keys (told s₀) i ≡ told s)
+
+abbrev μ-loop : tie.MeasureT-loop
+μ-loop keys s₀ i₀ s i = 80 - i
+
+round-keys-requires : tie.Need-round-keys-requires Inv-loop μ-loop
+round-keys-requires c κs = search needs
+
+words-of-requires : tie.Need-words-of-requires Inv-loop μ-loop
+words-of-requires c κs = search needs
+
+loop-holds : tie.Need-loop-holds Inv-loop μ-loop
+unfolding rounds
+loop-holds c = (omega arith, omega arith, refl)
+
+mul-four-rounds : tie.Need-mul-four-rounds Inv-loop μ-loop
+mul-four-rounds c = search needs
+
+array-read-four-rounds : tie.Need-array-read-four-rounds Inv-loop μ-loop
+array-read-four-rounds c = search needs
+
+add-four-rounds : tie.Need-add-four-rounds Inv-loop μ-loop
+add-four-rounds c = search needs
+
+mul-four-rounds-2 : tie.Need-mul-four-rounds-2 Inv-loop μ-loop
+mul-four-rounds-2 c = search needs
+
+array-read-four-rounds-2 : tie.Need-array-read-four-rounds-2 Inv-loop μ-loop
+array-read-four-rounds-2 c = search needs
+
+add-four-rounds-2 : tie.Need-add-four-rounds-2 Inv-loop μ-loop
+add-four-rounds-2 c = search needs
+
+mul-four-rounds-3 : tie.Need-mul-four-rounds-3 Inv-loop μ-loop
+mul-four-rounds-3 c = search needs
+
+array-read-four-rounds-3 : tie.Need-array-read-four-rounds-3 Inv-loop μ-loop
+array-read-four-rounds-3 c = search needs
+
+add-four-rounds-3 : tie.Need-add-four-rounds-3 Inv-loop μ-loop
+add-four-rounds-3 c = search needs
+
+mul-four-rounds-4 : tie.Need-mul-four-rounds-4 Inv-loop μ-loop
+mul-four-rounds-4 c = search needs
+
+array-read-four-rounds-4 : tie.Need-array-read-four-rounds-4 Inv-loop μ-loop
+array-read-four-rounds-4 c = search needs
+
+cast-four-rounds : tie.Need-cast-four-rounds Inv-loop μ-loop
+cast-four-rounds c = search needs
+
+four-rounds-requires : tie.Need-four-rounds-requires Inv-loop μ-loop
+four-rounds-requires c κs = search needs
+
+add-i : tie.Need-add-i Inv-loop μ-loop
+add-i c = search needs
+
+loop-less : tie.Need-loop-less Inv-loop μ-loop
+loop-less c = search needs
+
+loop-again : tie.Need-loop-again Inv-loop μ-loop
+loop-again c =
+    let l = c .before .before .loop in
+    let e = c .four-rounds .ensures in
+    (omega arith, omega arith, four _ _ _ (l .i) _ _ _ _ _ _ _ _ (l .inv .1) (l .inv .2) (e .0) (e .1) (e .2) (e .3))
+
+store4-32-requires : tie.Need-store4-32-requires Inv-loop μ-loop
+store4-32-requires c κs = search needs
+
+returns : tie.Need-returns Inv-loop μ-loop
+returns c =
+    let l = c .before .before .loop in
+    let x = c .before .before .before .words-of .ensures in
+    let k = c .before .before .before .before .round-keys in
+    let args = c .before .before .before .before .before .args in
+    done 32 (args .key) (args .block) (k .result) _ (l .i)
+    (k .ensures) (same-state (x .0) (x .1) (x .2) (x .3)) (omega arith) (l .inv .2) (c .store4-32 .ensures)
+
+pub encrypt-spec : {M : Type 1} → statement M
+encrypt-spec =
+    tie.close
+    (tie.spec
+    Inv-loop
+    μ-loop
+    round-keys-requires
+    words-of-requires
+    loop-holds
+    mul-four-rounds
+    array-read-four-rounds
+    add-four-rounds
+    mul-four-rounds-2
+    array-read-four-rounds-2
+    add-four-rounds-2
+    mul-four-rounds-3
+    array-read-four-rounds-3
+    add-four-rounds-3
+    mul-four-rounds-4
+    array-read-four-rounds-4
+    cast-four-rounds
+    four-rounds-requires
+    add-i
+    loop-less
+    loop-again
+    store4-32-requires
+    returns)

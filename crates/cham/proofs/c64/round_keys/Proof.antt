@@ -1,0 +1,85 @@
+-- `cham::c64::round_keys` meets its contract: turn i puts in the round keys of word i, each at its place.
+use borrow.Author.Needs.{needs}
+use Prim.Native.Nat.{_+_, _≤_, _<_, _-_, _^_}
+use mathlib.Core.Path.{_≡_, refl, ap, _∙_}
+use native.Mathlib.Omega.{arith}
+use Rattle.words.specs.Words.{xor}
+use Rattle.cham.specs.Cham.{placed}
+use Rattle.cham.proofs.Keys.{place-lt, one-more}
+use Rattle.cham.proofs.c64.round_keys.Statement.{statement}
+use Rattle.cham.proofs.c64.round_keys.Tie as tie
+
+abbrev Inv-loop : tie.InvT-loop
+Inv-loop key keys₀ i₀ keys i = (i ≤ 8) × (keys ≡ placed 16 key i)
+
+abbrev μ-loop : tie.MeasureT-loop
+μ-loop key keys₀ i₀ keys i = 8 - i
+
+loop-holds : tie.Need-loop-holds Inv-loop μ-loop
+unfolding placed
+loop-holds c = (omega arith, refl)
+
+key-word-requires : tie.Need-key-word-requires Inv-loop μ-loop
+key-word-requires c κs = search needs
+
+mix-requires : tie.Need-mix-requires Inv-loop μ-loop
+mix-requires c κs = search needs
+
+mul-keys : tie.Need-mul-keys Inv-loop μ-loop
+mul-keys c = search needs
+
+array-write-keys : tie.Need-array-write-keys Inv-loop μ-loop
+array-write-keys c = search needs
+
+mix-requires-2 : tie.Need-mix-requires-2 Inv-loop μ-loop
+mix-requires-2 c κs = search needs
+
+add-keys : tie.Need-add-keys Inv-loop μ-loop
+add-keys c = search needs
+
+mul-keys-2 : tie.Need-mul-keys-2 Inv-loop μ-loop
+mul-keys-2 c = omega (arith, place-lt 3 (c .before .before .before .before .loop .i) (omega arith))
+
+array-write-keys-2 : tie.Need-array-write-keys-2 Inv-loop μ-loop
+array-write-keys-2 c = place-lt 3 (c .before .before .before .before .loop .i) (omega arith)
+
+add-i : tie.Need-add-i Inv-loop μ-loop
+add-i c = search needs
+
+loop-less : tie.Need-loop-less Inv-loop μ-loop
+loop-less c = search needs
+
+loop-again : tie.Need-loop-again Inv-loop μ-loop
+unfolding xor
+loop-again c =
+    let l = c .before .before .before .before .loop in
+    let key = c .before .before .before .before .before .args .key in (
+      omega arith,
+      one-more 16 key (l .keys) (l .i) (c .before .before .key-word .result) (c .before .mix .result) (c .mix2 .result)
+          (l .inv .1) (c .before .before .key-word .ensures) (c .before .mix .ensures) (c .mix2 .ensures),
+    )
+
+returns : tie.Need-returns Inv-loop μ-loop
+returns c =
+    let n : c .before .loop .i ≡ 8 = omega arith in
+    c .before .loop .inv .1 ∙ ap (placed 16 (c .before .before .args .key)) n
+
+pub round-keys-spec : {M : Type 1} → statement M
+round-keys-spec =
+    tie.close
+    (tie.spec
+    Inv-loop
+    μ-loop
+    loop-holds
+    key-word-requires
+    mix-requires
+    mul-keys
+    array-write-keys
+    mix-requires-2
+    add-keys
+    mul-keys-2
+    array-write-keys-2
+    add-i
+    loop-less
+    loop-again
+    returns)
