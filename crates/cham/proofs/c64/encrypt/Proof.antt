@@ -28,42 +28,6 @@ loop-holds : tie.Need-loop-holds Inv-loop μ-loop
 unfolding rounds
 loop-holds c = (omega arith, omega arith, refl)
 
-mul-four-rounds : tie.Need-mul-four-rounds Inv-loop μ-loop
-mul-four-rounds c = search needs
-
-array-read-four-rounds : tie.Need-array-read-four-rounds Inv-loop μ-loop
-array-read-four-rounds c = search needs
-
-add-four-rounds : tie.Need-add-four-rounds Inv-loop μ-loop
-add-four-rounds c = search needs
-
-mul-four-rounds-2 : tie.Need-mul-four-rounds-2 Inv-loop μ-loop
-mul-four-rounds-2 c = search needs
-
-array-read-four-rounds-2 : tie.Need-array-read-four-rounds-2 Inv-loop μ-loop
-array-read-four-rounds-2 c = search needs
-
-add-four-rounds-2 : tie.Need-add-four-rounds-2 Inv-loop μ-loop
-add-four-rounds-2 c = search needs
-
-mul-four-rounds-3 : tie.Need-mul-four-rounds-3 Inv-loop μ-loop
-mul-four-rounds-3 c = search needs
-
-array-read-four-rounds-3 : tie.Need-array-read-four-rounds-3 Inv-loop μ-loop
-array-read-four-rounds-3 c = search needs
-
-add-four-rounds-3 : tie.Need-add-four-rounds-3 Inv-loop μ-loop
-add-four-rounds-3 c = search needs
-
-mul-four-rounds-4 : tie.Need-mul-four-rounds-4 Inv-loop μ-loop
-mul-four-rounds-4 c = search needs
-
-array-read-four-rounds-4 : tie.Need-array-read-four-rounds-4 Inv-loop μ-loop
-array-read-four-rounds-4 c = search needs
-
-cast-four-rounds : tie.Need-cast-four-rounds Inv-loop μ-loop
-cast-four-rounds c = search needs
-
 four-rounds-requires : tie.Need-four-rounds-requires Inv-loop μ-loop
 four-rounds-requires c κs = search needs
 
@@ -75,7 +39,7 @@ loop-less c = search needs
 
 loop-again : tie.Need-loop-again Inv-loop μ-loop
 loop-again c =
-    let l = c .before .before .loop in
+    let l = c .before .before .before .loop in
     let e = c .four-rounds .ensures in
     (omega arith, omega arith, four _ _ _ (l .i) _ _ _ _ _ _ _ _ (l .inv .1) (l .inv .2) (e .0) (e .1) (e .2) (e .3))
 
@@ -100,18 +64,6 @@ encrypt-spec =
     round-keys-requires
     words-of-requires
     loop-holds
-    mul-four-rounds
-    array-read-four-rounds
-    add-four-rounds
-    mul-four-rounds-2
-    array-read-four-rounds-2
-    add-four-rounds-2
-    mul-four-rounds-3
-    array-read-four-rounds-3
-    add-four-rounds-3
-    mul-four-rounds-4
-    array-read-four-rounds-4
-    cast-four-rounds
     four-rounds-requires
     add-i
     loop-less
