@@ -1,0 +1,117 @@
+-- The walk over the rows, as the loop goes through it; and what a file that passes the full check says of its rows and its end.
+use Prim.Native.Nat.{ℕ, _+_, _-_, _≤_, _<_}
+use native.Mathlib.Omega.{arith}
+use mathlib.Core.Path.{_≡_, refl, sym, ap, _∙_}
+use mathlib.Core.Bool.{Bool, true, false, not}
+use mathlib.Core.List.{List}
+use mathlib.Core.Logic.{⊎-elim}
+use lib.ListN.{length}
+use lib.Dec.{eqb}
+use borrow.Author.Tests.{eqb-true, eqb-false, not-true, not-false, ne-eqb}
+use Rattle.words.specs.Pick.{pick}
+use Rattle.shift.specs.declared.answers.Answer.{Answer}
+use Rattle.shift.specs.declared.answers.Fault.{Fault}
+use Rattle.shift.specs.declared.answers.Fault.the-variants.{Order, Suite, Length, Place, Nonce, Data}
+use Rattle.shift.specs.declared.answers.Refusal.{Refusal}
+use Rattle.shift.specs.declared.answers.Refusal.the-variants.{Size, Edition, Count, Total, Table, InRow, End}
+use Rattle.shift.specs.declared.answers.Checked.{Checked}
+use Rattle.shift.specs.declared.answers.Checked.the-variants.{Passed, Refused}
+use Rattle.shift.specs.Format.{countOf, rowSize}
+use Rattle.shift.specs.Answers.{answer, faultNumber, refusalAnswer, checkedAnswer}
+use Rattle.shift.specs.Check.{bodyStart, rowNumber, endAnswer, rowsFrom, headNumber, andThen, checkAs}
+use Rattle.shift.proofs.Searches.{first-hit, first-skip, first-end, first-says}
+use Rattle.shift.proofs.Sound.{Headed, headed, Sound, sound}
+
+abbrev numberOf : Answer → ℕ
+numberOf x = x .number
+
+-- ---- a refusal has a number
+
+fault-is : (x : Fault) → faultNumber x ≡ 0 → ⊥
+fault-is Order e = omega arith
+fault-is Suite e = omega arith
+fault-is Length e = omega arith
+fault-is Place e = omega arith
+fault-is Nonce e = omega arith
+fault-is Data e = omega arith
+
+pub refusal-is : (x : Refusal) → refusalAnswer x .number ≡ 0 → ⊥
+refusal-is Size q = omega arith
+refusal-is Edition q = omega arith
+refusal-is Count q = omega arith
+refusal-is Total q = omega arith
+refusal-is Table q = omega arith
+refusal-is (InRow x i) q = fault-is x q
+refusal-is End q = omega arith
+
+-- ---- the walk
+
+module _ (w : ℕ) (f : List ℕ) (n i : ℕ) where
+  pub rows-bad : (x : Fault) → i < n → faultNumber x ≡ rowNumber w f n i → answer (faultNumber x) i ≡ rowsFrom w f n i
+  unfolding rowsFrom
+  rows-bad x h q =
+      let hit : not (eqb (rowNumber w f n i) 0) ≡ true = simp (← q, ne-eqb _ _ (fault-is x)) in
+      rw q (sym (first-hit _ _ _ n i h hit))
+
+  pub rows-sound : i < n → 0 ≡ rowNumber w f n i → rowsFrom w f n i ≡ rowsFrom w f n (i + 1)
+  unfolding rowsFrom
+  rows-sound h q =
+      let skip : not (eqb (rowNumber w f n i) 0) ≡ false = simp (← q) in
+      first-skip _ _ _ n i h skip
+
+  pub rows-end : n ≤ i → rowsFrom w f n i ≡ endAnswer w f n
+  unfolding rowsFrom
+  rows-end h = first-end _ _ _ n i h
+
+-- ---- a file that passes
+
+-- the check before passed: its number is 0
+pub passed-zero : (x : Checked) (a : Answer) → x ≡ Passed → checkedAnswer x ≡ a → a .number ≡ 0
+passed-zero x a told q = ap numberOf (sym q ∙ ap checkedAnswer told)
+
+-- it refused: that stands
+pub refused-stands : (x : Checked) (y : Refusal) (a next : Answer) → x ≡ Refused y → checkedAnswer x ≡ a → andThen a next ≡ refusalAnswer y
+refused-stands x y a next told q =
+    let p : a ≡ refusalAnswer y = sym q ∙ ap checkedAnswer told in
+    simp (p, ne-eqb _ _ (refusal-is y))
+
+-- two answers one after the other give 0: so does each
+pub both-zero : (x next : Answer) → andThen x next .number ≡ 0 → (x .number ≡ 0) × (andThen x next ≡ next)
+both-zero x next z = both-case (eqb (x .number) 0) refl z
+  where
+    both-case : (b : Bool) → eqb (x .number) 0 ≡ b → pick b next x .number ≡ 0 → (x .number ≡ 0) × (pick b next x ≡ next)
+    both-case true e h = (eqb-true _ _ e, refl)
+    both-case false e h = absurd (eqb-false _ _ e h)
+
+end-says : (w : ℕ) (f : List ℕ) (n : ℕ) → endAnswer w f n .number ≡ 0 → bodyStart w f n n ≡ length f
+unfolding endAnswer
+end-says w f n z = end-case (eqb (bodyStart w f n n) (length f)) refl z
+  where
+    end-case : (b : Bool) → eqb (bodyStart w f n n) (length f) ≡ b → pick b (answer 0 0) (answer 31 0) .number ≡ 0 → bodyStart w f n n ≡ length f
+    end-case true q h = eqb-true _ _ q
+    end-case false q h = absurd (omega arith)
+
+pub record Walked (w : ℕ) (f : List ℕ) (n : ℕ) : Type 0 where
+  pub rows : (i : ℕ) → i < n → Sound w f n i
+  pub ends : bodyStart w f n n ≡ length f
+
+walked : (w : ℕ) (f : List ℕ) (n : ℕ) → rowsFrom w f n 0 .number ≡ 0 → Walked w f n
+unfolding rowsFrom
+walked w f n z =
+    ⊎-elim
+    (λ h. absurd (eqb-false _ _ (not-true _ (h .hits)) (ap numberOf (h .gives) ∙ z)))
+    (λ h. record {
+      rows = λ i l. sound w f n i (eqb-true _ _ (not-false _ (h .none i (omega arith) (omega arith))));
+      ends = end-says w f n (ap numberOf (h .gives) ∙ z);
+    })
+    (first-says _ _ _ (n - 0) 0 (rowsFrom w f n 0) refl)
+
+pub record Passes (e : ℕ) (f : List ℕ) : Type 0 where
+  pub head : Headed e f
+  pub walk : Walked (rowSize e) f (countOf f)
+
+pub passes : (e : ℕ) (f : List ℕ) → checkAs e f .number ≡ 0 → Passes e f
+unfolding checkAs
+passes e f z =
+    let b = both-zero (answer (headNumber e f) 0) (rowsFrom (rowSize e) f (countOf f) 0) z in
+    record { head = headed e f (b .0); walk = walked (rowSize e) f (countOf f) (rw (b .1) at z) }

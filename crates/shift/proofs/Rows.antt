@@ -1,0 +1,26 @@
+-- Where rows lie: a table that lies in the file has each of its rows there.
+use Prim.Native.Nat.{ℕ, _+_, _≤_, _<_}
+use native.Mathlib.Nat.{mul-suc, mul-le-mul-left}
+use native.Mathlib.Omega.{arith}
+use mathlib.Core.List.{List}
+use lib.Dec.{lit≤}
+use Rattle.shift.specs.Format.{rowSize, rowStart}
+use Rattle.shift.specs.Inside.{RowIn, TableIn}
+
+-- a row ends where a later one starts, or before
+row-below : (w i j : ℕ) → i < j → rowStart w i + w ≤ rowStart w j
+unfolding rowStart
+row-below w i j h = omega (arith, mul-suc w i, mul-le-mul-left w h)
+
+pub row-in : (w : ℕ) (f : List ℕ) (n i : ℕ) → TableIn w f n → i < n → RowIn w f i
+row-in w f n i t h = record { broad = t .broad; fits = omega (arith, row-below w i n h, t .fits) }
+
+-- a row holds what the format puts into it, in every edition
+pub row-broad : (e : ℕ) → 32 ≤ rowSize e
+unfolding rowSize
+row-broad e = lit≤ tt
+
+-- as many rows as 22 lets through are counted without wrapping
+pub rows-small : (e n : ℕ) → n ≤ 512 → rowStart (rowSize e) n < 0x1_0000_0000_0000_0000
+unfolding rowStart rowSize
+rows-small e n h = omega arith

@@ -1,0 +1,63 @@
+-- The shift file's format (document 01, "The shift file"): header, table of contents, bodies. Numbers are little-endian.
+use Prim.Native.Nat.{ℕ, _+_, _-_, _*_}
+use mathlib.Core.List.{List}
+use lib.ListN.{getD, take, drop}
+use lib.Dec.{leb}
+use Rattle.words.specs.Pick.{pick}
+use Rattle.words.specs.Bytes.{word}
+use Rattle.shift.specs.declared.row.Row.{Row}
+
+-- the len bytes from `at`
+abbrev pub stretch : List ℕ → ℕ → ℕ → List ℕ
+stretch f at len = take len (drop at f)
+
+-- header, 8 bytes: edition (2 bytes)
+abbrev pub editionOf : List ℕ → ℕ
+editionOf f = word 2 f 0
+
+-- row count n (2)
+abbrev pub countOf : List ℕ → ℕ
+countOf f = word 2 f 2
+
+-- total length (4)
+abbrev pub totalOf : List ℕ → ℕ
+totalOf f = word 4 f 4
+
+-- the edition of a shift file
+abbrev pub edition : ℕ
+edition = 1
+
+-- the bytes of a row, in edition e
+unfoldable pub rowSize : ℕ → ℕ
+rowSize e = 32
+
+-- where row i starts, rows being w bytes long; the bodies start where row n would
+unfoldable pub rowStart : ℕ → ℕ → ℕ
+rowStart w i = 8 + w * i
+
+-- where the rest of row i starts: its last 28 bytes, all but the job number
+unfoldable pub restStart : ℕ → ℕ → ℕ
+restStart w i = rowStart w i + (w - 28)
+
+-- row i: job number (4), suite (1), key number (1), associated data length (2), body offset (4), message length (4), nonce (16)
+unfoldable pub rowAt : ℕ → List ℕ → ℕ → Row
+rowAt w f i = record {
+  job = word 4 f (rowStart w i);
+  suite = getD f (restStart w i) 0;
+  key = getD f (restStart w i + 1) 0;
+  ad = word 2 f (restStart w i + 2);
+  at = word 4 f (restStart w i + 4);
+  len = word 4 f (restStart w i + 8);
+}
+
+-- its nonce, the last sixteen bytes
+unfoldable pub nonceAt : ℕ → List ℕ → ℕ → List ℕ
+nonceAt w f i = stretch f (restStart w i + 12) 16
+
+-- the bytes of a suite's tag
+unfoldable pub tagLength : ℕ → ℕ
+tagLength suite = pick (leb suite 2) 16 8
+
+-- a body is associated data, ciphertext, tag: where it ends
+unfoldable pub bodyEnd : Row → ℕ
+bodyEnd r = r .at + r .ad + r .len + tagLength (r .suite)

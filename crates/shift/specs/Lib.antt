@@ -1,0 +1,6 @@
+pub mod Search
+pub mod Format
+pub mod Answers
+pub mod Check
+pub mod Lookup
+pub mod Inside
