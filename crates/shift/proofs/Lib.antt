@@ -1,5 +1,9 @@
 pub mod Searches
+pub mod Numbers
 pub mod Rows
 pub mod Sound
 pub mod Passed
 pub mod Lookups
+pub mod Outcomes
+pub mod Bodies
+pub mod Finding

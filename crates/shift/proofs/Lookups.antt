@@ -18,8 +18,9 @@ use Rattle.shift.specs.Lookup.{findFrom, lookupAs}
 use Rattle.shift.specs.Inside.{RowIn}
 use Rattle.shift.proofs.Searches.{first-says}
 use Rattle.shift.proofs.Rows.{row-in}
+use Rattle.shift.proofs.Numbers.{refusal-some}
 use Rattle.shift.proofs.Sound.{Sound}
-use Rattle.shift.proofs.Passed.{Passes, passes, both-zero, refusal-is}
+use Rattle.shift.proofs.Passed.{Passes, passes, both-zero}
 use Rattle.shift.proofs.answers.Found.{the-type}
 
 -- row i of a file that passes has the job
@@ -58,4 +59,4 @@ module _ (e : ℕ) (f : List ℕ) (job i : ℕ) (h : Entry e f job i) where
 pub not-at : (x : Found) → OneOf (1 ∷ 2 ∷ []) (tagOf the-type x) → foundAnswer x .number ≡ 0 → ⊥
 not-at (found.At i) k q = miss (1 ∷ 2 ∷ []) 0 tt k
 not-at found.Missing k q = omega arith
-not-at (found.Refused x) k q = refusal-is x q
+not-at (found.Refused x) k q = refusal-some x q

@@ -11,38 +11,18 @@ use borrow.Author.Tests.{eqb-true, eqb-false, not-true, not-false, ne-eqb}
 use Rattle.words.specs.Pick.{pick}
 use Rattle.shift.specs.declared.answers.Answer.{Answer}
 use Rattle.shift.specs.declared.answers.Fault.{Fault}
-use Rattle.shift.specs.declared.answers.Fault.the-variants.{Order, Suite, Length, Place, Nonce, Data}
 use Rattle.shift.specs.declared.answers.Refusal.{Refusal}
-use Rattle.shift.specs.declared.answers.Refusal.the-variants.{Size, Edition, Count, Total, Table, InRow, End}
 use Rattle.shift.specs.declared.answers.Checked.{Checked}
 use Rattle.shift.specs.declared.answers.Checked.the-variants.{Passed, Refused}
 use Rattle.shift.specs.Format.{countOf, rowSize}
 use Rattle.shift.specs.Answers.{answer, faultNumber, refusalAnswer, checkedAnswer}
 use Rattle.shift.specs.Check.{bodyStart, rowNumber, endAnswer, rowsFrom, headNumber, andThen, checkAs}
 use Rattle.shift.proofs.Searches.{first-hit, first-skip, first-end, first-says}
+use Rattle.shift.proofs.Numbers.{fault-some, refusal-some}
 use Rattle.shift.proofs.Sound.{Headed, headed, Sound, sound}
 
 abbrev numberOf : Answer → ℕ
 numberOf x = x .number
-
--- ---- a refusal has a number
-
-fault-is : (x : Fault) → faultNumber x ≡ 0 → ⊥
-fault-is Order e = omega arith
-fault-is Suite e = omega arith
-fault-is Length e = omega arith
-fault-is Place e = omega arith
-fault-is Nonce e = omega arith
-fault-is Data e = omega arith
-
-pub refusal-is : (x : Refusal) → refusalAnswer x .number ≡ 0 → ⊥
-refusal-is Size q = omega arith
-refusal-is Edition q = omega arith
-refusal-is Count q = omega arith
-refusal-is Total q = omega arith
-refusal-is Table q = omega arith
-refusal-is (InRow x i) q = fault-is x q
-refusal-is End q = omega arith
 
 -- ---- the walk
 
@@ -50,7 +30,7 @@ module _ (w : ℕ) (f : List ℕ) (n i : ℕ) where
   pub rows-bad : (x : Fault) → i < n → faultNumber x ≡ rowNumber w f n i → answer (faultNumber x) i ≡ rowsFrom w f n i
   unfolding rowsFrom
   rows-bad x h q =
-      let hit : not (eqb (rowNumber w f n i) 0) ≡ true = simp (← q, ne-eqb _ _ (fault-is x)) in
+      let hit : not (eqb (rowNumber w f n i) 0) ≡ true = simp (← q, ne-eqb _ _ (fault-some x)) in
       rw q (sym (first-hit _ _ _ n i h hit))
 
   pub rows-sound : i < n → 0 ≡ rowNumber w f n i → rowsFrom w f n i ≡ rowsFrom w f n (i + 1)
@@ -73,7 +53,7 @@ passed-zero x a told q = ap numberOf (sym q ∙ ap checkedAnswer told)
 pub refused-stands : (x : Checked) (y : Refusal) (a next : Answer) → x ≡ Refused y → checkedAnswer x ≡ a → andThen a next ≡ refusalAnswer y
 refused-stands x y a next told q =
     let p : a ≡ refusalAnswer y = sym q ∙ ap checkedAnswer told in
-    simp (p, ne-eqb _ _ (refusal-is y))
+    simp (p, ne-eqb _ _ (refusal-some y))
 
 -- two answers one after the other give 0: so does each
 pub both-zero : (x next : Answer) → andThen x next .number ≡ 0 → (x .number ≡ 0) × (andThen x next ≡ next)

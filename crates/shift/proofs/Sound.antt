@@ -2,17 +2,17 @@
 use Prim.Native.Nat.{ℕ, _+_, _≤_, _<_}
 use native.Mathlib.Omega.{arith}
 use mathlib.Core.Path.{_≡_, refl}
-use mathlib.Core.Bool.{Bool, true, false, _||_, _&&_, not}
+use mathlib.Core.Bool.{Bool, true, false, _||_, not}
 use mathlib.Core.List.{List}
 use lib.ListN.{length}
-use lib.Dec.{leb, ltb, eqb, lit<}
-use borrow.Author.Tests.{leb-true, ltb-false, eqb-true, not-false}
+use lib.Dec.{ltb, eqb, lit<}
+use borrow.Author.Tests.{ltb-false, eqb-true, not-false}
 use Rattle.words.specs.Pick.{pick}
 use Rattle.shift.specs.declared.row.Row.{Row}
 use Rattle.shift.specs.Format.{editionOf, countOf, totalOf, rowSize, rowStart, rowAt, bodyEnd}
-use Rattle.shift.specs.Check.{notAbove, badSuite, badLength, bodyStart, misplaced, nonceSeen, badData, bodyNumber, rowNumber, headNumber}
+use Rattle.shift.specs.Check.{notAbove, outside, badSuite, badLength, bodyStart, misplaced, nonceSeen, badData, bodyNumber, rowNumber, headNumber}
 use Rattle.shift.specs.Inside.{TableIn}
-use Rattle.shift.proofs.Searches.{or-false, and-true}
+use Rattle.shift.proofs.Searches.{or-false}
 use Rattle.shift.proofs.Rows.{row-broad}
 
 pick-zero : (b : Bool) (k rest : ℕ) → 0 < k → pick b k rest ≡ 0 → (b ≡ false) × (rest ≡ 0)
@@ -22,11 +22,11 @@ pick-zero false k rest h e = (refl, e)
 -- ---- a row
 
 -- a number lies in its range, and another is small enough: the form of 26 and 27
-range : (a x b y d : ℕ) → not (leb a x && leb x b) || ltb d y ≡ false → (a ≤ x) × (x ≤ b) × (y ≤ d)
+range : (a x b y d : ℕ) → outside a b x || ltb d y ≡ false → (a ≤ x) × (x ≤ b) × (y ≤ d)
 range a x b y d h =
-    let o = or-false (not (leb a x && leb x b)) (ltb d y) h in
-    let r = and-true (leb a x) (leb x b) (not-false _ (o .0)) in
-    (leb-true _ _ (r .0), leb-true _ _ (r .1), ltb-false _ _ (o .1))
+    let o = or-false (outside a b x) (ltb d y) h in
+    let r = or-false (ltb x a) (ltb b x) (o .0) in
+    (ltb-false _ _ (r .0), ltb-false _ _ (r .1), ltb-false _ _ (o .1))
 
 pub record Suited (r : Row) : Type 0 where
   pub suite-low : 1 ≤ r .suite

@@ -1,28 +1,31 @@
 -- The full check (document 01, "The shift file", numbers 20 to 31). Rows are w bytes long.
-use Prim.Native.Nat.{ℕ, _+_, _-_}
+use Prim.Native.Nat.{ℕ, _-_}
 use mathlib.Core.List.{List}
 use mathlib.Core.Bool.{Bool, _||_, _&&_, not}
-use lib.ListN.{length, getD}
+use lib.ListN.{length}
 use lib.Dec.{ltb, leb, eqb}
 use Rattle.words.specs.Pick.{pick}
-use Rattle.words.specs.Bytes.{word}
 use Rattle.shift.specs.declared.row.Row.{Row}
 use Rattle.shift.specs.declared.answers.Answer.{Answer}
 use Rattle.shift.specs.Search.{anyBelow, firstOf, sameBytes}
-use Rattle.shift.specs.Format.{editionOf, countOf, totalOf, edition, rowSize, rowStart, rowAt, nonceAt, bodyEnd}
+use Rattle.shift.specs.Format.{editionOf, countOf, totalOf, edition, rowSize, rowStart, rowAt, nonceAt, bodyEnd, dataJob, unitOf}
 use Rattle.shift.specs.Answers.{answer}
 
 -- 25: job number not above the row before (row 0: any)
 unfoldable pub notAbove : ℕ → List ℕ → ℕ → Bool
 notAbove w f i = not (eqb i 0) && leb (rowAt w f i .job) (rowAt w f (i - 1) .job)
 
+-- x is outside low to high
+abbrev pub outside : ℕ → ℕ → ℕ → Bool
+outside low high x = ltb x low || ltb high x
+
 -- 26: suite not 1 to 4, or key number over 15
 unfoldable pub badSuite : Row → Bool
-badSuite r = not (leb 1 (r .suite) && leb (r .suite) 4) || ltb 15 (r .key)
+badSuite r = outside 1 4 (r .suite) || ltb 15 (r .key)
 
 -- 27: associated data length outside 5 to 1,024, or message over 65,536
 unfoldable pub badLength : Row → Bool
-badLength r = not (leb 5 (r .ad) && leb (r .ad) 1024) || ltb 65536 (r .len)
+badLength r = outside 5 1024 (r .ad) || ltb 65536 (r .len)
 
 -- where the body of row i of n has to start: after the table (row 0), or at the previous body's end
 unfoldable pub bodyStart : ℕ → List ℕ → ℕ → ℕ → ℕ
@@ -42,7 +45,7 @@ nonceSeen w f i = anyBelow (clash w f i) i
 
 -- 30: associated data has another job number, or unit not 1 or 2
 unfoldable pub badData : List ℕ → Row → Bool
-badData f r = not (eqb (word 4 f (r .at)) (r .job)) || not (eqb (getD f (r .at + 4) 0) 1 || eqb (getD f (r .at + 4) 0) 2)
+badData f r = not (eqb (dataJob f r) (r .job)) || not (eqb (unitOf f r) 1 || eqb (unitOf f r) 2)
 
 -- the first of 28 to 30 that applies to row i of n, else 0
 unfoldable pub bodyNumber : ℕ → List ℕ → ℕ → ℕ → ℕ

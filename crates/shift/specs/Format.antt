@@ -61,3 +61,11 @@ tagLength suite = pick (leb suite 2) 16 8
 -- a body is associated data, ciphertext, tag: where it ends
 unfoldable pub bodyEnd : Row → ℕ
 bodyEnd r = r .at + r .ad + r .len + tagLength (r .suite)
+
+-- associated data starts with the job number (4 bytes)
+abbrev pub dataJob : List ℕ → Row → ℕ
+dataJob f r = word 4 f (r .at)
+
+-- and a unit code (1 byte): 1 newton-metres, 2 inch-pounds
+abbrev pub unitOf : List ℕ → Row → ℕ
+unitOf f r = getD f (r .at + 4) 0

@@ -16,7 +16,7 @@ ghost use Rattle.words.specs.Blocks.{wide};
 ghost use Rattle.shift.specs.Search.{sameBytes};
 ghost use Rattle.shift.specs.Format.{rowAt};
 ghost use Rattle.shift.specs.Answers.{rowNumberOf};
-ghost use Rattle.shift.specs.Check.{notAbove, badSuite, badLength, bodyStart, misplaced, clash, nonceSeen, badData, bodyNumber, rowNumber};
+ghost use Rattle.shift.specs.Check.{notAbove, outside, badSuite, badLength, bodyStart, misplaced, clash, nonceSeen, badData, bodyNumber, rowNumber};
 ghost use Rattle.shift.specs.Inside.{TableIn};
 
 // 25: the job number is not above the row before's.
@@ -32,14 +32,21 @@ fn not_above(w: usize, f: &[u8], n: usize, i: usize) -> bool
     row.job <= before.job
 }
 
+// x is outside low to high.
+fn outside(low: u16, high: u16, x: u16) -> bool
+    ensures { λ r. ⌜ r ≡ outside low high x ⌝ }
+{
+    if x < low {
+        return true;
+    }
+    high < x
+}
+
 // 26: no such suite, or no such key.
 fn bad_suite(row: Row) -> bool
     ensures { λ r. ⌜ r ≡ badSuite row ⌝ }
 {
-    if row.suite < 1 {
-        return true;
-    }
-    if 4 < row.suite {
+    if outside(1, 4, row.suite as u16) {
         return true;
     }
     15 < row.key
@@ -49,10 +56,7 @@ fn bad_suite(row: Row) -> bool
 fn bad_length(row: Row) -> bool
     ensures { λ r. ⌜ r ≡ badLength row ⌝ }
 {
-    if row.ad < 5 {
-        return true;
-    }
-    if 1024 < row.ad {
+    if outside(5, 1024, row.ad) {
         return true;
     }
     65536 < row.len

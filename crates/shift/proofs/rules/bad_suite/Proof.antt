@@ -1,20 +1,22 @@
 -- Each way out is the test that led there.
-use borrow.Author.Tests.{le-leb, lt-leb}
 use Rattle.shift.specs.Check.{badSuite}
+use borrow.Author.Needs.{needs}
 use Rattle.shift.proofs.rules.bad_suite.Statement.{statement}
 use Rattle.shift.proofs.rules.bad_suite.Tie as tie
 
+cast-outside : tie.Need-cast-outside
+cast-outside c = search needs
+
+outside-requires : tie.Need-outside-requires
+outside-requires c κs = search needs
+
 returns : tie.Need-returns
 unfolding badSuite
-returns c = simp (lt-leb _ _ (c .if1 .taken))
+returns c = simp (← c .before .outside .ensures, c .if1 .taken)
 
 returns-2 : tie.Need-returns-2
 unfolding badSuite
-returns-2 c = simp (le-leb _ _ (c .before .before .if1 .left), lt-leb _ _ (c .if2 .taken))
-
-returns-3 : tie.Need-returns-3
-unfolding badSuite
-returns-3 c = simp (le-leb _ _ (c .before .before .before .if1 .left), le-leb _ _ (c .before .if2 .left))
+returns-2 c = simp (← c .before .before .outside .ensures, c .before .if1 .left)
 
 pub bad-suite-spec : {M : Type 1} → statement M
-bad-suite-spec = tie.close (tie.spec returns returns-2 returns-3)
+bad-suite-spec = tie.close (tie.spec cast-outside outside-requires returns returns-2)
