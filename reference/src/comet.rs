@@ -120,6 +120,21 @@ impl<const N: usize, E: Fn(&[u8; 16], &[u8; N]) -> [u8; N]> State<N, E> {
         }
     }
 
+    /// The first block changed in one bit, and the second so that Y is the same after it.
+    fn made_up(mut self, ad: &[u8]) -> Vec<u8> {
+        let first: [u8; N] = ad[..N].try_into().unwrap();
+        let mut other = first;
+        other[0] ^= 1;
+        let x = self.call(0x08);
+        let z = self.z;
+        let seconds = [first, other].map(|block| {
+            (self.y, self.z) = (xor(x, block), z);
+            self.call(0)
+        });
+        let second = xor(ad[N..].try_into().unwrap(), xor(seconds[0], seconds[1]));
+        [other, second].concat()
+    }
+
     /// The whole of a record; gives its tag.
     fn run(mut self, kind: Text, ad: &[u8], text: &[u8], out: &mut [u8]) -> [u8; N] {
         self.absorb(ad);
@@ -202,6 +217,18 @@ pub fn fitting_tag(suite: u8, key: &[u8], nonce: &[u8], ad: &[u8], text: &[u8]) 
     let mut out = vec![0; text.len()];
     let tag = run(suite, Text::Ciphertext, key, nonce, ad, text, &mut out);
     tag[..block_size(suite)].to_vec()
+}
+
+/// Associated data of two full blocks with another first block and one tag: the second block makes up for
+/// the change. Who knows the key can do this, so nothing is promised of changes in two blocks.
+pub fn made_up(suite: u8, key: &[u8], nonce: &[u8], ad: &[u8]) -> Vec<u8> {
+    let key: &[u8; 16] = key.try_into().unwrap();
+    match suite {
+        1 => State::<16, _>::start(aes::encrypt, key, nonce).made_up(ad),
+        2 => State::<16, _>::start(cham::cham128::encrypt, key, nonce).made_up(ad),
+        3 => State::<8, _>::start(speck::encrypt, key, nonce).made_up(ad),
+        _ => State::<8, _>::start(cham::cham64::encrypt, key, nonce).made_up(ad),
+    }
 }
 
 /// The suite's cipher on one block.

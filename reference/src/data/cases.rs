@@ -2,7 +2,7 @@
 
 use super::Part;
 use crate::calls::{Call, FILLER, REFERENCE};
-use crate::comet::{block_size, fitting_tag, nonce_size, LIMIT};
+use crate::comet::{block_size, fitting_tag, made_up, nonce_size, LIMIT};
 use crate::random::Random;
 
 /// A call that seals, with every length right.
@@ -171,6 +171,22 @@ pub fn too_long(random: &mut Random) -> Vec<Call> {
     calls
 }
 
+/// Two blocks of associated data changed, one tag: demand 3 promises nothing of it. Both are sealed, and the
+/// first record opens with the second one's associated data.
+pub fn two_blocks(random: &mut Random) -> Vec<Call> {
+    let mut calls = vec![];
+    for suite in 1..=4 {
+        let call = sealing(random, suite, 2 * block_size(suite), 5);
+        let ad = made_up(suite, &call.key, &call.nonce, &call.ad);
+        assert_ne!(ad, call.ad);
+        let other = Call { ad: ad.clone(), ..call.clone() };
+        assert_eq!(call.answer(&REFERENCE), other.answer(&REFERENCE));
+        let opened = Call { ad, ..call.reopened() };
+        calls.extend([call, other, expected(opened, 0)]);
+    }
+    calls
+}
+
 /// A string that is long and easily packed.
 fn pattern(length: usize) -> Vec<u8> {
     (0..length).map(|i| (i % 251) as u8).collect()
@@ -198,7 +214,7 @@ pub fn longest(random: &mut Random) -> Vec<Call> {
 /// All calls of the program.
 pub fn calls() -> Vec<Call> {
     let mut random = Random::new(2);
-    let groups = [by_length, damaged, refused, too_long, longest];
+    let groups = [by_length, damaged, refused, too_long, two_blocks, longest];
     groups.into_iter().flat_map(|group| group(&mut random)).collect()
 }
 
