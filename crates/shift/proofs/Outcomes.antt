@@ -2,11 +2,13 @@
 use Prim.Native.Nat.{ℕ}
 use native.Mathlib.Omega.{arith}
 use mathlib.Core.Path.{_≡_, refl, sym, ap, ap₂, _∙_}
-use mathlib.Core.List.{List}
+use mathlib.Core.Bool.{cond}
 use lib.Dec.{eqb}
 use borrow.Author.Tests.{ne-eqb}
-use denote.Ref.{RefT, now}
-use Rattle.words.specs.Pick.{pick}
+use denote.Ref.{now}
+use contract.Lifetimes.{Lfts}
+use borrow.Fn.Kinds.{Dens}
+use Rattle.words.specs.Outcome.{Outcome, OneOutcome}
 use Rattle.shift.specs.declared.answers.Answer.{Answer}
 use Rattle.shift.specs.declared.answers.Fault.the-variants.{Order, Suite, Length, Place, Nonce, Data}
 use Rattle.shift.specs.declared.answers.Refusal.{Refusal}
@@ -16,24 +18,36 @@ use Rattle.shift.specs.declared.answers.Checked.the-variants as checked
 use Rattle.shift.specs.declared.answers.Found.{Found}
 use Rattle.shift.specs.declared.answers.Found.the-variants as found
 use Rattle.shift.specs.Answers.{refusalAnswer, checkedAnswer, foundAnswer}
-use Rattle.shift.specs.Check.{checkFile}
-use Rattle.shift.specs.Lookup.{lookupJob, PartOf}
 use Rattle.shift.proofs.Numbers.{refusal-range, refusal-some}
+use Rattle.shift.proofs.check.Kinds as check-kinds
+use Rattle.shift.proofs.check.Reads as check-reads
+use Rattle.shift.proofs.lookup.Kinds as lookup-kinds
+use Rattle.shift.proofs.lookup.Reads as lookup-reads
+use Rattle.shift.proofs.associated.Kinds as associated-kinds
+use Rattle.shift.proofs.associated.Reads as associated-reads
+use Rattle.shift.proofs.answers.Fault.number.Kinds as fault-kinds
+use Rattle.shift.proofs.answers.Fault.number.Reads as fault-reads
+use Rattle.shift.proofs.answers.Refusal.answer.Kinds as refusal-kinds
+use Rattle.shift.proofs.answers.Refusal.answer.Reads as refusal-reads
+use Rattle.shift.proofs.answers.Checked.answer.Kinds as checked-kinds
+use Rattle.shift.proofs.answers.Checked.answer.Reads as checked-reads
+use Rattle.shift.proofs.answers.Found.answer.Kinds as found-kinds
+use Rattle.shift.proofs.answers.Found.answer.Reads as found-reads
 
 -- the case that a number and a row stand for
 abbrev refusalOf : Answer → Refusal
 refusalOf x =
-    pick (eqb (x .number) 20) Size
-    (pick (eqb (x .number) 21) Edition
-    (pick (eqb (x .number) 22) Count
-    (pick (eqb (x .number) 23) Total
-    (pick (eqb (x .number) 24) Table
-    (pick (eqb (x .number) 25) (InRow Order (x .row))
-    (pick (eqb (x .number) 26) (InRow Suite (x .row))
-    (pick (eqb (x .number) 27) (InRow Length (x .row))
-    (pick (eqb (x .number) 28) (InRow Place (x .row))
-    (pick (eqb (x .number) 29) (InRow Nonce (x .row))
-    (pick (eqb (x .number) 30) (InRow Data (x .row))
+    cond (eqb (x .number) 20) Size
+    (cond (eqb (x .number) 21) Edition
+    (cond (eqb (x .number) 22) Count
+    (cond (eqb (x .number) 23) Total
+    (cond (eqb (x .number) 24) Table
+    (cond (eqb (x .number) 25) (InRow Order (x .row))
+    (cond (eqb (x .number) 26) (InRow Suite (x .row))
+    (cond (eqb (x .number) 27) (InRow Length (x .row))
+    (cond (eqb (x .number) 28) (InRow Place (x .row))
+    (cond (eqb (x .number) 29) (InRow Nonce (x .row))
+    (cond (eqb (x .number) 30) (InRow Data (x .row))
     End))))))))))
 
 refusal-back : (x : Refusal) → refusalOf (refusalAnswer x) ≡ x
@@ -51,14 +65,14 @@ refusal-back (InRow Data i) = refl
 refusal-back End = refl
 
 abbrev checkedOf : Answer → Checked
-checkedOf x = pick (eqb (x .number) 0) checked.Passed (checked.Refused (refusalOf x))
+checkedOf x = cond (eqb (x .number) 0) checked.Passed (checked.Refused (refusalOf x))
 
 checked-back : (x : Checked) → checkedOf (checkedAnswer x) ≡ x
 checked-back checked.Passed = refl
 checked-back (checked.Refused x) = simp (ne-eqb _ _ (refusal-some x)) (ap checked.Refused (refusal-back x))
 
 abbrev foundOf : Answer → Found
-foundOf x = pick (eqb (x .number) 0) (found.At (x .row)) (pick (eqb (x .number) 32) found.Missing (found.Refused (refusalOf x)))
+foundOf x = cond (eqb (x .number) 0) (found.At (x .row)) (cond (eqb (x .number) 32) found.Missing (found.Refused (refusalOf x)))
 
 found-back : (x : Found) → foundOf (foundAnswer x) ≡ x
 found-back (found.At i) = refl
@@ -67,21 +81,36 @@ found-back (found.Refused x) =
     let n : refusalAnswer x .number ≡ 32 → ⊥ = λ q. omega (arith, refusal-range x) in
     simp (ne-eqb _ _ (refusal-some x), ne-eqb _ _ n) (ap found.Refused (refusal-back x))
 
--- check
-pub check-one : (file : List ℕ) (x y : Checked) → checkedAnswer x ≡ checkFile file → checkedAnswer y ≡ checkFile file → x ≡ y
-check-one file x y p q = sym (checked-back x) ∙ ap checkedOf (p ∙ sym q) ∙ checked-back y
+checked-one : {x y : Checked} → checkedAnswer x ≡ checkedAnswer y → x ≡ y
+checked-one {x} {y} q = sym (checked-back x) ∙ ap checkedOf q ∙ checked-back y
 
--- lookup
-pub lookup-one : (file : List ℕ) (job : ℕ) (x y : Found) → foundAnswer x ≡ lookupJob file job → foundAnswer y ≡ lookupJob file job → x ≡ y
-lookup-one file job x y p q = sym (found-back x) ∙ ap foundOf (p ∙ sym q) ∙ found-back y
+found-one : {x y : Found} → foundAnswer x ≡ foundAnswer y → x ≡ y
+found-one {x} {y} q = sym (found-back x) ∙ ap foundOf q ∙ found-back y
 
--- associated: the same bytes at the same place
-pub associated-one : (file r s : RefT (List ℕ)) (at len : ℕ) → PartOf file r at len → PartOf file s at len → (now r ≡ now s) × (r .ptr ≡ s .ptr)
-associated-one file r s at len p q = (p .bytes ∙ sym (q .bytes), p .place ∙ sym (q .place))
+answer-one : {a x y : Answer} → (x .number ≡ a .number) × (x .row ≡ a .row) → (y .number ≡ a .number) × (y .row ≡ a .row) → x ≡ y
+answer-one p q = ap₂ (λ (m i : ℕ). record { number = m; row = i }) (p .0 ∙ sym (q .0)) (p .1 ∙ sym (q .1))
 
--- number and answer, of each of the answers' enums
-pub number-one : (m x y : ℕ) → x ≡ m → y ≡ m → x ≡ y
-number-one m x y p q = p ∙ sym q
+-- ---- the routines
 
-pub answer-one : (a x y : Answer) → (x .number ≡ a .number) × (x .row ≡ a .row) → (y .number ≡ a .number) × (y .row ≡ a .row) → x ≡ y
-answer-one a x y p q = ap₂ (λ (m i : ℕ). record { number = m; row = i }) (p .0 ∙ sym (q .0)) (p .1 ∙ sym (q .1))
+pub check : OneOutcome check-kinds.ps check-kinds.r check-reads.Pre check-reads.Post
+check κs a h x y = (checked-one (x .ensures ∙ sym (y .ensures)), refl)
+
+pub lookup : OneOutcome lookup-kinds.ps lookup-kinds.r lookup-reads.Pre lookup-reads.Post
+lookup κs a h x y = (found-one (x .ensures ∙ sym (y .ensures)), refl)
+
+-- the same bytes at the same place; a reference's ghost name belongs to the proof and is no outcome
+pub associated : (κs : Lfts 1) (a : Dens κs associated-kinds.ps) (x y : Outcome associated-kinds.ps associated-kinds.r associated-reads.Post κs a)
+    → (now (x .result) ≡ now (y .result)) × (x .result .ptr ≡ y .result .ptr)
+associated κs a x y = (x .ensures .bytes ∙ sym (y .ensures .bytes), x .ensures .place ∙ sym (y .ensures .place))
+
+pub fault-number : OneOutcome fault-kinds.ps fault-kinds.r fault-reads.Pre fault-reads.Post
+fault-number κs a h x y = (x .ensures ∙ sym (y .ensures), refl)
+
+pub refusal-answer : OneOutcome refusal-kinds.ps refusal-kinds.r refusal-reads.Pre refusal-reads.Post
+refusal-answer κs a h x y = (answer-one (x .ensures) (y .ensures), refl)
+
+pub checked-answer : OneOutcome checked-kinds.ps checked-kinds.r checked-reads.Pre checked-reads.Post
+checked-answer κs a h x y = (answer-one (x .ensures) (y .ensures), refl)
+
+pub found-answer : OneOutcome found-kinds.ps found-kinds.r found-reads.Pre found-reads.Post
+found-answer κs a h x y = (answer-one (x .ensures) (y .ensures), refl)

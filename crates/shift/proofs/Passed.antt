@@ -2,13 +2,12 @@
 use Prim.Native.Nat.{ℕ, _+_, _-_, _≤_, _<_}
 use native.Mathlib.Omega.{arith}
 use mathlib.Core.Path.{_≡_, refl, sym, ap, _∙_}
-use mathlib.Core.Bool.{Bool, true, false, not}
+use mathlib.Core.Bool.{Bool, true, false, not, cond}
 use mathlib.Core.List.{List}
 use mathlib.Core.Logic.{⊎-elim}
 use lib.ListN.{length}
 use lib.Dec.{eqb}
 use borrow.Author.Tests.{eqb-true, eqb-false, not-true, not-false, ne-eqb}
-use Rattle.words.specs.Pick.{pick}
 use Rattle.shift.specs.declared.answers.Answer.{Answer}
 use Rattle.shift.specs.declared.answers.Fault.{Fault}
 use Rattle.shift.specs.declared.answers.Refusal.{Refusal}
@@ -59,7 +58,7 @@ refused-stands x y a next told q =
 pub both-zero : (x next : Answer) → andThen x next .number ≡ 0 → (x .number ≡ 0) × (andThen x next ≡ next)
 both-zero x next z = both-case (eqb (x .number) 0) refl z
   where
-    both-case : (b : Bool) → eqb (x .number) 0 ≡ b → pick b next x .number ≡ 0 → (x .number ≡ 0) × (pick b next x ≡ next)
+    both-case : (b : Bool) → eqb (x .number) 0 ≡ b → cond b next x .number ≡ 0 → (x .number ≡ 0) × (cond b next x ≡ next)
     both-case true e h = (eqb-true _ _ e, refl)
     both-case false e h = absurd (eqb-false _ _ e h)
 
@@ -67,7 +66,7 @@ end-says : (w : ℕ) (f : List ℕ) (n : ℕ) → endAnswer w f n .number ≡ 0 
 unfolding endAnswer
 end-says w f n z = end-case (eqb (bodyStart w f n n) (length f)) refl z
   where
-    end-case : (b : Bool) → eqb (bodyStart w f n n) (length f) ≡ b → pick b (answer 0 0) (answer 31 0) .number ≡ 0 → bodyStart w f n n ≡ length f
+    end-case : (b : Bool) → eqb (bodyStart w f n n) (length f) ≡ b → cond b (answer 0 0) (answer 31 0) .number ≡ 0 → bodyStart w f n n ≡ length f
     end-case true q h = eqb-true _ _ q
     end-case false q h = absurd (omega arith)
 

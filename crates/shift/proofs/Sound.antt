@@ -2,12 +2,11 @@
 use Prim.Native.Nat.{ℕ, _+_, _≤_, _<_}
 use native.Mathlib.Omega.{arith}
 use mathlib.Core.Path.{_≡_, refl}
-use mathlib.Core.Bool.{Bool, true, false, _||_, not}
+use mathlib.Core.Bool.{Bool, true, false, _||_, not, cond}
 use mathlib.Core.List.{List}
 use lib.ListN.{length}
 use lib.Dec.{ltb, eqb, lit<}
 use borrow.Author.Tests.{ltb-false, eqb-true, not-false}
-use Rattle.words.specs.Pick.{pick}
 use Rattle.shift.specs.declared.row.Row.{Row}
 use Rattle.shift.specs.Format.{editionOf, countOf, totalOf, rowSize, rowStart, rowAt, bodyEnd}
 use Rattle.shift.specs.Check.{notAbove, outside, badSuite, badLength, bodyStart, misplaced, nonceSeen, badData, bodyNumber, rowNumber, headNumber}
@@ -15,9 +14,9 @@ use Rattle.shift.specs.Inside.{TableIn}
 use Rattle.shift.proofs.Searches.{or-false}
 use Rattle.shift.proofs.Rows.{row-broad}
 
-pick-zero : (b : Bool) (k rest : ℕ) → 0 < k → pick b k rest ≡ 0 → (b ≡ false) × (rest ≡ 0)
-pick-zero true k rest h e = absurd (omega arith)
-pick-zero false k rest h e = (refl, e)
+cond-zero : (b : Bool) (k rest : ℕ) → 0 < k → cond b k rest ≡ 0 → (b ≡ false) × (rest ≡ 0)
+cond-zero true k rest h e = absurd (omega arith)
+cond-zero false k rest h e = (refl, e)
 
 -- ---- a row
 
@@ -72,12 +71,12 @@ pub record Sound (w : ℕ) (f : List ℕ) (n i : ℕ) : Type 0 where
 pub sound : (w : ℕ) (f : List ℕ) (n i : ℕ) → rowNumber w f n i ≡ 0 → Sound w f n i
 unfolding rowNumber bodyNumber
 sound w f n i z =
-    let p25 = pick-zero (notAbove w f i) 25 _ (lit< tt) z in
-    let p26 = pick-zero (badSuite (rowAt w f i)) 26 _ (lit< tt) (p25 .1) in
-    let p27 = pick-zero (badLength (rowAt w f i)) 27 _ (lit< tt) (p26 .1) in
-    let p28 = pick-zero (misplaced w f n i) 28 _ (lit< tt) (p27 .1) in
-    let p29 = pick-zero (nonceSeen w f i) 29 _ (lit< tt) (p28 .1) in
-    let p30 = pick-zero (badData f (rowAt w f i)) 30 _ (lit< tt) (p29 .1) in
+    let p25 = cond-zero (notAbove w f i) 25 _ (lit< tt) z in
+    let p26 = cond-zero (badSuite (rowAt w f i)) 26 _ (lit< tt) (p25 .1) in
+    let p27 = cond-zero (badLength (rowAt w f i)) 27 _ (lit< tt) (p26 .1) in
+    let p28 = cond-zero (misplaced w f n i) 28 _ (lit< tt) (p27 .1) in
+    let p29 = cond-zero (nonceSeen w f i) 29 _ (lit< tt) (p28 .1) in
+    let p30 = cond-zero (badData f (rowAt w f i)) 30 _ (lit< tt) (p29 .1) in
     record {
       order = p25 .0;
       suit = suited (rowAt w f i) (p26 .0);
@@ -100,11 +99,11 @@ pub record Headed (e : ℕ) (f : List ℕ) : Type 0 where
 pub headed : (e : ℕ) (f : List ℕ) → headNumber e f ≡ 0 → Headed e f
 unfolding headNumber
 headed e f h =
-    let p20 = pick-zero (ltb (length f) 8 || ltb 1048576 (length f)) 20 _ (lit< tt) h in
-    let p21 = pick-zero (not (eqb (editionOf f) e)) 21 _ (lit< tt) (p20 .1) in
-    let p22 = pick-zero (ltb 512 (countOf f)) 22 _ (lit< tt) (p21 .1) in
-    let p23 = pick-zero (not (eqb (totalOf f) (length f))) 23 _ (lit< tt) (p22 .1) in
-    let p24 = pick-zero (ltb (length f) (rowStart (rowSize e) (countOf f))) 24 _ (lit< tt) (p23 .1) in
+    let p20 = cond-zero (ltb (length f) 8 || ltb 1048576 (length f)) 20 _ (lit< tt) h in
+    let p21 = cond-zero (not (eqb (editionOf f) e)) 21 _ (lit< tt) (p20 .1) in
+    let p22 = cond-zero (ltb 512 (countOf f)) 22 _ (lit< tt) (p21 .1) in
+    let p23 = cond-zero (not (eqb (totalOf f) (length f))) 23 _ (lit< tt) (p22 .1) in
+    let p24 = cond-zero (ltb (length f) (rowStart (rowSize e) (countOf f))) 24 _ (lit< tt) (p23 .1) in
     let len = or-false (ltb (length f) 8) (ltb 1048576 (length f)) (p20 .0) in
     record {
       long = ltb-false _ _ (len .0);

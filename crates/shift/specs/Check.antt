@@ -1,10 +1,9 @@
 -- The full check (document 01, "The shift file", numbers 20 to 31). Rows are w bytes long.
 use Prim.Native.Nat.{ℕ, _-_}
 use mathlib.Core.List.{List}
-use mathlib.Core.Bool.{Bool, _||_, _&&_, not}
+use mathlib.Core.Bool.{Bool, _||_, _&&_, not, cond}
 use lib.ListN.{length}
 use lib.Dec.{ltb, leb, eqb}
-use Rattle.words.specs.Pick.{pick}
 use Rattle.shift.specs.declared.row.Row.{Row}
 use Rattle.shift.specs.declared.answers.Answer.{Answer}
 use Rattle.shift.specs.Search.{anyBelow, firstOf, sameBytes}
@@ -29,7 +28,7 @@ badLength r = outside 5 1024 (r .ad) || ltb 65536 (r .len)
 
 -- where the body of row i of n has to start: after the table (row 0), or at the previous body's end
 unfoldable pub bodyStart : ℕ → List ℕ → ℕ → ℕ → ℕ
-bodyStart w f n i = pick (eqb i 0) (rowStart w n) (bodyEnd (rowAt w f (i - 1)))
+bodyStart w f n i = cond (eqb i 0) (rowStart w n) (bodyEnd (rowAt w f (i - 1)))
 
 -- 28: offset not there, or the body ends past the file
 unfoldable pub misplaced : ℕ → List ℕ → ℕ → ℕ → Bool
@@ -50,22 +49,22 @@ badData f r = not (eqb (dataJob f r) (r .job)) || not (eqb (unitOf f r) 1 || eqb
 -- the first of 28 to 30 that applies to row i of n, else 0
 unfoldable pub bodyNumber : ℕ → List ℕ → ℕ → ℕ → ℕ
 bodyNumber w f n i =
-    pick (misplaced w f n i) 28
-    (pick (nonceSeen w f i) 29
-    (pick (badData f (rowAt w f i)) 30
+    cond (misplaced w f n i) 28
+    (cond (nonceSeen w f i) 29
+    (cond (badData f (rowAt w f i)) 30
     0))
 
 -- the first of 25 to 30 that applies to row i of n, else 0
 unfoldable pub rowNumber : ℕ → List ℕ → ℕ → ℕ → ℕ
 rowNumber w f n i =
-    pick (notAbove w f i) 25
-    (pick (badSuite (rowAt w f i)) 26
-    (pick (badLength (rowAt w f i)) 27
+    cond (notAbove w f i) 25
+    (cond (badSuite (rowAt w f i)) 26
+    (cond (badLength (rowAt w f i)) 27
     (bodyNumber w f n i)))
 
 -- 31: the end of the last body (8 if n = 0) is not the file's end
 unfoldable pub endAnswer : ℕ → List ℕ → ℕ → Answer
-endAnswer w f n = pick (eqb (bodyStart w f n n) (length f)) (answer 0 0) (answer 31 0)
+endAnswer w f n = cond (eqb (bodyStart w f n n) (length f)) (answer 0 0) (answer 31 0)
 
 -- the rows of n from row i on: the first that has a fault, with its number; then 31
 unfoldable pub rowsFrom : ℕ → List ℕ → ℕ → ℕ → Answer
@@ -75,16 +74,16 @@ rowsFrom w f n i =
 -- the first of 20 to 24 that applies, else 0; e is the edition that is wanted
 unfoldable pub headNumber : ℕ → List ℕ → ℕ
 headNumber e f =
-    pick (ltb (length f) 8 || ltb 1048576 (length f)) 20
-    (pick (not (eqb (editionOf f) e)) 21
-    (pick (ltb 512 (countOf f)) 22
-    (pick (not (eqb (totalOf f) (length f))) 23
-    (pick (ltb (length f) (rowStart (rowSize e) (countOf f))) 24
+    cond (ltb (length f) 8 || ltb 1048576 (length f)) 20
+    (cond (not (eqb (editionOf f) e)) 21
+    (cond (ltb 512 (countOf f)) 22
+    (cond (not (eqb (totalOf f) (length f))) 23
+    (cond (ltb (length f) (rowStart (rowSize e) (countOf f))) 24
     0))))
 
 -- after number 0 the next answer; any other stands
 abbrev pub andThen : Answer → Answer → Answer
-andThen x next = pick (eqb (x .number) 0) next x
+andThen x next = cond (eqb (x .number) 0) next x
 
 -- 20 to 24 first, then each row from row 0 with 25 to 30 in order, then 31
 unfoldable pub checkAs : ℕ → List ℕ → Answer

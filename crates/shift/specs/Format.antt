@@ -1,9 +1,9 @@
 -- The shift file's format (document 01, "The shift file"): header, table of contents, bodies. Numbers are little-endian.
 use Prim.Native.Nat.{ℕ, _+_, _-_, _*_}
+use mathlib.Core.Bool.{cond}
 use mathlib.Core.List.{List}
 use lib.ListN.{getD, take, drop}
 use lib.Dec.{leb}
-use Rattle.words.specs.Pick.{pick}
 use Rattle.words.specs.Bytes.{word}
 use Rattle.shift.specs.declared.row.Row.{Row}
 
@@ -56,7 +56,7 @@ nonceAt w f i = stretch f (restStart w i + 12) 16
 
 -- the bytes of a suite's tag
 unfoldable pub tagLength : ℕ → ℕ
-tagLength suite = pick (leb suite 2) 16 8
+tagLength suite = cond (leb suite 2) 16 8
 
 -- a body is associated data, ciphertext, tag: where it ends
 unfoldable pub bodyEnd : Row → ℕ

@@ -1,10 +1,10 @@
 -- The lookup of a job and its associated data (document 01, "The shift file").
 use Prim.Native.Nat.{ℕ, _+_, _-_}
 use mathlib.Core.Path.{_≡_}
+use mathlib.Core.Bool.{cond}
 use mathlib.Core.List.{List}
 use lib.Dec.{eqb}
 use denote.Ref.{RefT, now}
-use Rattle.words.specs.Pick.{pick}
 use Rattle.shift.specs.declared.row.Row.{Row}
 use Rattle.shift.specs.declared.answers.Answer.{Answer}
 use Rattle.shift.specs.Search.{firstOf}
@@ -30,11 +30,11 @@ rowOf f i = rowAt (rowSize edition) f i
 
 -- where the associated data of the row that a lookup found starts; 0 where it refuses
 unfoldable pub dataStart : List ℕ → Answer → ℕ
-dataStart f x = pick (eqb (x .number) 0) (rowOf f (x .row) .at) 0
+dataStart f x = cond (eqb (x .number) 0) (rowOf f (x .row) .at) 0
 
 -- and how long it is; the file's first zero bytes where it refuses
 unfoldable pub dataLength : List ℕ → Answer → ℕ
-dataLength f x = pick (eqb (x .number) 0) (rowOf f (x .row) .ad) 0
+dataLength f x = cond (eqb (x .number) 0) (rowOf f (x .row) .ad) 0
 
 -- r is the part of s that starts at `at` and is len bytes long: its bytes, and where they lie
 pub record PartOf (s r : RefT (List ℕ)) (at len : ℕ) : Type 0 where

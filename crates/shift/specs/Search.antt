@@ -1,9 +1,8 @@
 -- Searches and comparisons that the file's rules are written with.
 use Prim.Native.Nat.{ℕ, zero, suc}
-use mathlib.Core.Bool.{Bool, true, false, _||_, _&&_}
+use mathlib.Core.Bool.{Bool, true, false, _||_, _&&_, cond}
 use mathlib.Core.List.{List, [], _∷_}
 use lib.Dec.{eqb}
-use Rattle.words.specs.Pick.{pick}
 
 -- some number below n passes
 unfoldable pub anyBelow : (ℕ → Bool) → ℕ → Bool
@@ -13,7 +12,7 @@ anyBelow p (suc n) = p n || anyBelow p n
 -- what the first of the numbers i, i + 1, .., i + k - 1 that passes gives, and `rest` where none does
 unfoldable pub firstOf : {A : Type 0} → (ℕ → Bool) → (ℕ → A) → A → ℕ → ℕ → A
 firstOf hit what rest i zero = rest
-firstOf hit what rest i (suc k) = pick (hit i) (what i) (firstOf hit what rest (suc i) k)
+firstOf hit what rest i (suc k) = cond (hit i) (what i) (firstOf hit what rest (suc i) k)
 
 -- the same bytes, all of them
 abbrev pub sameBytes : List ℕ → List ℕ → Bool
