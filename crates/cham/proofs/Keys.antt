@@ -5,16 +5,14 @@ use Prim.Native.Nat.{ℕ, _+_, _*_, _^_, _<_}
 use native.Mathlib.Nat.{pow-suc}
 use native.Mathlib.Numerals.{add-one}
 use native.Mathlib.Omega.{arith}
-use lib.Bits.{bitXor}
 use lib.Pow.{pow-pos}
 use lib.ListN.{set}
 use Rattle.words.specs.Words.{xor}
 use Rattle.words.proofs.Xor.{below}
 use Rattle.cham.specs.Cham.{keyWord, mixed, secondPlace, placed}
 
--- the second place is within the table, as the code works it out
-pub place-lt : (e i : ℕ) → i < 2 ^ e → bitXor (i + 2 ^ e) 1 < 2 ^ (e + 1)
-unfolding xor
+-- the second place is within the table
+pub place-lt : (e i : ℕ) → i < 2 ^ e → xor (i + 2 ^ e) 1 < 2 ^ (e + 1)
 place-lt e i h =
     let p : 2 ^ (e + 1) ≡ 2 ^ e * 2 = ap (λ (n : ℕ). 2 ^ n) (add-one e) ∙ pow-suc 2 e in
     let a : i + 2 ^ e < 2 ^ (e + 1) = omega arith in
@@ -22,10 +20,10 @@ place-lt e i h =
     below (e + 1) a b
 
 -- word i of the key puts in its two round keys
-pub one-more : (w : ℕ) (key keys : List ℕ) (i k a b : ℕ) → keys ≡ placed w key i → k ≡ keyWord w key i → a ≡ mixed w 8 k → b ≡ mixed w 11 k
-    → set (set keys i a) (secondPlace w i) b ≡ placed w key (i + 1)
+pub one-more : (w : ℕ) (key : List ℕ) (i : ℕ) {keys : List ℕ} {j k a b : ℕ} → keys ≡ placed w key i → k ≡ keyWord w key i → j ≡ secondPlace w i
+    → a ≡ mixed w 8 k → b ≡ mixed w 11 k → set (set keys i a) j b ≡ placed w key (i + 1)
 unfolding placed
-one-more w key keys i k a b p q r s =
+one-more w key i {j = j} {b = b} p q t r s =
     rw add-one
-    (ap₂ (λ (l : List ℕ) (x : ℕ). set (set l i x) (secondPlace w i) b) p (r ∙ ap (mixed w 8) q)
-    ∙ ap (set (set (placed w key i) i (mixed w 8 (keyWord w key i))) (secondPlace w i)) (s ∙ ap (mixed w 11) q))
+    (ap₂ (λ (l : List ℕ) (x : ℕ). set (set l i x) j b) p (r ∙ ap (mixed w 8) q)
+    ∙ ap₂ (set (set (placed w key i) i (mixed w 8 (keyWord w key i)))) t (s ∙ ap (mixed w 11) q))

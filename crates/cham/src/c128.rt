@@ -3,7 +3,7 @@ ghost use mathlib.Core.Path.{_≡_};
 ghost use Prim.Native.Nat.{_+_, _%_, _<_};
 ghost use lib.ListN.{getD};
 ghost use Rattle.words.specs.Bytes.{word};
-ghost use Rattle.cham.specs.Cham.{keyWord, mixed, roundKeys, turned, cham};
+ghost use Rattle.cham.specs.Cham.{keyWord, mixed, secondPlace, roundKeys, turned, cham};
 
 // The state.
 struct Words {
@@ -32,6 +32,14 @@ fn mix(k: u32, t: u32) -> u32
     k ^ words::arx::rotl32(k, 1) ^ words::arx::rotl32(k, t)
 }
 
+// The place of the second round key of word i.
+fn second_place(i: usize) -> usize
+    requires { ⌜ i < 4 ⌝ }
+    ensures { λ r. ⌜ (r ≡ secondPlace 32 i) × (r < 8) ⌝ }
+{
+    (i + 4) ^ 1
+}
+
 // The round keys, each at its place.
 fn round_keys(key: [u8; 16]) -> [u32; 8]
     ensures { λ r. ⌜ r ≡ roundKeys 32 key ⌝ }
@@ -40,8 +48,9 @@ fn round_keys(key: [u8; 16]) -> [u32; 8]
     let mut i: usize = 0;
     while i < 4 {
         let k = key_word(key, i);
+        let j = second_place(i);
         keys[i] = mix(k, 8);
-        keys[(i + 4) ^ 1] = mix(k, 11);
+        keys[j] = mix(k, 11);
         i += 1;
     }
     keys

@@ -3,7 +3,7 @@ ghost use mathlib.Core.Path.{_≡_};
 ghost use Prim.Native.Nat.{_+_, _%_, _<_};
 ghost use lib.ListN.{getD};
 ghost use Rattle.words.specs.Bytes.{word};
-ghost use Rattle.cham.specs.Cham.{keyWord, mixed, roundKeys, turned, cham};
+ghost use Rattle.cham.specs.Cham.{keyWord, mixed, secondPlace, roundKeys, turned, cham};
 
 // The state.
 struct Words {
@@ -30,6 +30,14 @@ fn mix(k: u16, t: u16) -> u16
     k ^ words::arx::rotl16(k, 1) ^ words::arx::rotl16(k, t)
 }
 
+// The place of the second round key of word i.
+fn second_place(i: usize) -> usize
+    requires { ⌜ i < 8 ⌝ }
+    ensures { λ r. ⌜ (r ≡ secondPlace 16 i) × (r < 16) ⌝ }
+{
+    (i + 8) ^ 1
+}
+
 // The round keys, each at its place.
 fn round_keys(key: [u8; 16]) -> [u16; 16]
     ensures { λ r. ⌜ r ≡ roundKeys 16 key ⌝ }
@@ -38,8 +46,9 @@ fn round_keys(key: [u8; 16]) -> [u16; 16]
     let mut i: usize = 0;
     while i < 8 {
         let k = key_word(key, i);
+        let j = second_place(i);
         keys[i] = mix(k, 8);
-        keys[(i + 8) ^ 1] = mix(k, 11);
+        keys[j] = mix(k, 11);
         i += 1;
     }
     keys

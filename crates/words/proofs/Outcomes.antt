@@ -1,5 +1,5 @@
 -- Every public function of `words` leaves one outcome: its contract gives the result, or the bytes that tell it.
-use mathlib.Core.Path.{_≡_, refl, sym, ap, _∙_}
+use mathlib.Core.Path.{refl, sym, ap, _∙_}
 use mathlib.Core.List.{List}
 use Prim.Native.Nat.{ℕ}
 use native.Mathlib.Omega.{arith}

@@ -1,11 +1,10 @@
 -- `cham::c64::round_keys` meets its contract: turn i puts in the round keys of word i, each at its place.
 use borrow.Author.Needs.{needs}
-use Prim.Native.Nat.{_+_, _≤_, _<_, _-_, _^_}
+use Prim.Native.Nat.{_≤_, _-_}
 use mathlib.Core.Path.{_≡_, refl, ap, _∙_}
 use native.Mathlib.Omega.{arith}
-use Rattle.words.specs.Words.{xor}
 use Rattle.cham.specs.Cham.{placed}
-use Rattle.cham.proofs.Keys.{place-lt, one-more}
+use Rattle.cham.proofs.Keys.{one-more}
 use Rattle.cham.proofs.c64.round_keys.Statement.{statement}
 use Rattle.cham.proofs.c64.round_keys.Tie as tie
 
@@ -22,6 +21,9 @@ loop-holds c = (omega arith, refl)
 key-word-requires : tie.Need-key-word-requires Inv-loop μ-loop
 key-word-requires c κs = search needs
 
+second-place-requires : tie.Need-second-place-requires Inv-loop μ-loop
+second-place-requires c κs = search needs
+
 mix-requires : tie.Need-mix-requires Inv-loop μ-loop
 mix-requires c κs = search needs
 
@@ -34,14 +36,11 @@ array-write-keys c = search needs
 mix-requires-2 : tie.Need-mix-requires-2 Inv-loop μ-loop
 mix-requires-2 c κs = search needs
 
-add-keys : tie.Need-add-keys Inv-loop μ-loop
-add-keys c = search needs
-
 mul-keys-2 : tie.Need-mul-keys-2 Inv-loop μ-loop
-mul-keys-2 c = omega (arith, place-lt 3 (c .before .before .before .before .loop .i) (omega arith))
+mul-keys-2 c = search needs
 
 array-write-keys-2 : tie.Need-array-write-keys-2 Inv-loop μ-loop
-array-write-keys-2 c = place-lt 3 (c .before .before .before .before .loop .i) (omega arith)
+array-write-keys-2 c = search needs
 
 add-i : tie.Need-add-i Inv-loop μ-loop
 add-i c = search needs
@@ -50,13 +49,12 @@ loop-less : tie.Need-loop-less Inv-loop μ-loop
 loop-less c = search needs
 
 loop-again : tie.Need-loop-again Inv-loop μ-loop
-unfolding xor
 loop-again c =
-    let l = c .before .before .before .before .loop in
-    let key = c .before .before .before .before .before .args .key in (
+    let l = c .before .before .before .before .before .loop in (
       omega arith,
-      one-more 16 key (l .keys) (l .i) (c .before .before .key-word .result) (c .before .mix .result) (c .mix2 .result)
-          (l .inv .1) (c .before .before .key-word .ensures) (c .before .mix .ensures) (c .mix2 .ensures),
+      one-more 16 (c .before .before .before .before .before .before .args .key) (l .i)
+          (l .inv .1) (c .before .before .before .key-word .ensures) (c .before .before .second-place .ensures .0)
+          (c .before .mix .ensures) (c .mix2 .ensures),
     )
 
 returns : tie.Need-returns Inv-loop μ-loop
@@ -72,11 +70,11 @@ round-keys-spec =
     μ-loop
     loop-holds
     key-word-requires
+    second-place-requires
     mix-requires
     mul-keys
     array-write-keys
     mix-requires-2
-    add-keys
     mul-keys-2
     array-write-keys-2
     add-i
