@@ -1,6 +1,6 @@
 -- Every image is a block, and no two blocks share one: each step can be undone. The columns' map, applied four times, changes nothing.
 use mathlib.Core.Path.{_≡_, refl, sym, ap, ap₂, _∙_}
-use mathlib.Core.List.{List, _∷_}
+use mathlib.Core.List.{List}
 use Prim.Native.Nat.{ℕ, zero, suc, _+_, _*_, _/_, _%_}
 use native.Mathlib.Omega.{arith}
 use lib.ListN.{length}
@@ -11,10 +11,10 @@ use Rattle.words.proofs.Lists.{part-whole}
 use Rattle.words.proofs.Xors.{xors-comm, xors-inj}
 use Rattle.fips197.specs.Field.{xtime}
 use Rattle.fips197.specs.Sbox.{subByte}
-use Rattle.fips197.specs.Cipher.{from, cell, grid, subBytes, shiftRows, mixed, mixColumns, addRoundKey, roundKey, state, cipher}
+use Rattle.fips197.specs.Cipher.{cell, grid, subBytes, shiftRows, mixed, mixColumns, addRoundKey, roundKey, state, cipher}
 use Rattle.fips197.proofs.Field.{xtime-sum, mixed-is}
 use Rattle.fips197.proofs.Sbox.{unsub, unsub-sub}
-use Rattle.fips197.proofs.Steps.{sub-bytes, shift-bytes, add-bytes, add-length, key-length, key-bytes, state-length, state-bytes}
+use Rattle.fips197.proofs.Steps.{from-same, sub-bytes, shift-bytes, add-bytes, add-length, key-length, key-bytes, state-length, state-bytes}
 
 -- ---- one column, by sums and xtime alone
 
@@ -60,10 +60,6 @@ unshiftRows m = grid (λ r c. cell m r ((c + 3 * r) % 4))
 
 unmixColumns : List ℕ → List ℕ
 unmixColumns m = grid (λ r c. unmix (cell m r c) (cell m ((r + 1) % 4) c) (cell m ((r + 2) % 4) c) (cell m ((r + 3) % 4) c))
-
-from-same : (f g : ℕ → ℕ) → ((i : ℕ) → f i ≡ g i) → (i n : ℕ) → from i n f ≡ from i n g
-from-same f g e i zero = refl
-from-same f g e i (suc n) = ap₂ (λ (x : ℕ) (l : List ℕ). x ∷ l) (e i) (from-same f g e (suc i) n)
 
 module _ (s : List ℕ) (l : length s ≡ 16) where
   -- the byte k places below byte i in its column

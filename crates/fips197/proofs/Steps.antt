@@ -1,11 +1,12 @@
 -- Each step makes sixteen bytes of bytes, and each word of the key schedule is four.
-use mathlib.Core.Path.{_≡_, refl, _∙_}
-use mathlib.Core.Bool.{Bool, true, false, cond}
+use mathlib.Core.Path.{_≡_, refl, ap₂, _∙_}
+use mathlib.Core.Bool.{Bool, true, false}
 use mathlib.Core.List.{List, [], _∷_, _++_}
 use Prim.Native.Nat.{ℕ, zero, suc, _+_, _-_, _*_, _/_, _%_, _<_}
 use native.Mathlib.Omega.{arith}
 use lib.Dec.{eqb, lit<}
 use lib.ListN.{length, length-append}
+use Rattle.words.specs.Pick.{pick}
 use Rattle.words.specs.Bytes.{AllBytes}
 use Rattle.words.specs.Xors.{xors}
 use Rattle.words.proofs.Xor.{below}
@@ -14,6 +15,10 @@ use Rattle.words.proofs.Xors.{length-xors, all-xors}
 use Rattle.fips197.specs.Cipher.{from, cell, subBytes, shiftRows, mixed, mixColumns, addRoundKey, subWord, rotWord, power, rcon, temp, w, roundKey, state}
 use Rattle.fips197.proofs.Field.{xtime-byte, mixed-is}
 use Rattle.fips197.proofs.Sbox.{sub-byte}
+
+pub from-same : (f g : ℕ → ℕ) → ((i : ℕ) → f i ≡ g i) → (i n : ℕ) → from i n f ≡ from i n g
+from-same f g e i zero = refl
+from-same f g e i (suc n) = ap₂ (λ (x : ℕ) (l : List ℕ). x ∷ l) (e i) (from-same f g e (suc i) n)
 
 all-from : (f : ℕ → ℕ) → ((j : ℕ) → f j < 256) → (i n : ℕ) → AllBytes (from i n f)
 all-from f h i zero = all-nil
@@ -62,14 +67,14 @@ module _ (i : ℕ) (t : List ℕ) where
   temp-length : length t ≡ 4 → length (temp i t) ≡ 4
   temp-length l = go (eqb (i % 4) 0)
     where
-      go : (b : Bool) → length (cond b (xors (subWord (rotWord t)) (rcon (i / 4))) t) ≡ 4
+      go : (b : Bool) → length (pick b (xors (subWord (rotWord t)) (rcon (i / 4))) t) ≡ 4
       go true = refl
       go false = l
 
   temp-bytes : AllBytes t → AllBytes (temp i t)
   temp-bytes h = go (eqb (i % 4) 0)
     where
-      go : (b : Bool) → AllBytes (cond b (xors (subWord (rotWord t)) (rcon (i / 4))) t)
+      go : (b : Bool) → AllBytes (pick b (xors (subWord (rotWord t)) (rcon (i / 4))) t)
       go true = all-xors (subWord (rotWord t)) (rcon (i / 4)) (all-from _ (λ r. sub-byte _ (rot r)) 0 4) (rcon-bytes (i / 4))
         where
           rot : AllBytes (rotWord t)

@@ -1,0 +1,104 @@
+-- A column is known by its four bytes: as it is read by row, put together, XORed, turned and mixed.
+use mathlib.Core.Path.{_≡_, refl, sym, ap, ap₂, _∙_}
+use mathlib.Core.List.{List, [], _∷_, _++_, append-assoc, map}
+use Prim.Native.Nat.{ℕ, zero, suc, _+_, _*_, _/_, _%_, _^_, _<_}
+use native.Mathlib.Omega.{arith}
+use lib.ListN.{getD}
+use Rattle.words.specs.Words.{xor}
+use Rattle.words.specs.Bytes.{value, bytes}
+use Rattle.words.specs.Xors.{xors}
+use Rattle.words.proofs.Xor.{assoc}
+use Rattle.words.proofs.Lists.{all-nil, all-cons}
+use Rattle.words.proofs.Bytes.{bytes-value, length-bytes, bytes-mod, bytes-join, bytes-split}
+use Rattle.words.proofs.Xors.{bytes-xor}
+use Rattle.fips197.specs.Cipher.{mixed, subWord, rotWord}
+use Rattle.fips197.specs.Field.{xtime}
+use Rattle.fips197.proofs.Field.{xtime-sum, mixed-is}
+use Rattle.fips197.proofs.Steps.{from-same}
+use Rattle.fips197.proofs.Schedule.{next-key}
+use Rattle.aes.specs.Columns.{mixColumn, Follows}
+
+-- row k is what is left when the rows below it are shifted out
+pub row-is : (k x : ℕ) → k < 4 → x / 2 ^ (8 * k) % 256 ≡ getD (bytes 4 x) k 0
+unfolding bytes
+row-is zero x h = omega arith
+row-is (suc zero) x h = refl
+row-is (suc (suc zero)) x h = omega arith
+row-is (suc (suc (suc zero))) x h = omega arith
+row-is (suc (suc (suc (suc k)))) x h = omega arith
+
+-- four bytes p, q, s, t, put together
+pub packed : {r x y z u p q s t : ℕ} → r ≡ value (x ∷ y ∷ z ∷ u ∷ []) → x < 256 → y < 256 → z < 256 → u < 256
+    → x ≡ p → y ≡ q → z ≡ s → u ≡ t → bytes 4 r ≡ p ∷ q ∷ s ∷ t ∷ []
+packed {x = x} {y = y} {z = z} {u = u} {p = p} {q = q} e hx hy hz hu ep eq es et =
+    ap (bytes 4) e
+    ∙ bytes-value (x ∷ y ∷ z ∷ u ∷ []) (all-cons x (y ∷ z ∷ u ∷ []) hx (all-cons y (z ∷ u ∷ []) hy (all-cons z (u ∷ []) hz (all-cons u [] hu all-nil))))
+    ∙ ap₂ (λ (a b : ℕ). a ∷ b ∷ z ∷ u ∷ []) ep eq
+    ∙ ap₂ (λ (a b : ℕ). p ∷ q ∷ a ∷ b ∷ []) es et
+
+-- two columns are the halves of a word of eight bytes
+halves : (x : ℕ) → bytes 4 (x % 0x100000000) ++ bytes 4 (x / 0x100000000) ≡ bytes 8 x
+halves x = ap (λ (l : List ℕ). l ++ bytes 4 (x / 0x100000000)) (bytes-mod 4 x) ∙ sym (bytes-split 4 4 x)
+
+pub loaded : (x y : ℕ)
+    → bytes 4 (x % 0x100000000) ++ bytes 4 (x / 0x100000000) ++ bytes 4 (y % 0x100000000) ++ bytes 4 (y / 0x100000000) ≡ bytes 8 x ++ bytes 8 y
+loaded x y =
+    append-assoc (bytes 4 (x % 0x100000000) ++ bytes 4 (x / 0x100000000)) (bytes 4 (y % 0x100000000)) (bytes 4 (y / 0x100000000))
+    ∙ ap₂ _++_ (halves x) (halves y)
+
+-- four columns, one after the other
+pub four : {a b c d e f g h : List ℕ} → a ≡ e → b ≡ f → c ≡ g → d ≡ h → a ++ b ++ c ++ d ≡ e ++ f ++ g ++ h
+four p q r s = ap₂ _++_ (ap₂ _++_ (ap₂ _++_ p q) r) s
+
+pub four-xor : (a b c d e f g h : ℕ)
+    → bytes 4 (xor a e) ++ bytes 4 (xor b f) ++ bytes 4 (xor c g) ++ bytes 4 (xor d h)
+    ≡ xors (bytes 4 a ++ bytes 4 b ++ bytes 4 c ++ bytes 4 d) (bytes 4 e ++ bytes 4 f ++ bytes 4 g ++ bytes 4 h)
+unfolding bytes
+four-xor a b c d e f g h = four (bytes-xor 4 a e) (bytes-xor 4 b f) (bytes-xor 4 c g) (bytes-xor 4 d h)
+
+-- ---- the round key after the columns a, b, c, d: d turned is t, and t through the S-box is s
+
+pub key-turn : (a b c d t s rc : ℕ) → bytes 4 t ≡ rotWord (bytes 4 d) → bytes 4 s ≡ subWord (bytes 4 t)
+    → let a′ = xor a (xor s rc) in
+    let b′ = xor b a′ in
+    let c′ = xor c b′ in
+    Follows (bytes 4 a ++ bytes 4 b ++ bytes 4 c ++ bytes 4 d) (bytes 4 rc) (bytes 4 a′ ++ bytes 4 b′ ++ bytes 4 c′ ++ bytes 4 (xor d c′))
+key-turn a b c d t s rc f e key i p q =
+    let a′ = xor a (xor s rc) in
+    let b′ = xor b a′ in
+    let c′ = xor c b′ in
+    next-key key i (bytes 4 a) (bytes 4 b) (bytes 4 c) (bytes 4 d) (bytes 4 a′) (bytes 4 b′) (bytes 4 c′) (bytes 4 (xor d c′))
+    (length-bytes 4 a) (length-bytes 4 b) (length-bytes 4 c) p
+    (bytes-xor 4 a (xor s rc) ∙ ap (xors (bytes 4 a)) (bytes-xor 4 s rc ∙ ap₂ xors (e ∙ ap subWord f) q))
+    (bytes-xor 4 b a′) (bytes-xor 4 c b′) (bytes-xor 4 d c′)
+
+-- ---- a column turned and mixed
+
+-- row r is row r + 1 of x
+pub turned : (x : ℕ) → x < 0x100000000 → bytes 4 (x / 256 + x * 0x1000000 % 0x100000000) ≡ rotWord (bytes 4 x)
+unfolding bytes
+turned x h =
+    let e : x / 256 + x * 0x1000000 % 0x100000000 ≡ x / 256 + 0x1000000 * (x % 256) = omega arith in
+    let f : x % 256 % 256 ≡ x % 256 = omega arith in
+    ap (bytes 4) e
+    ∙ bytes-join 3 1 (x / 256) (x % 256) (omega arith)
+    ∙ ap (λ (v : ℕ). bytes 3 (x / 256) ++ (v ∷ [])) f
+
+mixed-cell : (a b c d : ℕ) → xor (xor (xor (xtime (xor a b)) b) c) d ≡ mixed a b c d
+mixed-cell a b c d =
+    ap (λ (v : ℕ). xor (xor v c) d) (ap (λ (v : ℕ). xor v b) (xtime-sum a b) ∙ assoc (xtime a) (xtime b) b) ∙ sym (mixed-is a b c d)
+
+pub mixed-column : (x y z u v : ℕ) → bytes 4 y ≡ rotWord (bytes 4 x) → bytes 4 z ≡ rotWord (bytes 4 y) → bytes 4 u ≡ rotWord (bytes 4 z)
+    → bytes 4 v ≡ map xtime (bytes 4 (xor x y)) → bytes 4 (xor (xor (xor v y) z) u) ≡ mixColumn (bytes 4 x)
+unfolding bytes
+mixed-column x y z u v ey ez eu ev =
+    let l = bytes 4 x in
+    let fz : bytes 4 z ≡ rotWord (rotWord l) = ez ∙ ap rotWord ey in
+    let fu : bytes 4 u ≡ rotWord (rotWord (rotWord l)) = eu ∙ ap rotWord fz in
+    let fv : bytes 4 v ≡ map xtime (xors l (rotWord l)) = ev ∙ ap (map xtime) (bytes-xor 4 x y ∙ ap (xors l) ey) in
+    let at : ℕ → ℕ → ℕ = λ r k. getD l ((r + k) % 4) 0 in
+    bytes-xor 4 (xor (xor v y) z) u
+    ∙ ap₂ xors (bytes-xor 4 (xor v y) z ∙ ap₂ xors (bytes-xor 4 v y ∙ ap₂ xors fv ey) fz) fu
+    ∙ from-same (λ r. xor (xor (xor (xtime (xor (at r 0) (at r 1))) (at r 1)) (at r 2)) (at r 3))
+    (λ r. mixed (at r 0) (at r 1) (at r 2) (at r 3))
+    (λ r. mixed-cell (at r 0) (at r 1) (at r 2) (at r 3)) 0 4

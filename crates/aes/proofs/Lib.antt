@@ -1,0 +1,4 @@
+pub mod Masks
+pub mod Column
+pub mod Rounds
+pub mod Outcomes

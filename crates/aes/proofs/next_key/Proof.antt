@@ -1,0 +1,23 @@
+-- `aes::next_key` meets its contract: its words are those of the key schedule.
+use Rattle.words.specs.Words.{xor}
+use Rattle.aes.proofs.Column.{key-turn}
+use borrow.Author.Needs.{needs}
+use Rattle.aes.proofs.next_key.Statement.{statement}
+use Rattle.aes.proofs.next_key.Tie as tie
+
+rot-word-requires : tie.Need-rot-word-requires
+rot-word-requires c κs = search needs
+
+shifted-requires : tie.Need-shifted-requires
+shifted-requires c κs = search needs
+
+returns : tie.Need-returns
+unfolding xor
+returns c =
+    let a = c .before .before .before .before .before .before .args in
+    let w = c .before .before .before .before .before .rot-word in
+    let s = c .before .before .before .before .shifted in
+    key-turn (a .k .a) (a .k .b) (a .k .c) (a .k .d) (w .result) (s .result) (a .rc) (w .ensures) (s .ensures)
+
+pub next-key-spec : {M : Type 1} → statement M
+next-key-spec = tie.close (tie.spec rot-word-requires shifted-requires returns)

@@ -1,0 +1,177 @@
+// AES-128 by FIPS 197: the plain engine. Its one table is the S-box, which is lent to each step.
+ghost use mathlib.Core.Path.{_≡_};
+ghost use mathlib.Core.List.{[], _∷_, map};
+ghost use Prim.Native.Nat.{_<_};
+ghost use Rattle.words.specs.Pick.{pick};
+ghost use Rattle.words.specs.Bytes.{bytes};
+ghost use Rattle.fips197.specs.Field.{xtime};
+ghost use Rattle.fips197.specs.Sbox.{subByte, IsSbox};
+ghost use Rattle.fips197.specs.Cipher.{subBytes, shiftRows, mixColumns, addRoundKey, rotWord, cipher};
+ghost use Rattle.aes.specs.Columns.{told, row, mixColumn, Follows};
+use words::arx::le32;
+use words::arx::store4_32;
+use words::block::block_of;
+
+mod sbox;
+
+// The four columns of the state or of a round key; row 0 is the low byte.
+struct Columns {
+    a: u32,
+    b: u32,
+    c: u32,
+    d: u32,
+}
+
+// The S-box at the byte in row k of a column.
+fn sub_byte(t: &[u8; 256], x: u32, k: u32) -> u8
+    requires { ⌜ IsSbox (now t) × (k < 4) ⌝ }
+    ensures { λ r. ⌜ r ≡ subByte (row k x) ⌝ }
+{
+    t[((x >> (8 * k)) % 256) as usize]
+}
+
+// SubBytes and ShiftRows of one column: row r comes from the r-th of the four columns.
+fn shifted(t: &[u8; 256], a: u32, b: u32, c: u32, d: u32) -> u32
+    requires { ⌜ IsSbox (now t) ⌝ }
+    ensures { λ r. ⌜ bytes 4 r ≡ subByte (row 0 a) ∷ subByte (row 1 b) ∷ subByte (row 2 c) ∷ subByte (row 3 d) ∷ [] ⌝ }
+{
+    le32(
+        sub_byte(t, a, 0),
+        sub_byte(t, b, 1),
+        sub_byte(t, c, 2),
+        sub_byte(t, d, 3),
+    )
+}
+
+// SubBytes and ShiftRows.
+fn shift_rows(t: &[u8; 256], s: Columns) -> Columns
+    requires { ⌜ IsSbox (now t) ⌝ }
+    ensures { λ r. ⌜ told r ≡ shiftRows (subBytes (told s)) ⌝ }
+{
+    Columns {
+        a: shifted(t, s.a, s.b, s.c, s.d),
+        b: shifted(t, s.b, s.c, s.d, s.a),
+        c: shifted(t, s.c, s.d, s.a, s.b),
+        d: shifted(t, s.d, s.a, s.b, s.c),
+    }
+}
+
+// xtime of each byte: the seven low bits move up, and 0x1b comes in where the eighth drops out.
+fn double(x: u32) -> u32
+    ensures { λ r. ⌜ bytes 4 r ≡ map xtime (bytes 4 x) ⌝ }
+{
+    ((x & 0x7f7f7f7f) << 1) ^ (((x >> 7) & 0x01010101) * 0x1b)
+}
+
+// The rows move up by one, row 0 to the end.
+fn rot_word(x: u32) -> u32
+    ensures { λ r. ⌜ bytes 4 r ≡ rotWord (bytes 4 x) ⌝ }
+{
+    (x >> 8) + (x << 24)
+}
+
+// MixColumns of one column: 02 a + 03 b + c + d is 02 (a + b) + b + c + d.
+fn mix_column(x: u32) -> u32
+    ensures { λ r. ⌜ bytes 4 r ≡ mixColumn (bytes 4 x) ⌝ }
+{
+    let y = rot_word(x);
+    let z = rot_word(y);
+    let u = rot_word(z);
+    double(x ^ y) ^ y ^ z ^ u
+}
+
+// MixColumns.
+fn mix_columns(s: Columns) -> Columns
+    ensures { λ r. ⌜ told r ≡ mixColumns (told s) ⌝ }
+{
+    Columns {
+        a: mix_column(s.a),
+        b: mix_column(s.b),
+        c: mix_column(s.c),
+        d: mix_column(s.d),
+    }
+}
+
+// AddRoundKey.
+fn add_round_key(s: Columns, k: Columns) -> Columns
+    ensures { λ r. ⌜ told r ≡ addRoundKey (told s) (told k) ⌝ }
+{
+    Columns {
+        a: s.a ^ k.a,
+        b: s.b ^ k.b,
+        c: s.c ^ k.c,
+        d: s.d ^ k.d,
+    }
+}
+
+// A round; the last one does not mix columns.
+fn round(t: &[u8; 256], s: Columns, k: Columns, mixing: bool) -> Columns
+    requires { ⌜ IsSbox (now t) ⌝ }
+    ensures { λ r. ⌜ told r ≡ addRoundKey (pick mixing (mixColumns (shiftRows (subBytes (told s)))) (shiftRows (subBytes (told s)))) (told k) ⌝ }
+{
+    let u = shift_rows(t, s);
+    if mixing {
+        return add_round_key(mix_columns(u), k);
+    }
+    add_round_key(u, k)
+}
+
+// The round key after k; rc is its Rcon.
+fn next_key(t: &[u8; 256], k: Columns, rc: u32) -> Columns
+    requires { ⌜ IsSbox (now t) ⌝ }
+    ensures { λ n. ⌜ Follows (told k) (bytes 4 rc) (told n) ⌝ }
+{
+    let w = rot_word(k.d);
+    let a = k.a ^ (shifted(t, w, w, w, w) ^ rc);
+    let b = k.b ^ a;
+    let c = k.c ^ b;
+    let d = k.d ^ c;
+    Columns { a, b, c, d }
+}
+
+// Sixteen bytes as four columns.
+fn load(b: [u8; 16]) -> Columns
+    ensures { λ r. ⌜ told r ≡ b ⌝ }
+{
+    let x = block_of(b);
+    Columns {
+        a: (x.a % 0x100000000) as u32,
+        b: (x.a >> 32) as u32,
+        c: (x.b % 0x100000000) as u32,
+        d: (x.b >> 32) as u32,
+    }
+}
+
+// The S-box, to be made once and lent.
+pub fn sbox_table() -> [u8; 256]
+    ensures { λ r. ⌜ IsSbox r ⌝ }
+{
+    sbox::SBOX
+}
+
+// The image of a block; the round keys are made on the way.
+pub fn encrypt_with(t: &[u8; 256], key: [u8; 16], block: [u8; 16]) -> [u8; 16]
+    requires { ⌜ IsSbox (now t) ⌝ }
+    ensures { λ r. ⌜ r ≡ cipher key block ⌝ }
+{
+    let mut k = load(key);
+    let mut s = add_round_key(load(block), k);
+    let mut rc: u32 = 1;
+    let mut i: usize = 0;
+    while i < 9 {
+        k = next_key(t, k, rc);
+        s = round(t, s, k, true);
+        rc = double(rc);
+        i += 1;
+    }
+    let o = round(t, s, next_key(t, k, rc), false);
+    store4_32(o.a, o.b, o.c, o.d)
+}
+
+// The image of a block.
+pub fn encrypt(key: [u8; 16], block: [u8; 16]) -> [u8; 16]
+    ensures { λ r. ⌜ r ≡ cipher key block ⌝ }
+{
+    let t = sbox_table();
+    encrypt_with(&t, key, block)
+}
