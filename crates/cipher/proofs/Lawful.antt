@@ -1,0 +1,63 @@
+-- Each of the four ciphers keeps the promise, by its own theorems.
+use mathlib.Core.Path.{_≡_, sym, subst}
+use mathlib.Core.List.{List}
+use Prim.Native.Nat.{ℕ, _*_, _/_, _%_, _≤_}
+use native.Mathlib.Omega.{arith}
+use native.Mathlib.Decide.{decLe}
+use Rattle.fips197.specs.Cipher.{cipher}
+use Rattle.fips197.proofs.Injective as aes
+use Rattle.cham.specs.Cham.{cham}
+use Rattle.cham.proofs.Injective as cham-laws
+use Rattle.speck.specs.Speck.{speck}
+use Rattle.speck.proofs.Injective as speck-laws
+use Rattle.cipher.specs.Cipher.{Block, Lawful, sizeOf, engineOf, cipherOf}
+use Rattle.cipher.proofs.Suites.{Engine, size-16, size-8, sizes-two, engine-1, engine-2, engine-3, engine-4}
+
+-- what the promise says of an engine on blocks of n bytes
+record Good (n : ℕ) (e : Engine) : Type 0 where
+  image : (k b : List ℕ) → Block 16 k → Block n b → Block n (e k b)
+  one-to-one : (k b b′ : List ℕ) → Block 16 k → Block n b → Block n b′ → e k b ≡ e k b′ → b ≡ b′
+
+aes-good : Good 16 cipher
+aes-good = record {
+  image = λ k b hk hb.
+      let i = aes.image k b (hb .long) (hk .bytes) (hb .bytes) in
+      record { long = i .0; bytes = i .1 };
+  one-to-one = λ k b b′ hk hb hb′. aes.injective k b b′ (hb .long) (hb′ .long) (hk .bytes) (hb .bytes) (hb′ .bytes);
+}
+
+speck-good : Good 8 speck
+speck-good = record {
+  image = λ k b hk hb.
+      let i = speck-laws.image k b in
+      record { long = i .0; bytes = i .1 };
+  one-to-one = λ k b b′ hk hb hb′. speck-laws.injective k b b′ (hk .bytes) (hb .long) (hb′ .long) (hb .bytes) (hb′ .bytes);
+}
+
+-- at either width
+cham-good : (w : ℕ) → 8 ≤ w → w % 8 ≡ 0 → Good (4 * (w / 8)) (cham w)
+cham-good w wide even = record {
+  image = λ k b hk hb.
+      let i = cham-laws.image w k b in
+      record { long = i .0; bytes = i .1 };
+  one-to-one = λ k b b′ hk hb hb′. cham-laws.injective w wide even k b b′ (hb .long) (hb′ .long) (hb .bytes) (hb′ .bytes);
+}
+
+suite-good : (s n : ℕ) (e : Engine) → sizeOf s ≡ n → engineOf s ≡ e → Good n e → Good (sizeOf s) (engineOf s)
+suite-good s n e p q g = subst (λ (f : Engine). Good (sizeOf s) f) (sym q) (subst (λ (m : ℕ). Good m e) (sym p) g)
+
+good : (s : ℕ) → Good (sizeOf s) (engineOf s)
+good s =
+    elim (decLe s 1) [
+      | yes h ↦ suite-good s 16 cipher (size-16 s (omega arith)) (engine-1 s h) aes-good
+      | no h ↦ elim (decLe s 2) [
+        | yes i ↦ suite-good s 16 (cham 32) (size-16 s i) (engine-2 s (omega arith) i) (cham-good 32 (omega arith) (omega arith))
+        | no i ↦ elim (decLe s 3) [
+          | yes j ↦ suite-good s 8 speck (size-8 s (omega arith)) (engine-3 s (omega arith) j) speck-good
+          | no j ↦ suite-good s 8 (cham 16) (size-8 s (omega arith)) (engine-4 s (omega arith)) (cham-good 16 (omega arith) (omega arith))
+        ]
+      ]
+    ]
+
+pub lawful : (s : ℕ) → Lawful (cipherOf s)
+lawful s = record { sizes = sizes-two s; image = good s .image; one-to-one = good s .one-to-one }

@@ -1,0 +1,4 @@
+pub mod Suites
+pub mod Paths
+pub mod Lawful
+pub mod Outcomes

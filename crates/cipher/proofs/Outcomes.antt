@@ -1,0 +1,39 @@
+-- Every public function of `cipher` leaves one outcome: a number, the table told by its entries, a block told by its bytes.
+use mathlib.Core.Path.{_≡_, refl, sym, ap₂, _∙_}
+use mathlib.Core.List.{List, _++_}
+use Prim.Native.Nat.{ℕ}
+use native.Mathlib.Omega.{arith}
+use lib.ListN.{take, drop, take-append-drop}
+use lib.Seq.{ext-getD}
+use Rattle.words.specs.Outcome.{OneOutcome}
+use Rattle.words.proofs.Blocks.{wide-told}
+use Rattle.fips197.specs.Sbox.{IsSbox}
+use Rattle.cipher.specs.Cipher.{sizeOf}
+use Rattle.cipher.proofs.size_of.Kinds as size-of-kinds
+use Rattle.cipher.proofs.size_of.Reads as size-of-reads
+use Rattle.cipher.proofs.tables.Kinds as tables-kinds
+use Rattle.cipher.proofs.tables.Reads as tables-reads
+use Rattle.cipher.proofs.encipher.Kinds as encipher-kinds
+use Rattle.cipher.proofs.encipher.Reads as encipher-reads
+
+-- two tables of the S-box are one
+same-table : (s t : List ℕ) → IsSbox s → IsSbox t → s ≡ t
+same-table s t p q =
+    ext-getD 0 s t (p .size ∙ sym (q .size)) (λ i h. p .entry i (omega (arith, p .size)) ∙ sym (q .entry i (omega (arith, p .size))))
+
+pub size-of : OneOutcome size-of-kinds.ps size-of-kinds.r size-of-reads.Pre size-of-reads.Post
+size-of κs a h x y = (x .ensures .0 ∙ sym (y .ensures .0), refl)
+
+pub tables : OneOutcome tables-kinds.ps tables-kinds.r tables-reads.Pre tables-reads.Post
+tables κs a h x y = (same-table (x .result) (y .result) (x .ensures) (y .ensures), refl)
+
+-- a list is told by its first part and the rest
+joined : (n : ℕ) {s t u v : List ℕ} → take n s ≡ u → drop n s ≡ v → take n t ≡ u → drop n t ≡ v → s ≡ t
+joined n {s} {t} p q p′ q′ = sym (take-append-drop n s) ∙ ap₂ (λ (l m : List ℕ). l ++ m) (p ∙ sym p′) (q ∙ sym q′) ∙ take-append-drop n t
+
+pub encipher : OneOutcome encipher-kinds.ps encipher-kinds.r encipher-reads.Pre encipher-reads.Post
+encipher κs a h x y = (
+  wide-told (x .result) (y .result) (omega arith) (omega arith) (omega arith) (omega arith)
+      (joined (sizeOf (a .1 .0)) (x .ensures .0) (x .ensures .1) (y .ensures .0) (y .ensures .1)),
+  refl,
+)

@@ -1,0 +1,44 @@
+-- What a block cipher promises, and the cipher of each suite (document 01, "What we build").
+use mathlib.Core.Path.{_≡_}
+use mathlib.Core.List.{List}
+use mathlib.Core.Logic.{_⊎_}
+use Prim.Native.Nat.{ℕ}
+use lib.Dec.{leb}
+use lib.ListN.{length}
+use Rattle.words.specs.Bytes.{AllBytes}
+use Rattle.words.specs.Pick.{pick}
+use Rattle.fips197.specs.Sbox.{IsSbox}
+use Rattle.fips197.specs.Cipher.{cipher}
+use Rattle.cham.specs.Cham.{cham}
+use Rattle.speck.specs.Speck.{speck}
+
+-- a block of n bytes
+pub record Block (n : ℕ) (b : List ℕ) : Type 0 where
+  pub long : length b ≡ n
+  pub bytes : AllBytes b
+
+-- a block cipher: its block size, and the image of a block under a key
+pub record Cipher : Type 0 where
+  pub size : ℕ
+  pub E : List ℕ → List ℕ → List ℕ
+
+-- what it promises: blocks of 16 or 8 bytes, images are blocks, and under each key no two blocks share an image
+pub record Lawful (κ : Cipher) : Type 0 where
+  pub sizes : (κ .size ≡ 16) ⊎ (κ .size ≡ 8)
+  pub image : (k b : List ℕ) → Block 16 k → Block (κ .size) b → Block (κ .size) (κ .E k b)
+  pub one-to-one : (k b b′ : List ℕ) → Block 16 k → Block (κ .size) b → Block (κ .size) b′ → κ .E k b ≡ κ .E k b′ → b ≡ b′
+
+-- the block of suites 1 and 2 is 16 bytes, of 3 and 4 it is 8
+unfoldable pub sizeOf : ℕ → ℕ
+sizeOf s = pick (leb s 2) 16 8
+
+-- AES-128 for suite 1, CHAM-128/128 for 2, Speck-64/128 for 3, CHAM-64/128 for 4
+unfoldable pub engineOf : ℕ → List ℕ → List ℕ → List ℕ
+engineOf s = pick (leb s 1) cipher (pick (leb s 2) (cham 32) (pick (leb s 3) speck (cham 16)))
+
+abbrev pub cipherOf : ℕ → Cipher
+cipherOf s = record { size = sizeOf s; E = engineOf s }
+
+-- what the engines are lent is fit for them: the S-box of AES
+abbrev pub Ready : List ℕ → Type 0
+Ready t = IsSbox t
