@@ -149,7 +149,7 @@ pub fn sbox_table() -> [u8; 256]
     sbox::SBOX
 }
 
-// The image of a block; the round keys are made on the way.
+// The image of a block: ten rounds, each with the next round key.
 pub fn encrypt_with(t: &[u8; 256], key: [u8; 16], block: [u8; 16]) -> [u8; 16]
     requires { ⌜ IsSbox (now t) ⌝ }
     ensures { λ r. ⌜ r ≡ cipher key block ⌝ }
@@ -158,14 +158,13 @@ pub fn encrypt_with(t: &[u8; 256], key: [u8; 16], block: [u8; 16]) -> [u8; 16]
     let mut s = add_round_key(load(block), k);
     let mut rc: u32 = 1;
     let mut i: usize = 0;
-    while i < 9 {
+    while i < 10 {
         k = next_key(t, k, rc);
-        s = round(t, s, k, true);
+        s = round(t, s, k, i < 9);
         rc = double(rc);
         i += 1;
     }
-    let o = round(t, s, next_key(t, k, rc), false);
-    store4_32(o.a, o.b, o.c, o.d)
+    store4_32(s.a, s.b, s.c, s.d)
 }
 
 // The image of a block.

@@ -7,15 +7,15 @@ use lib.ListN.{length}
 use Rattle.words.specs.Bytes.{bytes}
 use Rattle.fips197.specs.Cipher.{power, rcon}
 use Rattle.aes.specs.Columns.{told}
-use Rattle.aes.proofs.Rounds.{Tracks, rcon-turn, turn, start, end}
+use Rattle.aes.proofs.Rounds.{Tracks, rcon-turn, track-none, track-turn, track-end}
 use Rattle.aes.proofs.encrypt_with.Statement.{statement}
 use Rattle.aes.proofs.encrypt_with.Tie as tie
 
 abbrev Inv-loop : tie.InvT-loop
-Inv-loop t k₀ s₀ rc₀ i₀ k s rc i = (i ≤ 9) × (bytes 4 rc ≡ rcon (i + 1)) × Tracks (told k₀) (told s₀) (told k) (told s) i
+Inv-loop t k₀ s₀ rc₀ i₀ k s rc i = (i ≤ 10) × (bytes 4 rc ≡ rcon (i + 1)) × Tracks (told k₀) (told s₀) (told k) (told s) i
 
 abbrev μ-loop : tie.MeasureT-loop
-μ-loop t k₀ s₀ rc₀ i₀ k s rc i = 9 - i
+μ-loop t k₀ s₀ rc₀ i₀ k s rc i = 10 - i
 
 load-requires : tie.Need-load-requires Inv-loop μ-loop
 load-requires c κs = search needs
@@ -28,7 +28,7 @@ add-round-key-requires c κs = search needs
 
 loop-holds : tie.Need-loop-holds Inv-loop μ-loop
 unfolding bytes power
-loop-holds c = (omega arith, refl, λ key block p q. (p, q))
+loop-holds c = (omega arith, refl, track-none)
 
 next-key-requires : tie.Need-next-key-requires Inv-loop μ-loop
 next-key-requires c κs = search needs
@@ -50,27 +50,20 @@ loop-again c =
     let at = c .before .before .before .before .loop in (
       omega arith,
       rcon-turn (at .i) (at .inv .1) (c .double .ensures),
-      turn (at .i) (at .inv .2) (at .inv .1) (c .before .before .next-key .ensures) (c .before .round .ensures),
+      track-turn (at .i) (at .inv .2) (at .inv .1) (c .before .before .next-key .ensures) (c .before .round .ensures),
     )
-
-next-key-requires-2 : tie.Need-next-key-requires-2 Inv-loop μ-loop
-next-key-requires-2 c κs = search needs
-
-round-requires-2 : tie.Need-round-requires-2 Inv-loop μ-loop
-round-requires-2 c κs = search needs
 
 store4-32-requires : tie.Need-store4-32-requires Inv-loop μ-loop
 store4-32-requires c κs = search needs
 
 returns : tie.Need-returns Inv-loop μ-loop
 returns c =
-    let first = c .before .before .before .before .before .before .before .before in
-    let at = c .before .before .before .before .loop in
+    let first = c .before .before .before .before .before .before in
+    let at = c .before .before .loop in
     let l : length (first .args .key) ≡ 16 = search needs in
-    let e : at .i ≡ 9 = omega (arith, at .inv .0, c .before .before .before .loop-test .left) in
-    end (first .args .key) (first .args .block) (at .i) e (at .inv .2) (at .inv .1) (c .before .before .next-key2 .ensures) (c .before .round2 .ensures) (c .store4-32 .ensures)
-    (start (first .args .key) (first .args .block) l (c .before .before .before .before .before .before .before .load .ensures) (c .before .before .before .before .before .before .load2 .ensures)
-    (c .before .before .before .before .before .add-round-key .ensures))
+    let e : at .i ≡ 10 = omega (arith, at .inv .0, c .before .loop-test .left) in
+    track-end (first .args .key) (first .args .block) (at .i) e (at .inv .2) l (c .before .before .before .before .before .load .ensures) (c .before .before .before .before .load2 .ensures) (c .before .before .before .add-round-key .ensures)
+    (c .store4-32 .ensures)
 
 pub encrypt-with-spec : {M : Type 1} → statement M
 encrypt-with-spec =
@@ -88,7 +81,5 @@ encrypt-with-spec =
     add-i
     loop-less
     loop-again
-    next-key-requires-2
-    round-requires-2
     store4-32-requires
     returns)
