@@ -2,7 +2,7 @@
 ghost use mathlib.Core.Path.{_≡_};
 ghost use mathlib.Core.List.{[], _∷_, map};
 ghost use Prim.Native.Nat.{_<_};
-ghost use Rattle.words.specs.Pick.{pick};
+ghost use mathlib.Core.Bool.{cond};
 ghost use Rattle.words.specs.Bytes.{bytes};
 ghost use Rattle.fips197.specs.Field.{xtime};
 ghost use Rattle.fips197.specs.Sbox.{subByte, IsSbox};
@@ -107,7 +107,7 @@ fn add_round_key(s: Columns, k: Columns) -> Columns
 // A round; the last one does not mix columns.
 fn round(t: &[u8; 256], s: Columns, k: Columns, mixing: bool) -> Columns
     requires { ⌜ IsSbox (now t) ⌝ }
-    ensures { λ r. ⌜ told r ≡ addRoundKey (pick mixing (mixColumns (shiftRows (subBytes (told s)))) (shiftRows (subBytes (told s)))) (told k) ⌝ }
+    ensures { λ r. ⌜ told r ≡ addRoundKey (cond mixing (mixColumns (shiftRows (subBytes (told s)))) (shiftRows (subBytes (told s)))) (told k) ⌝ }
 {
     let u = shift_rows(t, s);
     if mixing {

@@ -1,13 +1,12 @@
 -- The size and the engine of a suite, test by test.
 use mathlib.Core.Path.{_≡_, refl}
-use mathlib.Core.Bool.{Bool, true, false}
+use mathlib.Core.Bool.{Bool, true, false, cond}
 use mathlib.Core.List.{List}
 use mathlib.Core.Logic.{_⊎_, inl, inr}
 use Prim.Native.Nat.{ℕ, _≤_, _<_}
 use native.Mathlib.Omega.{arith}
 use lib.Dec.{leb}
 use borrow.Author.Tests.{le-leb, lt-leb}
-use Rattle.words.specs.Pick.{pick}
 use Rattle.fips197.specs.Cipher.{cipher}
 use Rattle.cham.specs.Cham.{cham}
 use Rattle.speck.specs.Speck.{speck}
@@ -26,13 +25,13 @@ size-8 s h = simp (lt-leb s 2 h)
 abbrev Either : ℕ → Type 0
 Either n = (n ≡ 16) ⊎ (n ≡ 8)
 
-pick-two : (t : Bool) → Either (pick t 16 8)
-pick-two true = inl refl
-pick-two false = inr refl
+cond-two : (t : Bool) → Either (cond t 16 8)
+cond-two true = inl refl
+cond-two false = inr refl
 
 pub sizes-two : (s : ℕ) → (sizeOf s ≡ 16) ⊎ (sizeOf s ≡ 8)
 unfolding sizeOf
-sizes-two s = pick-two (leb s 2)
+sizes-two s = cond-two (leb s 2)
 
 at-most : {n : ℕ} → Either n → n ≤ 16
 at-most (inl e) = omega arith

@@ -6,7 +6,7 @@ use Prim.Native.Nat.{ℕ}
 use lib.Dec.{leb}
 use lib.ListN.{length}
 use Rattle.words.specs.Bytes.{AllBytes}
-use Rattle.words.specs.Pick.{pick}
+use mathlib.Core.Bool.{cond}
 use Rattle.fips197.specs.Sbox.{IsSbox}
 use Rattle.fips197.specs.Cipher.{cipher}
 use Rattle.cham.specs.Cham.{cham}
@@ -30,11 +30,11 @@ pub record Lawful (κ : Cipher) : Type 0 where
 
 -- the block of suites 1 and 2 is 16 bytes, of 3 and 4 it is 8
 unfoldable pub sizeOf : ℕ → ℕ
-sizeOf s = pick (leb s 2) 16 8
+sizeOf s = cond (leb s 2) 16 8
 
 -- AES-128 for suite 1, CHAM-128/128 for 2, Speck-64/128 for 3, CHAM-64/128 for 4
 unfoldable pub engineOf : ℕ → List ℕ → List ℕ → List ℕ
-engineOf s = pick (leb s 1) cipher (pick (leb s 2) (cham 32) (pick (leb s 3) speck (cham 16)))
+engineOf s = cond (leb s 1) cipher (cond (leb s 2) (cham 32) (cond (leb s 3) speck (cham 16)))
 
 abbrev pub cipherOf : ℕ → Cipher
 cipherOf s = record { size = sizeOf s; E = engineOf s }

@@ -1,12 +1,11 @@
 -- Every byte has one inverse: x^254 is one, by one computed test over the bytes, and by associativity there is no other.
 use mathlib.Core.Path.{_≡_, refl, sym, ap, _∙_, subst}
-use mathlib.Core.Bool.{Bool, true, false}
+use mathlib.Core.Bool.{Bool, true, false, cond}
 use mathlib.Core.Logic.{⊎-elim}
 use Prim.Native.Nat.{ℕ, zero, suc, _<_}
 use native.Mathlib.Nat.{suc-ne-zero, not-suc-le-zero, le-of-suc-le-suc, eq-or-lt-of-le}
 use native.Mathlib.Omega.{arith}
 use lib.Dec.{T, eqb, eqb→eq, ltb, ltb→lt, lit<}
-use Rattle.words.specs.Pick.{pick}
 use Rattle.words.specs.Words.{xor}
 use Rattle.words.proofs.Table.{both, both-left, both-right, below, at-below}
 use Rattle.fips197.specs.Field.{xtime, multiples, _•_, IsInverse, find, inverse}
@@ -20,7 +19,7 @@ find-passes p zero k h t = absurd (not-suc-le-zero h)
 find-passes p (suc n) k h t =
     go (p n) refl (⊎-elim (λ e f. absurd (subst T (ap p e ∙ f) t)) (λ l f. find-passes p n k l t) (eq-or-lt-of-le (le-of-suc-le-suc h)))
   where
-    go : (b : Bool) → p n ≡ b → (p n ≡ false → T (p (find p n))) → T (p (pick b n (find p n)))
+    go : (b : Bool) → p n ≡ b → (p n ≡ false → T (p (find p n))) → T (p (cond b n (find p n)))
     go true e rest = subst T (sym e) tt
     go false e rest = rest e
 
@@ -29,12 +28,12 @@ unfolding find
 find-below p zero h = h
 find-below p (suc zero) h = go (p 0)
   where
-    go : (b : Bool) → pick b 0 0 < 1
+    go : (b : Bool) → cond b 0 0 < 1
     go true = lit< tt
     go false = lit< tt
 find-below p (suc (suc n)) h = go (p (suc n)) (find-below p (suc n) (omega arith))
   where
-    go : (b : Bool) → find p (suc n) < suc n → pick b (suc n) (find p (suc n)) < suc (suc n)
+    go : (b : Bool) → find p (suc n) < suc n → cond b (suc n) (find p (suc n)) < suc (suc n)
     go true k = omega arith
     go false k = omega arith
 

@@ -1,6 +1,6 @@
 -- The round keys one after the other: each is made from the one before it alone, four words at a time.
 use mathlib.Core.Path.{_≡_, refl, sym, ap, ap₂, _∙_}
-use mathlib.Core.Bool.{Bool}
+use mathlib.Core.Bool.{Bool, cond}
 use mathlib.Core.List.{List, _++_}
 use Prim.Native.Nat.{ℕ, suc, _+_, _-_, _*_, _/_, _%_, _<_}
 use native.Mathlib.Nat.{add-zero}
@@ -8,7 +8,6 @@ use native.Mathlib.Omega.{arith}
 use lib.Dec.{eqb, eqb·suc-zero, lit<}
 use lib.ListN.{length, take, drop, length-append}
 use lib.Seq.{take-at, drop-at}
-use Rattle.words.specs.Pick.{pick}
 use Rattle.words.specs.Xors.{xors}
 use Rattle.words.proofs.Lists.{part-whole}
 use Rattle.fips197.specs.Cipher.{subWord, rotWord, rcon, temp, w, roundKey}
@@ -54,7 +53,7 @@ module _ (key : List ℕ) where
         let g : (4 * n + 4) / 4 ≡ n + 1 = omega arith in
         ap (w key) e
         ∙ word-step (4 * n)
-        ∙ ap₂ (λ (u v : ℕ). xors (w key (4 * n)) (pick (eqb u 0) (xors (subWord (rotWord t)) (rcon v)) t)) f g
+        ∙ ap₂ (λ (u v : ℕ). xors (w key (4 * n)) (cond (eqb u 0) (xors (subWord (rotWord t)) (rcon v)) t)) f g
 
     word-next : (c : ℕ) → c < 3 → w key (4 * (n + 1) + suc c) ≡ xors (w key (4 * n + suc c)) (w key (4 * (n + 1) + c))
     word-next c h =
@@ -64,8 +63,8 @@ module _ (key : List ℕ) where
         let g : i + 3 ≡ 4 * (n + 1) + c = omega arith in
         ap (w key) e
         ∙ word-step i
-        ∙ ap (λ (u : ℕ). xors (w key i) (pick (eqb u 0) (xors (subWord (rotWord (w key (i + 3)))) (rcon ((i + 4) / 4))) (w key (i + 3)))) f
-        ∙ ap (λ (b : Bool). xors (w key i) (pick b (xors (subWord (rotWord (w key (i + 3)))) (rcon ((i + 4) / 4))) (w key (i + 3)))) (eqb·suc-zero c)
+        ∙ ap (λ (u : ℕ). xors (w key i) (cond (eqb u 0) (xors (subWord (rotWord (w key (i + 3)))) (rcon ((i + 4) / 4))) (w key (i + 3)))) f
+        ∙ ap (λ (b : Bool). xors (w key i) (cond b (xors (subWord (rotWord (w key (i + 3)))) (rcon ((i + 4) / 4))) (w key (i + 3)))) (eqb·suc-zero c)
         ∙ ap (λ (j : ℕ). xors (w key i) (w key j)) g
 
 -- ---- a round key from the one before it

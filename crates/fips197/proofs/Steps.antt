@@ -1,12 +1,11 @@
 -- Each step makes sixteen bytes of bytes, and each word of the key schedule is four.
 use mathlib.Core.Path.{_≡_, refl, ap₂, _∙_}
-use mathlib.Core.Bool.{Bool, true, false}
+use mathlib.Core.Bool.{Bool, true, false, cond}
 use mathlib.Core.List.{List, [], _∷_, _++_}
 use Prim.Native.Nat.{ℕ, zero, suc, _+_, _-_, _*_, _/_, _%_, _<_}
 use native.Mathlib.Omega.{arith}
 use lib.Dec.{eqb, lit<}
 use lib.ListN.{length, length-append}
-use Rattle.words.specs.Pick.{pick}
 use Rattle.words.specs.Bytes.{AllBytes}
 use Rattle.words.specs.Xors.{xors}
 use Rattle.words.proofs.Xor.{below}
@@ -67,14 +66,14 @@ module _ (i : ℕ) (t : List ℕ) where
   temp-length : length t ≡ 4 → length (temp i t) ≡ 4
   temp-length l = go (eqb (i % 4) 0)
     where
-      go : (b : Bool) → length (pick b (xors (subWord (rotWord t)) (rcon (i / 4))) t) ≡ 4
+      go : (b : Bool) → length (cond b (xors (subWord (rotWord t)) (rcon (i / 4))) t) ≡ 4
       go true = refl
       go false = l
 
   temp-bytes : AllBytes t → AllBytes (temp i t)
   temp-bytes h = go (eqb (i % 4) 0)
     where
-      go : (b : Bool) → AllBytes (pick b (xors (subWord (rotWord t)) (rcon (i / 4))) t)
+      go : (b : Bool) → AllBytes (cond b (xors (subWord (rotWord t)) (rcon (i / 4))) t)
       go true = all-xors (subWord (rotWord t)) (rcon (i / 4)) (all-from _ (λ r. sub-byte _ (rot r)) 0 4) (rcon-bytes (i / 4))
         where
           rot : AllBytes (rotWord t)

@@ -3,7 +3,7 @@ use mathlib.Core.List.{List, [], _∷_, _++_}
 use Prim.Native.Nat.{ℕ, zero, suc, _+_, _-_, _*_, _/_, _%_}
 use lib.Dec.{eqb}
 use lib.ListN.{getD}
-use Rattle.words.specs.Pick.{pick}
+use mathlib.Core.Bool.{cond}
 use Rattle.words.specs.Bytes.{part}
 use Rattle.words.specs.Xors.{xors}
 use Rattle.fips197.specs.Field.{_⊕_, _•_, xtime}
@@ -60,7 +60,7 @@ rcon i = power (i - 1) ∷ 0 ∷ 0 ∷ 0 ∷ []
 
 -- what w[i-4] is XORed with to give w[i], where t is w[i-1]
 abbrev pub temp : ℕ → List ℕ → List ℕ
-temp i t = pick (eqb (i % 4) 0) (xors (subWord (rotWord t)) (rcon (i / 4))) t
+temp i t = cond (eqb (i % 4) 0) (xors (subWord (rotWord t)) (rcon (i / 4))) t
 
 -- KeyExpansion: w[i], first the four words of the key
 unfoldable pub w : List ℕ → ℕ → List ℕ

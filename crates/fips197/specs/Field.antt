@@ -1,9 +1,8 @@
 -- The field GF(2^8) of FIPS 197, section 4: a byte is a polynomial, and bit i is the coefficient of x^i.
 use mathlib.Core.Path.{_≡_}
-use mathlib.Core.Bool.{Bool}
+use mathlib.Core.Bool.{Bool, cond}
 use Prim.Native.Nat.{ℕ, zero, suc, _*_, _/_, _%_, _^_, _<_}
 use lib.Dec.{eqb}
-use Rattle.words.specs.Pick.{pick}
 use Rattle.words.specs.Words.{xor}
 
 infixl 60 _⊕_
@@ -38,7 +37,7 @@ pub record IsInverse (x y : ℕ) : Type 0 where
 -- a number below n that passes the test, or 0 where none does
 unfoldable pub find : (ℕ → Bool) → ℕ → ℕ
 find p zero = 0
-find p (suc n) = pick (p n) n (find p n)
+find p (suc n) = cond (p n) n (find p n)
 
 -- the byte whose product with x is 1, or 0 where there is none: it is the inverse and the only one (proofs/Inverse)
 unfoldable pub inverse : ℕ → ℕ

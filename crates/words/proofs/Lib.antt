@@ -8,3 +8,4 @@ pub mod Fill
 pub mod Table
 pub mod Blocks
 pub mod Outcomes
+pub mod Same

@@ -1,7 +1,9 @@
 -- Bytes and the words they make: byte 0 is the least significant, and word 0 stands first (document 01, "Bytes, words and the two states").
+use mathlib.Core.Bool.{Bool, true, false, _&&_}
 use mathlib.Core.List.{List, [], _∷_}
 use mathlib.Core.Path.{_≡_}
 use Prim.Native.Nat.{ℕ, zero, suc, _+_, _*_, _/_, _%_, _<_}
+use lib.Dec.{eqb}
 use lib.ListN.{getD}
 
 -- every element is a byte: past the end `getD` gives 0
@@ -33,3 +35,10 @@ Each [] [] = Unit
 Each [] (y ∷ ys) = ⊥
 Each (x ∷ xs) [] = ⊥
 Each (x ∷ xs) (y ∷ ys) = (x ≡ y) × Each xs ys
+
+-- the same bytes, all of them
+abbrev pub sameBytes : List ℕ → List ℕ → Bool
+sameBytes [] [] = true
+sameBytes [] (y ∷ ys) = false
+sameBytes (x ∷ xs) [] = false
+sameBytes (x ∷ xs) (y ∷ ys) = eqb x y && sameBytes xs ys

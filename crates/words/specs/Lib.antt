@@ -1,4 +1,3 @@
-pub mod Pick
 pub mod Words
 pub mod Bytes
 pub mod Xors

@@ -45,10 +45,9 @@ fn load8(b: &[u8]) -> u64
     le64(b[0], b[1], b[2], b[3], b[4], b[5], b[6], b[7])
 }
 
-// The number, into eight bytes.
-fn put8(x: u64, out: &mut [u8])
-    requires { ⌜ length (now out) ≡ 8 ⌝ }
-    ensures { λ _. ⌜ now (out .exit) ≡ bytes 8 x ⌝ }
+// The eight bytes of a number.
+pub(crate) fn bytes8(x: u64) -> [u8; 8]
+    ensures { λ r. ⌜ r ≡ bytes 8 x ⌝ }
 {
     let x1 = x >> 8;
     let x2 = x1 >> 8;
@@ -57,98 +56,66 @@ fn put8(x: u64, out: &mut [u8])
     let x5 = x4 >> 8;
     let x6 = x5 >> 8;
     let x7 = x6 >> 8;
-    out[0] = (x % 256) as u8;
-    out[1] = (x1 % 256) as u8;
-    out[2] = (x2 % 256) as u8;
-    out[3] = (x3 % 256) as u8;
-    out[4] = (x4 % 256) as u8;
-    out[5] = (x5 % 256) as u8;
-    out[6] = (x6 % 256) as u8;
-    out[7] = (x7 % 256) as u8;
+    [
+        (x % 256) as u8,
+        (x1 % 256) as u8,
+        (x2 % 256) as u8,
+        (x3 % 256) as u8,
+        (x4 % 256) as u8,
+        (x5 % 256) as u8,
+        (x6 % 256) as u8,
+        (x7 % 256) as u8,
+    ]
+}
+
+// The number, into eight bytes.
+fn put8(x: u64, out: &mut [u8])
+    requires { ⌜ length (now out) ≡ 8 ⌝ }
+    ensures { λ _. ⌜ now (out .exit) ≡ bytes 8 x ⌝ }
+{
+    let r = bytes8(x);
+    out[0] = r[0];
+    out[1] = r[1];
+    out[2] = r[2];
+    out[3] = r[3];
+    out[4] = r[4];
+    out[5] = r[5];
+    out[6] = r[6];
+    out[7] = r[7];
 }
 
 // The bytes of a block.
 pub fn bytes_of(x: Block) -> [u8; 16]
     ensures { λ r. ⌜ r ≡ wide x ⌝ }
 {
-    let a = x.a;
-    let a1 = a >> 8;
-    let a2 = a1 >> 8;
-    let a3 = a2 >> 8;
-    let a4 = a3 >> 8;
-    let a5 = a4 >> 8;
-    let a6 = a5 >> 8;
-    let a7 = a6 >> 8;
-    let b = x.b;
-    let b1 = b >> 8;
-    let b2 = b1 >> 8;
-    let b3 = b2 >> 8;
-    let b4 = b3 >> 8;
-    let b5 = b4 >> 8;
-    let b6 = b5 >> 8;
-    let b7 = b6 >> 8;
-    [
-        (a % 256) as u8,
-        (a1 % 256) as u8,
-        (a2 % 256) as u8,
-        (a3 % 256) as u8,
-        (a4 % 256) as u8,
-        (a5 % 256) as u8,
-        (a6 % 256) as u8,
-        (a7 % 256) as u8,
-        (b % 256) as u8,
-        (b1 % 256) as u8,
-        (b2 % 256) as u8,
-        (b3 % 256) as u8,
-        (b4 % 256) as u8,
-        (b5 % 256) as u8,
-        (b6 % 256) as u8,
-        (b7 % 256) as u8,
-    ]
+    let mut r = [0u8; 16];
+    put8(x.a, &mut r[0..8]);
+    put8(x.b, &mut r[8..16]);
+    r
 }
 
 // The block of these bytes.
 pub fn block_of(s: [u8; 16]) -> Block
     ensures { λ r. ⌜ wide r ≡ s ⌝ }
 {
-    Block {
-        a: le64(s[0], s[1], s[2], s[3], s[4], s[5], s[6], s[7]),
-        b: le64(s[8], s[9], s[10], s[11], s[12], s[13], s[14], s[15]),
-    }
+    let lo = load8(&s[0..8]);
+    let hi = load8(&s[8..16]);
+    Block { a: lo, b: hi }
 }
 
 // The first eight bytes of a block.
 pub fn low_bytes(x: Block) -> [u8; 8]
     ensures { λ r. ⌜ r ≡ bytes 8 (x .a) ⌝ }
 {
-    let a = x.a;
-    let a1 = a >> 8;
-    let a2 = a1 >> 8;
-    let a3 = a2 >> 8;
-    let a4 = a3 >> 8;
-    let a5 = a4 >> 8;
-    let a6 = a5 >> 8;
-    let a7 = a6 >> 8;
-    [
-        (a % 256) as u8,
-        (a1 % 256) as u8,
-        (a2 % 256) as u8,
-        (a3 % 256) as u8,
-        (a4 % 256) as u8,
-        (a5 % 256) as u8,
-        (a6 % 256) as u8,
-        (a7 % 256) as u8,
-    ]
+    bytes8(x.a)
 }
 
 // The block that starts with these bytes, and has zeros behind them.
 pub fn low_block(s: [u8; 8]) -> Block
     ensures { λ r. ⌜ wide r ≡ s ++ replicate 8 0 ⌝ }
 {
-    Block {
-        a: le64(s[0], s[1], s[2], s[3], s[4], s[5], s[6], s[7]),
-        b: 0,
-    }
+    let lo = load8(&s[0..8]);
+    Block { a: lo, b: 0 }
 }
 
 // At most sixteen bytes, and zeros behind them, one by one.

@@ -1,39 +1,24 @@
--- `words::arx::store2_32` meets its contract: each division by 256 drops the byte that was written.
-use mathlib.Core.Path.{refl}
-use Rattle.words.specs.Bytes.{bytes}
+-- `words::arx::store2_32` meets its contract: two words side by side are one number.
 use borrow.Author.Needs.{needs}
+use Prim.Native.Nat.{_-_, _^_, _<_}
+use mathlib.Core.Path.{ap, _∙_}
+use native.Mathlib.Omega.{arith}
+use Rattle.words.specs.Bytes.{bytes}
+use Rattle.words.proofs.Bytes.{bytes-join}
 use Rattle.words.proofs.arx.store2_32.Statement.{statement}
 use Rattle.words.proofs.arx.store2_32.Tie as tie
 
-cast-t10 : tie.Need-cast-t10
-cast-t10 c = search needs
+join32-requires : tie.Need-join32-requires
+join32-requires c κs = search needs
 
-cast-t12 : tie.Need-cast-t12
-cast-t12 c = search needs
-
-cast-t14 : tie.Need-cast-t14
-cast-t14 c = search needs
-
-cast-t16 : tie.Need-cast-t16
-cast-t16 c = search needs
-
-cast-t18 : tie.Need-cast-t18
-cast-t18 c = search needs
-
-cast-t20 : tie.Need-cast-t20
-cast-t20 c = search needs
-
-cast-t22 : tie.Need-cast-t22
-cast-t22 c = search needs
-
-cast-t24 : tie.Need-cast-t24
-cast-t24 c = search needs
+bytes8-requires : tie.Need-bytes8-requires
+bytes8-requires c κs = search needs
 
 returns : tie.Need-returns
-unfolding bytes
-returns c = refl
+returns c =
+    let x = c .before .before .args in
+    let h : x .x < 256 ^ 4 = omega arith in
+    c .bytes8 .ensures ∙ ap (bytes 8) (c .before .join32 .ensures) ∙ bytes-join 4 4 (x .x) (x .y) h
 
 pub store2-32-spec : {M : Type 1} → statement M
-store2-32-spec =
-    tie.close
-    (tie.spec cast-t10 cast-t12 cast-t14 cast-t16 cast-t18 cast-t20 cast-t22 cast-t24 returns)
+store2-32-spec = tie.close (tie.spec join32-requires bytes8-requires returns)

@@ -1,39 +1,39 @@
--- `words::arx::store4_16` meets its contract: each division by 256 drops the byte that was written.
-use mathlib.Core.Path.{refl}
-use Rattle.words.specs.Bytes.{bytes}
+-- `words::arx::store4_16` meets its contract: two words side by side are one number, twice.
 use borrow.Author.Needs.{needs}
+use Prim.Native.Nat.{ℕ, _+_, _-_, _^_, _<_}
+use mathlib.Core.Path.{sym, ap, ap₂, _∙_}
+use mathlib.Core.List.{List, _++_, append-assoc}
+use native.Mathlib.Omega.{arith}
+use Rattle.words.specs.Bytes.{bytes}
+use Rattle.words.proofs.Bytes.{bytes-join}
 use Rattle.words.proofs.arx.store4_16.Statement.{statement}
 use Rattle.words.proofs.arx.store4_16.Tie as tie
 
-cast-t6 : tie.Need-cast-t6
-cast-t6 c = search needs
+join16-requires : tie.Need-join16-requires
+join16-requires c κs = search needs
 
-cast-t9 : tie.Need-cast-t9
-cast-t9 c = search needs
+join16-requires-2 : tie.Need-join16-requires-2
+join16-requires-2 c κs = search needs
 
-cast-t11 : tie.Need-cast-t11
-cast-t11 c = search needs
+join32-requires : tie.Need-join32-requires
+join32-requires c κs = search needs
 
-cast-t14 : tie.Need-cast-t14
-cast-t14 c = search needs
-
-cast-t16 : tie.Need-cast-t16
-cast-t16 c = search needs
-
-cast-t19 : tie.Need-cast-t19
-cast-t19 c = search needs
-
-cast-t21 : tie.Need-cast-t21
-cast-t21 c = search needs
-
-cast-t24 : tie.Need-cast-t24
-cast-t24 c = search needs
+bytes8-requires : tie.Need-bytes8-requires
+bytes8-requires c κs = search needs
 
 returns : tie.Need-returns
-unfolding bytes
-returns c = refl
+returns c =
+    let x = c .before .before .before .before .args in
+    let lo = c .before .before .before .join16 in
+    let hi = c .before .before .join162 in
+    let hx : x .x < 256 ^ 2 = omega arith in
+    let hz : x .z < 256 ^ 2 = omega arith in
+    let h : lo .result < 256 ^ 4 = omega arith in
+    c .bytes8 .ensures ∙ ap (bytes 8) (c .before .join32 .ensures) ∙ bytes-join 4 4 (lo .result) (hi .result) h
+    ∙ ap₂ (λ (p q : List ℕ). p ++ q)
+    (ap (bytes 4) (lo .ensures) ∙ bytes-join 2 2 (x .x) (x .y) hx) (ap (bytes 4) (hi .ensures) ∙ bytes-join 2 2 (x .z) (x .u) hz)
+    ∙ sym (append-assoc (bytes 2 (x .x) ++ bytes 2 (x .y)) (bytes 2 (x .z)) (bytes 2 (x .u)))
 
 pub store4-16-spec : {M : Type 1} → statement M
 store4-16-spec =
-    tie.close
-    (tie.spec cast-t6 cast-t9 cast-t11 cast-t14 cast-t16 cast-t19 cast-t21 cast-t24 returns)
+    tie.close (tie.spec join16-requires join16-requires-2 join32-requires bytes8-requires returns)

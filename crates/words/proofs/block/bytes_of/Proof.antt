@@ -1,80 +1,63 @@
-use mathlib.Core.Path.{refl}
-use Rattle.words.specs.Bytes.{bytes}
+-- `words::block::bytes_of` meets its contract: the two halves are written one after the other.
 use borrow.Author.Needs.{needs}
+use Prim.Native.Nat.{ℕ, _+_, _-_}
+use mathlib.Core.Path.{_≡_, refl, ap, ap₂, _∙_}
+use mathlib.Core.List.{List, _++_}
+use native.Mathlib.Omega.{arith}
+use lib.ListN.{length, replicate, length-append}
+use Rattle.words.specs.Bytes.{bytes}
+use Rattle.words.proofs.Bytes.{length-bytes}
+use Rattle.words.proofs.Blocks.{two-puts}
 use Rattle.words.proofs.block.bytes_of.Statement.{statement}
 use Rattle.words.proofs.block.bytes_of.Tie as tie
 
-cast-t19 : tie.Need-cast-t19
-cast-t19 c = search needs
+sub-put8 : tie.Need-sub-put8
+sub-put8 c = search needs
 
-cast-t21 : tie.Need-cast-t21
-cast-t21 c = search needs
+part-r-start : tie.Need-part-r-start
+part-r-start c = search needs
 
-cast-t23 : tie.Need-cast-t23
-cast-t23 c = search needs
+part-r-end : tie.Need-part-r-end
+part-r-end c = search needs
 
-cast-t25 : tie.Need-cast-t25
-cast-t25 c = search needs
+put8-requires : tie.Need-put8-requires
+put8-requires c κs = search needs
 
-cast-t27 : tie.Need-cast-t27
-cast-t27 c = search needs
+sub-put8-2 : tie.Need-sub-put8-2
+sub-put8-2 c = search needs
 
-cast-t29 : tie.Need-cast-t29
-cast-t29 c = search needs
+part-r-start-2 : tie.Need-part-r-start-2
+part-r-start-2 c = search needs
 
-cast-t31 : tie.Need-cast-t31
-cast-t31 c = search needs
+part-r-end-2 : tie.Need-part-r-end-2
+part-r-end-2 c =
+    let p = c .before .put8 .last .1 .0 in
+    let lp : length p ≡ 8 = ap length (c .before .put8 .ensures) ∙ length-bytes 8 (c .before .before .before .args .x .a) in
+    omega (arith, length-append p (replicate 8 0))
 
-cast-t33 : tie.Need-cast-t33
-cast-t33 c = search needs
-
-cast-t35 : tie.Need-cast-t35
-cast-t35 c = search needs
-
-cast-t37 : tie.Need-cast-t37
-cast-t37 c = search needs
-
-cast-t39 : tie.Need-cast-t39
-cast-t39 c = search needs
-
-cast-t41 : tie.Need-cast-t41
-cast-t41 c = search needs
-
-cast-t43 : tie.Need-cast-t43
-cast-t43 c = search needs
-
-cast-t45 : tie.Need-cast-t45
-cast-t45 c = search needs
-
-cast-t47 : tie.Need-cast-t47
-cast-t47 c = search needs
-
-cast-t49 : tie.Need-cast-t49
-cast-t49 c = search needs
+put8-requires-2 : tie.Need-put8-requires-2
+put8-requires-2 c κs = search needs
 
 returns : tie.Need-returns
-unfolding bytes
 returns c =
-    refl
+    let x = c .before .before .before .before .before .before .args .x in
+    let p = c .before .before .before .before .put8 .last .1 .0 in
+    let q = c .before .put82 .last .1 .0 in
+    let ep : p ≡ bytes 8 (x .a) = c .before .before .before .before .put8 .ensures in
+    let eq : q ≡ bytes 8 (x .b) = c .before .put82 .ensures in
+    two-puts (replicate 16 0) p q refl (ap length ep ∙ length-bytes 8 (x .a)) (ap length eq ∙ length-bytes 8 (x .b))
+    ∙ ap₂ (λ (s t : List ℕ). s ++ t) ep eq
 
 pub bytes-of-spec : {M : Type 1} → statement M
 bytes-of-spec =
     tie.close
     (tie.spec
-    cast-t19
-    cast-t21
-    cast-t23
-    cast-t25
-    cast-t27
-    cast-t29
-    cast-t31
-    cast-t33
-    cast-t35
-    cast-t37
-    cast-t39
-    cast-t41
-    cast-t43
-    cast-t45
-    cast-t47
-    cast-t49
+    sub-put8
+    part-r-start
+    part-r-end
+    put8-requires
+    sub-put8-2
+    part-r-start-2
+    part-r-end-2
+    put8-requires-2
     returns)
