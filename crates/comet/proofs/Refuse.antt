@@ -1,0 +1,154 @@
+-- What the first number that applies tells: 0 that every length is right, any other that the buffers stay.
+use mathlib.Core.Path.{_≡_, refl, sym, ap, ap₂, _∙_}
+use mathlib.Core.Bool.{Bool, true, false, not, cond}
+use mathlib.Core.Logic.{inl, inr}
+use Prim.Native.Nat.{ℕ, zero, suc, _+_, _≤_, _<_}
+use native.Mathlib.Nat.{not-suc-le-zero, suc-ne-zero}
+use native.Mathlib.Numerals.{add-one}
+use native.Mathlib.Omega.{arith}
+use mathlib.Core.List.{List, [], _∷_}
+use lib.ListN.{length, getD, drop}
+use lib.Seq.{drop-cons}
+use lib.Dec.{leb, ltb, eqb}
+use borrow.Author.Tests.{leb-true, ltb-false, eqb-true, le-leb, le-ltb, eq-eqb, not-false}
+use denote.Enum.Declared
+use types.Run.{OneOf}
+use Rattle.words.specs.Bytes.{sameBytes}
+use Rattle.words.proofs.Same.{and-true}
+use Rattle.cipher.specs.Cipher.{sizeOf, cipherOf}
+use Rattle.mode.specs.Mode.{nonceSize, ciphertext, tag, textOut, tagOut}
+use Rattle.comet.specs.Answers.{numberOf, isSuite, refusal, Sealed, sealedAs, sealing, Opened, openedAs, opening}
+use Rattle.comet.specs.declared.Answer.{Answer}
+use Rattle.comet.specs.declared.Answer.the-variants.{Done, Suite, Key, Nonce, Data, Text, Room, Tag, Forged}
+use Rattle.comet.proofs.Answer.{the-type}
+
+-- the suite and every length are right
+pub record Passed (s k v a t o g : ℕ) : Type 0 where
+  pub low : 1 ≤ s
+  pub high : s ≤ 4
+  pub key : k ≡ 16
+  pub nonce : v ≡ nonceSize (cipherOf s)
+  pub extra : a ≤ 65536
+  pub text : t ≤ 65536
+  pub room : o ≡ t
+  pub tag : g ≡ sizeOf s
+
+-- a rung of the ladder that is not taken
+passes : (b : Bool) (n r : ℕ) → cond b (suc n) r ≡ 0 → (b ≡ false) × (r ≡ 0)
+passes true n r e = absurd (suc-ne-zero n e)
+passes false n r e = (refl, e)
+
+pub passed : (s k v a t o g : ℕ) → refusal s k v a t o g ≡ 0 → Passed s k v a t o g
+unfolding refusal
+passed s k v a t o g e =
+    let p1 = passes (not (isSuite s)) 0 _ e in
+    let p2 = passes (not (eqb k 16)) 1 _ (p1 .1) in
+    let p3 = passes (not (eqb v (nonceSize (cipherOf s)))) 2 _ (p2 .1) in
+    let p4 = passes (ltb 65536 a) 3 _ (p3 .1) in
+    let p5 = passes (ltb 65536 t) 4 _ (p4 .1) in
+    let p6 = passes (not (eqb o t)) 5 _ (p5 .1) in
+    let p7 = passes (not (eqb g (sizeOf s))) 6 _ (p6 .1) in
+    let hs = and-true (leb 1 s) (leb s 4) (not-false (isSuite s) (p1 .0)) in
+    record {
+      low = leb-true 1 s (hs .0);
+      high = leb-true s 4 (hs .1);
+      key = eqb-true k 16 (not-false (eqb k 16) (p2 .0));
+      nonce = eqb-true v (nonceSize (cipherOf s)) (not-false (eqb v (nonceSize (cipherOf s))) (p3 .0));
+      extra = ltb-false 65536 a (p4 .0);
+      text = ltb-false 65536 t (p5 .0);
+      room = eqb-true o t (not-false (eqb o t) (p6 .0));
+      tag = eqb-true g (sizeOf s) (not-false (eqb g (sizeOf s)) (p7 .0));
+    }
+
+pub none-bad : (s k v a t o g : ℕ) → Passed s k v a t o g → refusal s k v a t o g ≡ 0
+unfolding refusal
+none-bad s k v a t o g p =
+    simp (
+      le-leb 1 s (p .low),
+      le-leb s 4 (p .high),
+      eq-eqb k 16 (p .key),
+      eq-eqb v (nonceSize (cipherOf s)) (p .nonce),
+      le-ltb 65536 a (p .extra),
+      le-ltb 65536 t (p .text),
+      eq-eqb o t (p .room),
+      eq-eqb g (sizeOf s) (p .tag),
+    )
+
+-- no number above 7
+rung-most : (b : Bool) (n r : ℕ) → n ≤ 7 → r ≤ 7 → cond b n r ≤ 7
+rung-most true n r h k = h
+rung-most false n r h k = k
+
+pub refusal-most : (s k v a t o g : ℕ) → refusal s k v a t o g ≤ 7
+unfolding refusal
+refusal-most s k v a t o g =
+    rung-most (not (isSuite s)) 1 _ (omega arith)
+    (rung-most (not (eqb k 16)) 2 _ (omega arith)
+    (rung-most (not (eqb v (nonceSize (cipherOf s)))) 3 _ (omega arith)
+    (rung-most (ltb 65536 a) 4 _ (omega arith)
+    (rung-most (ltb 65536 t) 5 _ (omega arith)
+    (rung-most (not (eqb o t)) 6 _ (omega arith)
+    (rung-most (not (eqb g (sizeOf s))) 7 _ (omega arith) (omega arith)))))))
+
+-- the number is the variant's place
+pub place-is : (a : Answer) → Declared.tagOf the-type a ≡ numberOf a
+place-is Done = refl
+place-is Suite = refl
+place-is Key = refl
+place-is Nonce = refl
+place-is Data = refl
+place-is Text = refl
+place-is Room = refl
+place-is Tag = refl
+place-is Forged = refl
+
+-- one of 1 to 8 is above 0
+pub one-of-pos : (x : ℕ) → OneOf (1 ∷ 2 ∷ 3 ∷ 4 ∷ 5 ∷ 6 ∷ 7 ∷ 8 ∷ []) x → 0 < x
+one-of-pos x (inl e) = omega arith
+one-of-pos x (inr (inl e)) = omega arith
+one-of-pos x (inr (inr (inl e))) = omega arith
+one-of-pos x (inr (inr (inr (inl e)))) = omega arith
+one-of-pos x (inr (inr (inr (inr (inl e))))) = omega arith
+one-of-pos x (inr (inr (inr (inr (inr (inl e)))))) = omega arith
+one-of-pos x (inr (inr (inr (inr (inr (inr (inl e))))))) = omega arith
+one-of-pos x (inr (inr (inr (inr (inr (inr (inr e))))))) = omega arith
+
+-- ---- the sealer
+
+as-kept : (n : ℕ) (x y o t : List ℕ) → 0 < n → _≡_ {A = Sealed} (record { number = n; out = o; tag = t }) (sealedAs n x y o t)
+as-kept zero x y o t h = absurd (not-suc-le-zero h)
+as-kept (suc j) x y o t h = refl
+
+module _ (s : ℕ) (k v a m o t : List ℕ) (n : ℕ) (e : n ≡ refusal s (length k) (length v) (length a) (length m) (length o) (length t)) where
+  abbrev at : ℕ → Sealed
+  at j = sealedAs j (ciphertext (cipherOf s) k v a m) (tag (cipherOf s) k v a m) o t
+
+  pub sealing-kept : 0 < n → _≡_ {A = Sealed} (record { number = n; out = o; tag = t }) (sealing s k v a m o t)
+  unfolding sealing
+  sealing-kept h = as-kept n (ciphertext (cipherOf s) k v a m) (tag (cipherOf s) k v a m) o t h ∙ ap at e
+
+  pub sealing-done : n ≡ 0 → (x y : List ℕ) → x ≡ ciphertext (cipherOf s) k v a m → y ≡ tag (cipherOf s) k v a m
+      → _≡_ {A = Sealed} (record { number = 0; out = x; tag = y }) (sealing s k v a m o t)
+  unfolding sealing
+  sealing-done z x y ex ey = written ∙ ap at (sym z ∙ e)
+    where
+      written : _≡_ {A = Sealed} (record { number = 0; out = x; tag = y }) (at 0)
+      written = λ i. record { number = 0; out = ex i; tag = ey i }
+
+-- ---- the opener
+
+as-was : (j : ℕ) (b : Bool) (x o : List ℕ) → 0 < j → _≡_ {A = Opened} (record { number = j; out = o }) (openedAs j b x o)
+as-was zero b x o h = absurd (not-suc-le-zero h)
+as-was (suc j) b x o h = refl
+
+module _ (s : ℕ) (k v a c g o : List ℕ) (n : ℕ) (e : n ≡ refusal s (length k) (length v) (length a) (length c) (length o) (length g)) where
+  pub opening-kept : 0 < n → _≡_ {A = Opened} (record { number = n; out = o }) (opening s k v a c g o)
+  unfolding opening
+  opening-kept h =
+      as-was n (sameBytes (tagOut (cipherOf s) true k v a c) g) (textOut (cipherOf s) true k v a c) o h
+      ∙ ap (λ (j : ℕ). openedAs j (sameBytes (tagOut (cipherOf s) true k v a c) g) (textOut (cipherOf s) true k v a c) o) e
+
+  -- b is what the comparison gave
+  pub opening-done : n ≡ 0 → (b : Bool) → b ≡ sameBytes (tagOut (cipherOf s) true k v a c) g → openedAs 0 b (textOut (cipherOf s) true k v a c) o ≡ opening s k v a c g o
+  unfolding opening
+  opening-done z b eb = ap₂ (λ (j : ℕ) (d : Bool). openedAs j d (textOut (cipherOf s) true k v a c) o) (sym z ∙ e) eb

@@ -1,0 +1,157 @@
+// The sealer and the opener: COMET version 1 over the four ciphers.
+use cipher::Lent;
+use words::block::Block;
+
+mod key;
+mod pad;
+mod shuffle;
+mod state;
+mod tag;
+mod text;
+
+ghost use mathlib.Core.Path.{_≡_};
+ghost use Prim.Native.Nat.{_≤_};
+ghost use lib.ListN.{length, take};
+ghost use Rattle.words.specs.Blocks.{wide};
+ghost use Rattle.cipher.specs.Cipher.{Ready, sizeOf, cipherOf};
+ghost use Rattle.mode.specs.Mode.{nonceSize, textOut, tagOut};
+ghost use Rattle.comet.specs.Answers.{numberOf, refusal, Sealed, sealing, Opened, opening};
+
+// What a call answers: Done, or why it refused.
+pub enum Answer {
+    Done,
+    Suite,
+    Key,
+    Nonce,
+    Data,
+    Text,
+    Room,
+    Tag,
+    Forged,
+}
+
+// The suite's nonce length.
+fn nonce_size(suite: u8) -> usize
+    ensures { λ r. ⌜ r ≡ nonceSize (cipherOf suite) ⌝ }
+{
+    if suite <= 2 { 16 } else { 15 }
+}
+
+// Numbers 1 to 7 in the order of the table, from the suite and the lengths of key, nonce, associated data, text, output and tag.
+fn refused(suite: u8, k: usize, v: usize, a: usize, t: usize, o: usize, g: usize) -> Answer
+    ensures { λ r. ⌜ numberOf r ≡ refusal suite k v a t o g ⌝ }
+{
+    if suite < 1 {
+        return Answer::Suite;
+    }
+    if 4 < suite {
+        return Answer::Suite;
+    }
+    if k != 16 {
+        return Answer::Key;
+    }
+    let vn = nonce_size(suite);
+    if v != vn {
+        return Answer::Nonce;
+    }
+    if 65536 < a {
+        return Answer::Data;
+    }
+    if 65536 < t {
+        return Answer::Text;
+    }
+    if o != t {
+        return Answer::Room;
+    }
+    let n = cipher::size_of(suite);
+    if g != n {
+        return Answer::Tag;
+    }
+    Answer::Done
+}
+
+// The text that goes out and the tag, once every length is right.
+fn crypt(
+    tb: &Lent,
+    opening: bool,
+    suite: u8,
+    key: &[u8],
+    nonce: &[u8],
+    ad: &[u8],
+    text: &[u8],
+    out: &mut [u8],
+) -> Block
+    requires { ⌜ Ready (now tb) × (1 ≤ suite) × (suite ≤ 4) × (length (now key) ≡ 16) × (length (now nonce) ≡ nonceSize (cipherOf suite)) × (length (now out) ≡ length (now text)) ⌝ }
+    ensures text { λ _. ⌜ now (out .exit) ≡ textOut (cipherOf suite) opening (now (key .entry)) (now (nonce .entry)) (now (ad .entry)) (now (text .entry)) ⌝ }
+    ensures tag { λ r. ⌜ take (sizeOf suite) (wide r) ≡ tagOut (cipherOf suite) opening (now (key .entry)) (now (nonce .entry)) (now (ad .entry)) (now (text .entry)) ⌝ }
+{
+    let s = state::start(tb, suite, key, nonce);
+    let d = text::absorb_all(tb, suite, s, ad);
+    let t = text::crypt_all(tb, opening, suite, d, text, out);
+    tag::tag_of(tb, suite, t)
+}
+
+// Seals msg into out, and its tag into tag.
+pub fn seal(
+    suite: u8,
+    key: &[u8],
+    nonce: &[u8],
+    ad: &[u8],
+    msg: &[u8],
+    out: &mut [u8],
+    tag: &mut [u8],
+) -> Answer
+    ensures { λ r. ⌜ _≡_ {A = Sealed} (record { number = numberOf r; out = now (out .exit); tag = now (tag .exit) })
+        (sealing suite (now (key .entry)) (now (nonce .entry)) (now (ad .entry)) (now (msg .entry)) (now (out .entry)) (now (tag .entry))) ⌝ }
+{
+    let a = refused(
+        suite,
+        key.len(),
+        nonce.len(),
+        ad.len(),
+        msg.len(),
+        out.len(),
+        tag.len(),
+    );
+    let Answer::Done = a else {
+        return a;
+    };
+    let tb = cipher::tables();
+    let t = crypt(&tb, false, suite, key, nonce, ad, msg, out);
+    words::block::put(t, tag);
+    Answer::Done
+}
+
+// Opens text into out, if its tag is right; else every byte of out is 0.
+pub fn unseal(
+    suite: u8,
+    key: &[u8],
+    nonce: &[u8],
+    ad: &[u8],
+    text: &[u8],
+    tag: &[u8],
+    out: &mut [u8],
+) -> Answer
+    ensures { λ r. ⌜ _≡_ {A = Opened} (record { number = numberOf r; out = now (out .exit) })
+        (opening suite (now (key .entry)) (now (nonce .entry)) (now (ad .entry)) (now (text .entry)) (now (tag .entry)) (now (out .entry))) ⌝ }
+{
+    let a = refused(
+        suite,
+        key.len(),
+        nonce.len(),
+        ad.len(),
+        text.len(),
+        out.len(),
+        tag.len(),
+    );
+    let Answer::Done = a else {
+        return a;
+    };
+    let tb = cipher::tables();
+    let t = crypt(&tb, true, suite, key, nonce, ad, text, out);
+    if tag::same(t, tag) {
+        return Answer::Done;
+    }
+    tag::wipe(out);
+    Answer::Forged
+}

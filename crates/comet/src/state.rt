@@ -1,0 +1,62 @@
+// The two states Y and Z: their start, the cipher's call, and a block put in.
+use cipher::Lent;
+use words::block::Block;
+ghost use mathlib.Core.Path.{_≡_};
+ghost use Prim.Native.Nat.{_≤_};
+ghost use lib.ListN.{length, take};
+ghost use Rattle.words.specs.Xors.{xors};
+ghost use Rattle.words.specs.Blocks.{wide};
+ghost use Rattle.cipher.specs.Cipher.{Ready, sizeOf, cipherOf};
+ghost use Rattle.mode.specs.Words.{pad};
+ghost use Rattle.mode.specs.Keys.{nextKey};
+ghost use Rattle.mode.specs.Mode.{nonceSize, startY, startZ};
+
+// Y in the first bytes of y, as many as the suite's block has, and Z.
+pub(crate) struct State {
+    pub(crate) y: Block,
+    pub(crate) z: Block,
+}
+
+// The state that key and nonce start.
+pub(crate) fn start(tb: &Lent, suite: u8, key: &[u8], nonce: &[u8]) -> State
+    requires { ⌜ Ready (now tb) × (1 ≤ suite) × (suite ≤ 4) × (length (now key) ≡ 16) × (length (now nonce) ≡ nonceSize (cipherOf suite)) ⌝ }
+    ensures y { λ r. ⌜ take (sizeOf suite) (wide (r .y)) ≡ startY (cipherOf suite) (now (key .entry)) ⌝ }
+    ensures z { λ r. ⌜ wide (r .z) ≡ startZ (cipherOf suite) (now (key .entry)) (now (nonce .entry)) ⌝ }
+{
+    let k = words::block::filled(key);
+    let v = words::block::filled(nonce);
+    if suite <= 2 {
+        let z = cipher::encipher(tb, suite, k, v);
+        return State { y: k, z: z };
+    }
+    let y = cipher::encipher(tb, suite, k, Block { a: 0, b: 0 });
+    let z = words::block::xor(k, v);
+    State { y: y, z: z }
+}
+
+// The next block key under the mark m, and X, the image of Y under it.
+pub(crate) fn turn(tb: &Lent, suite: u8, s: State, m: u8) -> State
+    requires { ⌜ Ready (now tb) × (1 ≤ suite) × (suite ≤ 4) ⌝ }
+    ensures y { λ r. ⌜ take (sizeOf suite) (wide (r .y)) ≡ cipherOf suite .E (nextKey m (wide (s .z))) (take (sizeOf suite) (wide (s .y))) ⌝ }
+    ensures z { λ r. ⌜ wide (r .z) ≡ nextKey m (wide (s .z)) ⌝ }
+{
+    let y = s.y;
+    let z0 = s.z;
+    let z = crate::key::next_key(z0, m);
+    let x = cipher::encipher(tb, suite, z, y);
+    State { y: x, z: z }
+}
+
+// Y = X XOR the padded block.
+pub(crate) fn mix(suite: u8, s: State, b: &[u8]) -> State
+    requires { ⌜ length (now b) ≤ sizeOf suite ⌝ }
+    ensures y { λ r. ⌜ take (sizeOf suite) (wide (r .y)) ≡ xors (take (sizeOf suite) (wide (s .y))) (pad (sizeOf suite) (now (b .entry))) ⌝ }
+    ensures z { λ r. ⌜ wide (r .z) ≡ wide (s .z) ⌝ }
+{
+    let n = cipher::size_of(suite);
+    let y = s.y;
+    let z = s.z;
+    let p = crate::pad::padded(n, b);
+    let w = words::block::xor(y, p);
+    State { y: w, z: z }
+}
