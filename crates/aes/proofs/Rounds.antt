@@ -6,7 +6,7 @@ use native.Mathlib.Numerals.{add-one}
 use native.Mathlib.Omega.{arith}
 use lib.Dec.{ltb}
 use lib.ListN.{length}
-use Rattle.words.specs.Pick.{pick}
+use mathlib.Core.Bool.{cond}
 use Rattle.words.specs.Words.{xor}
 use Rattle.fips197.specs.Field.{xtime}
 use Rattle.fips197.specs.Cipher.{subBytes, shiftRows, mixColumns, addRoundKey, power, rcon, roundKey, state, cipher}
@@ -24,7 +24,7 @@ rcon-turn i e p =
 pub rounds : List ℕ → List ℕ → ℕ → List ℕ
 rounds key block zero = state key block 0
 rounds key block (suc i) =
-    addRoundKey (pick (ltb i 9) (mixColumns (shiftRows (subBytes (rounds key block i)))) (shiftRows (subBytes (rounds key block i)))) (roundKey key (suc i))
+    addRoundKey (cond (ltb i 9) (mixColumns (shiftRows (subBytes (rounds key block i)))) (shiftRows (subBytes (rounds key block i)))) (roundKey key (suc i))
 
 ten-rounds : (key block : List ℕ) → rounds key block 10 ≡ cipher key block
 unfolding rounds state cipher
@@ -38,14 +38,14 @@ pub track-none : {k s : List ℕ} → Tracks k s k s 0
 track-none = record { known = λ key block p q. (p, q) }
 
 pub track-turn : {k₀ s₀ k s k′ s′ rc : List ℕ} (i : ℕ) → Tracks k₀ s₀ k s i → rc ≡ rcon (i + 1) → Follows k rc k′
-    → s′ ≡ addRoundKey (pick (ltb i 9) (mixColumns (shiftRows (subBytes s))) (shiftRows (subBytes s))) k′ → Tracks k₀ s₀ k′ s′ (i + 1)
+    → s′ ≡ addRoundKey (cond (ltb i 9) (mixColumns (shiftRows (subBytes s))) (shiftRows (subBytes s))) k′ → Tracks k₀ s₀ k′ s′ (i + 1)
 unfolding rounds
 track-turn i tracks er ek es =
     record {
       known = λ key block p q.
           let u = tracks .known key block p q in
           let e = ek key i (u .0) er in
-          (e, es ∙ ap₂ (λ (x y : List ℕ). addRoundKey (pick (ltb i 9) (mixColumns (shiftRows (subBytes x))) (shiftRows (subBytes x))) y) (u .1) e ∙ rw add-one refl);
+          (e, es ∙ ap₂ (λ (x y : List ℕ). addRoundKey (cond (ltb i 9) (mixColumns (shiftRows (subBytes x))) (shiftRows (subBytes x))) y) (u .1) e ∙ rw add-one refl);
     }
 
 pub track-end : {k₀ b s₀ k s r : List ℕ} (key block : List ℕ) (i : ℕ) → i ≡ 10 → Tracks k₀ s₀ k s i → length key ≡ 16 → k₀ ≡ key → b ≡ block

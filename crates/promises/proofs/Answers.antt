@@ -1,0 +1,70 @@
+-- The opener by cases: lengths right and the tag right, or wrong.
+use mathlib.Core.Path.{_≡_, refl, sym, ap, ap₂, _∙_, subst}
+use mathlib.Core.Bool.{Bool, true, false, cond}
+use Prim.Native.Nat.{ℕ, zero, suc, _≤_, _<_}
+use native.Mathlib.Nat.{suc-ne-zero}
+use native.Mathlib.Omega.{arith}
+use mathlib.Core.List.{List, [], _∷_}
+use lib.ListN.{length, replicate}
+use lib.Dec.{eqb}
+use borrow.Author.Tests.{eq-eqb, eqb-true}
+use Rattle.words.specs.Bytes.{sameBytes}
+use Rattle.words.proofs.Same.{same-refl, same-true}
+use Rattle.cipher.specs.Cipher.{Block, cipherOf, sizeOf}
+use Rattle.mode.specs.Mode.{textOut, tagOut}
+use Rattle.comet.specs.Answers.{refusal, Opened, openedAs, opening}
+use Rattle.comet.proofs.Refuse.{Passed, none-bad}
+use Rattle.promises.specs.Input.{Input}
+
+-- ---- lengths that are right
+
+pub right : (suite : ℕ) (key nonce ad text out tag : List ℕ) → Input suite key nonce ad text → length out ≡ length text → length tag ≡ sizeOf suite
+    → refusal suite (length key) (length nonce) (length ad) (length text) (length out) (length tag) ≡ 0
+right suite key nonce ad text out tag i lo lt =
+    none-bad suite (length key) (length nonce) (length ad) (length text) (length out) (length tag)
+    (record {
+      low = i .suite-first;
+      high = i .suite-last;
+      key = i .key-length;
+      nonce = i .nonce-length;
+      extra = i .ad-length;
+      text = i .text-length;
+      room = lo;
+      tag = lt;
+    })
+
+module _ (suite : ℕ) (key nonce ad c t out₀ : List ℕ) (i : Input suite key nonce ad c) (lo : length out₀ ≡ length c) (lt : length t ≡ sizeOf suite) where
+  pub by-tag : opening suite key nonce ad c t out₀ ≡ openedAs 0 (sameBytes (tagOut (cipherOf suite) true key nonce ad c) t) (textOut (cipherOf suite) true key nonce ad c) out₀
+  unfolding opening
+  by-tag =
+      ap (λ (n : ℕ). openedAs n (sameBytes (tagOut (cipherOf suite) true key nonce ad c) t) (textOut (cipherOf suite) true key nonce ad c) out₀)
+      (right suite key nonce ad c out₀ t i lo lt)
+
+  -- the right tag opens
+  pub opens : tagOut (cipherOf suite) true key nonce ad c ≡ t → opening suite key nonce ad c t out₀ ≡ record { number = 0; out = textOut (cipherOf suite) true key nonce ad c }
+  opens e =
+      by-tag
+      ∙ ap (λ (b : Bool). openedAs 0 b (textOut (cipherOf suite) true key nonce ad c) out₀)
+      (ap (λ (g : List ℕ). sameBytes g t) e ∙ same-refl t)
+
+  abbrev Shut : Bool → Type 0
+  Shut b = openedAs 0 b (textOut (cipherOf suite) true key nonce ad c) out₀ .number ≡ 0 → b ≡ true
+
+  shut : (b : Bool) → Shut b
+  shut true e = refl
+  shut false e = absurd (suc-ne-zero 7 e)
+
+  -- what opens has the right tag
+  pub opened-tag : opening suite key nonce ad c t out₀ .number ≡ 0 → tagOut (cipherOf suite) true key nonce ad c ≡ t
+  opened-tag e =
+      same-true (tagOut (cipherOf suite) true key nonce ad c) t
+      (shut (sameBytes (tagOut (cipherOf suite) true key nonce ad c) t) (sym (ap (λ (r : Opened). r .number) by-tag) ∙ e))
+
+  -- any other is refused with 8, and zeros
+  pub refuses : (tagOut (cipherOf suite) true key nonce ad c ≡ t → ⊥) → opening suite key nonce ad c t out₀ ≡ record { number = 8; out = replicate (length out₀) 0 }
+  refuses ne = by-tag ∙ go (sameBytes (tagOut (cipherOf suite) true key nonce ad c) t) refl
+    where
+      go : (b : Bool) → sameBytes (tagOut (cipherOf suite) true key nonce ad c) t ≡ b
+          → openedAs 0 b (textOut (cipherOf suite) true key nonce ad c) out₀ ≡ record { number = 8; out = replicate (length out₀) 0 }
+      go true e = absurd (ne (same-true (tagOut (cipherOf suite) true key nonce ad c) t e))
+      go false e = refl

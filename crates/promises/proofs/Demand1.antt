@@ -1,0 +1,45 @@
+-- A contract that says what the outcome equals leaves one outcome, since each answer has a number of its own.
+use mathlib.Core.Path.{_≡_, refl, sym, ap, _∙_}
+use mathlib.Core.Bool.{Bool, true, false}
+use Prim.Native.Nat.{ℕ, zero, suc, _≤_, _<_}
+use native.Mathlib.Nat.{not-suc-le-zero, suc-ne-zero, lt-irrefl}
+use native.Mathlib.Omega.{arith}
+use mathlib.Core.List.{List}
+use lib.ListN.{length, replicate}
+use Rattle.comet.specs.Answers.{refusal, Sealed, sealedAs, sealing, Opened, openedAs, opening}
+use Rattle.comet.proofs.Outcomes.{number-tells}
+use Rattle.comet.proofs.Refuse.{refusal-most}
+use Rattle.promises.specs.Demand1.{SealOnce, OpenOnce, SealKeeps, OpenKeeps}
+
+pub seal-once : SealOnce
+seal-once suite key nonce ad msg out₀ tag₀ r r′ out out′ tag tag′ p q =
+    let e = p ∙ sym q in
+    (number-tells r r′ (ap (λ (w : Sealed). w .number) e), ap (λ (w : Sealed). w .out) e, ap (λ (w : Sealed). w .tag) e)
+
+pub open-once : OpenOnce
+open-once suite key nonce ad text tag out₀ r r′ out out′ p q =
+    let e = p ∙ sym q in
+    (number-tells r r′ (ap (λ (w : Opened). w .number) e), ap (λ (w : Opened). w .out) e)
+
+sealed-keeps : (n : ℕ) (x y o t : List ℕ) → n ≤ 7 → (sealedAs n x y o t .number ≤ 7) × (0 < sealedAs n x y o t .number → (sealedAs n x y o t .out ≡ o) × (sealedAs n x y o t .tag ≡ t))
+sealed-keeps zero x y o t h = (omega arith, λ p. absurd (not-suc-le-zero p))
+sealed-keeps (suc n) x y o t h = (h, λ p. (refl, refl))
+
+pub seal-keeps : SealKeeps
+unfolding sealing
+seal-keeps suite key nonce ad msg out₀ tag₀ =
+    sealed-keeps (refusal suite (length key) (length nonce) (length ad) (length msg) (length out₀) (length tag₀)) _ _ out₀ tag₀
+    (refusal-most suite (length key) (length nonce) (length ad) (length msg) (length out₀) (length tag₀))
+
+opened-keeps : (n : ℕ) (b : Bool) (x o : List ℕ) → n ≤ 7
+    → (openedAs n b x o .number ≤ 8) × (0 < openedAs n b x o .number → openedAs n b x o .number < 8 → openedAs n b x o .out ≡ o)
+    × (openedAs n b x o .number ≡ 8 → openedAs n b x o .out ≡ replicate (length o) 0)
+opened-keeps zero true x o h = (omega arith, (λ p q. absurd (not-suc-le-zero p)), (λ e. absurd (suc-ne-zero 7 (sym e))))
+opened-keeps zero false x o h = (omega arith, (λ p q. absurd (lt-irrefl 8 q)), (λ e. refl))
+opened-keeps (suc n) b x o h = (omega arith, (λ p q. refl), (λ e. absurd (lt-irrefl 8 (omega arith))))
+
+pub open-keeps : OpenKeeps
+unfolding opening
+open-keeps suite key nonce ad text tag out₀ =
+    opened-keeps (refusal suite (length key) (length nonce) (length ad) (length text) (length out₀) (length tag)) _ _ out₀
+    (refusal-most suite (length key) (length nonce) (length ad) (length text) (length out₀) (length tag))

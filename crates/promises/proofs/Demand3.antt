@@ -1,0 +1,68 @@
+-- Demand 3 by citation: equal tags would make the two inputs equal.
+use mathlib.Core.Path.{_≡_, refl, sym, ap, ap₂, _∙_, subst}
+use mathlib.Core.Bool.{Bool, true, false}
+use mathlib.Core.Logic.{_⊎_, inl, inr}
+use Prim.Native.Nat.{ℕ, _+_, _*_, _≤_, _<_}
+use mathlib.Core.List.{List, []}
+use lib.ListN.{length, getD, take, drop, replicate}
+use Rattle.words.specs.Bytes.{AllBytes}
+use Rattle.words.proofs.Lists.{nil-of, all-nil}
+use Rattle.cipher.specs.Cipher.{Block, cipherOf, sizeOf}
+use Rattle.cipher.proofs.Lawful.{lawful}
+use Rattle.mode.specs.Mode.{tag, textOut, tagOut}
+use Rattle.mode.proofs.Demand2.{tag-back, text-length}
+use Rattle.mode.proofs.Demand3.{same-before, same-behind, message-told, data-told}
+use Rattle.mode.proofs.LastBlock.{last-told}
+use Rattle.comet.specs.declared.Answer.{Answer}
+use Rattle.comet.specs.Answers.{numberOf, Opened, opening}
+use Rattle.promises.specs.Input.{Input}
+use Rattle.promises.specs.Demand3.{OneBlock, LastBlock, EmptyMessage}
+use Rattle.promises.proofs.Answers.{opened-tag, refuses}
+
+key-block : (suite : ℕ) (key nonce ad text : List ℕ) → Input suite key nonce ad text → Block 16 key
+key-block suite key nonce ad text i = record { long = i .key-length; bytes = i .key-bytes }
+
+pub one-block : OneBlock
+one-block suite key nonce ad ad′ msg msg′ j i i′ la lm (inl (ea, ne, inside)) e =
+    let n = sizeOf suite in
+    ne (message-told (cipherOf suite) (lawful suite) j msg msg′ (i .text-bytes) (i′ .text-bytes) lm
+    (same-before n j msg msg′ lm inside) (same-behind n j msg msg′ lm inside)
+    key nonce ad (key-block suite key nonce ad msg i) (i .nonce-bytes) (i .nonce-length) (i .ad-bytes)
+    (e ∙ ap (λ (a : List ℕ). tag (cipherOf suite) key nonce a msg′) (sym ea)))
+one-block suite key nonce ad ad′ msg msg′ j i i′ la lm (inr (em, ne, inside)) e =
+    let n = sizeOf suite in
+    ne (data-told (cipherOf suite) (lawful suite) j ad ad′ (i .ad-bytes) (i′ .ad-bytes) la
+    (same-before n j ad ad′ la inside) (same-behind n j ad ad′ la inside)
+    key nonce msg (key-block suite key nonce ad msg i) (i .nonce-bytes) (i .nonce-length) (i .text-bytes)
+    (e ∙ ap (tag (cipherOf suite) key nonce ad′) (sym em)))
+
+-- what the contract says of an answer, of a call whose outcome is known
+told : (r : Answer) (out : List ℕ) (w z : Opened) → _≡_ {A = Opened} (record { number = numberOf r; out = out }) w → w ≡ z → (numberOf r ≡ z .number) × (out ≡ z .out)
+told r out w z p q = (ap (λ (x : Opened). x .number) (p ∙ q), ap (λ (x : Opened). x .out) (p ∙ q))
+
+pub last-block : LastBlock
+last-block suite key nonce ad c c′ t out₀ out₁ j i i′ lo lo′ lt e l ne inside last differ r out p =
+    let n = sizeOf suite in
+    told r out _ _ p
+    (refuses suite key nonce ad c′ t out₁ i′ lo′ lt
+    (λ q. ne (last-told (cipherOf suite) (lawful suite) j key nonce ad c c′ (i .text-bytes) (i′ .text-bytes) l inside last (same-before n j c c′ l differ)
+    (key-block suite key nonce ad c i) (i .nonce-bytes) (i .nonce-length) (i .ad-bytes)
+    (opened-tag suite key nonce ad c t out₀ i lo lt e ∙ sym q))))
+
+-- of an empty text both directions make the same tag
+empty-tag : (suite : ℕ) (key nonce ad : List ℕ) → tagOut (cipherOf suite) true key nonce ad [] ≡ tag (cipherOf suite) key nonce ad []
+empty-tag suite key nonce ad =
+    let κ = cipherOf suite in
+    let L = lawful suite in
+    let z : textOut κ false key nonce ad [] ≡ [] = nil-of _ (text-length κ L key nonce ad false [] all-nil) in
+    sym (ap (tagOut κ true key nonce ad) z) ∙ tag-back κ L key nonce ad false [] all-nil
+
+pub empty-message : EmptyMessage
+empty-message suite key nonce ad ad′ t out₀ out₁ j i i′ lo lo′ lt e l ne differ r out p =
+    let n = sizeOf suite in
+    told r out _ _ p
+    (refuses suite key nonce ad′ [] t out₁ i′ lo′ lt
+    (λ q. ne (data-told (cipherOf suite) (lawful suite) j ad ad′ (i .ad-bytes) (i′ .ad-bytes) l
+    (same-before n j ad ad′ l differ) (same-behind n j ad ad′ l differ)
+    key nonce [] (key-block suite key nonce ad [] i) (i .nonce-bytes) (i .nonce-length) all-nil
+    (sym (empty-tag suite key nonce ad) ∙ opened-tag suite key nonce ad [] t out₀ i lo lt e ∙ sym q ∙ empty-tag suite key nonce ad′))))

@@ -1,0 +1,14 @@
+-- The starred values, worked out by computation.
+use mathlib.Core.Path.{refl}
+use Rattle.words.specs.Words.{xor}
+use Rattle.fips197.specs.Field.{xtime, multiples, _•_, find, inverse}
+use Rattle.fips197.specs.Sbox.{affine, subByte}
+use Rattle.cipher.specs.Cipher.{sizeOf}
+use Rattle.mode.specs.Blocks.{chopLengths, lengths}
+use Rattle.mode.specs.Words.{double, pad}
+use Rattle.mode.specs.Keys.{textMarks, marks}
+use Rattle.promises.specs.Values.{StarredValues}
+
+pub starred-values : StarredValues
+unfolding xor xtime multiples _•_ find inverse affine subByte sizeOf chopLengths lengths double pad textMarks marks
+starred-values = refl

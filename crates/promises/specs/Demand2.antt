@@ -1,0 +1,37 @@
+-- Demand 2: sealing gives exactly COMET's ciphertext and tag; opening accepts exactly the pairs that sealing makes from some message, and returns that message.
+use mathlib.Core.Path.{_≡_}
+use mathlib.Core.Logic.{_↔_}
+use Prim.Native.Nat.{ℕ}
+use mathlib.Core.List.{List}
+use lib.ListN.{length}
+use Rattle.words.specs.Bytes.{AllBytes}
+use Rattle.cipher.specs.Cipher.{cipherOf, sizeOf}
+use Rattle.mode.specs.Mode.{ciphertext, tag}
+use Rattle.comet.specs.Answers.{Sealed, sealing, Opened, opening}
+use Rattle.promises.specs.Input.{Input}
+
+-- the sealer's outputs are the specification's
+abbrev pub Sealing : Type 0
+Sealing =
+    (suite : ℕ) (key nonce ad msg out₀ tag₀ : List ℕ) → Input suite key nonce ad msg → length out₀ ≡ length msg → length tag₀ ≡ sizeOf suite
+    → sealing suite key nonce ad msg out₀ tag₀ ≡ record { number = 0; out = ciphertext (cipherOf suite) key nonce ad msg; tag = tag (cipherOf suite) key nonce ad msg }
+
+-- a pair (c, t) is accepted exactly if some message of c's length seals to it
+abbrev pub Accepting : Type 0
+Accepting =
+    (suite : ℕ) (key nonce ad c t out₀ : List ℕ) → Input suite key nonce ad c → length out₀ ≡ length c → length t ≡ sizeOf suite
+    → (opening suite key nonce ad c t out₀ .number ≡ 0)
+    ↔ ((m : List ℕ) × AllBytes m × (length m ≡ length c) × (ciphertext (cipherOf suite) key nonce ad m ≡ c) × (tag (cipherOf suite) key nonce ad m ≡ t))
+
+-- and that message is what the opener returns
+abbrev pub Returning : Type 0
+Returning =
+    (suite : ℕ) (key nonce ad c t out₀ m : List ℕ) → Input suite key nonce ad c → length out₀ ≡ length c → length t ≡ sizeOf suite
+    → AllBytes m → length m ≡ length c → ciphertext (cipherOf suite) key nonce ad m ≡ c → tag (cipherOf suite) key nonce ad m ≡ t
+    → opening suite key nonce ad c t out₀ ≡ record { number = 0; out = m }
+
+-- so what was sealed opens, into any buffer of its length
+abbrev pub RoundTrip : Type 0
+RoundTrip =
+    (suite : ℕ) (key nonce ad msg out₀ : List ℕ) → Input suite key nonce ad msg → length out₀ ≡ length msg
+    → opening suite key nonce ad (ciphertext (cipherOf suite) key nonce ad msg) (tag (cipherOf suite) key nonce ad msg) out₀ ≡ record { number = 0; out = msg }

@@ -1,0 +1,44 @@
+-- Demand 3: a change inside one block changes the tag.
+use mathlib.Core.Path.{_≡_}
+use mathlib.Core.Logic.{_⊎_}
+use Prim.Native.Nat.{ℕ, _+_, _*_, _≤_, _<_}
+use mathlib.Core.List.{List, []}
+use lib.ListN.{length, getD, replicate}
+use Rattle.words.specs.Bytes.{AllBytes}
+use Rattle.cipher.specs.Cipher.{cipherOf, sizeOf}
+use Rattle.mode.specs.Mode.{tag}
+use Rattle.comet.specs.declared.Answer.{Answer}
+use Rattle.comet.specs.Answers.{numberOf, Opened, opening}
+use Rattle.promises.specs.Input.{Input}
+
+-- one suite, key and nonce; two inputs of equal lengths that differ, every difference inside block j of the message or inside block j of the associated data: the specification's tags differ
+abbrev pub OneBlock : Type 0
+OneBlock =
+    (suite : ℕ) (key nonce ad ad′ msg msg′ : List ℕ) (j : ℕ) → Input suite key nonce ad msg → Input suite key nonce ad′ msg′
+    → length ad ≡ length ad′ → length msg ≡ length msg′
+    → ((ad ≡ ad′) × (msg ≡ msg′ → ⊥) × ((i : ℕ) → (getD msg i 0 ≡ getD msg′ i 0 → ⊥) → (j * sizeOf suite ≤ i) × (i < j * sizeOf suite + sizeOf suite)))
+    ⊎ ((msg ≡ msg′) × (ad ≡ ad′ → ⊥) × ((i : ℕ) → (getD ad i 0 ≡ getD ad′ i 0 → ⊥) → (j * sizeOf suite ≤ i) × (i < j * sizeOf suite + sizeOf suite)))
+    → tag (cipherOf suite) key nonce ad msg ≡ tag (cipherOf suite) key nonce ad′ msg′ → ⊥
+
+-- an accepted record whose last ciphertext block alone is altered is refused with 8, and the output is all zero: whatever the opener answers, by its contract
+abbrev pub LastBlock : Type 0
+LastBlock =
+    (suite : ℕ) (key nonce ad c c′ t out₀ out₁ : List ℕ) (j : ℕ) → Input suite key nonce ad c → Input suite key nonce ad c′
+    → length out₀ ≡ length c → length out₁ ≡ length c′ → length t ≡ sizeOf suite
+    → opening suite key nonce ad c t out₀ .number ≡ 0
+    → length c ≡ length c′ → (c ≡ c′ → ⊥)
+    → j * sizeOf suite < length c → length c ≤ j * sizeOf suite + sizeOf suite
+    → ((i : ℕ) → (getD c i 0 ≡ getD c′ i 0 → ⊥) → (j * sizeOf suite ≤ i) × (i < j * sizeOf suite + sizeOf suite))
+    → (r : Answer) (out : List ℕ) → _≡_ {A = Opened} (record { number = numberOf r; out = out }) (opening suite key nonce ad c′ t out₁)
+    → (numberOf r ≡ 8) × (out ≡ replicate (length out₁) 0)
+
+-- an accepted record with an empty message, one block of whose associated data is altered, is refused with 8
+abbrev pub EmptyMessage : Type 0
+EmptyMessage =
+    (suite : ℕ) (key nonce ad ad′ t out₀ out₁ : List ℕ) (j : ℕ) → Input suite key nonce ad [] → Input suite key nonce ad′ []
+    → length out₀ ≡ 0 → length out₁ ≡ 0 → length t ≡ sizeOf suite
+    → opening suite key nonce ad [] t out₀ .number ≡ 0
+    → length ad ≡ length ad′ → (ad ≡ ad′ → ⊥)
+    → ((i : ℕ) → (getD ad i 0 ≡ getD ad′ i 0 → ⊥) → (j * sizeOf suite ≤ i) × (i < j * sizeOf suite + sizeOf suite))
+    → (r : Answer) (out : List ℕ) → _≡_ {A = Opened} (record { number = numberOf r; out = out }) (opening suite key nonce ad′ [] t out₁)
+    → (numberOf r ≡ 8) × (out ≡ replicate (length out₁) 0)

@@ -1,0 +1,5 @@
+pub mod Input
+pub mod Demand1
+pub mod Demand2
+pub mod Demand3
+pub mod Values
