@@ -31,7 +31,7 @@ pub enum Answer {
 }
 
 // The suite's nonce length.
-fn nonce_size(suite: u8) -> usize
+pub fn nonce_size(suite: u8) -> usize
     ensures { λ r. ⌜ r ≡ nonceSize (cipherOf suite) ⌝ }
 {
     if suite <= 2 { 16 } else { 15 }

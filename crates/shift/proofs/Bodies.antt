@@ -38,7 +38,7 @@ module _ (w : ℕ) (f : List ℕ) (n : ℕ) where
 
   module _ (h : Walked w f n) where
     -- a later body starts where this one ends, or after
-    apart : (i j : ℕ) → i < j → j < n → bodyEnd (rowAt w f i) ≤ rowAt w f j .at
+    pub apart : (i j : ℕ) → i < j → j < n → bodyEnd (rowAt w f i) ≤ rowAt w f j .at
     apart i zero l m = absurd (not-suc-le-zero l)
     apart i (suc j) l m =
         let s : rowAt w f (suc j) .at ≡ bodyEnd (rowAt w f j) = h .rows (suc j) m .place .starts ∙ start-next j in
@@ -46,6 +46,11 @@ module _ (w : ℕ) (f : List ℕ) (n : ℕ) where
         (λ q. let t : bodyEnd (rowAt w f i) ≡ bodyEnd (rowAt w f j) = ap (λ (k : ℕ). bodyEnd (rowAt w f k)) q in omega arith)
         (λ b. omega (arith, apart i j b (omega arith), start-low j))
         (eq-or-lt-of-le (le-of-suc-le-suc l))
+
+    -- no body starts before the table's end
+    pub after-table : (i : ℕ) → i ≤ n → rowStart w n ≤ bodyStart w f n i
+    after-table zero l = omega (arith, start-first)
+    after-table (suc i) l = omega (arith, start-next i, after-table i (omega arith), h .rows i l .place .starts, start-low i)
 
     -- what stands from body i's start on is that body and the later ones
     tiles : (k i : ℕ) → i + k ≡ n → drop (bodyStart w f n i) f ≡ bodies w f i k

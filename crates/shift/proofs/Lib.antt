@@ -4,6 +4,11 @@ pub mod Rows
 pub mod Sound
 pub mod Passed
 pub mod Lookups
+pub mod Entries
+pub mod Told
+pub mod Jobs
+pub mod Alike
+pub mod Units
 pub mod Outcomes
 pub mod Bodies
 pub mod Finding

@@ -71,6 +71,7 @@ end-says w f n z = end-case (eqb (bodyStart w f n n) (length f)) refl z
     end-case false q h = absurd (omega arith)
 
 pub record Walked (w : ℕ) (f : List ℕ) (n : ℕ) : Type 0 where
+  pub zeros : (i : ℕ) → i < n → rowNumber w f n i ≡ 0
   pub rows : (i : ℕ) → i < n → Sound w f n i
   pub ends : bodyStart w f n n ≡ length f
 
@@ -79,13 +80,17 @@ unfolding rowsFrom
 walked w f n z =
     ⊎-elim
     (λ h. absurd (eqb-false _ _ (not-true _ (h .hits)) (ap numberOf (h .gives) ∙ z)))
-    (λ h. record {
-      rows = λ i l. sound w f n i (eqb-true _ _ (not-false _ (h .none i (omega arith) (omega arith))));
+    (λ h.
+    let s : (i : ℕ) → i < n → rowNumber w f n i ≡ 0 = λ i l. eqb-true _ _ (not-false _ (h .none i (omega arith) (omega arith))) in
+    record {
+      zeros = s;
+      rows = λ i l. sound w f n i (s i l);
       ends = end-says w f n (ap numberOf (h .gives) ∙ z);
     })
     (first-says _ _ _ (n - 0) 0 (rowsFrom w f n 0) refl)
 
 pub record Passes (e : ℕ) (f : List ℕ) : Type 0 where
+  pub zero : headNumber e f ≡ 0
   pub head : Headed e f
   pub walk : Walked (rowSize e) f (countOf f)
 
@@ -93,4 +98,4 @@ pub passes : (e : ℕ) (f : List ℕ) → checkAs e f .number ≡ 0 → Passes e
 unfolding checkAs
 passes e f z =
     let b = both-zero (answer (headNumber e f) 0) (rowsFrom (rowSize e) f (countOf f) 0) z in
-    record { head = headed e f (b .0); walk = walked (rowSize e) f (countOf f) (rw (b .1) at z) }
+    record { zero = b .0; head = headed e f (b .0); walk = walked (rowSize e) f (countOf f) (rw (b .1) at z) }

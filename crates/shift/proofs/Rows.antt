@@ -8,7 +8,7 @@ use Rattle.shift.specs.Format.{rowSize, rowStart}
 use Rattle.shift.specs.Inside.{RowIn, TableIn}
 
 -- a row ends where a later one starts, or before
-row-below : (w i j : ℕ) → i < j → rowStart w i + w ≤ rowStart w j
+pub row-below : (w i j : ℕ) → i < j → rowStart w i + w ≤ rowStart w j
 unfolding rowStart
 row-below w i j h = omega (arith, mul-suc w i, mul-le-mul-left w h)
 

@@ -3,26 +3,23 @@ use Prim.Native.Nat.{ℕ, zero, suc, _+_, _-_, _^_, _≤_, _<_}
 use native.Mathlib.Nat.{not-suc-le-zero, le-of-suc-le-suc, eq-or-lt-of-le}
 use native.Mathlib.Numerals.{add-one}
 use native.Mathlib.Omega.{arith}
-use mathlib.Core.Path.{_≡_, refl, sym, ap, ap₂}
+use mathlib.Core.Path.{_≡_, refl, sym, ap}
 use mathlib.Core.Bool.{Bool, true, false, _||_, _&&_, or-true, true≢false}
-use mathlib.Core.List.{List, [], _∷_}
 use mathlib.Core.Logic.{_⊎_, inl, inr, ⊎-elim}
 use lib.Dec.{eqb}
 use borrow.Author.Tests.{eqb-true, eq-eqb}
+use Rattle.words.specs.Bytes.{sameBytes}
 use Rattle.words.specs.Blocks.{wide}
+use Rattle.words.proofs.Same.{and-true, same-refl, same-true}
 use Rattle.words.proofs.Blocks.{wide-told}
 use Rattle.words.specs.declared.block.Block.{Block}
-use Rattle.shift.specs.Search.{anyBelow, firstOf, sameBytes}
+use Rattle.shift.specs.Search.{anyBelow, firstOf}
 
--- ---- tests joined by or and and
+-- ---- tests
 
 pub or-false : (a b : Bool) → a || b ≡ false → (a ≡ false) × (b ≡ false)
 or-false true b e = absurd (true≢false e)
 or-false false b e = (refl, e)
-
-pub and-true : (a b : Bool) → a && b ≡ true → (a ≡ true) × (b ≡ true)
-and-true true b e = (refl, e)
-and-true false b e = absurd (true≢false (sym e))
 
 -- two tests that say the same
 pub test-iff : (a b : Bool) → (a ≡ true → b ≡ true) → (b ≡ true → a ≡ true) → a ≡ b
@@ -92,20 +89,6 @@ module _ {A : Type 0} (hit : ℕ → Bool) (what : ℕ → A) (rest : A) where
             gives = n .gives;
           }))
           (later (simp e at q))
-
--- ---- the same bytes
-
-pub same-refl : (s : List ℕ) → sameBytes s s ≡ true
-same-refl [] = refl
-same-refl (x ∷ s) = simp (eq-eqb x x refl, same-refl s)
-
-pub same-true : (s t : List ℕ) → sameBytes s t ≡ true → s ≡ t
-same-true [] [] e = refl
-same-true [] (y ∷ t) e = absurd (true≢false (sym e))
-same-true (x ∷ s) [] e = absurd (true≢false (sym e))
-same-true (x ∷ s) (y ∷ t) e =
-    let b = and-true (eqb x y) (sameBytes s t) e in
-    ap₂ (λ (a : ℕ) (l : List ℕ). a ∷ l) (eqb-true x y (b .0)) (same-true s t (b .1))
 
 -- two blocks have the same bytes where their two numbers are equal
 pub same-blocks : (x y : Block) → x .a < 2 ^ 64 → x .b < 2 ^ 64 → y .a < 2 ^ 64 → y .b < 2 ^ 64 → sameBytes (wide x) (wide y) ≡ eqb (x .a) (y .a) && eqb (x .b) (y .b)

@@ -11,6 +11,8 @@ use Rattle.shift.specs.declared.answers.Checked.{Checked}
 use Rattle.shift.specs.declared.answers.Checked.the-variants.{Passed, Refused}
 use Rattle.shift.specs.declared.answers.Found.{Found}
 use Rattle.shift.specs.declared.answers.Found.the-variants as found
+use Rattle.shift.specs.declared.answers.Opened.{Opened}
+use Rattle.shift.specs.declared.answers.Opened.the-variants as opened
 
 -- a number and the row that it carries
 abbrev pub answer : ℕ → ℕ → Answer
@@ -45,3 +47,11 @@ abbrev pub foundAnswer : Found → Answer
 foundAnswer (found.At i) = answer 0 i
 foundAnswer found.Missing = answer 32 0
 foundAnswer (found.Refused x) = refusalAnswer x
+
+abbrev pub openedAnswer : Opened → Answer
+openedAnswer opened.Done = answer 0 0
+openedAnswer opened.Missing = answer 32 0
+openedAnswer (opened.Refused x) = refusalAnswer x
+openedAnswer opened.Ring = answer 2 0
+openedAnswer opened.Room = answer 6 0
+openedAnswer opened.Forged = answer 8 0

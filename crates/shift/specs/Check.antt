@@ -4,9 +4,10 @@ use mathlib.Core.List.{List}
 use mathlib.Core.Bool.{Bool, _||_, _&&_, not, cond}
 use lib.ListN.{length}
 use lib.Dec.{ltb, leb, eqb}
+use Rattle.words.specs.Bytes.{sameBytes}
 use Rattle.shift.specs.declared.row.Row.{Row}
 use Rattle.shift.specs.declared.answers.Answer.{Answer}
-use Rattle.shift.specs.Search.{anyBelow, firstOf, sameBytes}
+use Rattle.shift.specs.Search.{anyBelow, firstOf}
 use Rattle.shift.specs.Format.{editionOf, countOf, totalOf, edition, rowSize, rowStart, rowAt, nonceAt, bodyEnd, dataJob, unitOf}
 use Rattle.shift.specs.Answers.{answer}
 

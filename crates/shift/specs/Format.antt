@@ -1,10 +1,9 @@
 -- The shift file's format (document 01, "The shift file"): header, table of contents, bodies. Numbers are little-endian.
 use Prim.Native.Nat.{ℕ, _+_, _-_, _*_}
-use mathlib.Core.Bool.{cond}
 use mathlib.Core.List.{List}
 use lib.ListN.{getD, take, drop}
-use lib.Dec.{leb}
 use Rattle.words.specs.Bytes.{word}
+use Rattle.cipher.specs.Cipher.{sizeOf}
 use Rattle.shift.specs.declared.row.Row.{Row}
 
 -- the len bytes from `at`
@@ -54,13 +53,9 @@ rowAt w f i = record {
 unfoldable pub nonceAt : ℕ → List ℕ → ℕ → List ℕ
 nonceAt w f i = stretch f (restStart w i + 12) 16
 
--- the bytes of a suite's tag
-unfoldable pub tagLength : ℕ → ℕ
-tagLength suite = cond (leb suite 2) 16 8
-
--- a body is associated data, ciphertext, tag: where it ends
+-- a body is associated data, ciphertext, tag, which is one block of the suite's cipher: where it ends
 unfoldable pub bodyEnd : Row → ℕ
-bodyEnd r = r .at + r .ad + r .len + tagLength (r .suite)
+bodyEnd r = r .at + r .ad + r .len + sizeOf (r .suite)
 
 -- associated data starts with the job number (4 bytes)
 abbrev pub dataJob : List ℕ → Row → ℕ

@@ -3,4 +3,5 @@ pub mod Format
 pub mod Answers
 pub mod Check
 pub mod Lookup
+pub mod Opening
 pub mod Inside

@@ -1,8 +1,6 @@
--- Searches and comparisons that the file's rules are written with.
+-- Searches that the file's rules are written with.
 use Prim.Native.Nat.{ℕ, zero, suc}
-use mathlib.Core.Bool.{Bool, true, false, _||_, _&&_, cond}
-use mathlib.Core.List.{List, [], _∷_}
-use lib.Dec.{eqb}
+use mathlib.Core.Bool.{Bool, false, _||_, cond}
 
 -- some number below n passes
 unfoldable pub anyBelow : (ℕ → Bool) → ℕ → Bool
@@ -13,10 +11,3 @@ anyBelow p (suc n) = p n || anyBelow p n
 unfoldable pub firstOf : {A : Type 0} → (ℕ → Bool) → (ℕ → A) → A → ℕ → ℕ → A
 firstOf hit what rest i zero = rest
 firstOf hit what rest i (suc k) = cond (hit i) (what i) (firstOf hit what rest (suc i) k)
-
--- the same bytes, all of them
-abbrev pub sameBytes : List ℕ → List ℕ → Bool
-sameBytes [] [] = true
-sameBytes [] (y ∷ ys) = false
-sameBytes (x ∷ xs) [] = false
-sameBytes (x ∷ xs) (y ∷ ys) = eqb x y && sameBytes xs ys

@@ -1,6 +1,6 @@
-// The answers: why a file is refused, what a lookup finds, and their numbers in document 01.
+// The answers of check, lookup and opening, and their numbers in document 01.
 ghost use mathlib.Core.Path.{_≡_};
-ghost use Rattle.shift.specs.Answers.{faultNumber, refusalAnswer, checkedAnswer, foundAnswer};
+ghost use Rattle.shift.specs.Answers.{faultNumber, refusalAnswer, checkedAnswer, foundAnswer, openedAnswer};
 
 // A number of document 01 and the row that it carries.
 pub struct Answer {
@@ -101,6 +101,31 @@ impl Found {
             Found::At(i) => Answer { number: 0, row: i },
             Found::Missing => Answer { number: 32, row: 0 },
             Found::Refused(x) => x.answer(),
+        }
+    }
+}
+
+// What opening one job gives.
+pub enum Opened {
+    Done,
+    Missing,
+    Refused(Refusal),
+    Ring,
+    Room,
+    Forged,
+}
+
+impl Opened {
+    pub fn answer(self) -> Answer
+        ensures { λ r. ⌜ (r .number ≡ openedAnswer self .number) × (r .row ≡ openedAnswer self .row) ⌝ }
+    {
+        match self {
+            Opened::Done => Answer { number: 0, row: 0 },
+            Opened::Missing => Answer { number: 32, row: 0 },
+            Opened::Refused(x) => x.answer(),
+            Opened::Ring => Answer { number: 2, row: 0 },
+            Opened::Room => Answer { number: 6, row: 0 },
+            Opened::Forged => Answer { number: 8, row: 0 },
         }
     }
 }

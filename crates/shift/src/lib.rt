@@ -1,21 +1,20 @@
-// The plant's shift file: the full check, the lookup of a job, and its associated data.
+// The plant's shift file: the full check, the lookup of a job, its associated data, and the opening of one job.
 pub mod answers;
+mod entry;
 pub mod row;
 mod rules;
 mod table;
 
 use answers::Checked;
 use answers::Found;
-use row::Row;
+use answers::Opened;
+use row::EDITION;
+use row::row_of;
 ghost use mathlib.Core.Path.{_≡_};
-ghost use Rattle.shift.specs.Format.{edition, rowSize};
-ghost use Rattle.shift.specs.Answers.{checkedAnswer, foundAnswer};
+ghost use Rattle.shift.specs.Answers.{checkedAnswer, foundAnswer, openedAnswer};
 ghost use Rattle.shift.specs.Check.{checkFile};
-ghost use Rattle.shift.specs.Lookup.{lookupJob, rowOf, dataStart, dataLength, PartOf};
-ghost use Rattle.shift.specs.Inside.{RowIn};
-
-// The edition of a shift file.
-const EDITION: u16 = 1;
+ghost use Rattle.shift.specs.Lookup.{lookupJob, dataStart, dataLength, PartOf};
+ghost use Rattle.shift.specs.Opening.{JobOpened, jobOpening};
 
 // The full check: numbers 20 to 31.
 pub fn check(file: &[u8]) -> Checked
@@ -31,14 +30,6 @@ pub fn lookup(file: &[u8], job: u32) -> Found
     table::lookup_as(EDITION, file, job)
 }
 
-// Row i of a shift file.
-fn row_of(file: &[u8], i: usize) -> Row
-    requires { ⌜ RowIn (rowSize edition) (now file) i ⌝ }
-    ensures { λ r. ⌜ r ≡ rowOf (now (file .entry)) i ⌝ }
-{
-    row::row_at(row::row_size(EDITION), file, i)
-}
-
 // The associated data of a job, as a part of the file; its first zero bytes where the lookup refuses.
 pub fn associated(file: &[u8], job: u32) -> &[u8]
     ensures { λ r. ⌜ PartOf (file .entry) r (dataStart (now (file .entry)) (lookupJob (now (file .entry)) job)) (dataLength (now (file .entry)) (lookupJob (now (file .entry)) job)) ⌝ }
@@ -51,4 +42,15 @@ pub fn associated(file: &[u8], job: u32) -> &[u8]
     let at = row.at as usize;
     let ad = row.ad as usize;
     &file[at..at + ad]
+}
+
+// Opens one job into out: the full check, 32, then 2, 6, 8.
+pub fn open_job(file: &[u8], ring: &[u8], job: u32, out: &mut [u8]) -> Opened
+    ensures { λ r. ⌜ _≡_ {A = JobOpened} (record { answer = openedAnswer r; out = now (out .exit) }) (jobOpening (now (file .entry)) (now (ring .entry)) job (now (out .entry))) ⌝ }
+{
+    let found = lookup(file, job);
+    let Found::At(i) = found else {
+        return entry::stopped(found);
+    };
+    entry::open_entry(file, ring, i, out)
 }

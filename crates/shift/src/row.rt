@@ -5,7 +5,8 @@ ghost use Prim.Native.Nat.{_+_, _≤_, _<_};
 ghost use lib.ListN.{length};
 ghost use Rattle.words.specs.Bytes.{word};
 ghost use Rattle.words.specs.Blocks.{wide};
-ghost use Rattle.shift.specs.Format.{rowSize, rowStart, restStart, rowAt, nonceAt, tagLength, bodyEnd};
+ghost use Rattle.shift.specs.Format.{stretch, edition, rowSize, rowStart, restStart, rowAt, nonceAt, bodyEnd};
+ghost use Rattle.shift.specs.Lookup.{rowOf};
 ghost use Rattle.shift.specs.Inside.{RowIn};
 
 // A row without its nonce: ad, at and len are associated data length, body offset and message length.
@@ -33,6 +34,9 @@ pub(crate) fn get32(f: &[u8], at: usize) -> u32
 {
     words::arx::le32(f[at], f[at + 1], f[at + 2], f[at + 3])
 }
+
+// The edition of a shift file.
+pub(crate) const EDITION: u16 = 1;
 
 // The bytes of a row, in edition e.
 pub(crate) fn row_size(e: u16) -> usize
@@ -74,20 +78,36 @@ pub(crate) fn row_at(w: usize, f: &[u8], i: usize) -> Row
     }
 }
 
+// Row i of a shift file.
+pub(crate) fn row_of(f: &[u8], i: usize) -> Row
+    requires { ⌜ RowIn (rowSize edition) (now f) i ⌝ }
+    ensures { λ r. ⌜ r ≡ rowOf (now (f .entry)) i ⌝ }
+{
+    row_at(row_size(EDITION), f, i)
+}
+
+// The len bytes from `at`, as a part of the file.
+pub(crate) fn stretch(f: &[u8], at: usize, len: usize) -> &[u8]
+    requires { ⌜ at + len ≤ length (now f) ⌝ }
+    ensures { λ r. ⌜ (now r ≡ stretch (now (f .entry)) at len) × (length (now r) ≡ len) ⌝ }
+{
+    &f[at..at + len]
+}
+
 // The nonce of row i.
-pub(crate) fn nonce_at(w: usize, f: &[u8], i: usize) -> Block
+pub(crate) fn nonce_at(w: usize, f: &[u8], i: usize) -> &[u8]
+    requires { ⌜ RowIn w (now f) i ⌝ }
+    ensures { λ r. ⌜ (now r ≡ nonceAt w (now (f .entry)) i) × (length (now r) ≡ 16) ⌝ }
+{
+    stretch(f, rest_start(w, i) + 12, 16)
+}
+
+// The nonce of row i as a block.
+pub(crate) fn nonce_block(w: usize, f: &[u8], i: usize) -> Block
     requires { ⌜ RowIn w (now f) i ⌝ }
     ensures { λ r. ⌜ wide r ≡ nonceAt w (now (f .entry)) i ⌝ }
 {
-    let p = rest_start(w, i) + 12;
-    words::block::filled(&f[p..p + 16])
-}
-
-// The bytes of a suite's tag.
-pub(crate) fn tag_length(suite: u8) -> usize
-    ensures { λ r. ⌜ (r ≡ tagLength suite) × (r ≤ 16) ⌝ }
-{
-    if suite <= 2 { 16 } else { 8 }
+    words::block::filled(nonce_at(w, f, i))
 }
 
 // Where a row's body ends.
@@ -97,5 +117,5 @@ pub(crate) fn body_end(row: Row) -> usize
     let at = row.at as usize;
     let ad = row.ad as usize;
     let len = row.len as usize;
-    at + ad + len + tag_length(row.suite)
+    at + ad + len + cipher::size_of(row.suite)
 }

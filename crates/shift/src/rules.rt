@@ -4,7 +4,7 @@ use crate::answers::RowCheck;
 use crate::row::Row;
 use crate::row::body_end;
 use crate::row::get32;
-use crate::row::nonce_at;
+use crate::row::nonce_block;
 use crate::row::row_at;
 use crate::row::row_start;
 use words::block::Block;
@@ -12,8 +12,8 @@ ghost use mathlib.Core.Path.{_≡_};
 ghost use mathlib.Core.Bool.{false};
 ghost use Prim.Native.Nat.{_+_, _≤_, _<_};
 ghost use lib.ListN.{length};
+ghost use Rattle.words.specs.Bytes.{sameBytes};
 ghost use Rattle.words.specs.Blocks.{wide};
-ghost use Rattle.shift.specs.Search.{sameBytes};
 ghost use Rattle.shift.specs.Format.{rowAt};
 ghost use Rattle.shift.specs.Answers.{rowNumberOf};
 ghost use Rattle.shift.specs.Check.{notAbove, outside, badSuite, badLength, bodyStart, misplaced, clash, nonceSeen, badData, bodyNumber, rowNumber};
@@ -102,7 +102,7 @@ fn clashes(w: usize, f: &[u8], n: usize, i: usize, j: usize) -> bool
     requires { ⌜ TableIn w (now f) n × ((i < n) × (j < n)) ⌝ }
     ensures { λ r. ⌜ r ≡ clash w (now (f .entry)) i j ⌝ }
 {
-    same(nonce_at(w, f, i), nonce_at(w, f, j))
+    same(nonce_block(w, f, i), nonce_block(w, f, j))
 }
 
 // 29: the row clashes with an earlier one.

@@ -19,8 +19,8 @@ add-result c = search needs
 add-result-2 : tie.Need-add-result-2
 add-result-2 c = search needs
 
-tag-length-requires : tie.Need-tag-length-requires
-tag-length-requires c κs = search needs
+size-of-requires : tie.Need-size-of-requires
+size-of-requires c κs = search needs
 
 add-result-3 : tie.Need-add-result-3
 add-result-3 c = search needs
@@ -38,6 +38,6 @@ body-end-spec =
     cast-len
     add-result
     add-result-2
-    tag-length-requires
+    size-of-requires
     add-result-3
     returns)

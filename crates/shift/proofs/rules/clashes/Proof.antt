@@ -5,11 +5,11 @@ use borrow.Author.Needs.{needs}
 use Rattle.shift.proofs.rules.clashes.Statement.{statement}
 use Rattle.shift.proofs.rules.clashes.Tie as tie
 
-nonce-at-requires : tie.Need-nonce-at-requires
-nonce-at-requires c κs = search (needs, row-in)
+nonce-block-requires : tie.Need-nonce-block-requires
+nonce-block-requires c κs = search (needs, row-in)
 
-nonce-at-requires-2 : tie.Need-nonce-at-requires-2
-nonce-at-requires-2 c κs = search (needs, row-in)
+nonce-block-requires-2 : tie.Need-nonce-block-requires-2
+nonce-block-requires-2 c κs = search (needs, row-in)
 
 same-requires : tie.Need-same-requires
 same-requires c κs = search needs
@@ -19,4 +19,5 @@ unfolding clash
 returns c = cc
 
 pub clashes-spec : {M : Type 1} → statement M
-clashes-spec = tie.close (tie.spec nonce-at-requires nonce-at-requires-2 same-requires returns)
+clashes-spec =
+    tie.close (tie.spec nonce-block-requires nonce-block-requires-2 same-requires returns)

@@ -1,0 +1,135 @@
+-- A row that a lookup found is one that the opener takes: suite and every length are right, so it answers 0 or 8.
+use Prim.Native.Nat.{ℕ, _+_, _*_, _≤_, _<_}
+use native.Mathlib.Omega.{arith}
+use mathlib.Core.Path.{_≡_, refl, ap, _∙_}
+use mathlib.Core.Bool.{Bool, true, false, not, cond}
+use mathlib.Core.List.{List}
+use lib.Dec.{eqb}
+use borrow.Author.Tests.{le-leb, le-ltb, eq-eqb}
+use lib.ListN.{length, take, length-take, length-drop}
+use Rattle.words.specs.Bytes.{sameBytes}
+use Rattle.cipher.specs.Cipher.{sizeOf, cipherOf}
+use Rattle.mode.specs.Mode.{nonceSize, textOut, tagOut}
+use Rattle.mode.proofs.Start.{nonce-most}
+use Rattle.comet.specs.Answers.{refusal, Opened, openedAs, opening}
+use Rattle.shift.specs.Format.{stretch, edition, rowSize, restStart, nonceAt, bodyEnd}
+use Rattle.shift.specs.declared.row.Row.{Row}
+use Rattle.shift.specs.Lookup.{rowOf, lookupJob}
+use Rattle.shift.specs.Opening.{ringKey, nonceRead, dataOf, textOf, tagOf, entryOpening, left, rowOpening}
+use Rattle.shift.specs.Inside.{RowIn, EntryIn, Lendable}
+use Rattle.shift.specs.Answers.{answer}
+use Rattle.shift.proofs.Lookups.{entry, entry-sound, entry-row}
+
+pub stretch-length : (f : List ℕ) (at len : ℕ) → at + len ≤ length f → length (stretch f at len) ≡ len
+stretch-length f at len h = simp (length-take, length-drop) (omega arith)
+
+nonce-length : (w : ℕ) (f : List ℕ) (i : ℕ) → RowIn w f i → length (nonceAt w f i) ≡ 16
+unfolding nonceAt restStart
+nonce-length w f i h = stretch-length f (restStart w i + 12) 16 (omega (arith, h .broad, h .fits))
+
+-- lent the entry's own bytes, the opener gives and leaves what the definition says
+pub lent : (f ring : List ℕ) (i : ℕ) (r : Row) (key nonce ad text tag out : List ℕ) → r ≡ rowOf f i
+    → key ≡ ringKey ring (r .key) → nonce ≡ take (nonceSize (cipherOf (r .suite))) (nonceAt (rowSize edition) f i)
+    → ad ≡ dataOf f r → text ≡ textOf f r → tag ≡ tagOf f r → opening (r .suite) key nonce ad text tag out ≡ entryOpening f ring i out
+unfolding entryOpening
+lent f ring i r key nonce ad text tag out q ek en ea et eg = simp (ek, en, ea, et, eg, q)
+
+-- what the opener compares and recovers on the own bytes of row i
+abbrev pub entryRight : List ℕ → List ℕ → ℕ → Bool
+entryRight f ring i =
+    let r = rowOf f i in
+    sameBytes (tagOut (cipherOf (r .suite)) true (ringKey ring (r .key)) (nonceRead f i) (dataOf f r) (textOf f r)) (tagOf f r)
+
+abbrev pub entryText : List ℕ → List ℕ → ℕ → List ℕ
+entryText f ring i =
+    let r = rowOf f i in
+    textOut (cipherOf (r .suite)) true (ringKey ring (r .key)) (nonceRead f i) (dataOf f r) (textOf f r)
+
+module _ (f ring : List ℕ) (i : ℕ) (h : EntryIn f i) (g : length ring ≡ 256) where
+  pub key-long : length (ringKey ring (rowOf f i .key)) ≡ 16
+  key-long = stretch-length ring (16 * rowOf f i .key) 16 (omega (arith, h .key-high))
+
+  pub nonce-long : length (nonceRead f i) ≡ nonceSize (cipherOf (rowOf f i .suite))
+  nonce-long =
+      let κ = cipherOf (rowOf f i .suite) in
+      length-take (nonceSize κ) (nonceAt (rowSize edition) f i) ∙ omega (arith, nonce-length (rowSize edition) f i (h .row-in), nonce-most κ)
+
+  pub data-long : length (dataOf f (rowOf f i)) ≡ rowOf f i .ad
+  unfolding bodyEnd
+  data-long = stretch-length f (rowOf f i .at) (rowOf f i .ad) (omega (arith, h .body-in))
+
+  pub text-long : length (textOf f (rowOf f i)) ≡ rowOf f i .len
+  unfolding bodyEnd
+  text-long = stretch-length f (rowOf f i .at + rowOf f i .ad) (rowOf f i .len) (omega (arith, h .body-in))
+
+  pub tag-long : length (tagOf f (rowOf f i)) ≡ sizeOf (rowOf f i .suite)
+  unfolding bodyEnd
+  tag-long = stretch-length f (rowOf f i .at + rowOf f i .ad + rowOf f i .len) (sizeOf (rowOf f i .suite)) (h .body-in)
+
+  -- suite and lengths are right but for the output's, which is what it is
+  entry-lengths : (out : List ℕ) → refusal (rowOf f i .suite) (length (ringKey ring (rowOf f i .key))) (length (nonceRead f i)) (length (dataOf f (rowOf f i)))
+      (length (textOf f (rowOf f i))) (length out) (length (tagOf f (rowOf f i))) ≡ cond (not (eqb (length out) (rowOf f i .len))) 6 0
+  unfolding refusal
+  entry-lengths out =
+      simp (
+        le-leb _ _ (h .suite-low),
+        le-leb _ _ (h .suite-high),
+        key-long,
+        eq-eqb _ _ nonce-long,
+        data-long,
+        le-ltb 65536 (rowOf f i .ad) (omega (arith, h .data-high)),
+        text-long,
+        le-ltb _ _ (h .text-high),
+        eq-eqb _ _ tag-long,
+      )
+
+  -- so the opener goes by the output's length and the tag alone
+  pub entry-opened : (out : List ℕ) → entryOpening f ring i out ≡ openedAs (cond (not (eqb (length out) (rowOf f i .len))) 6 0) (entryRight f ring i) (entryText f ring i) out
+  unfolding entryOpening opening
+  entry-opened out = ap (λ (n : ℕ). openedAs n (entryRight f ring i) (entryText f ring i) out) (entry-lengths out)
+
+  -- and the row's answer is the opener's, 6 among them
+  pub row-opens : (out : List ℕ) → left (answer (entryOpening f ring i out .number) 0) (entryOpening f ring i out .out) ≡ rowOpening f ring i out
+  unfolding rowOpening
+  row-opens out = simp (eq-eqb _ _ g, entry-opened out) (room-case (eqb (length out) (rowOf f i .len)))
+    where
+      opened : Bool → Opened
+      opened b = openedAs (cond (not b) 6 0) (entryRight f ring i) (entryText f ring i) out
+
+      room-case : (b : Bool) → left (answer (opened b .number) 0) (opened b .out) ≡ cond (not b) (left (answer 6 0) out) (left (answer (opened b .number) 0) (opened b .out))
+      room-case true = refl
+      room-case false = refl
+
+  -- what the opener gave and left is what the row's answer is made of
+  pub row-told : (m : ℕ) (x out : List ℕ) → _≡_ {A = Opened} (record { number = m; out = x }) (entryOpening f ring i out) → left (answer m 0) x ≡ rowOpening f ring i out
+  row-told m x out e = ap (λ (y : Opened). left (answer (y .number) 0) (y .out)) e ∙ row-opens out
+
+  -- where the output has room, a number above 0 is 8
+  pub row-eight : (m : ℕ) (x out : List ℕ) → length out ≡ rowOf f i .len → _≡_ {A = Opened} (record { number = m; out = x }) (entryOpening f ring i out) → 0 < m → m ≡ 8
+  row-eight m x out o e l =
+      let q : entryOpening f ring i out ≡ openedAs 0 (entryRight f ring i) (entryText f ring i) out = rw (eq-eqb _ _ o) at (entry-opened out) in
+      eight (entryRight f ring i) (ap (λ (y : Opened). y .number) (e ∙ q))
+    where
+      eight : (b : Bool) → m ≡ openedAs 0 b (entryText f ring i) out .number → m ≡ 8
+      eight true z = absurd (omega arith)
+      eight false z = z
+
+  pub lendable : (r : Row) → r ≡ rowOf f i → Lendable f ring i r
+  lendable r q =
+      let k : r .key ≤ 15 = rw q (h .key-high) in
+      record { is-row = q; row-in = h .row-in; key-in = omega arith; body-in = rw q (h .body-in) }
+
+-- a row that a lookup found
+pub entry-in : (f : List ℕ) (job i : ℕ) → lookupJob f job ≡ answer 0 i → EntryIn f i
+entry-in f job i q =
+    let e = entry edition f job i q in
+    let s = entry-sound edition f job i e in
+    record {
+      row-in = entry-row edition f job i e;
+      suite-low = s .suit .suite-low;
+      suite-high = s .suit .suite-high;
+      key-high = s .suit .key-high;
+      data-high = s .size .ad-high;
+      text-high = s .size .len-high;
+      body-in = s .place .ends;
+    }

@@ -1,0 +1,65 @@
+-- Opening a job: the answer is the opener's on the entry's own bytes; its number is 0, 2, 6, 8 or a refusal of the lookup; the output changes only with 0 and 8.
+use Prim.Native.Nat.{ℕ, _≤_}
+use native.Mathlib.Omega.{arith}
+use mathlib.Core.Path.{_≡_, refl, sym, ap, subst}
+use mathlib.Core.Bool.{Bool, true, false, not, cond}
+use mathlib.Core.List.{List}
+use mathlib.Core.Logic.{_⊎_, inl, inr, ⊎-elim}
+use lib.ListN.{length, replicate}
+use lib.Dec.{eqb}
+use borrow.Author.Tests.{eqb-true, eqb-false}
+use Rattle.comet.specs.Answers.{openedAs}
+use Rattle.shift.specs.Answers.{answer}
+use Rattle.shift.specs.Lookup.{lookupJob, rowOf}
+use Rattle.shift.specs.Opening.{entryOpening, JobOpened, left, rowOpening, jobOpening}
+use Rattle.shift.specs.Inside.{EntryIn}
+use Rattle.shift.proofs.Entries.{entryRight, entryText, entry-in, entry-opened, row-opens}
+use Rattle.shift.proofs.Told.{lookup-told}
+
+-- a found row and a ring of 256 bytes: number and output are the opener's on the entry's own bytes, 6 among them
+pub opens : (f ring : List ℕ) (job i : ℕ) (out : List ℕ) → lookupJob f job ≡ answer 0 i → length ring ≡ 256
+    → jobOpening f ring job out ≡ left (answer (entryOpening f ring i out .number) 0) (entryOpening f ring i out .out)
+unfolding jobOpening
+opens f ring job i out q g = simp q (sym (row-opens f ring i (entry-in f job i q) g out))
+
+-- what opening can answer, and what it leaves in an output that held out₀
+pub record Answered (out₀ : List ℕ) (r : JobOpened) : Type 0 where
+  -- never 1, 3, 4, 5 or 7
+  pub number : (r .answer .number ≡ 0) ⊎ (r .answer .number ≡ 2) ⊎ (r .answer .number ≡ 6) ⊎ (r .answer .number ≡ 8) ⊎ ((20 ≤ r .answer .number) × (r .answer .number ≤ 32))
+  pub row : (r .answer .row ≡ 0) ⊎ ((25 ≤ r .answer .number) × (r .answer .number ≤ 30))
+  pub wiped : r .answer .number ≡ 8 → r .out ≡ replicate (length out₀) 0
+  pub kept : (r .answer .number ≡ 0 → ⊥) → (r .answer .number ≡ 8 → ⊥) → r .out ≡ out₀
+
+row-answered : (f ring : List ℕ) (i : ℕ) (out₀ : List ℕ) → EntryIn f i → Answered out₀ (rowOpening f ring i out₀)
+unfolding rowOpening
+row-answered f ring i out₀ h = ring-case (eqb (length ring) 256) refl
+  where
+    opened-case : (n : Bool) (b : Bool) (text : List ℕ) → let x = openedAs (cond n 6 0) b text out₀ in Answered out₀ (left (answer (x .number) 0) (x .out))
+    opened-case true b text = record { number = inr (inr (inl refl)); row = inl refl; wiped = λ e. absurd (omega arith); kept = λ z e. refl }
+    opened-case false true text = record { number = inl refl; row = inl refl; wiped = λ e. absurd (omega arith); kept = λ z e. absurd (z refl) }
+    opened-case false false text = record { number = inr (inr (inr (inl refl))); row = inl refl; wiped = λ e. refl; kept = λ z e. absurd (e refl) }
+
+    ring-case : (b : Bool) → eqb (length ring) 256 ≡ b → Answered out₀ (rowOpening f ring i out₀)
+    ring-case true e =
+        let g = eqb-true (length ring) 256 e in
+        subst (Answered out₀) (row-opens f ring i h g out₀)
+        (rw (entry-opened f ring i h g out₀) (opened-case (not (eqb (length out₀) (rowOf f i .len))) (entryRight f ring i) (entryText f ring i)))
+    ring-case false e = simp e (record { number = inr (inl refl); row = inl refl; wiped = λ z. absurd (omega arith); kept = λ z y. refl })
+
+pub answered : (f ring : List ℕ) (job : ℕ) (out₀ : List ℕ) → Answered out₀ (jobOpening f ring job out₀)
+unfolding jobOpening
+answered f ring job out₀ = lookup-case (eqb (lookupJob f job .number) 0) refl
+  where
+    lookup-case : (b : Bool) → eqb (lookupJob f job .number) 0 ≡ b → Answered out₀ (jobOpening f ring job out₀)
+    lookup-case true e =
+        let z = eqb-true (lookupJob f job .number) 0 e in
+        let i = lookupJob f job .row in
+        simp e (row-answered f ring i out₀ (entry-in f job i (ap (λ (m : ℕ). answer m i) z)))
+    lookup-case false e =
+        let t = lookup-told f job (eqb-false (lookupJob f job .number) 0 e) in
+        simp e (record {
+          number = ⊎-elim (λ z. absurd (eqb-false (lookupJob f job .number) 0 e z)) (λ r. inr (inr (inr (inr r)))) (t .number);
+          row = t .row;
+          wiped = λ m. absurd (⊎-elim (λ z. omega arith) (λ r. omega arith) (t .number));
+          kept = λ z y. refl;
+        })

@@ -1,0 +1,60 @@
+-- Opening one job (document 01, "The shift file"): the full check, 32, then 2, 6, 8.
+use Prim.Native.Nat.{ℕ, _+_, _*_}
+use mathlib.Core.Bool.{not, cond}
+use mathlib.Core.List.{List}
+use lib.ListN.{length, take}
+use lib.Dec.{eqb}
+use Rattle.cipher.specs.Cipher.{sizeOf, cipherOf}
+use Rattle.mode.specs.Mode.{nonceSize}
+use Rattle.comet.specs.Answers as comet
+use Rattle.shift.specs.declared.row.Row.{Row}
+use Rattle.shift.specs.declared.answers.Answer.{Answer}
+use Rattle.shift.specs.Format.{stretch, edition, rowSize, nonceAt}
+use Rattle.shift.specs.Answers.{answer}
+use Rattle.shift.specs.Lookup.{lookupJob, rowOf}
+
+-- the ring is 16 keys, 256 bytes; key k is bytes 16k to 16k + 15
+abbrev pub ringKey : List ℕ → ℕ → List ℕ
+ringKey ring k = stretch ring (16 * k) 16
+
+-- suites 3 and 4 use the first 15 nonce bytes; the 16th is not read
+abbrev pub nonceRead : List ℕ → ℕ → List ℕ
+nonceRead f i = take (nonceSize (cipherOf (rowOf f i .suite))) (nonceAt (rowSize edition) f i)
+
+-- a body is associated data, ciphertext, tag
+abbrev pub dataOf : List ℕ → Row → List ℕ
+dataOf f r = stretch f (r .at) (r .ad)
+
+abbrev pub textOf : List ℕ → Row → List ℕ
+textOf f r = stretch f (r .at + r .ad) (r .len)
+
+abbrev pub tagOf : List ℕ → Row → List ℕ
+tagOf f r = stretch f (r .at + r .ad + r .len) (sizeOf (r .suite))
+
+-- what the opener gives and leaves on the own bytes of row i
+unfoldable pub entryOpening : List ℕ → List ℕ → ℕ → List ℕ → comet.Opened
+entryOpening f ring i out₀ =
+    let r = rowOf f i in
+    comet.opening (r .suite) (ringKey ring (r .key)) (nonceRead f i) (dataOf f r) (textOf f r) (tagOf f r) out₀
+
+-- what opening a job gives and leaves
+pub record JobOpened : Type 0 where
+  pub answer : Answer
+  pub out : List ℕ
+
+abbrev pub left : Answer → List ℕ → JobOpened
+left x out = record { answer = x; out = out }
+
+-- row i: 2 (ring not 256 bytes), 6 (output not of the message's length), then the opener's 8 or 0
+unfoldable pub rowOpening : List ℕ → List ℕ → ℕ → List ℕ → JobOpened
+rowOpening f ring i out₀ =
+    cond (not (eqb (length ring) 256)) (left (answer 2 0) out₀)
+    (cond (not (eqb (length out₀) (rowOf f i .len))) (left (answer 6 0) out₀)
+    (left (answer (entryOpening f ring i out₀ .number) 0) (entryOpening f ring i out₀ .out)))
+
+-- a lookup that refuses is the answer, and no key is touched
+unfoldable pub jobOpening : List ℕ → List ℕ → ℕ → List ℕ → JobOpened
+jobOpening f ring job out₀ =
+    cond (eqb (lookupJob f job .number) 0)
+    (rowOpening f ring (lookupJob f job .row) out₀)
+    (left (lookupJob f job) out₀)
