@@ -28,11 +28,11 @@ unfolding nonceAt restStart
 nonce-length w f i h = stretch-length f (restStart w i + 12) 16 (omega (arith, h .broad, h .fits))
 
 -- lent the entry's own bytes, the opener gives and leaves what the definition says
-pub lent : (f ring : List ℕ) (i : ℕ) (r : Row) (key nonce ad text tag out : List ℕ) → r ≡ rowOf f i
+pub lent : (f ring : List ℕ) (i : ℕ) (r : Row) (x : Opened) (key nonce ad text tag out : List ℕ) → x ≡ opening (r .suite) key nonce ad text tag out → r ≡ rowOf f i
     → key ≡ ringKey ring (r .key) → nonce ≡ take (nonceSize (cipherOf (r .suite))) (nonceAt (rowSize edition) f i)
-    → ad ≡ dataOf f r → text ≡ textOf f r → tag ≡ tagOf f r → opening (r .suite) key nonce ad text tag out ≡ entryOpening f ring i out
+    → ad ≡ dataOf f r → text ≡ textOf f r → tag ≡ tagOf f r → x ≡ entryOpening f ring i out
 unfolding entryOpening
-lent f ring i r key nonce ad text tag out q ek en ea et eg = simp (ek, en, ea, et, eg, q)
+lent f ring i r x key nonce ad text tag out e q ek en ea et eg = e ∙ simp (ek, en, ea, et, eg, q)
 
 -- what the opener compares and recovers on the own bytes of row i
 abbrev pub entryRight : List ℕ → List ℕ → ℕ → Bool

@@ -18,6 +18,7 @@ use Rattle.shift.specs.declared.answers.Opened.the-variants as opened
 abbrev pub answer : ℕ → ℕ → Answer
 answer m i = record { number = m; row = i }
 
+-- what is wrong with a row
 abbrev pub faultNumber : Fault → ℕ
 faultNumber Order = 25
 faultNumber Suite = 26
@@ -26,10 +27,12 @@ faultNumber Place = 28
 faultNumber Nonce = 29
 faultNumber Data = 30
 
+-- the check of one row
 abbrev pub rowNumberOf : RowCheck → ℕ
 rowNumberOf Sound = 0
 rowNumberOf (Bad x) = faultNumber x
 
+-- why a file is refused
 abbrev pub refusalAnswer : Refusal → Answer
 refusalAnswer Size = answer 20 0
 refusalAnswer Edition = answer 21 0
@@ -39,15 +42,18 @@ refusalAnswer Table = answer 24 0
 refusalAnswer (InRow x i) = answer (faultNumber x) i
 refusalAnswer End = answer 31 0
 
+-- the full check
 abbrev pub checkedAnswer : Checked → Answer
 checkedAnswer Passed = answer 0 0
 checkedAnswer (Refused x) = refusalAnswer x
 
+-- a lookup
 abbrev pub foundAnswer : Found → Answer
 foundAnswer (found.At i) = answer 0 i
 foundAnswer found.Missing = answer 32 0
 foundAnswer (found.Refused x) = refusalAnswer x
 
+-- opening one job
 abbrev pub openedAnswer : Opened → Answer
 openedAnswer opened.Done = answer 0 0
 openedAnswer opened.Missing = answer 32 0

@@ -21,13 +21,15 @@ ringKey ring k = stretch ring (16 * k) 16
 abbrev pub nonceRead : List ℕ → ℕ → List ℕ
 nonceRead f i = take (nonceSize (cipherOf (rowOf f i .suite))) (nonceAt (rowSize edition) f i)
 
--- a body is associated data, ciphertext, tag
+-- the entry's own stretch of the file: its associated data
 abbrev pub dataOf : List ℕ → Row → List ℕ
 dataOf f r = stretch f (r .at) (r .ad)
 
+-- its ciphertext
 abbrev pub textOf : List ℕ → Row → List ℕ
 textOf f r = stretch f (r .at + r .ad) (r .len)
 
+-- its tag
 abbrev pub tagOf : List ℕ → Row → List ℕ
 tagOf f r = stretch f (r .at + r .ad + r .len) (sizeOf (r .suite))
 
@@ -42,6 +44,7 @@ pub record JobOpened : Type 0 where
   pub answer : Answer
   pub out : List ℕ
 
+-- an answer, and what it leaves in the output
 abbrev pub left : Answer → List ℕ → JobOpened
 left x out = record { answer = x; out = out }
 

@@ -65,7 +65,7 @@ pub(crate) fn open_entry(f: &[u8], ring: &[u8], i: usize, out: &mut [u8]) -> Ope
     Opened::Done
 }
 
-// A lookup that found no row, as the answer of opening.
+// A lookup that found no row, as the answer of opening; it is asked of no other.
 pub(crate) fn stopped(x: Found) -> Opened
     requires { ⌜ (foundAnswer x .number ≡ 0 → ⊥) ⌝ }
     ensures { λ r. ⌜ openedAnswer r ≡ foundAnswer x ⌝ }

@@ -70,9 +70,9 @@ returns c =
     let key = nonce .before in
     let s = key .before .before .before .before .before .before .before .before in
     let r = s .args .row in
-    let eg = tag .stretch4 .ensures .0 ∙ ap (stretch (now (s .args .f)) (r .at + r .ad + r .len)) (tag .before .size-of .ensures .0) in
-    c .before .before .unseal .ensures
-    ∙ lent (now (s .args .f)) (now (s .args .ring)) (s .args .i) r _ _ _ _ _ (now (s .args .out)) (s .pre .is-row) (key .stretch .ensures .0) (nonce .nonce-read .ensures) (ad .stretch2 .ensures .0) (text .stretch3 .ensures .0) eg
+    let f = now (s .args .f) in
+    let eg = tag .stretch4 .ensures .0 ∙ ap (stretch f (r .at + r .ad + r .len)) (tag .before .size-of .ensures .0) in
+    lent f (now (s .args .ring)) (s .args .i) r _ _ _ _ _ _ (now (s .args .out)) (c .before .before .unseal .ensures) (s .pre .is-row) (key .stretch .ensures .0) (nonce .nonce-read .ensures) (ad .stretch2 .ensures .0) (text .stretch3 .ensures .0) eg
 
 pub open-row-spec : {M : Type 1} → statement M
 open-row-spec =
