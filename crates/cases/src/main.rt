@@ -4,7 +4,6 @@
 // output, tag), and the bytes of key, nonce, associated data and text; to open, then those of the tag.
 // Its line is the number, the output and, to seal, the tag. The lent buffers hold 0xa5 before the call.
 mod read;
-mod show;
 
 use comet::Answer;
 use libc::STDIN_FILENO;
@@ -40,10 +39,12 @@ fn seal(
     tag: &mut [u8],
 ) -> bool {
     let a = comet::seal(suite, key, nonce, ad, text, out, tag);
-    show::number(number(a));
-    show::bytes(out);
-    show::bytes(tag);
-    show::end()
+    lines::show::number(number(a));
+    lines::show::space();
+    lines::show::bytes(out);
+    lines::show::space();
+    lines::show::bytes(tag);
+    lines::show::end()
 }
 
 // The tag is still to be read.
@@ -60,9 +61,10 @@ fn unseal(
         return false;
     }
     let a = comet::unseal(suite, key, nonce, ad, text, tag, out);
-    show::number(number(a));
-    show::bytes(out);
-    show::end()
+    lines::show::number(number(a));
+    lines::show::space();
+    lines::show::bytes(out);
+    lines::show::end()
 }
 
 // Runs a call on what was read; false where a lent buffer has no room or the tag ends early.
@@ -108,10 +110,10 @@ fn run(c: Call) -> bool {
     let mut v = [0u8; 40];
     let mut a = [0u8; 65537];
     let mut t = [0u8; 65537];
-    let key = read::field(&mut k, c.key);
-    let nonce = read::field(&mut v, c.nonce);
-    let ad = read::field(&mut a, c.ad);
-    let text = read::field(&mut t, c.text);
+    let key = lines::read::field(&mut k, c.key);
+    let nonce = lines::read::field(&mut v, c.nonce);
+    let ad = lines::read::field(&mut a, c.ad);
+    let text = lines::read::field(&mut t, c.text);
     if key.len() != c.key || nonce.len() != c.nonce || ad.len() != c.ad || text.len() != c.text {
         return false;
     }

@@ -1,5 +1,4 @@
-// Reading a call.
-use libc::STDIN_FILENO;
+// What a call begins with.
 ghost use Prim.Native.Nat.{_<_};
 
 // What a call begins with: op, suite and lengths.
@@ -31,21 +30,4 @@ pub(crate) fn call_of(head: &[u8; 26]) -> Call {
         out: length(head, 18),
         tag: length(head, 22),
     }
-}
-
-// The first n bytes of buf, or all of it where it has no more.
-fn front(buf: &[u8], n: usize) -> &[u8] {
-    if buf.len() <= n {
-        return buf;
-    }
-    &buf[0..n]
-}
-
-// Reads n bytes into buf and answers them; fewer where buf has no room or the input ends.
-pub(crate) fn field(buf: &mut [u8], n: usize) -> &[u8] {
-    let mut got: usize = 0;
-    if n <= buf.len() {
-        got = io::read_full(STDIN_FILENO, &mut buf[0..n]);
-    }
-    front(&buf[..], got)
 }

@@ -1,7 +1,6 @@
 // Prints the image of each block on its input in hexadecimal, one to a line.
 // A record is a suite (1 byte), a key (16) and a block (16 bytes for suites 1 and 2, 8 for 3 and 4).
 use libc::STDIN_FILENO;
-use libc::STDOUT_FILENO;
 
 fn read8() -> [u8; 8] {
     let mut b = [0u8; 8];
@@ -15,21 +14,9 @@ fn read16() -> [u8; 16] {
     b
 }
 
-fn print_byte(x: u8) {
-    io::print_hex(STDOUT_FILENO, x as u64, 2);
-}
-
-fn print_bytes(b: &[u8]) {
-    let mut i: usize = 0;
-    while i < b.len() {
-        print_byte(b[i]);
-        i += 1;
-    }
-}
-
 fn print_line(b: &[u8]) {
-    print_bytes(b);
-    io::write_all(STDOUT_FILENO, b"\n");
+    lines::show::hex(b);
+    lines::show::end();
 }
 
 fn answer(suite: u8, key: [u8; 16]) {

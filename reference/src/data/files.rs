@@ -328,8 +328,12 @@ pub fn damaged_calls() -> [FileCall; 2] {
     [call(smallest(), 7, 0), call(three_rows().file(&samples::ring()), 20, 3)]
 }
 
+/// The longest file that the program has room for; the comparison runs the longer ones.
+const ROOM: usize = 524_288;
+
 pub fn parts() -> [Part; 2] {
-    let (calls, damaged) = (calls(), damaged_calls());
+    let (mut calls, damaged) = (calls(), damaged_calls());
+    calls.retain(|call| call.file.len() <= ROOM);
     let mut stdin: Vec<u8> = calls.iter().flat_map(|call| call.record(0)).collect();
     let mut stdout: String = calls.iter().map(|call| call.line(&REFERENCE)).collect();
     for call in damaged {

@@ -1,10 +1,10 @@
--- The place is within the bytes, of which there are at most 64, and the text keeps its 128 digits.
-use mathlib.Core.Path.{_≡_}
-use Prim.Native.Nat.{_≤_, _-_}
+-- `lines::show::piece` meets its contract: the place is within the bytes, of which there are at most 64, and the text keeps its 128 digits.
 use borrow.Author.Needs.{needs}
+use Prim.Native.Nat.{_≤_, _-_}
+use mathlib.Core.Path.{_≡_}
 use lib.ListN.{length}
-use Rattle.cases.proofs.show.hex.Statement.{statement}
-use Rattle.cases.proofs.show.hex.Tie as tie
+use Rattle.lines.proofs.show.piece.Statement.{statement}
+use Rattle.lines.proofs.show.piece.Tie as tie
 
 abbrev Inv-loop : tie.InvT-loop
 Inv-loop bytes text₀ i₀ text i = (i ≤ length bytes) × (length text ≡ 128)
@@ -51,8 +51,8 @@ write-all-requires c κs = search needs
 returns : tie.Need-returns Inv-loop μ-loop
 returns c = search needs
 
-pub hex-spec : {M : Type 1} → statement M
-hex-spec =
+pub piece-spec : {M : Type 1} → statement M
+piece-spec =
     tie.close
     (tie.spec
     Inv-loop
