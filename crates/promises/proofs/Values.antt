@@ -7,8 +7,12 @@ use Rattle.cipher.specs.Cipher.{sizeOf}
 use Rattle.mode.specs.Blocks.{chopLengths, lengths}
 use Rattle.mode.specs.Words.{double, pad}
 use Rattle.mode.specs.Keys.{textMarks, marks}
+use Rattle.words.specs.Bytes.{value}
+use Rattle.shift.specs.Format.{rowSize, rowStart}
+use Rattle.shift.specs.Search.{firstOf}
+use Rattle.shift.specs.Check.{bodyStart, endAnswer, rowsFrom, headNumber, checkAs}
 use Rattle.promises.specs.Values.{StarredValues}
 
 pub starred-values : StarredValues
-unfolding xor xtime multiples _•_ find inverse affine subByte sizeOf chopLengths lengths double pad textMarks marks
+unfolding xor xtime multiples _•_ find inverse affine subByte sizeOf chopLengths lengths double pad textMarks marks value rowSize rowStart firstOf bodyStart endAnswer rowsFrom headNumber checkAs
 starred-values = refl

@@ -7,10 +7,16 @@ use Rattle.cham.specs.Cham.{secondPlace}
 use Rattle.cipher.specs.Cipher.{cipherOf}
 use Rattle.mode.specs.Words.{double, Four, four, shuffleWords, pad}
 use Rattle.mode.specs.Keys.{marks}
+use Rattle.shift.specs.declared.answers.Answer.{Answer}
+use Rattle.shift.specs.Check.{checkFile}
 
 -- four words as a row, the highest first
 abbrev pub row : Four → List ℕ
 row x = x .X3 ∷ x .X2 ∷ x .X1 ∷ x .X0 ∷ []
+
+-- number and row of an answer of the shift file
+abbrev pub answerRow : Answer → List ℕ
+answerRow x = x .number ∷ x .row ∷ []
 
 -- what the definitions give
 abbrev pub given : List (List ℕ)
@@ -34,6 +40,8 @@ given =
     ∷ (secondPlace 16 0 ∷ secondPlace 16 1 ∷ secondPlace 16 7 ∷ [])
     -- marks: suite 1, 17 bytes of associated data, no message
     ∷ marks (cipherOf 1 .size) 17 0
+    -- the empty file, whole: the check's number and row
+    ∷ answerRow (checkFile (0x01 ∷ 0x00 ∷ 0x00 ∷ 0x00 ∷ 0x08 ∷ 0x00 ∷ 0x00 ∷ 0x00 ∷ []))
     ∷ []
 
 -- what the document says
@@ -52,6 +60,7 @@ stated =
     ∷ (5 ∷ 6 ∷ [])
     ∷ (9 ∷ 8 ∷ 14 ∷ [])
     ∷ (0x08 ∷ 0x10 ∷ 0x80 ∷ [])
+    ∷ (0 ∷ 0 ∷ [])
     ∷ []
 
 -- the one statement

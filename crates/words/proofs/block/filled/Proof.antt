@@ -1,3 +1,4 @@
+-- `words::block::filled` meets its contract: a full block by whole words, a short one byte by byte.
 use Prim.Native.Nat.{ℕ, _-_, _+_}
 use mathlib.Core.Path.{_≡_, sym, ap₂, _∙_}
 use mathlib.Core.List.{List, _++_}

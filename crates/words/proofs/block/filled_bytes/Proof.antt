@@ -1,3 +1,4 @@
+-- `words::block::filled_bytes` meets its contract: each turn puts one more byte before the zeros.
 use Prim.Native.Nat.{ℕ, _≤_, _-_, _+_}
 use mathlib.Core.Path.{_≡_, refl, ap, _∙_}
 use mathlib.Core.List.{List, _++_}

@@ -1,3 +1,4 @@
+-- `words::block::le64` meets its contract: the sum of the shifted bytes is their number.
 use Rattle.words.specs.Bytes.{value}
 use borrow.Author.Needs.{needs}
 use Rattle.words.proofs.block.le64.Statement.{statement}

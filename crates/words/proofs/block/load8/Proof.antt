@@ -1,3 +1,4 @@
+-- `words::block::load8` meets its contract: eight bytes are read back from their number.
 use Prim.Native.Nat.{_-_}
 use mathlib.Core.Path.{_≡_, ap, _∙_}
 use native.Mathlib.Omega.{arith}

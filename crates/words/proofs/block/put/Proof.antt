@@ -1,3 +1,4 @@
+-- `words::block::put` meets its contract: a full block by two stores of eight bytes, a short one byte by byte.
 use Prim.Native.Nat.{ℕ, _-_, _+_}
 use mathlib.Core.Path.{_≡_, sym, ap, ap₂, _∙_}
 use mathlib.Core.List.{List, _++_}

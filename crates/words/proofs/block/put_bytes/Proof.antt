@@ -1,3 +1,4 @@
+-- `words::block::put_bytes` meets its contract: each turn writes one more byte of the front.
 use Prim.Native.Nat.{_≤_, _-_}
 use mathlib.Core.Path.{_≡_, refl, sym}
 use native.Mathlib.Omega.{arith}

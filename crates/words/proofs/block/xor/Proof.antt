@@ -1,3 +1,4 @@
+-- `words::block::xor` meets its contract: XOR goes byte by byte.
 use Prim.Native.Nat.{_-_}
 use Rattle.words.specs.Words.{xor}
 use Rattle.words.proofs.Blocks.{wide-xor}
