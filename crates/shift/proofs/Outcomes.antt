@@ -31,6 +31,8 @@ use Rattle.shift.proofs.associated.Kinds as associated-kinds
 use Rattle.shift.proofs.associated.Reads as associated-reads
 use Rattle.shift.proofs.open_job.Kinds as open-job-kinds
 use Rattle.shift.proofs.open_job.Reads as open-job-reads
+use Rattle.shift.proofs.row.row_of.Kinds as row-of-kinds
+use Rattle.shift.proofs.row.row_of.Reads as row-of-reads
 use Rattle.shift.proofs.answers.Fault.number.Kinds as fault-kinds
 use Rattle.shift.proofs.answers.Fault.number.Reads as fault-reads
 use Rattle.shift.proofs.answers.Refusal.answer.Kinds as refusal-kinds
@@ -139,6 +141,9 @@ pub open-job : OneOutcome open-job-kinds.ps open-job-kinds.r open-job-reads.Pre 
 open-job κs a h x y =
     let e = x .ensures ∙ sym (y .ensures) in
     (opened-one (ap (λ (z : JobOpened). z .answer) e), ap (λ (z : JobOpened). (tt, (tt, (tt, (z .out, tt))))) e)
+
+pub row-of : OneOutcome row-of-kinds.ps row-of-kinds.r row-of-reads.Pre row-of-reads.Post
+row-of κs a h x y = (x .ensures ∙ sym (y .ensures), refl)
 
 pub fault-number : OneOutcome fault-kinds.ps fault-kinds.r fault-reads.Pre fault-reads.Post
 fault-number κs a h x y = (x .ensures ∙ sym (y .ensures), refl)

@@ -1,4 +1,4 @@
--- What the crate's own functions ask of each other; no public contract cites it.
+-- What the crate's own functions ask of each other, and `row_of` of a sister crate; no entry point's contract cites it.
 use Prim.Native.Nat.{ℕ, _+_, _*_, _≤_}
 use mathlib.Core.Path.{_≡_}
 use mathlib.Core.List.{List}

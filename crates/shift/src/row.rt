@@ -79,7 +79,7 @@ pub(crate) fn row_at(w: usize, f: &[u8], i: usize) -> Row
 }
 
 // Row i of a shift file.
-pub(crate) fn row_of(f: &[u8], i: usize) -> Row
+pub fn row_of(f: &[u8], i: usize) -> Row
     requires { ⌜ RowIn (rowSize edition) (now f) i ⌝ }
     ensures { λ r. ⌜ r ≡ rowOf (now (f .entry)) i ⌝ }
 {

@@ -1,0 +1,86 @@
+-- A shift file has at most 512 rows, so the row of every answer is at most 512 and fits C's number.
+use Prim.Native.Nat.{ℕ, _-_, _≤_}
+use native.Mathlib.Omega.{arith}
+use mathlib.Core.Path.{_≡_, refl, ap, ap₂}
+use mathlib.Core.Bool.{Bool, true, false, not, cond}
+use mathlib.Core.List.{List}
+use mathlib.Core.Logic.{⊎-elim}
+use lib.ListN.{length}
+use lib.Dec.{eqb}
+use borrow.Author.Tests.{eqb-true}
+use Rattle.shift.specs.declared.answers.Answer.{Answer}
+use Rattle.shift.specs.Format.{countOf, edition, rowSize}
+use Rattle.shift.specs.Answers.{answer}
+use Rattle.shift.specs.Check.{bodyStart, endAnswer, rowsFrom, headNumber, andThen, checkAs, checkFile}
+use Rattle.shift.specs.Search.{firstOf}
+use Rattle.shift.specs.Lookup.{findFrom, lookupAs, lookupJob, rowOf}
+use Rattle.shift.specs.Opening.{entryOpening, left, rowOpening, jobOpening}
+use Rattle.shift.proofs.Searches.{first-says}
+use Rattle.shift.proofs.Sound.{headed}
+use Rattle.shift.proofs.Passed.{passes}
+
+-- the first of n rows, or what no row gives
+first-row : (hit : ℕ → Bool) (num : ℕ → ℕ) (rest : Answer) (n : ℕ) → rest .row ≤ n → firstOf hit (λ j. answer (num j) j) rest 0 (n - 0) .row ≤ n
+first-row hit num rest n h =
+    ⊎-elim
+    (λ m. omega (arith, ap (λ (x : Answer). x .row) (m .gives)))
+    (λ m. omega (arith, ap (λ (x : Answer). x .row) (m .gives)))
+    (first-says hit (λ j. answer (num j) j) rest (n - 0) 0 _ refl)
+
+-- one answer after the other
+then-row : (x next : Answer) (n : ℕ) → x .row ≤ n → (x .number ≡ 0 → next .row ≤ n) → andThen x next .row ≤ n
+then-row x next n h later = go (eqb (x .number) 0) refl
+  where
+    go : (b : Bool) → eqb (x .number) 0 ≡ b → cond b next x .row ≤ n
+    go true e = later (eqb-true _ _ e)
+    go false e = h
+
+end-row : (w : ℕ) (f : List ℕ) (n : ℕ) → endAnswer w f n .row ≡ 0
+unfolding endAnswer
+end-row w f n = go (eqb (bodyStart w f n n) (length f))
+  where
+    go : (b : Bool) → cond b (answer 0 0) (answer 31 0) .row ≡ 0
+    go true = refl
+    go false = refl
+
+rows-row : (w : ℕ) (f : List ℕ) (n : ℕ) → rowsFrom w f n 0 .row ≤ n
+unfolding rowsFrom
+rows-row w f n = first-row _ _ (endAnswer w f n) n (omega (arith, end-row w f n))
+
+find-row : (w : ℕ) (f : List ℕ) (n job : ℕ) → findFrom w f n job 0 .row ≤ n
+unfolding findFrom
+find-row w f n job = first-row _ _ (answer 32 0) n (omega arith)
+
+pub check-row : (f : List ℕ) → checkFile f .row ≤ 512
+unfolding checkAs
+check-row f =
+    then-row (answer (headNumber edition f) 0) (rowsFrom (rowSize edition) f (countOf f) 0) 512 (omega arith)
+    (λ z. omega (arith, headed edition f z .few, rows-row (rowSize edition) f (countOf f)))
+
+pub lookup-row : (f : List ℕ) (job : ℕ) → lookupJob f job .row ≤ 512
+unfolding lookupAs
+lookup-row f job =
+    then-row (checkFile f) (findFrom (rowSize edition) f (countOf f) job 0) 512 (check-row f)
+    (λ z. omega (arith, passes edition f z .head .few, find-row (rowSize edition) f (countOf f) job))
+
+opened-row : (f ring : List ℕ) (i : ℕ) (out₀ : List ℕ) → rowOpening f ring i out₀ .answer .row ≡ 0
+unfolding rowOpening
+opened-row f ring i out₀ = go (not (eqb (length ring) 256)) (not (eqb (length out₀) (rowOf f i .len)))
+  where
+    go : (b c : Bool)
+        → cond b (left (answer 2 0) out₀) (cond c (left (answer 6 0) out₀) (left (answer (entryOpening f ring i out₀ .number) 0) (entryOpening f ring i out₀ .out))) .answer .row ≡ 0
+    go true c = refl
+    go false true = refl
+    go false false = refl
+
+pub job-row : (f ring : List ℕ) (job : ℕ) (out₀ : List ℕ) → jobOpening f ring job out₀ .answer .row ≤ 512
+unfolding jobOpening
+job-row f ring job out₀ = go (eqb (lookupJob f job .number) 0)
+  where
+    go : (b : Bool) → cond b (rowOpening f ring (lookupJob f job .row) out₀) (left (lookupJob f job) out₀) .answer .row ≤ 512
+    go true = omega (arith, opened-row f ring (lookupJob f job .row) out₀)
+    go false = lookup-row f job
+
+-- an answer is its number and its row
+pub same-answer : {a x : Answer} → (a .number ≡ x .number) × (a .row ≡ x .row) → a ≡ x
+same-answer e = ap₂ answer (e .0) (e .1)

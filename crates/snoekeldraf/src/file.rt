@@ -1,0 +1,67 @@
+// The shift file.
+use shift::answers::Answer;
+use shift::answers::Found;
+ghost use mathlib.Core.Path.{_≡_};
+ghost use Prim.Native.Nat.{_≤_};
+ghost use Rattle.shift.specs.Answers.{answer};
+ghost use Rattle.shift.specs.Check.{checkFile};
+ghost use Rattle.shift.specs.Lookup.{lookupJob};
+ghost use Rattle.shift.specs.Opening.{JobOpened, jobOpening};
+ghost use Rattle.snoekeldraf.specs.Located.{Located, locating};
+
+// Writes the row that an answer carries, and gives its number.
+fn told(a: Answer, row: &mut u32) -> u32
+    requires { ⌜ a .row ≤ 512 ⌝ }
+    ensures { λ r. ⌜ answer r (now (row .exit)) ≡ a ⌝ }
+{
+    *row = a.row as u32;
+    a.number as u32
+}
+
+// The full check: numbers 20 to 31, and the row.
+#[no_mangle]
+pub extern "C" fn shift_check(file: &[u8], row: &mut u32) -> u32
+    ensures { λ r. ⌜ answer r (now (row .exit)) ≡ checkFile (now (file .entry)) ⌝ }
+{
+    told(shift::check(file).answer(), row)
+}
+
+// The full check, and then the row that has the job, or 32.
+#[no_mangle]
+pub extern "C" fn shift_lookup(file: &[u8], job: u32, row: &mut u32) -> u32
+    ensures { λ r. ⌜ answer r (now (row .exit)) ≡ lookupJob (now (file .entry)) job ⌝ }
+{
+    told(shift::lookup(file, job).answer(), row)
+}
+
+// The lookup's number, and where in the file the job's associated data lies; 0 and 0 where the lookup refuses.
+#[no_mangle]
+pub extern "C" fn shift_associated(file: &[u8], job: u32, at: &mut u32, len: &mut u32) -> u32
+    ensures { λ r. ⌜ _≡_ {A = Located} (record { number = r; at = now (at .exit); len = now (len .exit) }) (locating (now (file .entry)) job) ⌝ }
+{
+    let found = shift::lookup(file, job);
+    let Found::At(i) = found else {
+        *at = 0;
+        *len = 0;
+        return found.answer().number as u32;
+    };
+    let row = shift::row::row_of(file, i);
+    *at = row.at;
+    *len = row.ad as u32;
+    0
+}
+
+// Opens one job into out: the full check, 32, then 2, 6, 8.
+#[no_mangle]
+pub extern "C" fn shift_open_job(
+    file: &[u8],
+    ring: &[u8],
+    job: u32,
+    out: &mut [u8],
+    row: &mut u32,
+) -> u32
+    ensures { λ r. ⌜ _≡_ {A = JobOpened} (record { answer = answer r (now (row .exit)); out = now (out .exit) })
+        (jobOpening (now (file .entry)) (now (ring .entry)) job (now (out .entry))) ⌝ }
+{
+    told(shift::open_job(file, ring, job, out).answer(), row)
+}

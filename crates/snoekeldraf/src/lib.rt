@@ -1,0 +1,3 @@
+// The C interface: every function that programs in other languages call. A slice passes as a pointer and a length.
+pub mod file;
+pub mod record;

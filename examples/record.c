@@ -1,0 +1,100 @@
+/* Seals and opens a record, and reads a shift file. From the root of the repository:
+ *
+ *     rt staticlib snoekeldraf
+ *     cc examples/record.c -Iinclude target/staticlib/libsnoekeldraf.a -o target/record
+ *     target/record samples/day.shift samples/ring.keys 4103
+ */
+#include <stdio.h>
+#include <stdlib.h>
+#include <string.h>
+
+#include "snoekeldraf.h"
+
+enum { LONGEST_FILE = 1048576, RING = 256, LONGEST_MESSAGE = 65536 };
+
+static void print_hex(const char *what, const uint8_t *bytes, size_t len) {
+    printf("  %-16s", what);
+    for (size_t i = 0; i < len; i++) {
+        printf("%02x", bytes[i]);
+    }
+    printf("\n");
+}
+
+/* Seals a record under suite 3, opens it again, and tries to open it with one bit of the associated data changed. */
+static void seal_and_open(void) {
+    static const uint8_t key[16] = {0, 1, 2, 3, 4, 5, 6, 7, 8, 9, 10, 11, 12, 13, 14, 15};
+    static const uint8_t nonce[15] = {1};
+    uint8_t ad[5] = {7, 0, 0, 0, 1};
+    static const uint8_t message[] = "torque 48.5 48.7 48.4";
+    uint8_t text[sizeof message], tag[8], opened[sizeof message];
+
+    uint32_t number = comet_seal(3, key, sizeof key, nonce, sizeof nonce, ad, sizeof ad,
+                                 message, sizeof message, text, sizeof text, tag, sizeof tag);
+    printf("sealing gives %u\n", number);
+    print_hex("ciphertext", text, sizeof text);
+    print_hex("tag", tag, sizeof tag);
+
+    number = comet_open(3, key, sizeof key, nonce, sizeof nonce, ad, sizeof ad,
+                        text, sizeof text, tag, sizeof tag, opened, sizeof opened);
+    printf("opening gives %u\n", number);
+    printf("  %-16s%s\n", "message", (const char *)opened);
+
+    ad[4] ^= 3; /* inch-pounds for newton-metres */
+    number = comet_open(3, key, sizeof key, nonce, sizeof nonce, ad, sizeof ad,
+                        text, sizeof text, tag, sizeof tag, opened, sizeof opened);
+    printf("opening with another unit gives %u\n", number);
+    print_hex("output", opened, sizeof opened);
+}
+
+/* Up to room bytes of the file at path; a file that cannot be read counts as no bytes. */
+static size_t read_file(const char *path, uint8_t *bytes, size_t room) {
+    FILE *from = fopen(path, "rb");
+    if (from == NULL) {
+        return 0;
+    }
+    size_t len = fread(bytes, 1, room, from);
+    fclose(from);
+    return len;
+}
+
+/* The message's length in a row of the table of contents: its bytes 12 to 15. */
+static uint32_t message_length(const uint8_t *file, uint32_t row) {
+    const uint8_t *at = file + 8 + 32 * row + 12;
+    return at[0] | (uint32_t)at[1] << 8 | (uint32_t)at[2] << 16 | (uint32_t)at[3] << 24;
+}
+
+/* Checks the file, looks the job up, and opens it. One byte of room too many shows a file that is too long. */
+static void open_job(const char *file_path, const char *ring_path, uint32_t job) {
+    static uint8_t file[LONGEST_FILE + 1], ring[RING + 1], message[LONGEST_MESSAGE];
+    size_t file_len = read_file(file_path, file, sizeof file);
+    size_t ring_len = read_file(ring_path, ring, sizeof ring);
+    uint32_t row, at, len;
+
+    uint32_t number = shift_check(file, file_len, &row);
+    printf("checking %s gives %u, row %u\n", file_path, number, row);
+
+    number = shift_lookup(file, file_len, job, &row);
+    printf("looking job %u up gives %u, row %u\n", job, number, row);
+    if (number != 0) {
+        return;
+    }
+    size_t message_len = message_length(file, row);
+
+    number = shift_open_job(file, file_len, ring, ring_len, job, message, message_len, &row);
+    printf("opening it gives %u, row %u\n", number, row);
+    if (number != 0) {
+        return;
+    }
+    shift_associated(file, file_len, job, &at, &len);
+    print_hex("associated data", file + at, len);
+    printf("  %-16s%s\n", "unit", file[at + 4] == 1 ? "newton-metres" : "inch-pounds");
+    printf("  %-16s%.*s\n", "message", (int)message_len, (const char *)message);
+}
+
+int main(int count, char **words) {
+    seal_and_open();
+    if (count == 4) {
+        open_job(words[1], words[2], (uint32_t)strtoul(words[3], NULL, 10));
+    }
+    return 0;
+}

@@ -1,0 +1,112 @@
+/* Snoekeldraf: the sealer, the opener and the shift file, for C and C++.
+ *
+ * Every function is proved to give, for any bytes and any lengths, the number and the output that are described here.
+ * What the caller owes, since nothing in C checks it:
+ *   - a pointer to bytes has the length that stands beside it, and leads to that many bytes, for the whole call;
+ *     where the length is 0 nothing is read or written through the pointer;
+ *   - what is written (out, tag of the sealer, row, at, len) overlaps nothing else that is passed:
+ *     a record is not sealed or opened in place.
+ * The functions keep nothing from one call to the next, need no memory but the stack, and call memcpy and memset alone.
+ * Nothing is promised of the time that a call takes.
+ *
+ * Suite        1 AES-128   2 CHAM-128/128   3 Speck-64/128   4 CHAM-64/128
+ * Key bytes    16          16               16               16
+ * Nonce bytes  16          16               15               15
+ * Tag bytes    16          16               8                8
+ *
+ * Never seal two records with one key and one nonce.
+ */
+#ifndef SNOEKELDRAF_H
+#define SNOEKELDRAF_H
+
+#include <stddef.h>
+#include <stdint.h>
+
+#ifdef __cplusplus
+extern "C" {
+#endif
+
+/* Numbers of comet_seal and comet_open: the first that applies, in this order.
+ *   0  done
+ *   1  suite is not 1 to 4
+ *   2  key_len is not 16
+ *   3  nonce_len is not the suite's
+ *   4  ad_len is over 65,536
+ *   5  msg_len (text_len) is over 65,536
+ *   6  out_len differs from msg_len (text_len)
+ *   7  tag_len is not the suite's
+ *   8  comet_open alone: the tag differs
+ */
+
+/* Seals msg with the associated data ad.
+ * After 0, out is the ciphertext and tag the tag, both written whole; after 1 to 7, out and tag are as they were.
+ */
+uint32_t comet_seal(uint8_t suite,
+                    const uint8_t *key, size_t key_len,
+                    const uint8_t *nonce, size_t nonce_len,
+                    const uint8_t *ad, size_t ad_len,
+                    const uint8_t *msg, size_t msg_len,
+                    uint8_t *out, size_t out_len,
+                    uint8_t *tag, size_t tag_len);
+
+/* Opens the ciphertext text with the associated data ad, if tag is its tag.
+ * After 0, out is the message, written whole; after 1 to 7, out is as it was; after 8, every byte of out is 0.
+ */
+uint32_t comet_open(uint8_t suite,
+                    const uint8_t *key, size_t key_len,
+                    const uint8_t *nonce, size_t nonce_len,
+                    const uint8_t *ad, size_t ad_len,
+                    const uint8_t *text, size_t text_len,
+                    const uint8_t *tag, size_t tag_len,
+                    uint8_t *out, size_t out_len);
+
+/* Numbers of the shift file: 20 to 24 first, then 25 to 30 in order for each row from row 0, then 31.
+ *   0   done
+ *  20   the file is shorter than 8 bytes or longer than 1,048,576
+ *  21   its edition is not 1
+ *  22   it has more than 512 rows
+ *  23   its total length is not the file's
+ *  24   its table of contents runs past its end
+ *  25   the row's job number is not above the row before's
+ *  26   the row's suite is not 1 to 4, or its key number is over 15
+ *  27   the row's associated data is not 5 to 1,024 bytes long, or its message is over 65,536
+ *  28   the row's body does not start where the one before ends (row 0: after the table), or runs past the file
+ *  29   the row's sixteen nonce bytes are an earlier row's
+ *  30   the row's associated data has another job number, or its unit is not 1 (newton-metres) or 2 (inch-pounds)
+ *  31   the last body does not end where the file ends
+ *  32   no row has the job (not given by shift_check)
+ *   2   shift_open_job alone: the ring is not 256 bytes long
+ *   6   shift_open_job alone: out_len is not the message's length
+ *   8   shift_open_job alone: the tag differs
+ */
+
+/* The full check. *row is written always: the row, counted from 0, after 25 to 30, and 0 after every other number. */
+uint32_t shift_check(const uint8_t *file, size_t file_len, uint32_t *row);
+
+/* The full check, and then the row that has the job.
+ * *row is written always: the row found after 0, the row at fault after 25 to 30, and 0 after every other number.
+ */
+uint32_t shift_lookup(const uint8_t *file, size_t file_len, uint32_t job, uint32_t *row);
+
+/* The lookup, with its number, and then where the job's associated data lies: *len bytes from file + *at.
+ * They are not yet shown to be genuine: shift_open_job compares the tag. *at and *len are written always: 0 and 0 after
+ * every number but 0.
+ */
+uint32_t shift_associated(const uint8_t *file, size_t file_len, uint32_t job, uint32_t *at, uint32_t *len);
+
+/* Opens one job: the lookup, then 2, 6 and 8 in this order. The ring is 16 keys; key k is its bytes 16k to 16k + 15.
+ * The message's length is in the file, four bytes from file + 8 + 32 * row + 12, the least first, with shift_lookup's row.
+ * After 0, out is the message, written whole; after 8, every byte of out is 0; after every other number, out is as it was.
+ * *row is written always: the row at fault after 25 to 30, and 0 after every other number, 0 too.
+ */
+uint32_t shift_open_job(const uint8_t *file, size_t file_len,
+                        const uint8_t *ring, size_t ring_len,
+                        uint32_t job,
+                        uint8_t *out, size_t out_len,
+                        uint32_t *row);
+
+#ifdef __cplusplus
+}
+#endif
+
+#endif
