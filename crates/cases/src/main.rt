@@ -5,29 +5,9 @@
 // Its line is the number, the output and, to seal, the tag. The lent buffers hold 0xa5 before the call.
 mod read;
 
-use comet::Answer;
 use libc::STDIN_FILENO;
 use libc::STDOUT_FILENO;
 use read::Call;
-ghost use mathlib.Core.Path.{_≡_};
-ghost use Rattle.comet.specs.Answers.{numberOf};
-
-// Document 01's number of an answer.
-fn number(a: Answer) -> u64
-    ensures { λ r. ⌜ r ≡ numberOf a ⌝ }
-{
-    match a {
-        Answer::Done => 0,
-        Answer::Suite => 1,
-        Answer::Key => 2,
-        Answer::Nonce => 3,
-        Answer::Data => 4,
-        Answer::Text => 5,
-        Answer::Room => 6,
-        Answer::Tag => 7,
-        Answer::Forged => 8,
-    }
-}
 
 fn seal(
     suite: u8,
@@ -39,7 +19,7 @@ fn seal(
     tag: &mut [u8],
 ) -> bool {
     let a = comet::seal(suite, key, nonce, ad, text, out, tag);
-    lines::show::number(number(a));
+    lines::show::number(a.number() as u64);
     lines::show::space();
     lines::show::bytes(out);
     lines::show::space();
@@ -61,7 +41,7 @@ fn unseal(
         return false;
     }
     let a = comet::unseal(suite, key, nonce, ad, text, tag, out);
-    lines::show::number(number(a));
+    lines::show::number(a.number() as u64);
     lines::show::space();
     lines::show::bytes(out);
     lines::show::end()

@@ -6,6 +6,7 @@ use native.Mathlib.Omega.{arith}
 use lib.ListN.{take, drop, take-append-drop}
 use lib.Seq.{ext-getD}
 use Rattle.words.specs.Outcome.{OneOutcome}
+use Rattle.words.proofs.Bytes.{bytes-inj}
 use Rattle.words.proofs.Blocks.{wide-told}
 use Rattle.fips197.specs.Sbox.{IsSbox}
 use Rattle.cipher.specs.Cipher.{sizeOf}
@@ -13,6 +14,10 @@ use Rattle.cipher.proofs.size_of.Kinds as size-of-kinds
 use Rattle.cipher.proofs.size_of.Reads as size-of-reads
 use Rattle.cipher.proofs.tables.Kinds as tables-kinds
 use Rattle.cipher.proofs.tables.Reads as tables-reads
+use Rattle.cipher.proofs.encipher16.Kinds as encipher16-kinds
+use Rattle.cipher.proofs.encipher16.Reads as encipher16-reads
+use Rattle.cipher.proofs.encipher8.Kinds as encipher8-kinds
+use Rattle.cipher.proofs.encipher8.Reads as encipher8-reads
 use Rattle.cipher.proofs.encipher.Kinds as encipher-kinds
 use Rattle.cipher.proofs.encipher.Reads as encipher-reads
 
@@ -26,6 +31,12 @@ size-of κs a h x y = (x .ensures .0 ∙ sym (y .ensures .0), refl)
 
 pub tables : OneOutcome tables-kinds.ps tables-kinds.r tables-reads.Pre tables-reads.Post
 tables κs a h x y = (same-table (x .result) (y .result) (x .ensures) (y .ensures), refl)
+
+pub encipher16 : OneOutcome encipher16-kinds.ps encipher16-kinds.r encipher16-reads.Pre encipher16-reads.Post
+encipher16 κs a h x y = (wide-told (x .result) (y .result) (omega arith) (omega arith) (omega arith) (omega arith) (x .ensures ∙ sym (y .ensures)), refl)
+
+pub encipher8 : OneOutcome encipher8-kinds.ps encipher8-kinds.r encipher8-reads.Pre encipher8-reads.Post
+encipher8 κs a h x y = (bytes-inj 8 (omega arith) (omega arith) (x .ensures ∙ sym (y .ensures)), refl)
 
 -- a list is told by its first part and the rest
 joined : (n : ℕ) {s t u v : List ℕ} → take n s ≡ u → drop n s ≡ v → take n t ≡ u → drop n t ≡ v → s ≡ t

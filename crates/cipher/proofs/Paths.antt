@@ -5,8 +5,6 @@ use Prim.Native.Nat.{ℕ, _-_, _≤_}
 use native.Mathlib.Omega.{arith}
 use lib.ListN.{length, take, drop, replicate, length-append, length-replicate}
 use lib.Seq.{take-all, take-at, drop-at}
-use Rattle.words.specs.Bytes.{bytes}
-use Rattle.words.proofs.Blocks.{first-eight}
 use Rattle.cipher.specs.Cipher.{sizeOf, engineOf}
 use Rattle.cipher.proofs.Suites.{Engine}
 
@@ -15,27 +13,23 @@ use Rattle.cipher.proofs.Suites.{Engine}
 pub through-whole : (e : Engine) {r x k k′ b b′ : List ℕ} → r ≡ x → x ≡ e k b → k ≡ k′ → b ≡ b′ → r ≡ e k′ b′
 through-whole e p q h i = p ∙ q ∙ ap₂ e h i
 
-pub through-half : (e : Engine) (a c : ℕ) {r x k k′ b : List ℕ} → r ≡ x ++ replicate 8 0 → x ≡ e k b → k ≡ k′ → b ≡ bytes 8 a
-    → r ≡ e k′ (take 8 (bytes 8 a ++ bytes 8 c)) ++ replicate 8 0
-through-half e a c p q h i = p ∙ ap (λ (l : List ℕ). l ++ replicate 8 0) (q ∙ ap₂ e h (i ∙ sym (first-eight a c)))
-
 -- ---- what the suite promises of it
 
-module _ (s : ℕ) (e : Engine) (k b r : List ℕ) (en : engineOf s ≡ e) (lr : length r ≡ 16) where
-  filled : (n : ℕ) → n ≤ 16 → sizeOf s ≡ n → r ≡ e k (take n b) ++ replicate (16 - n) 0
+module _ (s : ℕ) (k b r : List ℕ) (lr : length r ≡ 16) where
+  filled : (n : ℕ) → n ≤ 16 → sizeOf s ≡ n → r ≡ engineOf s k (take n b) ++ replicate (16 - n) 0
       → (take (sizeOf s) r ≡ engineOf s k (take (sizeOf s) b)) × (drop (sizeOf s) r ≡ replicate (16 - sizeOf s) 0)
   filled n h z q =
-      let x : List ℕ = e k (take n b) in
+      let x : List ℕ = engineOf s k (take n b) in
       let rest : List ℕ = replicate (16 - n) 0 in
       let l : length x ≡ n = omega (arith, ap length q, length-append x rest, length-replicate {A = ℕ} (16 - n) 0) in (
-        ap₂ take z q ∙ take-at x rest n l ∙ sym (ap₂ (λ (f : Engine) (m : ℕ). f k (take m b)) en z),
+        ap₂ take z q ∙ take-at x rest n l ∙ sym (ap (λ (m : ℕ). engineOf s k (take m b)) z),
         ap₂ drop z q ∙ drop-at x rest n l ∙ sym (ap (λ (m : ℕ). replicate (16 - m) 0) z),
       )
 
-  pub whole : sizeOf s ≡ 16 → length b ≡ 16 → r ≡ e k b
+  pub whole : sizeOf s ≡ 16 → length b ≡ 16 → r ≡ engineOf s k b
       → (take (sizeOf s) r ≡ engineOf s k (take (sizeOf s) b)) × (drop (sizeOf s) r ≡ replicate (16 - sizeOf s) 0)
-  whole z lb q = filled 16 (omega arith) z (q ∙ ap (e k) (sym (take-all 16 b (omega arith))) ∙ sym (append-nil (e k (take 16 b))))
+  whole z lb q = filled 16 (omega arith) z (q ∙ ap (engineOf s k) (sym (take-all 16 b (omega arith))) ∙ sym (append-nil (engineOf s k (take 16 b))))
 
-  pub half : sizeOf s ≡ 8 → r ≡ e k (take 8 b) ++ replicate 8 0
+  pub half : sizeOf s ≡ 8 → r ≡ engineOf s k (take 8 b) ++ replicate 8 0
       → (take (sizeOf s) r ≡ engineOf s k (take (sizeOf s) b)) × (drop (sizeOf s) r ≡ replicate (16 - sizeOf s) 0)
   half z q = filled 8 (omega arith) z q

@@ -4,6 +4,7 @@ ghost use mathlib.Core.Path.{_≡_};
 ghost use mathlib.Core.List.{_++_};
 ghost use Prim.Native.Nat.{_-_, _≤_, _<_};
 ghost use lib.ListN.{take, drop, replicate};
+ghost use Rattle.words.specs.Bytes.{bytes};
 ghost use Rattle.words.specs.Blocks.{wide};
 ghost use Rattle.fips197.specs.Cipher.{cipher};
 ghost use Rattle.cham.specs.Cham.{cham};
@@ -44,20 +45,42 @@ fn by_cham128(key: Block, block: Block) -> Block
     words::block::block_of(cham::c128::encrypt(k, b))
 }
 
-fn by_speck(key: Block, block: Block) -> Block
-    ensures { λ r. ⌜ wide r ≡ speck (wide key) (take 8 (wide block)) ++ replicate 8 0 ⌝ }
+fn by_speck(ka: u64, kb: u64, x: u64) -> u64
+    ensures { λ r. ⌜ bytes 8 r ≡ speck (bytes 8 ka ++ bytes 8 kb) (bytes 8 x) ⌝ }
 {
-    let k = words::block::bytes_of(key);
-    let b = words::block::low_bytes(block);
-    words::block::low_block(speck::encrypt(k, b))
+    let k = words::block::bytes_of(Block { a: ka, b: kb });
+    let b = words::block::bytes8(x);
+    words::block::number8(speck::encrypt(k, b))
 }
 
-fn by_cham64(key: Block, block: Block) -> Block
-    ensures { λ r. ⌜ wide r ≡ cham 16 (wide key) (take 8 (wide block)) ++ replicate 8 0 ⌝ }
+fn by_cham64(ka: u64, kb: u64, x: u64) -> u64
+    ensures { λ r. ⌜ bytes 8 r ≡ cham 16 (bytes 8 ka ++ bytes 8 kb) (bytes 8 x) ⌝ }
 {
-    let k = words::block::bytes_of(key);
-    let b = words::block::low_bytes(block);
-    words::block::low_block(cham::c64::encrypt(k, b))
+    let k = words::block::bytes_of(Block { a: ka, b: kb });
+    let b = words::block::bytes8(x);
+    words::block::number8(cham::c64::encrypt(k, b))
+}
+
+// The image of a block of 16 bytes, under suite 1 or 2.
+pub fn encipher16(t: &Lent, suite: u8, key: Block, block: Block) -> Block
+    requires { ⌜ Ready (now t) × (1 ≤ suite) × (suite ≤ 2) ⌝ }
+    ensures { λ r. ⌜ wide r ≡ cipherOf suite .E (wide key) (wide block) ⌝ }
+{
+    if suite <= 1 {
+        return by_aes(t, key, block);
+    }
+    by_cham128(key, block)
+}
+
+// The image of a block of 8 bytes, under suite 3 or 4: as numbers, which pass in registers.
+pub fn encipher8(suite: u8, ka: u64, kb: u64, x: u64) -> u64
+    requires { ⌜ (2 < suite) × (suite ≤ 4) ⌝ }
+    ensures { λ r. ⌜ bytes 8 r ≡ cipherOf suite .E (bytes 8 ka ++ bytes 8 kb) (bytes 8 x) ⌝ }
+{
+    if suite <= 3 {
+        return by_speck(ka, kb, x);
+    }
+    by_cham64(ka, kb, x)
 }
 
 // The image of the block's first bytes, as many as the suite's block has, and zeros behind it.
@@ -66,14 +89,11 @@ pub fn encipher(t: &Lent, suite: u8, key: Block, block: Block) -> Block
     ensures image { λ r. ⌜ take (sizeOf suite) (wide r) ≡ cipherOf suite .E (wide key) (take (sizeOf suite) (wide block)) ⌝ }
     ensures rest { λ r. ⌜ drop (sizeOf suite) (wide r) ≡ replicate (16 - sizeOf suite) 0 ⌝ }
 {
-    if suite <= 1 {
-        return by_aes(t, key, block);
-    }
     if suite <= 2 {
-        return by_cham128(key, block);
+        return encipher16(t, suite, key, block);
     }
-    if suite <= 3 {
-        return by_speck(key, block);
+    Block {
+        a: encipher8(suite, key.a, key.b, block.a),
+        b: 0,
     }
-    by_cham64(key, block)
 }

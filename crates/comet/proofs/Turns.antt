@@ -1,19 +1,25 @@
 -- One turn of a loop over the blocks is one step of the chain: what is done and the definition of what is left make the whole.
 use mathlib.Core.Path.{_≡_, sym, ap, ap₂, _∙_}
-use mathlib.Core.Bool.{Bool}
-use Prim.Native.Nat.{ℕ, _+_, _-_, _<_, min}
+use mathlib.Core.Bool.{Bool, cond}
+use Prim.Native.Nat.{ℕ, _+_, _-_, _≤_, _<_, min}
 use native.Mathlib.Omega.{arith}
-use mathlib.Core.List.{List, _∷_, _++_, append-assoc}
-use lib.ListN.{length, take, drop, length-append, length-drop}
-use lib.Seq.{take-at, length-take-le}
+use mathlib.Core.List.{List, [], _∷_, _++_, append-assoc, append-nil}
+use lib.ListN.{length, take, drop, drop-of-length-le, length-append, length-drop}
+use lib.Seq.{take-at, take-all, length-take-le}
+use borrow.Author.Tests.{lt-ltb, le-ltb}
 use Rattle.words.specs.Words.{xor}
-use Rattle.cipher.specs.Cipher.{Cipher}
-use Rattle.mode.specs.Blocks.{blocks, lengths}
-use Rattle.mode.specs.Keys.{shortMark, textMarks}
 use Rattle.words.specs.Xors.{xors}
-use Rattle.mode.specs.Words.{pad}
-use Rattle.mode.specs.Mode.{Chain, laterKeys, image, absorbed, absorb, masked, message, after, crypted}
-use Rattle.mode.proofs.Blocks.{blocks-turn, lengths-turn}
+use Rattle.words.specs.Blocks.{wide}
+use Rattle.words.proofs.Xor.{zero-r}
+use Rattle.words.proofs.Xors.{take-xors, xors-take}
+use Rattle.cipher.specs.Cipher.{Cipher, sizeOf, cipherOf}
+use Rattle.mode.specs.Blocks.{blocks, lengths}
+use Rattle.mode.specs.Keys.{shortMark, textMarks, nextKey, keys}
+use Rattle.mode.specs.Words.{shuffle, pad}
+use Rattle.mode.specs.Mode.{Chain, absorbed, absorb, masked, message, after, crypted}
+use Rattle.mode.proofs.Blocks.{blocks-nil, blocks-turn, lengths-nil, lengths-turn}
+use Rattle.comet.specs.declared.state.State.{State}
+use Rattle.comet.specs.Chain.{chain}
 
 pub chain-path : {a b : List ℕ} {c d : List (List ℕ)} → a ≡ b → c ≡ d → _≡_ {A = Chain} (record { Y = a; left = c }) (record { Y = b; left = d })
 chain-path p q = λ i. record { Y = p i; left = q i }
@@ -22,11 +28,29 @@ chain-path p q = λ i. record { Y = p i; left = q i }
 abbrev pub marksFrom : ℕ → ℕ → ℕ → ℕ → List ℕ → List ℕ
 marksFrom n first short l ms = textMarks n first short (lengths n l) ++ ms
 
--- one step of the chain, from what the cipher's call and the block put in have left
-pub step-is : (κ : Cipher) (c : Chain) (b y : List ℕ) (ks : List (List ℕ)) → y ≡ xors (image κ c) (pad (κ .size) b) → ks ≡ laterKeys (c .left)
-    → absorbed κ c b ≡ record { Y = y; left = ks }
-unfolding absorbed
-step-is κ c b y ks p q = chain-path (sym p) (sym q)
+-- the mark of a full block, and of a short one
+pub mark-full : (n first short k : ℕ) → k ≡ n → xor first (shortMark n short k) ≡ first
+mark-full n first short k e = ap (λ (t : Bool). xor first (cond t short 0)) (le-ltb k n (omega arith)) ∙ zero-r first
+
+pub mark-short : (n first short k : ℕ) → k < n → xor first (shortMark n short k) ≡ xor first short
+mark-short n first short k h = ap (λ (t : Bool). xor first (cond t short 0)) (lt-ltb k n h)
+
+-- one turn of the code is one step of the chain: t has X and the next key of s under the mark m
+module _ (suite : ℕ) (s t : State) (m : ℕ)
+    (ex : take (sizeOf suite) (wide (t .y)) ≡ cipherOf suite .E (nextKey m (wide (s .z))) (take (sizeOf suite) (wide (s .y))))
+    (ez : wide (t .z) ≡ nextKey m (wide (s .z))) where
+  -- what goes out for b, by the shuffle h of X
+  pub mask-out : (b h : List ℕ) → length b ≤ sizeOf suite → take (sizeOf suite) h ≡ shuffle (sizeOf suite) (take (sizeOf suite) (wide (t .y)))
+      → (ms : List ℕ) → xors b h ≡ masked (cipherOf suite) (chain suite s (m ∷ ms)) b
+  unfolding masked keys
+  mask-out b h l e ms = sym (xors-take b h (sizeOf suite) l) ∙ ap (xors b) (e ∙ ap (shuffle (sizeOf suite)) ex)
+
+  -- the state r after v was put in, padded in the first bytes of p
+  pub put-in : (v p : List ℕ) (r : State) → take (sizeOf suite) p ≡ pad (sizeOf suite) v → wide (r .y) ≡ xors (wide (t .y)) p → wide (r .z) ≡ wide (t .z)
+      → (ms : List ℕ) → absorbed (cipherOf suite) (chain suite s (m ∷ ms)) v ≡ chain suite r ms
+  unfolding absorbed keys
+  put-in v p r ep ey er ms =
+      sym (chain-path (ap (take (sizeOf suite)) ey ∙ take-xors (sizeOf suite) (wide (t .y)) p ∙ ap₂ xors ex ep) (ap (λ (z : List ℕ). keys z ms) (er ∙ ez)))
 
 -- c and s give the chain for the marks to come, before and after the turn at the block from i to e of l
 module _ (κ : Cipher) (n first short : ℕ) (pos : 0 < n) (l : List ℕ) (i e : ℕ) (h : i < length l) (q : e ≡ min (i + n) (length l)) (c s : List ℕ → Chain) where
@@ -81,3 +105,30 @@ module _ (κ : Cipher) (n first short : ℕ) (pos : 0 < n) (l : List ℕ) (i e :
         ∙ append-assoc (take i out) x rest
         ∙ ap (λ (y : List ℕ). take i out ++ y) (ap (λ (y : List ℕ). y ++ rest) ex ∙ crypted-turn ms)
         ∙ inv
+
+-- behind the last block nothing is left
+module _ (κ : Cipher) (n first short : ℕ) (pos : 0 < n) (l : List ℕ) (e : ℕ) (h : length l ≤ e) (s : List ℕ → Chain) where
+  nil : blocks n (drop e l) ≡ []
+  nil = ap (blocks n) (drop-of-length-le l {i = e} h) ∙ blocks-nil n pos
+
+  none : (ms : List ℕ) → marksFrom n first short (length (drop e l)) ms ≡ ms
+  unfolding textMarks
+  none ms =
+      let z : length (drop e l) ≡ 0 = length-drop e l ∙ omega arith in
+      ap (λ (ks : List ℕ). textMarks n first short ks ++ ms) (ap (lengths n) z ∙ lengths-nil n pos)
+
+  pub absorb-done : (ms : List ℕ) → absorb κ (s (marksFrom n first short (length (drop e l)) ms)) (blocks n (drop e l)) ≡ s ms
+  unfolding absorb
+  absorb-done ms = ap₂ (λ (m : List ℕ) (bs : List (List ℕ)). absorb κ (s m) bs) (none ms) nil
+
+  pub after-done : (d : Bool) (ms : List ℕ) → after κ d (s (marksFrom n first short (length (drop e l)) ms)) (blocks n (drop e l)) ≡ s ms
+  unfolding after
+  after-done d ms = ap₂ (λ (m : List ℕ) (bs : List (List ℕ)). after κ d (s m) bs) (none ms) nil
+
+  pub text-done : (d : Bool) (out whole ms : List ℕ) → length out ≤ e
+      → take e out ++ crypted κ d (s (marksFrom n first short (length (drop e l)) ms)) (blocks n (drop e l)) ≡ whole → out ≡ whole
+  unfolding crypted
+  text-done d out whole ms lo q =
+      sym (append-nil out)
+      ∙ ap₂ (λ (x y : List ℕ). x ++ y) (sym (take-all e out lo)) (sym (ap₂ (λ (m : List ℕ) (bs : List (List ℕ)). crypted κ d (s m) bs) (none ms) nil))
+      ∙ q

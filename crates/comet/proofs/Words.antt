@@ -1,5 +1,6 @@
 -- The mode's work on bytes, done on two numbers of 64 bits: mark, doubling, shuffle, padding and mask.
-use mathlib.Core.Path.{_≡_, refl, sym, ap, ap₂, _∙_}
+use mathlib.Core.Path.{_≡_, refl, sym, ap, ap₂, _∙_, subst}
+use mathlib.Core.Logic.{_⊎_}
 use Prim.Native.Nat.{ℕ, zero, suc, _+_, _-_, _*_, _/_, _%_, _^_, _≤_, _<_}
 use native.Mathlib.Nat.{le-of-suc-le-suc, not-suc-le-zero, le-of-eq}
 use native.Mathlib.Omega.{arith}
@@ -13,6 +14,8 @@ use Rattle.words.proofs.Xor.{zero-r}
 use Rattle.words.proofs.Lists.{part-take}
 use Rattle.words.proofs.Bytes.{length-bytes, value-bytes, value-low, bytes-join, bytes-mod, bytes-split}
 use Rattle.words.proofs.Xors.{bytes-xor, take-xors, xors-take, xors-append}
+use Rattle.cipher.specs.Cipher.{sizeOf}
+use Rattle.cipher.proofs.Suites.{sizes-two}
 use Rattle.mode.specs.Words.{double, Four, four, fourOf, bytesOf, shuffleWords, shuffle, pad}
 use Rattle.mode.specs.Keys.{marked, doubled}
 use Rattle.mode.proofs.Words.{pad-short, pad-full}
@@ -128,18 +131,25 @@ short-zeros n j b h k =
     ∙ ap (λ (r : List ℕ). b ++ (1 ∷ r)) (take-replicate (n - suc (length b)) j 0 (omega arith))
 
 -- b with zeros behind it, and 1 stored behind b
-pub pad-stored : (n : ℕ) (b r : List ℕ) → length b < n → n ≤ 16 → r ≡ b ++ replicate (16 - length b) 0 → take n (set r (length b) 1) ≡ pad n b
-pad-stored n b r h k q =
+pub pad-stored : (b r : List ℕ) → length b < 16 → r ≡ b ++ replicate (16 - length b) 0 → set r (length b) 1 ≡ pad 16 b
+pad-stored b r h q =
     let e : 16 - length b ≡ suc (16 - suc (length b)) = omega arith in
-    ap (λ (l : List ℕ). take n (set l (length b) 1)) (q ∙ ap (λ (j : ℕ). b ++ replicate j 0) e)
-    ∙ ap (take n) (set-at b 0 (replicate (16 - suc (length b)) 0) 1 (length b) refl)
-    ∙ short-zeros n (16 - suc (length b)) b h (omega arith)
-    ∙ sym (pad-short n b h)
+    ap (λ (l : List ℕ). set l (length b) 1) (q ∙ ap (λ (j : ℕ). b ++ replicate j 0) e)
+    ∙ set-at b 0 (replicate (16 - suc (length b)) 0) 1 (length b) refl
+    ∙ sym (pad-short 16 b h)
+
+-- the padding to n is the front of the padding to 16
+pub pad-cut : (n : ℕ) (b : List ℕ) → length b < n → n ≤ 16 → take n (pad 16 b) ≡ pad n b
+pad-cut n b h k = ap (take n) (pad-short 16 b (omega arith)) ∙ short-zeros n (16 - suc (length b)) b h (omega arith) ∙ sym (pad-short n b h)
 
 pub pad-kept : (n : ℕ) (b r : List ℕ) → length b ≡ n → r ≡ b ++ replicate (16 - length b) 0 → take n r ≡ pad n b
 pad-kept n b r e q = ap (take n) q ∙ take-at b (replicate (16 - length b) 0) n e ∙ sym (pad-full n b e)
 
 -- ---- a full or nearly full block, and zeros behind it
+
+-- a full block has 16 or 8 bytes
+pub full-two : (k suite : ℕ) → k ≡ sizeOf suite → (k ≡ 16) ⊎ (k ≡ 8)
+full-two k suite e = subst (λ (j : ℕ). (j ≡ 16) ⊎ (j ≡ 8)) (sym e) (sizes-two suite)
 
 pub filled-full : (b r : List ℕ) → length b ≡ 16 → r ≡ b ++ replicate (16 - length b) 0 → r ≡ b
 filled-full b r e q =

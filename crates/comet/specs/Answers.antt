@@ -1,7 +1,7 @@
 -- The numbers that sealer and opener give, and what they leave in every buffer (document 01, "Numbers given by sealer and opener").
 use mathlib.Core.Bool.{Bool, true, false, cond, not, _&&_}
 use Prim.Native.Nat.{ℕ, zero, suc}
-use mathlib.Core.List.{List, [], _∷_}
+use mathlib.Core.List.{List}
 use lib.ListN.{length, replicate}
 use lib.Dec.{leb, ltb, eqb}
 use Rattle.words.specs.Bytes.{sameBytes}

@@ -1,5 +1,4 @@
 // The sealer and the opener: COMET version 1 over the four ciphers.
-use cipher::Lent;
 use words::block::Block;
 
 mod key;
@@ -13,7 +12,7 @@ ghost use mathlib.Core.Path.{_≡_};
 ghost use Prim.Native.Nat.{_≤_};
 ghost use lib.ListN.{length, take};
 ghost use Rattle.words.specs.Blocks.{wide};
-ghost use Rattle.cipher.specs.Cipher.{Ready, sizeOf, cipherOf};
+ghost use Rattle.cipher.specs.Cipher.{sizeOf, cipherOf};
 ghost use Rattle.mode.specs.Mode.{nonceSize, textOut, tagOut};
 ghost use Rattle.comet.specs.Answers.{numberOf, refusal, Sealed, sealing, Opened, opening};
 
@@ -28,6 +27,25 @@ pub enum Answer {
     Room,
     Tag,
     Forged,
+}
+
+impl Answer {
+    // The answer's number in document 01.
+    pub fn number(self) -> u8
+        ensures { λ r. ⌜ r ≡ numberOf self ⌝ }
+    {
+        match self {
+            Answer::Done => 0,
+            Answer::Suite => 1,
+            Answer::Key => 2,
+            Answer::Nonce => 3,
+            Answer::Data => 4,
+            Answer::Text => 5,
+            Answer::Room => 6,
+            Answer::Tag => 7,
+            Answer::Forged => 8,
+        }
+    }
 }
 
 // The suite's nonce length.
@@ -72,7 +90,6 @@ fn refused(suite: u8, k: usize, v: usize, a: usize, t: usize, o: usize, g: usize
 
 // The text that goes out and the tag, once every length is right.
 fn crypt(
-    tb: &Lent,
     opening: bool,
     suite: u8,
     key: &[u8],
@@ -81,14 +98,15 @@ fn crypt(
     text: &[u8],
     out: &mut [u8],
 ) -> Block
-    requires { ⌜ Ready (now tb) × (1 ≤ suite) × (suite ≤ 4) × (length (now key) ≡ 16) × (length (now nonce) ≡ nonceSize (cipherOf suite)) × (length (now out) ≡ length (now text)) ⌝ }
+    requires { ⌜ (1 ≤ suite) × (suite ≤ 4) × (length (now key) ≡ 16) × (length (now nonce) ≡ nonceSize (cipherOf suite)) × (length (now out) ≡ length (now text)) ⌝ }
     ensures text { λ _. ⌜ now (out .exit) ≡ textOut (cipherOf suite) opening (now (key .entry)) (now (nonce .entry)) (now (ad .entry)) (now (text .entry)) ⌝ }
     ensures tag { λ r. ⌜ take (sizeOf suite) (wide r) ≡ tagOut (cipherOf suite) opening (now (key .entry)) (now (nonce .entry)) (now (ad .entry)) (now (text .entry)) ⌝ }
 {
-    let s = state::start(tb, suite, key, nonce);
-    let d = text::absorb_all(tb, suite, s, ad);
-    let t = text::crypt_all(tb, opening, suite, d, text, out);
-    tag::tag_of(tb, suite, t)
+    let tb = cipher::tables();
+    let s = state::start(&tb, suite, key, nonce);
+    let d = text::absorb_all(&tb, suite, s, ad);
+    let t = text::crypt_all(&tb, opening, suite, d, text, out);
+    tag::tag_of(&tb, suite, t)
 }
 
 // Seals msg into out, and its tag into tag.
@@ -116,8 +134,7 @@ pub fn seal(
     let Answer::Done = a else {
         return a;
     };
-    let tb = cipher::tables();
-    let t = crypt(&tb, false, suite, key, nonce, ad, msg, out);
+    let t = crypt(false, suite, key, nonce, ad, msg, out);
     words::block::put(t, tag);
     Answer::Done
 }
@@ -147,8 +164,7 @@ pub fn unseal(
     let Answer::Done = a else {
         return a;
     };
-    let tb = cipher::tables();
-    let t = crypt(&tb, true, suite, key, nonce, ad, text, out);
+    let t = crypt(true, suite, key, nonce, ad, text, out);
     if tag::same(t, tag) {
         return Answer::Done;
     }

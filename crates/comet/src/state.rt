@@ -7,7 +7,6 @@ ghost use lib.ListN.{length, take};
 ghost use Rattle.words.specs.Xors.{xors};
 ghost use Rattle.words.specs.Blocks.{wide};
 ghost use Rattle.cipher.specs.Cipher.{Ready, sizeOf, cipherOf};
-ghost use Rattle.mode.specs.Words.{pad};
 ghost use Rattle.mode.specs.Keys.{nextKey};
 ghost use Rattle.mode.specs.Mode.{nonceSize, startY, startZ};
 
@@ -26,12 +25,15 @@ pub(crate) fn start(tb: &Lent, suite: u8, key: &[u8], nonce: &[u8]) -> State
     let k = words::block::filled(key);
     let v = words::block::filled(nonce);
     if suite <= 2 {
-        let z = cipher::encipher(tb, suite, k, v);
+        let z = cipher::encipher16(tb, suite, k, v);
         return State { y: k, z: z };
     }
-    let y = cipher::encipher(tb, suite, k, Block { a: 0, b: 0 });
+    let y = cipher::encipher8(suite, k.a, k.b, 0);
     let z = words::block::xor(k, v);
-    State { y: y, z: z }
+    State {
+        y: Block { a: y, b: 0 },
+        z: z,
+    }
 }
 
 // The next block key under the mark m, and X, the image of Y under it.
@@ -47,16 +49,13 @@ pub(crate) fn turn(tb: &Lent, suite: u8, s: State, m: u8) -> State
     State { y: x, z: z }
 }
 
-// Y = X XOR the padded block.
-pub(crate) fn mix(suite: u8, s: State, b: &[u8]) -> State
-    requires { ⌜ length (now b) ≤ sizeOf suite ⌝ }
-    ensures y { λ r. ⌜ take (sizeOf suite) (wide (r .y)) ≡ xors (take (sizeOf suite) (wide (s .y))) (pad (sizeOf suite) (now (b .entry))) ⌝ }
+// Y = X XOR the block.
+pub(crate) fn mix(s: State, p: Block) -> State
+    ensures y { λ r. ⌜ wide (r .y) ≡ xors (wide (s .y)) (wide p) ⌝ }
     ensures z { λ r. ⌜ wide (r .z) ≡ wide (s .z) ⌝ }
 {
-    let n = cipher::size_of(suite);
     let y = s.y;
     let z = s.z;
-    let p = crate::pad::padded(n, b);
     let w = words::block::xor(y, p);
     State { y: w, z: z }
 }

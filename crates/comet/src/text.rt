@@ -1,42 +1,38 @@
-// The blocks of the associated data and of the text, one turn each.
+// The blocks of the associated data and of the text, one turn each: the full ones by whole words, and then the short one, if there is one.
 use crate::state::State;
 use cipher::Lent;
 use words::block::Block;
 ghost use mathlib.Core.Path.{_≡_};
 ghost use mathlib.Core.List.{List, _∷_, _++_};
-ghost use Prim.Native.Nat.{ℕ, _+_, _≤_, _<_, min};
+ghost use Prim.Native.Nat.{ℕ, _+_, _≤_, _<_};
 ghost use lib.ListN.{length};
 ghost use Rattle.words.specs.Words.{xor};
 ghost use Rattle.words.specs.Xors.{xors};
 ghost use Rattle.words.specs.Blocks.{wide};
 ghost use Rattle.cipher.specs.Cipher.{Ready, sizeOf, cipherOf};
 ghost use Rattle.mode.specs.Blocks.{blocks, lengths};
-ghost use Rattle.mode.specs.Keys.{shortMark, textMarks};
+ghost use Rattle.mode.specs.Keys.{textMarks};
 ghost use Rattle.mode.specs.Mode.{absorbed, absorb, masked, message, after, crypted};
 ghost use Rattle.comet.specs.Chain.{chain};
 
-// The end of the block that starts at i.
-fn block_end(i: usize, n: usize, len: usize) -> usize
-    requires { ⌜ (i < len) × (n ≤ 16) × (len < 0x8000_0000_0000_0000) ⌝ }
-    ensures { λ r. ⌜ r ≡ min (i + n) len ⌝ }
-{
-    if len - i < n { len } else { i + n }
-}
-
-// The mark of a block of k bytes: `first` where it is the text's first, `short` where it is short.
-fn mark_of(n: usize, first: u8, short: u8, k: usize) -> u8
-    ensures { λ r. ⌜ r ≡ xor first (shortMark n short k) ⌝ }
-{
-    if k < n { first ^ short } else { first }
-}
-
-// One block of associated data.
+// A full block of associated data.
 fn absorb_block(tb: &Lent, suite: u8, s: State, m: u8, b: &[u8]) -> State
-    requires { ⌜ Ready (now tb) × (1 ≤ suite) × (suite ≤ 4) × (length (now b) ≤ sizeOf suite) ⌝ }
+    requires { ⌜ Ready (now tb) × (1 ≤ suite) × (suite ≤ 4) × (length (now b) ≡ sizeOf suite) ⌝ }
     ensures { λ r. ⌜ ((ms : List ℕ) → absorbed (cipherOf suite) (chain suite s (m ∷ ms)) (now (b .entry)) ≡ chain suite r ms) ⌝ }
 {
     let t = crate::state::turn(tb, suite, s, m);
-    crate::state::mix(suite, t, b)
+    let p = words::block::whole(b);
+    crate::state::mix(t, p)
+}
+
+// A short block of associated data.
+fn absorb_last(tb: &Lent, suite: u8, s: State, m: u8, b: &[u8]) -> State
+    requires { ⌜ Ready (now tb) × (1 ≤ suite) × (suite ≤ 4) × (length (now b) < sizeOf suite) ⌝ }
+    ensures { λ r. ⌜ ((ms : List ℕ) → absorbed (cipherOf suite) (chain suite s (m ∷ ms)) (now (b .entry)) ≡ chain suite r ms) ⌝ }
+{
+    let t = crate::state::turn(tb, suite, s, m);
+    let p = crate::pad::padded(b);
+    crate::state::mix(t, p)
 }
 
 // All blocks of the associated data.
@@ -46,27 +42,21 @@ pub(crate) fn absorb_all(tb: &Lent, suite: u8, s: State, ad: &[u8]) -> State
 {
     let n = cipher::size_of(suite);
     let mut t = s;
-    let mut first: u8 = 0x08;
+    let mut m: u8 = 0x08;
     let mut i: usize = 0;
-    while i < ad.len() {
-        let e = block_end(i, n, ad.len());
-        let m = mark_of(n, first, 0x10, e - i);
+    while n <= ad.len() - i {
+        let e = i + n;
         t = absorb_block(tb, suite, t, m, &ad[i..e]);
-        first = 0;
+        m = 0;
         i = e;
+    }
+    if i < ad.len() {
+        return absorb_last(tb, suite, t, m ^ 0x10, &ad[i..ad.len()]);
     }
     t
 }
 
-// The block, XORed with as many bytes of h.
-fn mask(b: &[u8], h: Block, out: &mut [u8])
-    requires { ⌜ (length (now b) ≤ 16) × (length (now out) ≡ length (now b)) ⌝ }
-    ensures { λ _. ⌜ now (out .exit) ≡ xors (now (b .entry)) (wide h) ⌝ }
-{
-    words::block::put(words::block::xor(words::block::filled(b), h), out);
-}
-
-// One block of text: what goes out, and the message's block goes in.
+// A full block of text: what goes out, and the message's block goes in.
 fn crypt_block(
     tb: &Lent,
     opening: bool,
@@ -76,7 +66,41 @@ fn crypt_block(
     b: &[u8],
     out: &mut [u8],
 ) -> State
-    requires { ⌜ Ready (now tb) × (1 ≤ suite) × (suite ≤ 4) × (length (now b) ≤ sizeOf suite) × (length (now out) ≡ length (now b)) ⌝ }
+    requires { ⌜ Ready (now tb) × (1 ≤ suite) × (suite ≤ 4) × (length (now b) ≡ sizeOf suite) × (length (now out) ≡ length (now b)) ⌝ }
+    ensures text { λ _. ⌜ ((ms : List ℕ) → now (out .exit) ≡ masked (cipherOf suite) (chain suite s (m ∷ ms)) (now (b .entry))) ⌝ }
+    ensures state { λ r. ⌜ ((ms : List ℕ) → absorbed (cipherOf suite) (chain suite s (m ∷ ms)) (message (cipherOf suite) opening (chain suite s (m ∷ ms)) (now (b .entry))) ≡ chain suite r ms) ⌝ }
+{
+    let t = crate::state::turn(tb, suite, s, m);
+    let x = t.y;
+    let p = words::block::whole(b);
+    let h = crate::shuffle::shuffled(suite, x);
+    let c = words::block::xor(p, h);
+    words::block::put_whole(c, out);
+    if opening {
+        return crate::state::mix(t, c);
+    }
+    crate::state::mix(t, p)
+}
+
+// The short block, XORed with as many bytes of h.
+fn mask(b: &[u8], h: Block, out: &mut [u8])
+    requires { ⌜ (length (now b) ≤ 16) × (length (now out) ≡ length (now b)) ⌝ }
+    ensures { λ _. ⌜ now (out .exit) ≡ xors (now (b .entry)) (wide h) ⌝ }
+{
+    words::block::put(words::block::xor(words::block::filled(b), h), out);
+}
+
+// A short block of text: what goes out, and the message's block goes in.
+fn crypt_last(
+    tb: &Lent,
+    opening: bool,
+    suite: u8,
+    s: State,
+    m: u8,
+    b: &[u8],
+    out: &mut [u8],
+) -> State
+    requires { ⌜ Ready (now tb) × (1 ≤ suite) × (suite ≤ 4) × (length (now b) < sizeOf suite) × (length (now out) ≡ length (now b)) ⌝ }
     ensures text { λ _. ⌜ ((ms : List ℕ) → now (out .exit) ≡ masked (cipherOf suite) (chain suite s (m ∷ ms)) (now (b .entry))) ⌝ }
     ensures state { λ r. ⌜ ((ms : List ℕ) → absorbed (cipherOf suite) (chain suite s (m ∷ ms)) (message (cipherOf suite) opening (chain suite s (m ∷ ms)) (now (b .entry))) ≡ chain suite r ms) ⌝ }
 {
@@ -85,9 +109,9 @@ fn crypt_block(
     let h = crate::shuffle::shuffled(suite, x);
     mask(b, h, out);
     if opening {
-        return crate::state::mix(suite, t, out);
+        return crate::state::mix(t, crate::pad::padded(out));
     }
-    crate::state::mix(suite, t, b)
+    crate::state::mix(t, crate::pad::padded(b))
 }
 
 // All blocks of a text.
@@ -105,14 +129,25 @@ pub(crate) fn crypt_all(
 {
     let n = cipher::size_of(suite);
     let mut t = s;
-    let mut first: u8 = 0x20;
+    let mut m: u8 = 0x20;
     let mut i: usize = 0;
-    while i < text.len() {
-        let end = block_end(i, n, text.len());
-        let m = mark_of(n, first, 0x40, end - i);
+    while n <= text.len() - i {
+        let end = i + n;
         t = crypt_block(tb, opening, suite, t, m, &text[i..end], &mut out[i..end]);
-        first = 0;
+        m = 0;
         i = end;
+    }
+    if i < text.len() {
+        let end = text.len();
+        return crypt_last(
+            tb,
+            opening,
+            suite,
+            t,
+            m ^ 0x40,
+            &text[i..end],
+            &mut out[i..end],
+        );
     }
     t
 }

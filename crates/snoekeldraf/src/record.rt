@@ -1,24 +1,6 @@
 // The sealer and the opener.
-use comet::Answer;
 ghost use mathlib.Core.Path.{_≡_};
-ghost use Rattle.comet.specs.Answers.{numberOf, Sealed, sealing, Opened, opening};
-
-// The answer's number in document 01.
-fn number(a: Answer) -> u32
-    ensures { λ r. ⌜ r ≡ numberOf a ⌝ }
-{
-    match a {
-        Answer::Done => 0,
-        Answer::Suite => 1,
-        Answer::Key => 2,
-        Answer::Nonce => 3,
-        Answer::Data => 4,
-        Answer::Text => 5,
-        Answer::Room => 6,
-        Answer::Tag => 7,
-        Answer::Forged => 8,
-    }
-}
+ghost use Rattle.comet.specs.Answers.{Sealed, sealing, Opened, opening};
 
 // Seals msg into out, and its tag into tag.
 #[no_mangle]
@@ -34,7 +16,8 @@ pub extern "C" fn comet_seal(
     ensures { λ r. ⌜ _≡_ {A = Sealed} (record { number = r; out = now (out .exit); tag = now (tag .exit) })
         (sealing suite (now (key .entry)) (now (nonce .entry)) (now (ad .entry)) (now (msg .entry)) (now (out .entry)) (now (tag .entry))) ⌝ }
 {
-    number(comet::seal(suite, key, nonce, ad, msg, out, tag))
+    let a = comet::seal(suite, key, nonce, ad, msg, out, tag);
+    a.number() as u32
 }
 
 // Opens text into out, if its tag is right; else every byte of out is 0.
@@ -51,5 +34,6 @@ pub extern "C" fn comet_open(
     ensures { λ r. ⌜ _≡_ {A = Opened} (record { number = r; out = now (out .exit) })
         (opening suite (now (key .entry)) (now (nonce .entry)) (now (ad .entry)) (now (text .entry)) (now (tag .entry)) (now (out .entry))) ⌝ }
 {
-    number(comet::unseal(suite, key, nonce, ad, text, tag, out))
+    let a = comet::unseal(suite, key, nonce, ad, text, tag, out);
+    a.number() as u32
 }

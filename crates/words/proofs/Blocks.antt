@@ -1,6 +1,7 @@
 -- A block of sixteen bytes and the two numbers that hold it know each other.
 use mathlib.Core.Path.{_≡_, sym, ap, ap₂, _∙_}
 use mathlib.Core.List.{List, [], _++_, append-nil}
+use mathlib.Core.Logic.{_⊎_, inl, inr}
 use Prim.Native.Nat.{ℕ, _+_, _-_, _^_, _<_}
 use native.Mathlib.Omega.{arith}
 use lib.ListN.{length, take, drop, drop-of-length-le, length-append, length-drop}
@@ -30,6 +31,11 @@ first-eight a b = take-at (bytes 8 a) (bytes 8 b) 8 (length-bytes 8 a)
 
 pub last-eight : (a b : ℕ) → drop 8 (bytes 8 a ++ bytes 8 b) ≡ bytes 8 b
 last-eight a b = drop-at (bytes 8 a) (bytes 8 b) 8 (length-bytes 8 a)
+
+-- a full block that has not 16 bytes has 8
+pub is-eight : {k : ℕ} → (k ≡ 16) ⊎ (k ≡ 8) → (k ≡ 16 → ⊥) → k ≡ 8
+is-eight (inl e) h = absurd (h e)
+is-eight (inr e) h = e
 
 -- the two halves of a list of sixteen, each overwritten
 pub two-puts : (out p q : List ℕ) → length out ≡ 16 → length p ≡ 8 → length q ≡ 8

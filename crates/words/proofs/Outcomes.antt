@@ -4,6 +4,7 @@ use mathlib.Core.List.{List}
 use Prim.Native.Nat.{ℕ}
 use native.Mathlib.Omega.{arith}
 use Rattle.words.specs.Outcome.{OneOutcome}
+use Rattle.words.proofs.Bytes.{bytes-inj}
 use Rattle.words.proofs.Blocks.{wide-told}
 use Rattle.words.proofs.arx.add16.Kinds as add16-kinds
 use Rattle.words.proofs.arx.add16.Reads as add16-reads
@@ -29,10 +30,14 @@ use Rattle.words.proofs.block.bytes_of.Kinds as bytes-of-kinds
 use Rattle.words.proofs.block.bytes_of.Reads as bytes-of-reads
 use Rattle.words.proofs.block.block_of.Kinds as block-of-kinds
 use Rattle.words.proofs.block.block_of.Reads as block-of-reads
-use Rattle.words.proofs.block.low_bytes.Kinds as low-bytes-kinds
-use Rattle.words.proofs.block.low_bytes.Reads as low-bytes-reads
-use Rattle.words.proofs.block.low_block.Kinds as low-block-kinds
-use Rattle.words.proofs.block.low_block.Reads as low-block-reads
+use Rattle.words.proofs.block.bytes8.Kinds as bytes8-kinds
+use Rattle.words.proofs.block.bytes8.Reads as bytes8-reads
+use Rattle.words.proofs.block.number8.Kinds as number8-kinds
+use Rattle.words.proofs.block.number8.Reads as number8-reads
+use Rattle.words.proofs.block.whole.Kinds as whole-kinds
+use Rattle.words.proofs.block.whole.Reads as whole-reads
+use Rattle.words.proofs.block.put_whole.Kinds as put-whole-kinds
+use Rattle.words.proofs.block.put_whole.Reads as put-whole-reads
 use Rattle.words.proofs.block.filled_bytes.Kinds as filled-bytes-kinds
 use Rattle.words.proofs.block.filled_bytes.Reads as filled-bytes-reads
 use Rattle.words.proofs.block.filled.Kinds as filled-kinds
@@ -76,11 +81,17 @@ bytes-of κs a h x y = (x .ensures ∙ sym (y .ensures), refl)
 pub block-of : OneOutcome block-of-kinds.ps block-of-kinds.r block-of-reads.Pre block-of-reads.Post
 block-of κs a h x y = (wide-told (x .result) (y .result) (omega arith) (omega arith) (omega arith) (omega arith) (x .ensures ∙ sym (y .ensures)), refl)
 
-pub low-bytes : OneOutcome low-bytes-kinds.ps low-bytes-kinds.r low-bytes-reads.Pre low-bytes-reads.Post
-low-bytes κs a h x y = (x .ensures ∙ sym (y .ensures), refl)
+pub bytes8 : OneOutcome bytes8-kinds.ps bytes8-kinds.r bytes8-reads.Pre bytes8-reads.Post
+bytes8 κs a h x y = (x .ensures ∙ sym (y .ensures), refl)
 
-pub low-block : OneOutcome low-block-kinds.ps low-block-kinds.r low-block-reads.Pre low-block-reads.Post
-low-block κs a h x y = (wide-told (x .result) (y .result) (omega arith) (omega arith) (omega arith) (omega arith) (x .ensures ∙ sym (y .ensures)), refl)
+pub number8 : OneOutcome number8-kinds.ps number8-kinds.r number8-reads.Pre number8-reads.Post
+number8 κs a h x y = (bytes-inj 8 (omega arith) (omega arith) (x .ensures ∙ sym (y .ensures)), refl)
+
+pub whole : OneOutcome whole-kinds.ps whole-kinds.r whole-reads.Pre whole-reads.Post
+whole κs a h x y = (wide-told (x .result) (y .result) (omega arith) (omega arith) (omega arith) (omega arith) (x .ensures ∙ sym (y .ensures)), refl)
+
+pub put-whole : OneOutcome put-whole-kinds.ps put-whole-kinds.r put-whole-reads.Pre put-whole-reads.Post
+put-whole κs a h x y = (refl, ap (λ (l : List ℕ). (tt, (l, tt))) (x .ensures ∙ sym (y .ensures)))
 
 pub filled-bytes : OneOutcome filled-bytes-kinds.ps filled-bytes-kinds.r filled-bytes-reads.Pre filled-bytes-reads.Post
 filled-bytes κs a h x y = (x .ensures ∙ sym (y .ensures), refl)

@@ -1,6 +1,7 @@
 // Blocks of sixteen bytes as two words of 64 bits.
 ghost use mathlib.Core.Path.{_≡_};
 ghost use mathlib.Core.List.{[], _∷_, _++_};
+ghost use mathlib.Core.Logic.{_⊎_};
 ghost use Prim.Native.Nat.{_-_, _≤_};
 ghost use lib.ListN.{length, take, replicate};
 ghost use Rattle.words.specs.Bytes.{value, bytes};
@@ -46,7 +47,7 @@ fn load8(b: &[u8]) -> u64
 }
 
 // The eight bytes of a number.
-pub(crate) fn bytes8(x: u64) -> [u8; 8]
+pub fn bytes8(x: u64) -> [u8; 8]
     ensures { λ r. ⌜ r ≡ bytes 8 x ⌝ }
 {
     let x1 = x >> 8;
@@ -84,13 +85,39 @@ fn put8(x: u64, out: &mut [u8])
     out[7] = r[7];
 }
 
+// A full block of 16 or 8 bytes, by whole words; zeros behind the eight.
+pub fn whole(b: &[u8]) -> Block
+    requires { ⌜ (length (now b) ≡ 16) ⊎ (length (now b) ≡ 8) ⌝ }
+    ensures { λ r. ⌜ wide r ≡ now (b .entry) ++ replicate (16 - length (now (b .entry))) 0 ⌝ }
+{
+    if b.len() == 16 {
+        let lo = load8(&b[0..8]);
+        let hi = load8(&b[8..16]);
+        return Block { a: lo, b: hi };
+    }
+    let lo = load8(b);
+    Block { a: lo, b: 0 }
+}
+
+// Writes the first 16 or 8 bytes of x, by whole words.
+pub fn put_whole(x: Block, out: &mut [u8])
+    requires { ⌜ (length (now out) ≡ 16) ⊎ (length (now out) ≡ 8) ⌝ }
+    ensures { λ _. ⌜ now (out .exit) ≡ take (length (now (out .entry))) (wide x) ⌝ }
+{
+    if out.len() == 16 {
+        put8(x.a, &mut out[0..8]);
+        put8(x.b, &mut out[8..16]);
+        return;
+    }
+    put8(x.a, out);
+}
+
 // The bytes of a block.
 pub fn bytes_of(x: Block) -> [u8; 16]
     ensures { λ r. ⌜ r ≡ wide x ⌝ }
 {
     let mut r = [0u8; 16];
-    put8(x.a, &mut r[0..8]);
-    put8(x.b, &mut r[8..16]);
+    put_whole(x, &mut r[0..16]);
     r
 }
 
@@ -98,24 +125,24 @@ pub fn bytes_of(x: Block) -> [u8; 16]
 pub fn block_of(s: [u8; 16]) -> Block
     ensures { λ r. ⌜ wide r ≡ s ⌝ }
 {
-    let lo = load8(&s[0..8]);
-    let hi = load8(&s[8..16]);
-    Block { a: lo, b: hi }
+    whole(&s[0..16])
 }
 
-// The first eight bytes of a block.
-pub fn low_bytes(x: Block) -> [u8; 8]
-    ensures { λ r. ⌜ r ≡ bytes 8 (x .a) ⌝ }
+// The number of these bytes.
+pub fn number8(s: [u8; 8]) -> u64
+    ensures { λ r. ⌜ bytes 8 r ≡ s ⌝ }
 {
-    bytes8(x.a)
+    load8(&s[0..8])
 }
 
-// The block that starts with these bytes, and has zeros behind them.
-pub fn low_block(s: [u8; 8]) -> Block
-    ensures { λ r. ⌜ wide r ≡ s ++ replicate 8 0 ⌝ }
+// Fifteen bytes and a zero: the last eight are read as one number, which loses the byte that was read before.
+fn fifteen(b: &[u8]) -> Block
+    requires { ⌜ length (now b) ≡ 15 ⌝ }
+    ensures { λ r. ⌜ wide r ≡ now (b .entry) ++ (0 ∷ []) ⌝ }
 {
-    let lo = load8(&s[0..8]);
-    Block { a: lo, b: 0 }
+    let lo = load8(&b[0..8]);
+    let hi = load8(&b[7..15]);
+    Block { a: lo, b: hi >> 8 }
 }
 
 // At most sixteen bytes, and zeros behind them, one by one.
@@ -138,13 +165,13 @@ pub fn filled(b: &[u8]) -> Block
     ensures { λ r. ⌜ wide r ≡ now (b .entry) ++ replicate (16 - length (now (b .entry))) 0 ⌝ }
 {
     if b.len() == 16 {
-        let lo = load8(&b[0..8]);
-        let hi = load8(&b[8..16]);
-        return Block { a: lo, b: hi };
+        return whole(b);
     }
     if b.len() == 8 {
-        let lo = load8(b);
-        return Block { a: lo, b: 0 };
+        return whole(b);
+    }
+    if b.len() == 15 {
+        return fifteen(b);
     }
     block_of(filled_bytes(b))
 }
@@ -167,12 +194,11 @@ pub fn put(x: Block, out: &mut [u8])
     ensures { λ _. ⌜ now (out .exit) ≡ take (length (now (out .entry))) (wide x) ⌝ }
 {
     if out.len() == 16 {
-        put8(x.a, &mut out[0..8]);
-        put8(x.b, &mut out[8..16]);
+        put_whole(x, out);
         return;
     }
     if out.len() == 8 {
-        put8(x.a, out);
+        put_whole(x, out);
         return;
     }
     put_bytes(bytes_of(x), out);

@@ -15,21 +15,28 @@ use Rattle.comet.proofs.Turns.{chain-path, marksFrom}
 use Rattle.comet.proofs.crypt.Statement.{statement}
 use Rattle.comet.proofs.crypt.Tie as tie
 
+tables-requires : tie.Need-tables-requires
+tables-requires c κs = search needs
+
 start-requires : tie.Need-start-requires
-start-requires c κs = search needs
+start-requires c κs =
+    let p = c .before .before .before .before .before .before .before .pre in
+    (c .before .tables .ensures, p .0, p .1, p .2, p .3)
 
 absorb-all-requires : tie.Need-absorb-all-requires
-absorb-all-requires c κs = search needs
+absorb-all-requires c κs =
+    let p = c .before .before .before .before .before .before .before .before .before .pre in
+    (c .before .before .before .tables .ensures, p .0, p .1)
 
 crypt-all-requires : tie.Need-crypt-all-requires
 crypt-all-requires c κs =
-    let p = c .before .before .before .before .before .before .before .before .pre in
-    (p .0, p .1, p .2, p .5)
+    let p = c .before .before .before .before .before .before .before .before .before .before .before .before .pre in
+    (c .before .before .before .before .before .before .tables .ensures, p .0, p .1, p .4)
 
 tag-of-requires : tie.Need-tag-of-requires
 tag-of-requires c κs =
-    let p = c .before .before .before .before .before .before .before .before .before .before .before .pre in
-    (p .0, p .1, p .2)
+    let p = c .before .before .before .before .before .before .before .before .before .before .before .before .before .before .before .before .pre in
+    (c .before .before .before .before .before .before .before .before .before .before .tables .ensures, p .0, p .1)
 
 same-length : tie.Need-same-length
 same-length c = search needs
@@ -37,7 +44,7 @@ same-length c = search needs
 returns : tie.Need-returns
 unfolding start afterData textOut tagOut marks
 returns c =
-    let st = c .before .before .before .before .before .before .before .before .before .before .before .before in
+    let st = c .before .before .before .before .before .before .before .before .before .before .before .before .before .before .before .before .before in
     let suite = st .args .suite in
     let κ = cipherOf suite in
     let d = st .args .opening in
@@ -46,9 +53,9 @@ returns c =
     let nonce = now (st .args .nonce) in
     let ad = now (st .args .ad) in
     let text = now (st .args .text) in
-    let begun = c .before .before .before .before .before .before .start in
-    let read = c .before .before .before .before .before .absorb-all in
-    let done = c .before .before .before .crypt-all in
+    let begun = c .before .before .before .before .before .before .before .before .before .start in
+    let read = c .before .before .before .before .before .before .before .absorb-all in
+    let done = c .before .before .before .before .crypt-all in
     let later = marksFrom n 0x20 0x40 (length text) (0x80 ∷ []) in
     let e : afterData κ key nonce ad (length text) ≡ chain suite (read .result) later =
     ap (λ (x : Chain). absorb κ x (blocks n ad)) (sym (chain-path (begun .ensures .0) (ap (λ (z : List ℕ). keys z (marks n (length ad) (length text))) (begun .ensures .1))))
@@ -61,6 +68,7 @@ pub crypt-spec : {M : Type 1} → statement M
 crypt-spec =
     tie.close
     (tie.spec
+    tables-requires
     start-requires
     absorb-all-requires
     crypt-all-requires

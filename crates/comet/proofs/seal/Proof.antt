@@ -32,17 +32,14 @@ returns c =
     sealing-kept (x .suite) (now (x .key)) (now (x .nonce)) (now (x .ad)) (now (x .msg)) (now (x .out)) (now (x .tag)) (numberOf a) (c .before .refused .ensures)
     (subst (λ (j : ℕ). 0 < j) (place-is a) (one-of-pos _ (c .match .keys2)))
 
-tables-requires : tie.Need-tables-requires
-tables-requires c κs = search needs
-
 crypt-requires : tie.Need-crypt-requires
 crypt-requires c κs =
-    let p = ok (c .before .before .before .before) in
-    (c .before .before .tables .ensures, p .low, p .high, p .key, p .nonce, p .room)
+    let p = ok (c .before .before) in
+    (p .low, p .high, p .key, p .nonce, p .room)
 
 put-requires : tie.Need-put-requires
 put-requires c κs =
-    omega (arith, ok (c .before .before .before .before .before .before .before .before) .tag, size-most (c .before .before .before .before .before .before .before .before .before .before .before .before .before .before .before .before .args .suite))
+    omega (arith, ok (c .before .before .before .before .before .before) .tag, size-most (c .before .before .before .before .before .before .before .before .before .before .before .before .before .before .args .suite))
 
 same-length : tie.Need-same-length
 same-length c = search needs
@@ -52,8 +49,8 @@ same-length-2 c = search needs
 
 returns-2 : tie.Need-returns-2
 returns-2 c =
-    let x = c .before .before .before .before .before .before .before .before .before .before .before .before .before .before .before .before .before .before .before .args in
-    let k = c .before .before .before .before .before .before .before .before .before .before .before in
+    let x = c .before .before .before .before .before .before .before .before .before .before .before .before .before .before .before .before .before .args in
+    let k = c .before .before .before .before .before .before .before .before .before in
     let a = k .before .refused .result in
     let t = c .before .before .before .before .before .before .crypt in
     sealing-done (x .suite) (now (x .key)) (now (x .nonce)) (now (x .ad)) (now (x .msg)) (now (x .out)) (now (x .tag)) (numberOf a) (k .before .refused .ensures)
@@ -67,7 +64,6 @@ seal-spec =
     refused-requires
     enum-told
     returns
-    tables-requires
     crypt-requires
     put-requires
     same-length

@@ -26,10 +26,10 @@ ok c = passed _ _ _ _ _ _ _ (sym (c .before .refused .ensures) ∙ sym (place-is
 
 module _ (d : tie.After-same) where
   abbrev x : tie.Start
-  x = d .before .before .before .before .before .before .before .before .before .before .before .before .before .before .before .before
+  x = d .before .before .before .before .before .before .before .before .before .before .before .before .before .before
 
   abbrev k : tie.At-match-keys1
-  k = d .before .before .before .before .before .before .before .before
+  k = d .before .before .before .before .before .before
 
   -- what the comparison compared
   same-is : d .same .result ≡ sameBytes (tagOut (cipherOf (x .args .suite)) true (now (x .args .key)) (now (x .args .nonce)) (now (x .args .ad)) (now (x .args .text))) (now (x .args .tag))
@@ -59,17 +59,14 @@ returns c =
     opening-kept (x .suite) (now (x .key)) (now (x .nonce)) (now (x .ad)) (now (x .text)) (now (x .tag)) (now (x .out)) (numberOf a) (c .before .refused .ensures)
     (subst (λ (j : ℕ). 0 < j) (place-is a) (one-of-pos _ (c .match .keys2)))
 
-tables-requires : tie.Need-tables-requires
-tables-requires c κs = search needs
-
 crypt-requires : tie.Need-crypt-requires
 crypt-requires c κs =
-    let p = ok (c .before .before .before .before) in
-    (c .before .before .tables .ensures, p .low, p .high, p .key, p .nonce, p .room)
+    let p = ok (c .before .before) in
+    (p .low, p .high, p .key, p .nonce, p .room)
 
 same-requires : tie.Need-same-requires
 same-requires c κs =
-    omega (arith, ok (c .before .before .before .before .before .before .before) .tag, size-most (c .before .before .before .before .before .before .before .before .before .before .before .before .before .before .before .args .suite))
+    omega (arith, ok (c .before .before .before .before .before) .tag, size-most (c .before .before .before .before .before .before .before .before .before .before .before .before .before .args .suite))
 
 same-length : tie.Need-same-length
 same-length c = search needs
@@ -87,7 +84,7 @@ same-length-2 c = search needs
 
 returns-3 : tie.Need-returns-3
 returns-3 c =
-    let e = c .before .before .wipe .ensures ∙ ap (λ (n : ℕ). replicate n 0) (c .before .before .before .before .before .before .before .before .crypt .kept .1 .1 .1 .1 .1 .1 .1 .0) in
+    let e = c .before .before .wipe .ensures ∙ ap (λ (n : ℕ). replicate n 0) (c .before .before .before .before .before .before .before .before .crypt .kept .1 .1 .1 .1 .1 .1 .0) in
     let path : _≡_ {A = Opened} (record { number = 8; out = _ }) (record { number = 8; out = _ }) = λ i. record { number = 8; out = e i } in
     path ∙ done (c .before .before .before .before .before) false (c .before .before .before .before .if1 .left)
 
@@ -98,7 +95,6 @@ unseal-spec =
     refused-requires
     enum-told
     returns
-    tables-requires
     crypt-requires
     same-requires
     same-length

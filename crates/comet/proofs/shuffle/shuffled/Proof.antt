@@ -16,16 +16,22 @@ use Rattle.comet.proofs.Words.{half-fits, quarter-fits, join-fits, shuf
 use Rattle.comet.proofs.shuffle.shuffled.Statement.{statement}
 use Rattle.comet.proofs.shuffle.shuffled.Tie as tie
 
-ror32-requires : tie.Need-ror32-requires
-ror32-requires c κs = search needs
+cast-rotl32 : tie.Need-cast-rotl32
+cast-rotl32 c = search needs
 
-mul-t8 : tie.Need-mul-t8
-mul-t8 c = search needs
+rotl32-requires : tie.Need-rotl32-requires
+rotl32-requires c κs = search needs
 
-add-t9 : tie.Need-add-t9
-add-t9 c =
+cast-t : tie.Need-cast-t
+cast-t c = search needs
+
+mul-t10 : tie.Need-mul-t10
+mul-t10 c = search needs
+
+add-t11 : tie.Need-add-t11
+add-t11 c =
     let x = c .before .before .before .before .args .x in
-    record { fits = half-fits (x .b) (c .before .ror32 .result) (omega arith) (c .before .ror32 .ensures .1) }
+    record { fits = half-fits (x .b) (c .before .rotl32 .result) (omega arith) (omega arith) }
 
 returns : tie.Need-returns
 returns c =
@@ -35,31 +41,37 @@ returns c =
     let b = x .b in
     let hb : b < 2 ^ 64 = omega arith in
     let en : sizeOf (st .args .suite) ≡ 16 = size-16 (st .args .suite) (omega arith) in
-    let v = b / 0x1_0000_0000 + 0x1_0000_0000 * c .before .ror32 .result in
+    let v = b / 0x1_0000_0000 + 0x1_0000_0000 * c .before .rotl32 .result in
     rw en
     (take-all 16 (bytes 8 v ++ bytes 8 a) (le-of-eq (length-wide v a))
-    ∙ ap (λ (t : ℕ). bytes 8 (b / 0x1_0000_0000 + 0x1_0000_0000 * t) ++ bytes 8 a) (c .before .ror32 .ensures .0)
+    ∙ ap (λ (t : ℕ). bytes 8 (b / 0x1_0000_0000 + 0x1_0000_0000 * t) ++ bytes 8 a) (c .before .rotl32 .ensures)
     ∙ shuffle-16 a b hb
     ∙ ap (shuffle 16) (sym (take-all 16 (wide x) (le-of-eq (length-wide a b)))))
 
-ror16-requires : tie.Need-ror16-requires
-ror16-requires c κs = search needs
+cast-rotl16 : tie.Need-cast-rotl16
+cast-rotl16 c = search needs
 
-mul-t11 : tie.Need-mul-t11
-mul-t11 c = search needs
+rotl16-requires : tie.Need-rotl16-requires
+rotl16-requires c κs = search needs
 
-add-t12 : tie.Need-add-t12
-add-t12 c =
+cast-t-2 : tie.Need-cast-t-2
+cast-t-2 c = search needs
+
+mul-t15 : tie.Need-mul-t15
+mul-t15 c = search needs
+
+add-t16 : tie.Need-add-t16
+add-t16 c =
     let x = c .before .before .before .args .x in
-    record { fits = quarter-fits (x .a) (c .ror16 .result) (omega arith) (c .ror16 .ensures .1) }
+    record { fits = quarter-fits (x .a) (c .rotl16 .result) (omega arith) (omega arith) }
 
-mul-t14 : tie.Need-mul-t14
-mul-t14 c = search needs
+mul-t18 : tie.Need-mul-t18
+mul-t18 c = search needs
 
-add-t15 : tie.Need-add-t15
-add-t15 c =
+add-t19 : tie.Need-add-t19
+add-t19 c =
     let x = c .before .before .before .before .args .x in
-    record { fits = join-fits (x .a) (c .before .ror16 .result) (omega arith) (c .before .ror16 .ensures .1) }
+    record { fits = join-fits (x .a) (c .before .rotl16 .result) (omega arith) (omega arith) }
 
 returns-2 : tie.Need-returns-2
 returns-2 c =
@@ -69,10 +81,10 @@ returns-2 c =
     let h = a / 0x1_0000_0000 in
     let ha : a < 2 ^ 64 = omega arith in
     let en : sizeOf (st .args .suite) ≡ 8 = size-8 (st .args .suite) (omega arith) in
-    let v = h / 0x1_0000 + 0x1_0000 * c .before .ror16 .result + 0x1_0000_0000 * (a % 0x1_0000_0000) in
+    let v = h / 0x1_0000 + 0x1_0000 * c .before .rotl16 .result + 0x1_0000_0000 * (a % 0x1_0000_0000) in
     rw en
     (first-eight v 0
-    ∙ ap (λ (t : ℕ). bytes 8 (h / 0x1_0000 + 0x1_0000 * t + 0x1_0000_0000 * (a % 0x1_0000_0000))) (c .before .ror16 .ensures .0)
+    ∙ ap (λ (t : ℕ). bytes 8 (h / 0x1_0000 + 0x1_0000 * t + 0x1_0000_0000 * (a % 0x1_0000_0000))) (c .before .rotl16 .ensures)
     ∙ shuffle-8 a ha
     ∙ ap (shuffle 8) (sym (first-eight a (x .b))))
 
@@ -80,13 +92,17 @@ pub shuffled-spec : {M : Type 1} → statement M
 shuffled-spec =
     tie.close
     (tie.spec
-    ror32-requires
-    mul-t8
-    add-t9
+    cast-rotl32
+    rotl32-requires
+    cast-t
+    mul-t10
+    add-t11
     returns
-    ror16-requires
-    mul-t11
-    add-t12
-    mul-t14
-    add-t15
+    cast-rotl16
+    rotl16-requires
+    cast-t-2
+    mul-t15
+    add-t16
+    mul-t18
+    add-t19
     returns-2)

@@ -1,9 +1,9 @@
 -- `comet::state::start` meets its contract: key and nonce by whole words, by the block size.
 use borrow.Author.Needs.{needs}
 use denote.Ref.{now}
-use lib.ListN.{length, take, replicate}
+use lib.ListN.{length, take}
 use lib.Seq.{take-all}
-use mathlib.Core.List.{[], _∷_, _++_}
+use mathlib.Core.List.{List, [], _∷_, _++_}
 use mathlib.Core.Path.{_≡_, sym, ap, ap₂, _∙_}
 use native.Mathlib.Omega.{arith}
 use Prim.Native.Nat.{ℕ, _+_, _-_}
@@ -11,7 +11,7 @@ use Rattle.words.specs.Blocks.{wide}
 use Rattle.words.specs.Bytes.{bytes}
 use Rattle.words.specs.Words.{xor}
 use Rattle.words.specs.Xors.{xors}
-use Rattle.words.proofs.Blocks.{length-wide}
+use Rattle.words.proofs.Blocks.{first-eight}
 use Rattle.cipher.specs.Cipher.{sizeOf, cipherOf}
 use Rattle.cipher.proofs.Suites.{size-16, size-8}
 use Rattle.mode.proofs.Start.{nonce-most, nonce-wide, nonce-narrow, startY-wide, startY-narrow, startZ-wide, startZ-narrow}
@@ -25,8 +25,8 @@ filled-requires c κs = search needs
 filled-requires-2 : tie.Need-filled-requires-2
 filled-requires-2 c κs = omega (arith, nonce-most (cipherOf (c .before .before .before .args .suite)))
 
-encipher-requires : tie.Need-encipher-requires
-encipher-requires c κs = search needs
+encipher16-requires : tie.Need-encipher16-requires
+encipher16-requires c κs = search needs
 
 returns : tie.Need-returns
 returns c =
@@ -39,16 +39,13 @@ returns c =
     let lk : length key ≡ 16 = st .pre .3 in
     let ek : wide (c .before .before .before .filled .result) ≡ key = filled-full key _ lk (c .before .before .before .filled .ensures) in
     let lv : length v ≡ 16 = st .pre .4 ∙ nonce-wide κ en in
-    let ev : wide (c .before .before .filled2 .result) ≡ v = filled-full v _ lv (c .before .before .filled2 .ensures) in
-    let z = wide (c .encipher .result) in
-    let lz : length z ≡ 16 = length-wide (c .encipher .result .a) (c .encipher .result .b) in (
+    let ev : wide (c .before .before .filled2 .result) ≡ v = filled-full v _ lv (c .before .before .filled2 .ensures) in (
       ap (take (sizeOf suite)) ek ∙ take-all (sizeOf suite) key (omega arith) ∙ sym (startY-wide κ key en),
-      sym (take-all (sizeOf suite) z (omega arith)) ∙ c .encipher .ensures .0
-          ∙ ap₂ (κ .E) ek (ap (take (sizeOf suite)) ev ∙ take-all (sizeOf suite) v (omega arith)) ∙ sym (startZ-wide κ key v en),
+      c .encipher16 .ensures ∙ ap₂ (κ .E) ek ev ∙ sym (startZ-wide κ key v en),
     )
 
-encipher-requires-2 : tie.Need-encipher-requires-2
-encipher-requires-2 c κs = search needs
+encipher8-requires : tie.Need-encipher8-requires
+encipher8-requires c κs = search needs
 
 xor-requires : tie.Need-xor-requires
 xor-requires c κs = search needs
@@ -64,9 +61,10 @@ returns-2 c =
     let en : sizeOf suite ≡ 8 = size-8 suite (omega arith) in
     let lk : length key ≡ 16 = st .pre .3 in
     let ek : wide (c .before .before .before .before .filled .result) ≡ key = filled-full key _ lk (c .before .before .before .before .filled .ensures) in
+    let y = c .before .encipher8 .result in
     let lv : length v ≡ 15 = st .pre .4 ∙ nonce-narrow κ en in
     let ev : wide (c .before .before .before .filled2 .result) ≡ v ++ (0 ∷ []) = filled-one v _ lv (c .before .before .before .filled2 .ensures) in (
-      c .before .encipher2 .ensures .0 ∙ ap₂ (κ .E) ek (ap (λ (n : ℕ). take n (replicate 16 0)) en) ∙ sym (startY-narrow κ key en),
+      ap (λ (n : ℕ). take n (bytes 8 y ++ bytes 8 0)) en ∙ first-eight y 0 ∙ c .before .encipher8 .ensures ∙ ap (λ (k : List ℕ). κ .E k (bytes 8 0)) ek ∙ sym (startY-narrow κ key en),
       c .xor .ensures ∙ ap₂ xors ek ev ∙ nonce-on-key key v lk lv ∙ sym (startZ-narrow κ key v en),
     )
 
@@ -76,8 +74,8 @@ start-spec =
     (tie.spec
     filled-requires
     filled-requires-2
-    encipher-requires
+    encipher16-requires
     returns
-    encipher-requires-2
+    encipher8-requires
     xor-requires
     returns-2)

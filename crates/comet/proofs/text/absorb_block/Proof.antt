@@ -1,35 +1,31 @@
--- `comet::text::absorb_block` meets its contract: one turn of the state is one step of the chain.
+-- `comet::text::absorb_block` meets its contract: a full block goes in as it is.
 use borrow.Author.Needs.{needs}
 use denote.Ref.{now}
-use mathlib.Core.List.{List, _∷_}
-use mathlib.Core.Path.{ap, _∙_}
-use Prim.Native.Nat.{ℕ, _-_}
-use Rattle.words.specs.Xors.{xors}
-use Rattle.cipher.specs.Cipher.{sizeOf, cipherOf}
-use Rattle.mode.specs.Keys.{keys}
-use Rattle.mode.specs.Words.{pad}
-use Rattle.comet.specs.Chain.{chain}
-use Rattle.comet.proofs.Turns.{step-is}
+use Prim.Native.Nat.{_-_}
+use Rattle.words.specs.Blocks.{wide}
+use Rattle.cipher.specs.Cipher.{sizeOf}
+use Rattle.comet.proofs.Words.{full-two, pad-kept}
+use Rattle.comet.proofs.Turns.{put-in}
 use Rattle.comet.proofs.text.absorb_block.Statement.{statement}
 use Rattle.comet.proofs.text.absorb_block.Tie as tie
 
 turn-requires : tie.Need-turn-requires
 turn-requires c κs = search needs
 
+whole-requires : tie.Need-whole-requires
+whole-requires c κs = full-two _ (c .before .before .args .suite) (c .before .before .pre .3)
+
 mix-requires : tie.Need-mix-requires
 mix-requires c κs = search needs
 
 returns : tie.Need-returns
-unfolding keys
 returns c =
-    λ ms.
-    let st = c .before .before .before in
+    let st = c .before .before .before .before in
     let suite = st .args .suite in
     let b = now (st .args .b) in
-    let t = c .before .turn in
-    step-is (cipherOf suite) (chain suite (st .args .s) (st .args .m ∷ ms)) b _ _
-    (c .mix .ensures .0 ∙ ap (λ (y : List ℕ). xors y (pad (sizeOf suite) b)) (t .ensures .0))
-    (ap (λ (z : List ℕ). keys z ms) (c .mix .ensures .1 ∙ t .ensures .1))
+    let t = c .before .before .turn in
+    put-in suite (st .args .s) (t .result) (st .args .m) (t .ensures .0) (t .ensures .1) b (wide (c .before .whole .result)) (c .mix .result)
+    (pad-kept (sizeOf suite) b (wide (c .before .whole .result)) (st .pre .3) (c .before .whole .ensures)) (c .mix .ensures .0) (c .mix .ensures .1)
 
 pub absorb-block-spec : {M : Type 1} → statement M
-absorb-block-spec = tie.close (tie.spec turn-requires mix-requires returns)
+absorb-block-spec = tie.close (tie.spec turn-requires whole-requires mix-requires returns)

@@ -9,6 +9,9 @@ unseal-requires c κs = search needs
 number-requires : tie.Need-number-requires
 number-requires c κs = search needs
 
+cast-result : tie.Need-cast-result
+cast-result c = search needs
+
 same-length : tie.Need-same-length
 same-length c = search needs
 
@@ -16,4 +19,4 @@ returns : tie.Need-returns
 returns c = rw (c .number .ensures) (c .before .before .before .unseal .ensures)
 
 pub comet-open-spec : {M : Type 1} → statement M
-comet-open-spec = tie.close (tie.spec unseal-requires number-requires same-length returns)
+comet-open-spec = tie.close (tie.spec unseal-requires number-requires cast-result same-length returns)

@@ -9,6 +9,9 @@ seal-requires c κs = search needs
 number-requires : tie.Need-number-requires
 number-requires c κs = search needs
 
+cast-result : tie.Need-cast-result
+cast-result c = search needs
+
 same-length : tie.Need-same-length
 same-length c = search needs
 
@@ -20,4 +23,4 @@ returns c = rw (c .number .ensures) (c .before .before .before .before .before .
 
 pub comet-seal-spec : {M : Type 1} → statement M
 comet-seal-spec =
-    tie.close (tie.spec seal-requires number-requires same-length same-length-2 returns)
+    tie.close (tie.spec seal-requires number-requires cast-result same-length same-length-2 returns)

@@ -1,53 +1,34 @@
--- `words::block::block_of` meets its contract: the two halves are read one after the other.
+-- `words::block::block_of` meets its contract: sixteen bytes are a full block.
 use borrow.Author.Needs.{needs}
 use Prim.Native.Nat.{ℕ, _+_, _-_}
-use mathlib.Core.Path.{_≡_, ap₂, _∙_}
+use mathlib.Core.Path.{_≡_, ap, _∙_}
 use mathlib.Core.List.{List, _++_}
-use lib.ListN.{length}
-use Rattle.words.proofs.Lists.{two-takes}
+use mathlib.Core.Logic.{inl}
+use native.Mathlib.Omega.{arith}
+use lib.ListN.{length, replicate}
+use lib.Seq.{take-all}
+use Rattle.words.proofs.Fill.{full-zeros}
 use Rattle.words.proofs.block.block_of.Statement.{statement}
 use Rattle.words.proofs.block.block_of.Tie as tie
 
-sub-load8 : tie.Need-sub-load8
-sub-load8 c = search needs
+sub-whole : tie.Need-sub-whole
+sub-whole c = search needs
 
-part-load8-start : tie.Need-part-load8-start
-part-load8-start c = search needs
+part-whole-start : tie.Need-part-whole-start
+part-whole-start c = search needs
 
-part-load8-end : tie.Need-part-load8-end
-part-load8-end c = search needs
+part-whole-end : tie.Need-part-whole-end
+part-whole-end c = search needs
 
-load8-requires : tie.Need-load8-requires
-load8-requires c κs = search needs
-
-sub-load8-2 : tie.Need-sub-load8-2
-sub-load8-2 c = search needs
-
-part-load8-start-2 : tie.Need-part-load8-start-2
-part-load8-start-2 c = search needs
-
-part-load8-end-2 : tie.Need-part-load8-end-2
-part-load8-end-2 c = search needs
-
-load8-requires-2 : tie.Need-load8-requires-2
-load8-requires-2 c κs = search needs
+whole-requires : tie.Need-whole-requires
+whole-requires c κs = inl (search needs)
 
 returns : tie.Need-returns
 returns c =
-    let s = c .before .before .before .before .before .before .args .t1 in
+    let s = c .before .before .before .args .t1 in
     let ls : length s ≡ 16 = search needs in
-    ap₂ (λ (x y : List ℕ). x ++ y) (c .before .before .before .load8 .ensures) (c .load82 .ensures) ∙ two-takes 8 s ls
+    c .whole .ensures ∙ ap (λ (l : List ℕ). l ++ replicate (16 - length l) 0) (take-all 16 s (omega arith)) ∙ full-zeros s ls
 
 pub block-of-spec : {M : Type 1} → statement M
 block-of-spec =
-    tie.close
-    (tie.spec
-    sub-load8
-    part-load8-start
-    part-load8-end
-    load8-requires
-    sub-load8-2
-    part-load8-start-2
-    part-load8-end-2
-    load8-requires-2
-    returns)
+    tie.close (tie.spec sub-whole part-whole-start part-whole-end whole-requires returns)
