@@ -6,7 +6,6 @@
 use libc::STDOUT_FILENO;
 use shift::answers::Found;
 ghost use Prim.Native.Nat.{_≤_};
-ghost use lib.ListN.{length};
 
 // Reads the file that argument i names into buf, as far as it goes.
 fn load(i: usize, buf: &mut [u8]) -> &[u8] {

@@ -3,7 +3,7 @@ use libc::STDOUT_FILENO;
 ghost use mathlib.Core.Path.{_≡_};
 ghost use Prim.Native.Nat.{_+_, _*_, _≤_, _<_};
 ghost use lib.ListN.{length};
-ghost use Rattle.lines.specs.Fold.{foldFrom, foldOf, next};
+ghost use Rattle.lines.specs.Fold.{foldOf, next};
 
 pub fn number(n: u64) {
     io::print_decimal(STDOUT_FILENO, n);

@@ -1,6 +1,6 @@
 -- COMET version 1 over a block cipher (document 01, "Bytes, words and the two states"; source 000, algorithms 1 to 3): the start, the chain, the ciphertext and the tag.
 use Prim.Native.Nat.{ℕ}
-use mathlib.Core.Bool.{Bool, true, false, cond}
+use mathlib.Core.Bool.{Bool, false, cond}
 use mathlib.Core.List.{List, [], _∷_, _++_}
 use lib.ListN.{length, take, drop, replicate}
 use lib.Dec.{eqb}

@@ -1,6 +1,6 @@
 -- The mode's work on bytes and words: doubling, shuffle, padding.
 use Prim.Native.Nat.{ℕ, suc, _+_, _-_, _*_, _/_, _%_, _^_}
-use mathlib.Core.List.{List, [], _∷_, _++_}
+use mathlib.Core.List.{List, _∷_, _++_}
 use lib.ListN.{length, replicate}
 use lib.Dec.{ltb, leb}
 use mathlib.Core.Bool.{cond}

@@ -1,19 +1,16 @@
 -- The opener by cases: lengths right and the tag right, or wrong.
-use mathlib.Core.Path.{_≡_, refl, sym, ap, ap₂, _∙_, subst}
-use mathlib.Core.Bool.{Bool, true, false, cond}
-use Prim.Native.Nat.{ℕ, zero, suc, _≤_, _<_}
+use mathlib.Core.Path.{_≡_, refl, sym, ap, _∙_}
+use mathlib.Core.Bool.{Bool, true, false}
+use Prim.Native.Nat.{ℕ}
 use native.Mathlib.Nat.{suc-ne-zero}
-use native.Mathlib.Omega.{arith}
-use mathlib.Core.List.{List, [], _∷_}
+use mathlib.Core.List.{List}
 use lib.ListN.{length, replicate}
-use lib.Dec.{eqb}
-use borrow.Author.Tests.{eq-eqb, eqb-true}
 use Rattle.words.specs.Bytes.{sameBytes}
 use Rattle.words.proofs.Same.{same-refl, same-true}
-use Rattle.cipher.specs.Cipher.{Block, cipherOf, sizeOf}
+use Rattle.cipher.specs.Cipher.{cipherOf, sizeOf}
 use Rattle.mode.specs.Mode.{textOut, tagOut}
 use Rattle.comet.specs.Answers.{refusal, Opened, openedAs, opening}
-use Rattle.comet.proofs.Refuse.{Passed, none-bad}
+use Rattle.comet.proofs.Refuse.{none-bad}
 use Rattle.promises.specs.Input.{Input}
 
 -- ---- lengths that are right

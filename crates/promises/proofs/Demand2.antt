@@ -1,15 +1,14 @@
 -- Demand 2 by citation: sealing and opening undo each other, so the pairs that open are those that sealing makes.
-use mathlib.Core.Path.{_≡_, refl, sym, ap, ap₂, _∙_, subst}
-use mathlib.Core.Bool.{Bool, true, false}
+use mathlib.Core.Path.{_≡_, refl, sym, ap, _∙_, subst}
+use mathlib.Core.Bool.{true, false}
 use Prim.Native.Nat.{ℕ, _≤_}
 use mathlib.Core.List.{List}
 use lib.ListN.{length}
-use Rattle.words.specs.Bytes.{AllBytes}
-use Rattle.cipher.specs.Cipher.{Block, cipherOf, sizeOf}
+use Rattle.cipher.specs.Cipher.{Block, cipherOf}
 use Rattle.cipher.proofs.Lawful.{lawful}
 use Rattle.mode.specs.Mode.{ciphertext, tag, textOut, tagOut}
 use Rattle.mode.proofs.Demand2.{text-length, text-bytes, text-back, tag-back, tag-block}
-use Rattle.comet.specs.Answers.{Sealed, sealedAs, sealing, Opened, opening}
+use Rattle.comet.specs.Answers.{sealedAs, sealing, Opened}
 use Rattle.promises.specs.Input.{Input}
 use Rattle.promises.specs.Demand2.{Sealing, Accepting, Returning, RoundTrip}
 use Rattle.promises.proofs.Answers.{right, opens, opened-tag}

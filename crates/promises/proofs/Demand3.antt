@@ -1,11 +1,9 @@
 -- Demand 3 by citation: equal tags would make the two inputs equal.
-use mathlib.Core.Path.{_≡_, refl, sym, ap, ap₂, _∙_, subst}
-use mathlib.Core.Bool.{Bool, true, false}
-use mathlib.Core.Logic.{_⊎_, inl, inr}
-use Prim.Native.Nat.{ℕ, _+_, _*_, _≤_, _<_}
+use mathlib.Core.Path.{_≡_, sym, ap, _∙_}
+use mathlib.Core.Bool.{true, false}
+use mathlib.Core.Logic.{inl, inr}
+use Prim.Native.Nat.{ℕ}
 use mathlib.Core.List.{List, []}
-use lib.ListN.{length, getD, take, drop, replicate}
-use Rattle.words.specs.Bytes.{AllBytes}
 use Rattle.words.proofs.Lists.{nil-of, all-nil}
 use Rattle.cipher.specs.Cipher.{Block, cipherOf, sizeOf}
 use Rattle.cipher.proofs.Lawful.{lawful}
@@ -14,7 +12,7 @@ use Rattle.mode.proofs.Demand2.{tag-back, text-length}
 use Rattle.mode.proofs.Demand3.{same-before, same-behind, message-told, data-told}
 use Rattle.mode.proofs.LastBlock.{last-told}
 use Rattle.comet.specs.declared.Answer.{Answer}
-use Rattle.comet.specs.Answers.{numberOf, Opened, opening}
+use Rattle.comet.specs.Answers.{numberOf, Opened}
 use Rattle.promises.specs.Input.{Input}
 use Rattle.promises.specs.Demand3.{OneBlock, LastBlock, EmptyMessage}
 use Rattle.promises.proofs.Answers.{opened-tag, refuses}

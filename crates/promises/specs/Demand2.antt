@@ -7,7 +7,7 @@ use lib.ListN.{length}
 use Rattle.words.specs.Bytes.{AllBytes}
 use Rattle.cipher.specs.Cipher.{cipherOf, sizeOf}
 use Rattle.mode.specs.Mode.{ciphertext, tag}
-use Rattle.comet.specs.Answers.{Sealed, sealing, Opened, opening}
+use Rattle.comet.specs.Answers.{sealing, opening}
 use Rattle.promises.specs.Input.{Input}
 
 -- the sealer's outputs are the specification's

@@ -4,7 +4,6 @@ use mathlib.Core.Logic.{_⊎_}
 use Prim.Native.Nat.{ℕ, _+_, _*_, _≤_, _<_}
 use mathlib.Core.List.{List, []}
 use lib.ListN.{length, getD, replicate}
-use Rattle.words.specs.Bytes.{AllBytes}
 use Rattle.cipher.specs.Cipher.{cipherOf, sizeOf}
 use Rattle.mode.specs.Mode.{tag}
 use Rattle.comet.specs.declared.Answer.{Answer}

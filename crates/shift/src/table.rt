@@ -11,7 +11,6 @@ use crate::row::row_start;
 use crate::rules::body_start;
 use crate::rules::check_row;
 ghost use mathlib.Core.Path.{_≡_};
-ghost use Rattle.shift.specs.Format.{rowAt};
 ghost use Rattle.shift.specs.Answers.{answer, checkedAnswer, foundAnswer};
 ghost use Rattle.shift.specs.Check.{headNumber, rowsFrom, checkAs};
 ghost use Rattle.shift.specs.Lookup.{findFrom, lookupAs};
