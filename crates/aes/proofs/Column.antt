@@ -84,21 +84,23 @@ turned x h =
     ∙ bytes-join 3 1 (x / 256) (x % 256) (omega arith)
     ∙ ap (λ (v : ℕ). bytes 3 (x / 256) ++ (v ∷ [])) f
 
-mixed-cell : (a b c d : ℕ) → xor (xor (xor (xtime (xor a b)) b) c) d ≡ mixed a b c d
+mixed-cell : (a b c d : ℕ) → xor (xor (xtime (xor a b)) b) (xor c d) ≡ mixed a b c d
 mixed-cell a b c d =
-    ap (λ (v : ℕ). xor (xor v c) d) (ap (λ (v : ℕ). xor v b) (xtime-sum a b) ∙ assoc (xtime a) (xtime b) b) ∙ sym (mixed-is a b c d)
+    sym (assoc (xor (xtime (xor a b)) b) c d)
+    ∙ ap (λ (v : ℕ). xor (xor v c) d) (ap (λ (v : ℕ). xor v b) (xtime-sum a b) ∙ assoc (xtime a) (xtime b) b)
+    ∙ sym (mixed-is a b c d)
 
-pub mixed-column : (x y z u v : ℕ) → bytes 4 y ≡ rotWord (bytes 4 x) → bytes 4 z ≡ rotWord (bytes 4 y) → bytes 4 u ≡ rotWord (bytes 4 z)
-    → bytes 4 v ≡ map xtime (bytes 4 (xor x y)) → bytes 4 (xor (xor (xor v y) z) u) ≡ mixColumn (bytes 4 x)
+-- y is x turned, q the sum of both turned twice, and v that sum doubled
+pub mixed-column : (x y p q v : ℕ) → bytes 4 y ≡ rotWord (bytes 4 x) → bytes 4 v ≡ map xtime (bytes 4 (xor x y))
+    → bytes 4 p ≡ rotWord (bytes 4 (xor x y)) → bytes 4 q ≡ rotWord (bytes 4 p) → bytes 4 (xor (xor v y) q) ≡ mixColumn (bytes 4 x)
 unfolding bytes
-mixed-column x y z u v ey ez eu ev =
+mixed-column x y p q v ey ev ep eq =
     let l = bytes 4 x in
-    let fz : bytes 4 z ≡ rotWord (rotWord l) = ez ∙ ap rotWord ey in
-    let fu : bytes 4 u ≡ rotWord (rotWord (rotWord l)) = eu ∙ ap rotWord fz in
-    let fv : bytes 4 v ≡ map xtime (xors l (rotWord l)) = ev ∙ ap (map xtime) (bytes-xor 4 x y ∙ ap (xors l) ey) in
+    let fw : bytes 4 (xor x y) ≡ xors l (rotWord l) = bytes-xor 4 x y ∙ ap (xors l) ey in
+    let fq : bytes 4 q ≡ rotWord (rotWord (xors l (rotWord l))) = eq ∙ ap rotWord (ep ∙ ap rotWord fw) in
     let at : ℕ → ℕ → ℕ = λ r k. getD l ((r + k) % 4) 0 in
-    bytes-xor 4 (xor (xor v y) z) u
-    ∙ ap₂ xors (bytes-xor 4 (xor v y) z ∙ ap₂ xors (bytes-xor 4 v y ∙ ap₂ xors fv ey) fz) fu
-    ∙ from-same (λ r. xor (xor (xor (xtime (xor (at r 0) (at r 1))) (at r 1)) (at r 2)) (at r 3))
+    bytes-xor 4 (xor v y) q
+    ∙ ap₂ xors (bytes-xor 4 v y ∙ ap₂ xors (ev ∙ ap (map xtime) fw) ey) fq
+    ∙ from-same (λ r. xor (xor (xtime (xor (at r 0) (at r 1))) (at r 1)) (xor (at r 2) (at r 3)))
     (λ r. mixed (at r 0) (at r 1) (at r 2) (at r 3))
     (λ r. mixed-cell (at r 0) (at r 1) (at r 2) (at r 3)) 0 4

@@ -1,24 +1,52 @@
 -- The engine's turns are the rounds of the definition: after i turns it holds round key i and the state after i rounds.
-use mathlib.Core.Path.{_≡_, refl, sym, ap, ap₂, _∙_}
-use mathlib.Core.List.{List, [], _∷_, map}
-use Prim.Native.Nat.{ℕ, zero, suc, _+_, _-_}
+use mathlib.Core.Path.{_≡_, refl, sym, ap, ap₂, _∙_, subst}
+use mathlib.Core.List.{List, [], _∷_}
+use Prim.Native.Nat.{ℕ, zero, suc, _+_, _-_, _*_, _/_, _%_, _<_}
 use native.Mathlib.Numerals.{add-one}
 use native.Mathlib.Omega.{arith}
-use lib.Dec.{ltb}
+use lib.Dec.{T, ltb, eqb, eqb→eq}
 use lib.ListN.{length}
-use mathlib.Core.Bool.{cond}
+use mathlib.Core.Bool.{Bool, cond}
 use Rattle.words.specs.Words.{xor}
+use Rattle.words.specs.Bytes.{bytes}
+use Rattle.words.proofs.Table.{below, at-below}
 use Rattle.fips197.specs.Field.{xtime}
 use Rattle.fips197.specs.Cipher.{subBytes, shiftRows, mixColumns, addRoundKey, power, rcon, roundKey, state, cipher}
+use Rattle.fips197.proofs.Field.{xtime-byte}
 use Rattle.fips197.proofs.Schedule.{first-key}
 use Rattle.aes.specs.Columns.{Follows}
 
--- the round constant of the next turn
-pub rcon-turn : {r rc : List ℕ} (i : ℕ) → rc ≡ rcon (i + 1) → r ≡ map xtime rc → r ≡ rcon (i + 1 + 1)
-unfolding power xtime xor
-rcon-turn i e p =
-    let g : suc (i + 1 - 1) ≡ i + 1 + 1 - 1 = omega arith in
-    p ∙ ap (map xtime) e ∙ ap (λ (n : ℕ). power n ∷ 0 ∷ 0 ∷ 0 ∷ []) g
+-- ---- the round constants as numbers
+
+doubles : ℕ → Bool
+doubles x = eqb (xor (x * 2 % 0x100000000) (x / 128 * 0x11b)) (xtime x)
+
+all-doubled : T (below doubles 256)
+unfolding doubles xtime xor
+all-doubled = tt
+
+pub next-is : (x : ℕ) → x < 256 → xor (x * 2 % 0x100000000) (x / 128 * 0x11b) ≡ xtime x
+unfolding doubles
+next-is x h = eqb→eq _ _ (at-below doubles 256 all-doubled x h)
+
+pub power-lt : (i : ℕ) → power i < 256
+unfolding power
+power-lt zero = omega arith
+power-lt (suc i) = xtime-byte (power i)
+
+pub power-turn : {rc r : ℕ} (i : ℕ) → rc ≡ power i → r ≡ xtime rc → r ≡ power (i + 1)
+unfolding power
+power-turn i e p = p ∙ ap xtime e ∙ sym (ap power (add-one i))
+
+-- the round constant of the turn after i
+pub rcon-is : {rc : ℕ} (i : ℕ) → rc ≡ power i → bytes 4 rc ≡ rcon (i + 1)
+unfolding bytes
+rcon-is {rc} i e =
+    let h : rc < 256 = subst (λ (x : ℕ). x < 256) (sym e) (power-lt i) in
+    let a : rc % 256 ≡ rc = omega arith in
+    let b : rc / 256 ≡ 0 = omega arith in
+    let g : i ≡ i + 1 - 1 = omega arith in
+    ap₂ (λ (x y : ℕ). x ∷ bytes 3 y) a b ∙ ap (λ (x : ℕ). x ∷ 0 ∷ 0 ∷ 0 ∷ []) (e ∙ ap power g)
 
 -- the state after i turns: the tenth mixes no columns
 pub rounds : List ℕ → List ℕ → ℕ → List ℕ

@@ -70,14 +70,13 @@ fn rot_word(x: u32) -> u32
     (x >> 8) + (x << 24)
 }
 
-// MixColumns of one column: 02 a + 03 b + c + d is 02 (a + b) + b + c + d.
+// MixColumns of one column: 02 a + 03 b + c + d is 02 (a + b) + b + (c + d), and c + d is two rows on from a + b.
 fn mix_column(x: u32) -> u32
     ensures { λ r. ⌜ bytes 4 r ≡ mixColumn (bytes 4 x) ⌝ }
 {
     let y = rot_word(x);
-    let z = rot_word(y);
-    let u = rot_word(z);
-    double(x ^ y) ^ y ^ z ^ u
+    let w = x ^ y;
+    double(w) ^ y ^ rot_word(rot_word(w))
 }
 
 // MixColumns.
@@ -129,6 +128,14 @@ fn next_key(t: &[u8; 256], k: Columns, rc: u32) -> Columns
     Columns { a, b, c, d }
 }
 
+// The Rcon after rc, as a number: 0x11b is 0x1b and the bit that drops out.
+fn next_rcon(rc: u32) -> u32
+    requires { ⌜ rc < 256 ⌝ }
+    ensures { λ r. ⌜ r ≡ xtime rc ⌝ }
+{
+    (rc << 1) ^ ((rc >> 7) * 0x11b)
+}
+
 // Sixteen bytes as four columns.
 fn load(b: [u8; 16]) -> Columns
     ensures { λ r. ⌜ told r ≡ b ⌝ }
@@ -161,7 +168,7 @@ pub fn encrypt_with(t: &[u8; 256], key: [u8; 16], block: [u8; 16]) -> [u8; 16]
     while i < 10 {
         k = next_key(t, k, rc);
         s = round(t, s, k, i < 9);
-        rc = double(rc);
+        rc = next_rcon(rc);
         i += 1;
     }
     store4_32(s.a, s.b, s.c, s.d)

@@ -1,18 +1,17 @@
 -- `aes::encrypt_with` meets its contract. The loop's invariant: k is round key i, s the state after i rounds, rc the round constant of the next turn.
 use borrow.Author.Needs.{needs}
-use mathlib.Core.Path.{_≡_, refl}
-use Prim.Native.Nat.{_+_, _≤_, _-_}
+use mathlib.Core.Path.{_≡_, refl, sym, subst}
+use Prim.Native.Nat.{ℕ, _+_, _≤_, _<_, _-_}
 use native.Mathlib.Omega.{arith}
 use lib.ListN.{length}
-use Rattle.words.specs.Bytes.{bytes}
-use Rattle.fips197.specs.Cipher.{power, rcon}
+use Rattle.fips197.specs.Cipher.{power}
 use Rattle.aes.specs.Columns.{told}
-use Rattle.aes.proofs.Rounds.{Tracks, rcon-turn, track-none, track-turn, track-end}
+use Rattle.aes.proofs.Rounds.{Tracks, power-lt, power-turn, rcon-is, track-none, track-turn, track-end}
 use Rattle.aes.proofs.encrypt_with.Statement.{statement}
 use Rattle.aes.proofs.encrypt_with.Tie as tie
 
 abbrev Inv-loop : tie.InvT-loop
-Inv-loop t k₀ s₀ rc₀ i₀ k s rc i = (i ≤ 10) × (bytes 4 rc ≡ rcon (i + 1)) × Tracks (told k₀) (told s₀) (told k) (told s) i
+Inv-loop t k₀ s₀ rc₀ i₀ k s rc i = (i ≤ 10) × (rc ≡ power i) × Tracks (told k₀) (told s₀) (told k) (told s) i
 
 abbrev μ-loop : tie.MeasureT-loop
 μ-loop t k₀ s₀ rc₀ i₀ k s rc i = 10 - i
@@ -27,7 +26,7 @@ add-round-key-requires : tie.Need-add-round-key-requires Inv-loop μ-loop
 add-round-key-requires c κs = search needs
 
 loop-holds : tie.Need-loop-holds Inv-loop μ-loop
-unfolding bytes power
+unfolding power
 loop-holds c = (omega arith, refl, track-none)
 
 next-key-requires : tie.Need-next-key-requires Inv-loop μ-loop
@@ -36,8 +35,10 @@ next-key-requires c κs = search needs
 round-requires : tie.Need-round-requires Inv-loop μ-loop
 round-requires c κs = search needs
 
-double-requires : tie.Need-double-requires Inv-loop μ-loop
-double-requires c κs = search needs
+next-rcon-requires : tie.Need-next-rcon-requires Inv-loop μ-loop
+next-rcon-requires c κs =
+    let at = c .before .before .before .loop in
+    subst (λ (x : ℕ). x < 256) (sym (at .inv .1)) (power-lt (at .i))
 
 add-i : tie.Need-add-i Inv-loop μ-loop
 add-i c = omega arith
@@ -49,8 +50,8 @@ loop-again : tie.Need-loop-again Inv-loop μ-loop
 loop-again c =
     let at = c .before .before .before .before .loop in (
       omega arith,
-      rcon-turn (at .i) (at .inv .1) (c .double .ensures),
-      track-turn (at .i) (at .inv .2) (at .inv .1) (c .before .before .next-key .ensures) (c .before .round .ensures),
+      power-turn (at .i) (at .inv .1) (c .next-rcon .ensures),
+      track-turn (at .i) (at .inv .2) (rcon-is (at .i) (at .inv .1)) (c .before .before .next-key .ensures) (c .before .round .ensures),
     )
 
 store4-32-requires : tie.Need-store4-32-requires Inv-loop μ-loop
@@ -77,7 +78,7 @@ encrypt-with-spec =
     loop-holds
     next-key-requires
     round-requires
-    double-requires
+    next-rcon-requires
     add-i
     loop-less
     loop-again

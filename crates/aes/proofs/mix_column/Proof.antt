@@ -8,24 +8,25 @@ use Rattle.aes.proofs.mix_column.Tie as tie
 rot-word-requires : tie.Need-rot-word-requires
 rot-word-requires c κs = search needs
 
+double-requires : tie.Need-double-requires
+double-requires c κs = search needs
+
 rot-word-requires-2 : tie.Need-rot-word-requires-2
 rot-word-requires-2 c κs = search needs
 
 rot-word-requires-3 : tie.Need-rot-word-requires-3
 rot-word-requires-3 c κs = search needs
 
-double-requires : tie.Need-double-requires
-double-requires c κs = search needs
-
 returns : tie.Need-returns
 unfolding xor
 returns c =
     let y = c .before .before .before .rot-word in
-    let z = c .before .before .rot-word2 in
-    let u = c .before .rot-word3 in
-    mixed-column (c .before .before .before .before .args .x) (y .result) (z .result) (u .result) (c .double .result) (y .ensures) (z .ensures) (u .ensures) (c .double .ensures)
+    let v = c .before .before .double in
+    let p = c .before .rot-word2 in
+    let q = c .rot-word3 in
+    mixed-column (c .before .before .before .before .args .x) (y .result) (p .result) (q .result) (v .result) (y .ensures) (v .ensures) (p .ensures) (q .ensures)
 
 pub mix-column-spec : {M : Type 1} → statement M
 mix-column-spec =
     tie.close
-    (tie.spec rot-word-requires rot-word-requires-2 rot-word-requires-3 double-requires returns)
+    (tie.spec rot-word-requires double-requires rot-word-requires-2 rot-word-requires-3 returns)
