@@ -4,6 +4,8 @@ use mathlib.Core.Logic.{_⊎_}
 use Prim.Native.Nat.{ℕ, zero, suc, _+_, _-_, _*_, _/_, _%_, _^_, _≤_, _<_}
 use native.Mathlib.Nat.{le-of-suc-le-suc, not-suc-le-zero, le-of-eq}
 use native.Mathlib.Omega.{arith}
+use native.Mathlib.Decide.{decLe}
+use borrow.Author.Tests.{le-leb, lt-leb}
 use mathlib.Core.List.{List, [], _∷_, _++_, append-assoc, append-nil}
 use lib.ListN.{length, set, take, drop, replicate, length-append, length-drop, take-append-drop}
 use lib.Seq.{take-at, take-all, take-append-add, drop-at, set-at, length-take-le}
@@ -33,6 +35,19 @@ mark-high a b m h =
     ∙ ap (λ (v : ℕ). xors (bytes 8 b) (bytes 8 v)) e
     ∙ ap (xors (bytes 8 b)) (bytes-join 7 1 0 m (omega arith))
     ∙ simp (zero-r, r))
+
+-- a doubling: 0x1b comes in as often as a bit drops out, once or not at all
+pub double-is : (x : ℕ) → x < 2 ^ 64 → xor (x * 2 % 2 ^ 64) (x / 2 ^ 63 * 0x1b) ≡ double x
+unfolding double
+double-is x h =
+    elim (decLe (2 ^ 63) x) [
+      | yes k ↦
+          let e : x / 2 ^ 63 ≡ 1 = omega arith in
+          ap (λ (b : ℕ). xor (x * 2 % 2 ^ 64) (b * 0x1b)) e ∙ sym (simp (le-leb (2 ^ 63) x k))
+      | no k ↦
+          let e : x / 2 ^ 63 ≡ 0 = omega arith in
+          ap (λ (b : ℕ). xor (x * 2 % 2 ^ 64) (b * 0x1b)) e ∙ zero-r (x * 2 % 2 ^ 64) ∙ sym (simp (lt-leb (2 ^ 63) x (omega arith)))
+    ]
 
 -- the low half doubled
 pub double-low : (a b : ℕ) → a < 2 ^ 64 → bytes 8 (double a) ++ bytes 8 b ≡ doubled (bytes 8 a ++ bytes 8 b)

@@ -5,15 +5,11 @@ ghost use Rattle.words.specs.Blocks.{wide};
 ghost use Rattle.mode.specs.Words.{double};
 ghost use Rattle.mode.specs.Keys.{marked, nextKey};
 
-// Doubling of a 64-bit number.
+// Doubling of a 64-bit number: the dropped bit is 1 or 0.
 fn doubling(x: u64) -> u64
     ensures { λ r. ⌜ r ≡ double x ⌝ }
 {
-    let s = x << 1;
-    if 0x8000_0000_0000_0000 <= x {
-        return s ^ 0x1b;
-    }
-    s
+    (x << 1) ^ ((x >> 63) * 0x1b)
 }
 
 // The mark, XORed into byte 15, the highest of the high half.

@@ -1,18 +1,20 @@
 -- `comet::key::doubling` meets its contract: the dropped bit is 1 exactly from 2 ^ 63 on.
-use borrow.Author.Tests.{le-leb, lt-leb}
-use Prim.Native.Nat.{_-_, _^_}
+use borrow.Author.Needs.{needs}
+use native.Mathlib.Omega.{arith}
+use Prim.Native.Nat.{_^_, _<_}
 use Rattle.words.specs.Words.{xor}
-use Rattle.mode.specs.Words.{double}
+use Rattle.comet.proofs.Words.{double-is}
 use Rattle.comet.proofs.key.doubling.Statement.{statement}
 use Rattle.comet.proofs.key.doubling.Tie as tie
 
-returns : tie.Need-returns
-unfolding double xor
-returns c = simp (le-leb (2 ^ 63) (c .before .args .x) (c .if1 .taken))
+mul-result : tie.Need-mul-result
+mul-result c = search needs
 
-returns-2 : tie.Need-returns-2
-unfolding double
-returns-2 c = simp (lt-leb (2 ^ 63) (c .before .args .x) (c .if1 .left))
+returns : tie.Need-returns
+unfolding xor
+returns c =
+    let h : c .args .x < 2 ^ 64 = omega arith in
+    double-is (c .args .x) h
 
 pub doubling-spec : {M : Type 1} → statement M
-doubling-spec = tie.close (tie.spec returns returns-2)
+doubling-spec = tie.close (tie.spec mul-result returns)
