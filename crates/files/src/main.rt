@@ -6,8 +6,7 @@
 // The output holds 0xa5 before each opening.
 use libc::STDIN_FILENO;
 use libc::STDOUT_FILENO;
-use shift::answers::Answer;
-use shift::answers::Found;
+use table::answers::Answer;
 ghost use Prim.Native.Nat.{_≤_, _<_};
 ghost use lib.ListN.{length};
 
@@ -37,23 +36,11 @@ fn answer(a: Answer) {
     lines::show::space();
 }
 
-// Where the body of row i starts, by the row's own bytes.
-fn body_start(file: &[u8], i: usize) -> u32 {
-    if 512 < i {
-        return 0;
-    }
-    lines::read::number(file, 8 + 32 * i + 8)
-}
-
 // Place and length of the associated data.
 fn place(file: &[u8], job: u32) {
-    let found = shift::lookup(file, job);
-    let mut at: u32 = 0;
-    if let Found::At(i) = found {
-        at = body_start(file, i);
-    }
+    let entry = shift::entry(file, job);
     let ad = shift::associated(file, job);
-    lines::show::number(at as u64);
+    lines::show::number(entry.ad_at as u64);
     lines::show::space();
     lines::show::number(ad.len() as u64);
     lines::show::space();
@@ -72,7 +59,7 @@ fn line(file: &[u8], ring: &[u8], c: Call) -> bool {
     if 65540 < o {
         return false;
     }
-    answer(shift::check(file).answer());
+    answer(table::check(file).answer());
     answer(shift::lookup(file, c.job).answer());
     place(file, c.job);
     opening(file, ring, c.job, &mut out[0..o]);
@@ -99,7 +86,7 @@ fn answers(s: u64, file: &[u8], ring: &[u8], job: u32, o: usize) -> u64
     requires { ⌜ (s < 4294967291) × (o ≤ 300) ⌝ }
     ensures { λ r. ⌜ r < 4294967291 ⌝ }
 {
-    let a = shift::check(file).answer();
+    let a = table::check(file).answer();
     let b = shift::lookup(file, job).answer();
     let s1 = lines::show::folded(s, a.number);
     let s2 = lines::show::folded(s1, low(a.row));

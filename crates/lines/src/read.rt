@@ -26,14 +26,3 @@ pub fn field(buf: &mut [u8], n: usize) -> &[u8] {
     }
     front(&buf[..], got)
 }
-
-// The four bytes of buf from `at` as a number, 0 where they are not there.
-pub fn number(buf: &[u8], at: usize) -> u32 {
-    if buf.len() < 4 {
-        return 0;
-    }
-    if buf.len() - 4 < at {
-        return 0;
-    }
-    words::arx::le32(buf[at], buf[at + 1], buf[at + 2], buf[at + 3])
-}

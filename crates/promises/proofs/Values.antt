@@ -8,9 +8,9 @@ use Rattle.mode.specs.Blocks.{chopLengths, lengths}
 use Rattle.mode.specs.Words.{double, pad}
 use Rattle.mode.specs.Keys.{textMarks, marks}
 use Rattle.words.specs.Bytes.{value}
-use Rattle.shift.specs.Format.{rowSize, rowStart}
-use Rattle.shift.specs.Search.{firstOf}
-use Rattle.shift.specs.Check.{bodyStart, endAnswer, rowsFrom, headNumber, checkAs}
+use Rattle.table.specs.Format.{rowSize, rowStart}
+use Rattle.table.specs.Search.{firstOf}
+use Rattle.table.specs.Check.{bodyStart, endAnswer, rowsFrom, headNumber, checkAs}
 use Rattle.promises.specs.Values.{StarredValues}
 
 pub starred-values : StarredValues

@@ -1,7 +1,5 @@
-pub mod Search
-pub mod Format
 pub mod Answers
-pub mod Check
 pub mod Lookup
+pub mod Entry
 pub mod Opening
 pub mod Inside

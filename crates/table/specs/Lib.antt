@@ -1,0 +1,6 @@
+pub mod Search
+pub mod Part
+pub mod Format
+pub mod Answers
+pub mod Check
+pub mod Inside
