@@ -1,7 +1,7 @@
 //! The proved library and the plain C, behind safe functions.
 
 use crate::calls::{Library, REFERENCE};
-use crate::shift::Answer;
+use crate::shift::{Answer, Places};
 
 mod c {
     /// A slice of bytes passes as a pointer and a length.
@@ -44,6 +44,17 @@ mod c {
         pub fn shift_check(file: Bytes, file_len: usize, row: *mut u32) -> u32;
         pub fn shift_lookup(file: Bytes, file_len: usize, job: u32, row: *mut u32) -> u32;
         pub fn shift_associated(file: Bytes, file_len: usize, job: u32, at: *mut u32, len: *mut u32) -> u32;
+        #[rustfmt::skip]
+        pub fn shift_entry(
+            file: Bytes,
+            file_len: usize,
+            job: u32,
+            row: *mut u32,
+            ad_at: *mut u32,
+            ad_len: *mut u32,
+            text_at: *mut u32,
+            text_len: *mut u32,
+        ) -> u32;
         #[rustfmt::skip]
         pub fn shift_open_job(
             file: Bytes,
@@ -130,7 +141,7 @@ pub mod plain {
 
 /// The proved library.
 pub mod proved {
-    use super::{c, Answer, UNWRITTEN};
+    use super::{c, Answer, Places, UNWRITTEN};
 
     safe!(comet_seal, comet_open, shift_check);
 
@@ -145,6 +156,16 @@ pub mod proved {
         let (mut at, mut length) = (UNWRITTEN, UNWRITTEN);
         let number = unsafe { c::shift_associated(file.as_ptr(), file.len(), job, &mut at, &mut length) };
         (number, at as usize, length as usize)
+    }
+
+    /// The lookup, and where the job's entry lies in the file.
+    pub fn entry(file: &[u8], job: u32) -> (Answer, Places) {
+        let (mut row, mut places) = (UNWRITTEN, [UNWRITTEN; 4]);
+        let [ad_at, ad_length, text_at, text_length] = &mut places;
+        let (file_at, file_length) = (file.as_ptr(), file.len());
+        let number =
+            unsafe { c::shift_entry(file_at, file_length, job, &mut row, ad_at, ad_length, text_at, text_length) };
+        ((number, row), places.map(|place| place as usize))
     }
 
     pub fn open_job(file: &[u8], ring: &[u8], job: u32, out: &mut [u8]) -> Answer {
@@ -163,6 +184,7 @@ pub const PROVED: Library = Library {
     check: proved::check,
     lookup: proved::lookup,
     associated: proved::associated,
+    entry: proved::entry,
     open_job: proved::open_job,
 };
 
