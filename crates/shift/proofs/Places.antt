@@ -8,11 +8,12 @@ use lib.ListN.{length}
 use lib.Dec.{eqb}
 use borrow.Author.Tests.{eqb-true, ne-eqb}
 use Rattle.table.specs.declared.answers.Answer.{Answer}
+use Rattle.table.specs.declared.row.Row.{Row}
 use Rattle.table.specs.Format.{edition, rowOf, bodyEnd}
 use Rattle.table.specs.Answers.{answer}
 use Rattle.shift.specs.declared.answers.Entry.{Entry}
 use Rattle.shift.specs.Lookup.{lookupJob}
-use Rattle.shift.specs.Entry.{dataStart, dataLength, textStart, textLength, entryOf}
+use Rattle.shift.specs.Entry.{dataStart, dataLength, textStart, textLength, entryOf, Lies, EntriesLie}
 use Rattle.shift.proofs.Lookups.{holding, found-in}
 
 -- an entry's six values
@@ -28,17 +29,26 @@ module _ (f : List ℕ) (job : ℕ) where
   unfolding dataStart dataLength textStart textLength
   places-none a q n = simp (q .0, q .1, ne-eqb _ _ n)
 
-  -- a found row's text starts inside the file
-  pub text-in : (i : ℕ) → lookupJob f job ≡ answer 0 i → rowOf f i .at + rowOf f i .ad ≤ 1048576
+  -- a found row's text starts at a place of 32 bits
+  pub text-low : (i : ℕ) → lookupJob f job ≡ answer 0 i → rowOf f i .at + rowOf f i .ad ≤ 1048576
   unfolding bodyEnd
-  text-in i q = omega (arith, found-in f job i q .body-in, holding edition f job i q .file .head .short)
+  text-low i q = omega (arith, found-in f job i q .body-in, holding edition f job i q .file .head .short)
 
-  -- the associated data lies in the file, the file's first zero bytes too
-  pub data-in : dataStart f (lookupJob f job) + dataLength f (lookupJob f job) ≤ length f
-  unfolding dataStart dataLength bodyEnd
-  data-in = data-case (eqb (lookupJob f job .number) 0) refl
-    where
-      data-case : (b : Bool) → eqb (lookupJob f job .number) 0 ≡ b
-          → cond b (rowOf f (lookupJob f job .row) .at) 0 + cond b (rowOf f (lookupJob f job .row) .ad) 0 ≤ length f
-      data-case true e = omega (arith, found-in f job (lookupJob f job .row) (ap (λ (m : ℕ). answer m (lookupJob f job .row)) (eqb-true _ _ e)) .body-in)
-      data-case false e = omega arith
+-- the theorem
+pub entries-lie : EntriesLie
+unfolding dataStart dataLength textStart textLength bodyEnd
+entries-lie f job = lookup-case (eqb (lookupJob f job .number) 0) refl
+  where
+    x : Answer
+    x = lookupJob f job
+
+    r : Row
+    r = rowOf f (x .row)
+
+    lookup-case : (b : Bool) → eqb (x .number) 0 ≡ b → Lies f (placed x (cond b (r .at) 0) (cond b (r .ad) 0) (cond b (r .at + r .ad) 0) (cond b (r .len) 0))
+    lookup-case true e = record { behind = refl; ends = omega (arith, found-in f job (x .row) (ap (λ (m : ℕ). answer m (x .row)) (eqb-true _ _ e)) .body-in) }
+    lookup-case false e = record { behind = refl; ends = omega arith }
+
+-- so the associated data can be handed back as a part of it
+pub data-in : (f : List ℕ) (job : ℕ) → dataStart f (lookupJob f job) + dataLength f (lookupJob f job) ≤ length f
+data-in f job = omega (arith, entries-lie f job .behind, entries-lie f job .ends)

@@ -1,7 +1,9 @@
 -- A job's entry: where its associated data and its text lie in the file (document 01, "The shift file").
-use Prim.Native.Nat.{ℕ, _+_}
+use Prim.Native.Nat.{ℕ, _+_, _≤_}
+use mathlib.Core.Path.{_≡_}
 use mathlib.Core.Bool.{cond}
 use mathlib.Core.List.{List}
+use lib.ListN.{length}
 use lib.Dec.{eqb}
 use Rattle.table.specs.declared.answers.Answer.{Answer}
 use Rattle.table.specs.Format.{rowOf}
@@ -33,3 +35,12 @@ entryOf f job = record {
   «text_at» = textStart f (lookupJob f job);
   «text_len» = textLength f (lookupJob f job);
 }
+
+-- an entry lies in the file, its text right behind its associated data
+pub record Lies (f : List ℕ) (x : Entry) : Type 0 where
+  pub behind : x .«ad_at» + x .«ad_len» ≡ x .«text_at»
+  pub ends : x .«text_at» + x .«text_len» ≤ length f
+
+-- so does every entry that is given, the file's first zero bytes where the lookup refuses among them
+abbrev pub EntriesLie : Type 0
+EntriesLie = (f : List ℕ) (job : ℕ) → Lies f (entryOf f job)

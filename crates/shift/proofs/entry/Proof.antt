@@ -6,7 +6,7 @@ use borrow.Author.Needs.{needs}
 use denote.Ref.{now}
 use Rattle.shift.specs.Answers.{foundAnswer}
 use Rattle.shift.proofs.Lookups.{found-in, not-at}
-use Rattle.shift.proofs.Places.{places-found, places-none, text-in}
+use Rattle.shift.proofs.Places.{places-found, places-none, text-low}
 use Rattle.shift.proofs.entry.Statement.{statement}
 use Rattle.shift.proofs.entry.Tie as tie
 
@@ -42,7 +42,7 @@ add-t9 c =
     let r = c .before .before .before in
     let s = r .before .before .before .before in
     let a = s .before .before .args in
-    let t = text-in (now (a .file)) (a .job) _ (sym (s .lookup .ensures) ∙ ap foundAnswer (r .before .before .found .given .1)) in
+    let t = text-low (now (a .file)) (a .job) _ (sym (s .lookup .ensures) ∙ ap foundAnswer (r .before .before .found .given .1)) in
     let u : r .row-of .result .at + r .row-of .result .ad ≤ 1048576 = rw (r .row-of .ensures) t in
     omega arith
 
