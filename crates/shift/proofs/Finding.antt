@@ -13,12 +13,8 @@ use Rattle.table.proofs.Searches.{first-says}
 use Rattle.table.proofs.Passed.{passes}
 use Rattle.table.proofs.Rising.{only}
 use Rattle.shift.specs.Lookup.{findFrom, lookupAs, lookupJob}
+use Rattle.shift.specs.Promised.{Has, JobFound}
 use Rattle.shift.proofs.Lookups.{holding}
-
--- row i of the file has the job
-pub record Has (f : List ℕ) (job i : ℕ) : Type 0 where
-  pub within : i < countOf f
-  pub right : rowOf f i .job ≡ job
 
 module _ (f : List ℕ) (job : ℕ) (z : checkFile f .number ≡ 0) where
   goes : lookupJob f job ≡ findFrom (rowSize edition) f (countOf f) job 0
@@ -46,16 +42,7 @@ module _ (f : List ℕ) (job : ℕ) (z : checkFile f .number ≡ 0) where
       (λ h. sym (h .gives))
       (first-says _ _ _ (countOf f - 0) 0 (findFrom (rowSize edition) f (countOf f) job 0) refl)
 
--- the theorem
-pub record Finds (f : List ℕ) (job : ℕ) : Type 0 where
-  -- the lookup gives row i exactly if that has the job
-  pub found : (i : ℕ) → (lookupJob f job ≡ answer 0 i) ↔ Has f job i
-  -- and 32 exactly if none has
-  pub missing : (lookupJob f job ≡ answer 32 0) ↔ ((i : ℕ) → Has f job i → ⊥)
-  -- one row at most has it
-  pub one : (i j : ℕ) → Has f job i → Has f job j → i ≡ j
-
-pub finds : (f : List ℕ) (job : ℕ) → checkFile f .number ≡ 0 → Finds f job
+pub finds : JobFound
 finds f job z =
     record {
       found = λ i. (

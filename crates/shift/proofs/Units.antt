@@ -23,16 +23,17 @@ use Rattle.mode.proofs.Demand3.{same-before, same-behind, data-told}
 use Rattle.table.specs.declared.row.Row.{Row}
 use Rattle.table.specs.declared.answers.Answer.{Answer}
 use Rattle.table.specs.Part.{stretch}
-use Rattle.table.specs.Format.{countOf, edition, rowSize, rowStart, nonceStart, nonceAt, rowOf, dataOf, textOf, tagOf, bodyEnd, unitOf}
+use Rattle.table.specs.Format.{countOf, edition, rowSize, rowStart, nonceStart, nonceAt, rowOf, dataOf, textOf, tagOf, bodyEnd, unitOf, isUnit}
 use Rattle.table.specs.Answers.{answer}
 use Rattle.table.specs.Check.{headNumber, checkAs, checkFile}
 use Rattle.table.specs.Inside.{EntryIn}
 use Rattle.table.proofs.Passed.{Walked}
 use Rattle.table.proofs.Rows.{row-broad, stretch-length}
 use Rattle.table.proofs.Alike.{Agree, stretch-same, row-same, nonce-same, count-same, head-same}
-use Rattle.table.proofs.Units.{isUnit, table-kept, rows-are}
+use Rattle.table.proofs.Units.{table-kept, rows-are}
 use Rattle.shift.specs.Lookup.{lookupAs, lookupJob}
 use Rattle.shift.specs.Opening.{ringKey, nonceRead, JobOpened, left, rowOpening, jobOpening, entryOpening}
+use Rattle.shift.specs.Promised.{UnitRefused}
 use Rattle.shift.proofs.Lookups.{holding, found-in}
 use Rattle.shift.proofs.Finding.{finds}
 use Rattle.shift.proofs.Entries.{entryRight, entryText, entry-opened, key-long, nonce-long}
@@ -200,10 +201,7 @@ right-told : (b : Bool) (text : List ℕ) → openedAs 0 b text [] .number ≡ 0
 right-told true text z = refl
 right-told false text z = absurd (omega arith)
 
--- the theorem: an accepted entry with an empty message, its unit byte altered, gives 8 where the new byte is a unit, and else 30 with the row
-pub unit-refused : (f ring : List ℕ) (job i v : ℕ) → AllBytes f → AllBytes ring → v < 256
-    → lookupJob f job ≡ answer 0 i → rowOf f i .len ≡ 0 → (unitOf f (rowOf f i) ≡ v → ⊥) → jobOpening f ring job [] .answer .number ≡ 0
-    → jobOpening (set f (rowOf f i .at + 4) v) ring job [] ≡ cond (isUnit v) (left (answer 8 0) []) (left (answer 30 i) [])
+pub unit-refused : UnitRefused
 unfolding jobOpening
 unit-refused f ring job i v hf hr hv found empty other accepted = unit-case (isUnit v) refl
   where

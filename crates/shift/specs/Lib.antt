@@ -3,3 +3,4 @@ pub mod Lookup
 pub mod Entry
 pub mod Opening
 pub mod Inside
+pub mod Promised

@@ -10,17 +10,9 @@ use lib.Seq.{drop-drop}
 use lib.Dec.{eqb·suc-zero}
 use Rattle.table.specs.Part.{stretch}
 use Rattle.table.specs.Format.{countOf, edition, rowSize, rowStart, rowAt, rowOf, bodyEnd}
-use Rattle.table.specs.Check.{bodyStart, checkFile}
+use Rattle.table.specs.Check.{bodyStart}
+use Rattle.table.specs.Laid.{bodyAt, bodies, BodiesLaid}
 use Rattle.table.proofs.Passed.{Walked, passes}
-
--- the bytes of row i's body
-abbrev pub bodyAt : ℕ → List ℕ → ℕ → List ℕ
-bodyAt w f i = stretch f (rowAt w f i .at) (bodyEnd (rowAt w f i) - rowAt w f i .at)
-
--- k bodies from row i on, one after the other
-abbrev pub bodies : ℕ → List ℕ → ℕ → ℕ → List ℕ
-bodies w f i zero = []
-bodies w f i (suc k) = bodyAt w f i ++ bodies w f (suc i) k
 
 module _ (w : ℕ) (f : List ℕ) (n : ℕ) where
   -- the next body has to start where this one ends
@@ -67,19 +59,7 @@ module _ (w : ℕ) (f : List ℕ) (n : ℕ) where
         ∙ sym (take-append-drop (e - a) (drop a f))
         ∙ ap (λ (l : List ℕ). bodyAt w f i ++ l) (drop-drop (e - a) a f ∙ ap (λ (p : ℕ). drop p f) t ∙ tiles k (suc i) (omega arith))
 
--- the theorem
-pub record Laid (f : List ℕ) : Type 0 where
-  -- the first body starts after the table, each other one where the one before ends
-  pub first : 0 < countOf f → rowOf f 0 .at ≡ rowStart (rowSize edition) (countOf f)
-  pub next : (i : ℕ) → suc i < countOf f → rowOf f (suc i) .at ≡ bodyEnd (rowOf f i)
-  -- no two overlap
-  pub apart : (i j : ℕ) → i < j → j < countOf f → bodyEnd (rowOf f i) ≤ rowOf f j .at
-  -- the last ends where the file ends
-  pub last : (i : ℕ) → suc i ≡ countOf f → bodyEnd (rowOf f i) ≡ length f
-  -- the file is its header and table, then the bodies, and nothing else
-  pub whole : f ≡ take (rowStart (rowSize edition) (countOf f)) f ++ bodies (rowSize edition) f 0 (countOf f)
-
-pub laid : (f : List ℕ) → checkFile f .number ≡ 0 → Laid f
+pub laid : BodiesLaid
 laid f z =
     let w = rowSize edition in
     let n = countOf f in

@@ -10,17 +10,13 @@ use lib.ListN.{length, getD, set, length-set}
 use lib.Seq.{getD-set-same, getD-set-other}
 use lib.Dec.{eqb}
 use borrow.Author.Tests.{eq-eqb, eqb-true, eqb-false, not-true, not-false}
-use Rattle.table.specs.Format.{rowStart, rowAt, bodyEnd, dataJob, unitOf}
+use Rattle.table.specs.Format.{rowStart, rowAt, bodyEnd, dataJob, unitOf, isUnit}
 use Rattle.table.specs.Answers.{answer}
 use Rattle.table.specs.Check.{badData, rowNumber, endAnswer, rowsFrom}
 use Rattle.table.proofs.Searches.{or-false, first-says}
 use Rattle.table.proofs.Passed.{Walked}
 use Rattle.table.proofs.Bodies.{apart, after-table}
 use Rattle.table.proofs.Alike.{Agree, word-same, start-same, row-number-last}
-
--- a unit is 1 or 2
-abbrev pub isUnit : ℕ → Bool
-isUnit v = eqb v 1 || eqb v 2
 
 module _ (w : ℕ) (f : List ℕ) (n i v : ℕ) (broad : 32 ≤ w) (h : Walked w f n) (within : i < n) where
   -- the file with v for the unit of entry i

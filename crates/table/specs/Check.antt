@@ -8,7 +8,7 @@ use Rattle.words.specs.Bytes.{sameBytes}
 use Rattle.table.specs.declared.row.Row.{Row}
 use Rattle.table.specs.declared.answers.Answer.{Answer}
 use Rattle.table.specs.Search.{anyBelow, firstOf}
-use Rattle.table.specs.Format.{editionOf, countOf, totalOf, edition, rowSize, rowStart, rowAt, nonceAt, bodyEnd, dataJob, unitOf}
+use Rattle.table.specs.Format.{editionOf, countOf, totalOf, edition, rowSize, rowStart, rowAt, nonceAt, bodyEnd, dataJob, unitOf, isUnit}
 use Rattle.table.specs.Answers.{answer}
 
 -- 25: job number not above the row before (row 0: any)
@@ -45,7 +45,7 @@ nonceSeen w f i = anyBelow (clash w f i) i
 
 -- 30: associated data has another job number, or unit not 1 or 2
 unfoldable pub badData : List ℕ → Row → Bool
-badData f r = not (eqb (dataJob f r) (r .job)) || not (eqb (unitOf f r) 1 || eqb (unitOf f r) 2)
+badData f r = not (eqb (dataJob f r) (r .job)) || not (isUnit (unitOf f r))
 
 -- the first of 28 to 30 that applies to row i of n, else 0
 unfoldable pub bodyNumber : ℕ → List ℕ → ℕ → ℕ → ℕ

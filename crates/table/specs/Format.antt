@@ -1,6 +1,8 @@
 -- The shift file's format (document 01, "The shift file"): header, table of contents, bodies. Numbers are little-endian.
 use Prim.Native.Nat.{ℕ, _+_, _-_, _*_}
+use mathlib.Core.Bool.{Bool, _||_}
 use mathlib.Core.List.{List}
+use lib.Dec.{eqb}
 use lib.ListN.{getD}
 use Rattle.words.specs.Bytes.{word}
 use Rattle.cipher.specs.Cipher.{sizeOf}
@@ -80,3 +82,7 @@ dataJob f r = word 4 f (r .at)
 -- and a unit code (1 byte): 1 newton-metres, 2 inch-pounds
 abbrev pub unitOf : List ℕ → Row → ℕ
 unitOf f r = getD f (r .at + 4) 0
+
+-- a unit is 1 or 2
+abbrev pub isUnit : ℕ → Bool
+isUnit v = eqb v 1 || eqb v 2

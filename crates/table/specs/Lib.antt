@@ -4,3 +4,4 @@ pub mod Format
 pub mod Answers
 pub mod Check
 pub mod Inside
+pub mod Laid
