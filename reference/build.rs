@@ -5,17 +5,9 @@ use std::env;
 use std::path::{Path, PathBuf};
 use std::process::Command;
 
-const WRONG_PROCESSOR: &str = "the archive of the proved library links only into x86-64 programs: \
-    README.md beside this file says how to build one on another processor";
-
 fn run(command: &mut Command) {
     let status = command.status().unwrap_or_else(|e| panic!("{command:?}: {e}"));
     assert!(status.success(), "{command:?}: {status}");
-}
-
-/// Whether what is built runs on the processor that builds it.
-fn on_x86_64() -> bool {
-    env::var("HOST").unwrap().starts_with("x86_64")
 }
 
 /// The archive of plain/comet.c, at -O3; its functions are aligned, so that the speed of a short loop does not
@@ -23,8 +15,7 @@ fn on_x86_64() -> bool {
 fn compile_plain(here: &Path) {
     let to = PathBuf::from(env::var("OUT_DIR").unwrap());
     let (object, archive) = (to.join("comet.o"), to.join("libplain.a"));
-    let own = if on_x86_64() { "cc" } else { "x86_64-linux-gnu-gcc" };
-    let compiler = env::var("CC").unwrap_or(own.to_string());
+    let compiler = env::var("CC").unwrap_or("cc".to_string());
     let flags = ["-O3", "-falign-functions=64", "-c"];
     run(Command::new(compiler).args(flags).arg(here.join("plain/comet.c")).arg("-o").arg(&object));
     run(Command::new("ar").arg("crs").arg(&archive).arg(&object));
@@ -47,12 +38,7 @@ fn main() {
     println!("cargo:rerun-if-changed=plain");
     println!("cargo:rerun-if-env-changed=CC");
     println!("cargo:rerun-if-env-changed=SNOEKELDRAF_DIR");
-    println!("cargo:rustc-check-cfg=cfg(emulated)");
     if env::var("CARGO_FEATURE_LINKED").is_ok() {
-        assert!(env::var("CARGO_CFG_TARGET_ARCH").unwrap() == "x86_64", "{WRONG_PROCESSOR}");
-        if !on_x86_64() {
-            println!("cargo:rustc-cfg=emulated");
-        }
         let here = PathBuf::from(env::var("CARGO_MANIFEST_DIR").unwrap());
         compile_plain(&here);
         link_proved(&here);

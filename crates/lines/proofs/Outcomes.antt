@@ -12,6 +12,8 @@ use Rattle.lines.proofs.read.number.Kinds as number-kinds
 use Rattle.lines.proofs.read.number.Reads as number-reads
 use Rattle.lines.proofs.show.folded.Kinds as folded-kinds
 use Rattle.lines.proofs.show.folded.Reads as folded-reads
+use Rattle.lines.proofs.show.fold_from.Kinds as fold-from-kinds
+use Rattle.lines.proofs.show.fold_from.Reads as fold-from-reads
 use Rattle.lines.proofs.show.fold.Kinds as fold-kinds
 use Rattle.lines.proofs.show.fold.Reads as fold-reads
 
@@ -28,6 +30,9 @@ number κs a h x y = (x .ensures ∙ sym (y .ensures), refl)
 
 pub folded : OneOutcome folded-kinds.ps folded-kinds.r folded-reads.Pre folded-reads.Post
 folded κs a h x y = (x .ensures .0 ∙ sym (y .ensures .0), refl)
+
+pub fold-from : OneOutcome fold-from-kinds.ps fold-from-kinds.r fold-from-reads.Pre fold-from-reads.Post
+fold-from κs a h x y = (x .ensures .0 ∙ sym (y .ensures .0), refl)
 
 pub fold : OneOutcome fold-kinds.ps fold-kinds.r fold-reads.Pre fold-reads.Post
 fold κs a h x y = (x .ensures ∙ sym (y .ensures), refl)

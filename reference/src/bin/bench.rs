@@ -130,10 +130,6 @@ fn misses(suite: u8, what: &str, measured: &[Measured; 4], growth: f64) -> Vec<S
 }
 
 fn main() {
-    if cfg!(emulated) {
-        eprintln!("bench: built on another processor than x86-64, it would run under an emulator, and a time there means nothing");
-        std::process::exit(2);
-    }
     let repetitions = std::env::args().nth(1).map_or(101, |count| count.parse().expect("REPETITIONS is a number"));
     let mut random = Random::new(1);
     let (mut missed, mut growths) = (vec![], vec![]);
