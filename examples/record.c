@@ -3,7 +3,14 @@
  *     rt staticlib snoekeldraf
  *     cc examples/record.c -Iinclude target/staticlib/libsnoekeldraf.a -o target/record
  *     target/record samples/day.shift samples/ring.keys 4103
+ *
+ * The archive links only into x86-64 programs. On Arm, with Debian's cross compiler (gcc-x86-64-linux-gnu), say
+ * x86_64-linux-gnu-gcc for cc and ./run target/record for target/record, which runs it under the kit's emulator.
  */
+#ifndef __x86_64__
+#error "the archive links only into x86-64 programs; the comment above says how to make one on Arm"
+#endif
+
 #include <stdio.h>
 #include <stdlib.h>
 #include <string.h>

@@ -1,17 +1,19 @@
 // Reading.
 use libc::STDIN_FILENO;
 ghost use mathlib.Core.Path.{_≡_};
-ghost use lib.ListN.{length};
+ghost use lib.ListN.{take, replicate};
 
 // Zeros for a file of 524,288 bytes, and one byte more: the prover can carry no array of twice that.
 pub fn file_room() -> [u8; 524289]
-    ensures { λ r. ⌜ 524289 ≡ length r ⌝ }
+    ensures { λ r. ⌜ r ≡ replicate 524289 0 ⌝ }
 {
     [0u8; 524289]
 }
 
 // The first n bytes of buf, or all of it where it has no more.
-pub fn front(buf: &[u8], n: usize) -> &[u8] {
+pub fn front(buf: &[u8], n: usize) -> &[u8]
+    ensures { λ r. ⌜ (now r ≡ take n (now (buf .entry))) × (r .ptr ≡ buf .entry .ptr) ⌝ }
+{
     if buf.len() <= n {
         return buf;
     }

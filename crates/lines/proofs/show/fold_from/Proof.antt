@@ -1,4 +1,4 @@
--- `lines::show::fold` meets its contract: the fold of what is left is the whole fold.
+-- `lines::show::fold_from` meets its contract: the fold of what is left is the whole fold.
 use borrow.Author.Needs.{needs}
 use Prim.Native.Nat.{ℕ, suc, _≤_, _<_, _-_}
 use mathlib.Core.Path.{_≡_, refl, sym, ap, _∙_}
@@ -8,14 +8,14 @@ use denote.Ref.{now}
 use lib.ListN.{length, drop, drop-of-length-le}
 use lib.Seq.{drop-cons}
 use Rattle.lines.specs.Fold.{foldFrom}
-use Rattle.lines.proofs.show.fold.Statement.{statement}
-use Rattle.lines.proofs.show.fold.Tie as tie
+use Rattle.lines.proofs.show.fold_from.Statement.{statement}
+use Rattle.lines.proofs.show.fold_from.Tie as tie
 
 abbrev Inv-loop : tie.InvT-loop
-Inv-loop bytes s₀ i₀ s i = (i ≤ length bytes) × (s < 4294967291) × (foldFrom s (drop i bytes) ≡ foldFrom 0 bytes)
+Inv-loop s bytes t₀ i₀ t i = (i ≤ length bytes) × (t < 4294967291) × (foldFrom t (drop i bytes) ≡ foldFrom s bytes)
 
 abbrev μ-loop : tie.MeasureT-loop
-μ-loop bytes s₀ i₀ s i = length bytes - i
+μ-loop s bytes t₀ i₀ t i = length bytes - i
 
 loop-holds : tie.Need-loop-holds Inv-loop μ-loop
 loop-holds c = (omega arith, omega arith, refl)
@@ -41,7 +41,7 @@ loop-again c =
     let h : at .i < length b = omega arith in (
       omega arith,
       c .folded .ensures .1,
-      rw add-one (ap (λ (v : ℕ). foldFrom v (drop (suc (at .i)) b)) (c .folded .ensures .0) ∙ sym (ap (foldFrom (at .s)) (drop-cons b (at .i) 0 h)) ∙ at .inv .2),
+      rw add-one (ap (λ (v : ℕ). foldFrom v (drop (suc (at .i)) b)) (c .folded .ensures .0) ∙ sym (ap (foldFrom (at .t)) (drop-cons b (at .i) 0 h)) ∙ at .inv .2),
     )
 
 returns : tie.Need-returns Inv-loop μ-loop
@@ -49,10 +49,10 @@ unfolding foldFrom
 returns c =
     let b = now (c .before .before .before .args .bytes) in
     let at = c .before .loop in
-    sym (ap (foldFrom (at .s)) (drop-of-length-le b {i = at .i} (omega arith))) ∙ at .inv .2
+    (sym (ap (foldFrom (at .t)) (drop-of-length-le b {i = at .i} (omega arith))) ∙ at .inv .2, at .inv .1)
 
-pub fold-spec : {M : Type 1} → statement M
-fold-spec =
+pub fold-from-spec : {M : Type 1} → statement M
+fold-from-spec =
     tie.close
     (tie.spec
     Inv-loop
