@@ -90,7 +90,14 @@ static uint32_t open_job(void) {
     return shift_open_job(SLICE(file), SLICE(ring), job, SLICE(out), lent_number());
 }
 
-static uint32_t (*const functions[])(void) = {seal, open_record, check, lookup, associated, open_job};
+static uint32_t entry(void) {
+    bytes file = given();
+    uint32_t job = (uint32_t)number(), *row = lent_number(), *ad_at = lent_number(), *ad_len = lent_number(),
+             *text_at = lent_number(), *text_len = lent_number();
+    return shift_entry(SLICE(file), job, row, ad_at, ad_len, text_at, text_len);
+}
+
+static uint32_t (*const functions[])(void) = {seal, open_record, check, lookup, associated, open_job, entry};
 
 int main(void) {
     for (int function; (function = getchar()) != EOF; fflush(stdout)) {

@@ -4,7 +4,7 @@
 //! and runs under the emulator of the kit that proves the library.
 
 use crate::calls::Library;
-use crate::shift::Answer;
+use crate::shift::{Answer, Places};
 use std::env;
 use std::io::{BufReader, BufWriter, Read, Write};
 use std::path::PathBuf;
@@ -131,4 +131,9 @@ fn open_job(file: &[u8], ring: &[u8], job: u32, out: &mut [u8]) -> Answer {
     (number, row)
 }
 
-pub const PROVED: Library = Library { seal, open, check, lookup, associated, open_job };
+fn entry(file: &[u8], job: u32) -> (Answer, Places) {
+    let (number, [row, places @ ..]) = ask::<5>(6, vec![Given(file), Number(job.into())]);
+    ((number, row), places.map(|place| place as usize))
+}
+
+pub const PROVED: Library = Library { seal, open, check, lookup, associated, entry, open_job };
