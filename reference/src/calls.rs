@@ -148,11 +148,13 @@ impl FileCall {
     /// The answer as the program `files` writes it under op 0.
     pub fn line(&self, by: &Library) -> String {
         let FileOutcome { check, lookup, associated: (_, at, length), open, out, .. } = self.answer(by);
-        let out = shown(&out);
-        format!("{} {} {} {} {at} {length} {} {} {out}\n", check.0, check.1, lookup.0, lookup.1, open.0, open.1)
+        let (ad, out) = (shown(&self.file[at..at + length]), shown(&out));
+        let numbers = [check.0, check.1, lookup.0, lookup.1].map(|number| number.to_string()).join(" ");
+        format!("{numbers} {at} {length} {ad} {} {} {out}\n", open.0, open.1)
     }
 
-    /// The lines of op 1: for each place of the file, the fold of the answers to its 255 damages.
+    /// The lines of op 1: for each place of the file, the fold of the answers to its 255 damages: the numbers and
+    /// rows of check and lookup, the number of opening, and what the opening leaves in its output.
     pub fn damage_lines(&self) -> String {
         let mut damaged = self.clone();
         let mut lines = String::new();
@@ -160,8 +162,9 @@ impl FileCall {
             let mut answers = vec![];
             for x in 1..=255 {
                 damaged.file[place] = self.file[place] ^ x;
-                let FileOutcome { check, lookup, open, .. } = damaged.answer(&REFERENCE);
+                let FileOutcome { check, lookup, open, out, .. } = damaged.answer(&REFERENCE);
                 answers.extend([check.0, check.1, lookup.0, lookup.1, open.0].map(|number| number as u8));
+                answers.extend(out);
             }
             damaged.file[place] = self.file[place];
             lines += &format!("{}\n", fold(&answers));
