@@ -108,8 +108,7 @@ entry-in e f h i l =
     let s = h .walk .rows i l in
     record {
       row-in = row-in (rowSize e) f (countOf f) i (h .head .table) l;
-      suite-low = s .suit .suite-low;
-      suite-high = s .suit .suite-high;
+      suite-is = s .suit .suite-is;
       key-high = s .suit .key-high;
       data-high = s .size .ad-high;
       text-high = s .size .len-high;

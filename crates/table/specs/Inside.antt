@@ -2,6 +2,7 @@
 use Prim.Native.Nat.{ℕ, _+_, _≤_}
 use mathlib.Core.List.{List}
 use lib.ListN.{length}
+use Rattle.cipher.specs.Cipher.{IsSuite}
 use Rattle.table.specs.Format.{rowStart, rowAt, bodyEnd}
 
 -- row i lies in the file
@@ -17,8 +18,7 @@ pub record TableIn (w : ℕ) (f : List ℕ) (n : ℕ) : Type 0 where
 -- row i of a file that passes, as far as reading and opening its body goes by that
 pub record EntryIn (w : ℕ) (f : List ℕ) (i : ℕ) : Type 0 where
   pub row-in : RowIn w f i
-  pub suite-low : 1 ≤ rowAt w f i .suite
-  pub suite-high : rowAt w f i .suite ≤ 4
+  pub suite-is : IsSuite (rowAt w f i .suite)
   pub key-high : rowAt w f i .key ≤ 15
   pub data-high : rowAt w f i .ad ≤ 1024
   pub text-high : rowAt w f i .len ≤ 65536
