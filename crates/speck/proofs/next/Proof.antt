@@ -12,7 +12,7 @@ round-requires : tie.Need-round-requires
 round-requires c κs = search needs
 
 turned : (r l i : ℕ) → upper l r i ≡ nextL r l i
-turned r l i = ap (λ (n : ℕ). xor (n % 2 ^ 32) i) (add-comm (rotr 32 8 l) r)
+turned r l i = ap (λ (n : ℕ). xor (n % 2 ^ 32) i) (add-comm _ r)
 
 returns : tie.Need-returns
 returns c =
