@@ -1,5 +1,5 @@
 -- The facts of a suite: what every line of the table has, and the line that a test leads to.
-use mathlib.Core.Path.{_≡_, refl, sym, ap, _∙_}
+use mathlib.Core.Path.{_≡_, refl, sym, ap, _∙_, subst}
 use mathlib.Core.Bool.{Bool, true, false, cond}
 use mathlib.Core.List.{List}
 use mathlib.Core.Logic.{_⊎_, inl, inr}
@@ -58,6 +58,10 @@ size-most s = most (sizes-two s)
     most : (sizeOf s ≡ 16) ⊎ (sizeOf s ≡ 8) → sizeOf s ≤ 16
     most (inl e) = omega arith
     most (inr e) = omega arith
+
+-- so has a full block
+pub full-two : (k s : ℕ) → k ≡ sizeOf s → (k ≡ 16) ⊎ (k ≡ 8)
+full-two k s e = subst (λ (j : ℕ). (j ≡ 16) ⊎ (j ≡ 8)) (sym e) (sizes-two s)
 
 -- a block that has not 16 bytes has 8
 pub size-other : (s : ℕ) → (sizeOf s ≡ 16 → ⊥) → sizeOf s ≡ 8
