@@ -4,11 +4,10 @@ use mathlib.Core.List.{List, _++_}
 use Prim.Native.Nat.{ℕ}
 use native.Mathlib.Omega.{arith}
 use lib.ListN.{take, drop, take-append-drop}
-use lib.Seq.{ext-getD}
 use Rattle.words.specs.Outcome.{OneOutcome}
 use Rattle.words.proofs.Bytes.{bytes-inj}
 use Rattle.words.proofs.Blocks.{wide-told}
-use Rattle.fips197.specs.Sbox.{IsSbox}
+use Rattle.fips197.proofs.Sbox.{table-only}
 use Rattle.cipher.specs.Cipher.{sizeOf}
 use Rattle.cipher.proofs.size_of.Kinds as size-of-kinds
 use Rattle.cipher.proofs.size_of.Reads as size-of-reads
@@ -21,16 +20,11 @@ use Rattle.cipher.proofs.encipher8.Reads as encipher8-reads
 use Rattle.cipher.proofs.encipher.Kinds as encipher-kinds
 use Rattle.cipher.proofs.encipher.Reads as encipher-reads
 
--- two tables of the S-box are one
-same-table : (s t : List ℕ) → IsSbox s → IsSbox t → s ≡ t
-same-table s t p q =
-    ext-getD 0 s t (p .size ∙ sym (q .size)) (λ i h. p .entry i (omega (arith, p .size)) ∙ sym (q .entry i (omega (arith, p .size))))
-
 pub size-of : OneOutcome size-of-kinds.ps size-of-kinds.r size-of-reads.Pre size-of-reads.Post
 size-of κs a h x y = (x .ensures .0 ∙ sym (y .ensures .0), refl)
 
 pub tables : OneOutcome tables-kinds.ps tables-kinds.r tables-reads.Pre tables-reads.Post
-tables κs a h x y = (same-table (x .result) (y .result) (x .ensures) (y .ensures), refl)
+tables κs a h x y = (table-only (x .result) (y .result) (x .ensures) (y .ensures), refl)
 
 pub encipher16 : OneOutcome encipher16-kinds.ps encipher16-kinds.r encipher16-reads.Pre encipher16-reads.Post
 encipher16 κs a h x y = (wide-told (x .result) (y .result) (omega arith) (omega arith) (omega arith) (omega arith) (x .ensures ∙ sym (y .ensures)), refl)
