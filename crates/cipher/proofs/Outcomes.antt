@@ -3,12 +3,11 @@ use mathlib.Core.Path.{_≡_, refl, sym, _∙_}
 use mathlib.Core.List.{List}
 use Prim.Native.Nat.{ℕ}
 use native.Mathlib.Omega.{arith}
-use lib.Seq.{ext-getD}
 use Rattle.words.specs.Outcome.{OneOutcome}
 use Rattle.words.proofs.Bytes.{bytes-inj}
 use Rattle.words.proofs.Lists.{parts-told}
 use Rattle.words.proofs.Blocks.{wide-told}
-use Rattle.fips197.specs.Sbox.{IsSbox}
+use Rattle.fips197.proofs.Sbox.{table-only}
 use Rattle.cipher.specs.Cipher.{sizeOf}
 use Rattle.cipher.proofs.is_suite.Kinds as is-suite-kinds
 use Rattle.cipher.proofs.is_suite.Reads as is-suite-reads
@@ -25,11 +24,6 @@ use Rattle.cipher.proofs.encipher8.Reads as encipher8-reads
 use Rattle.cipher.proofs.encipher.Kinds as encipher-kinds
 use Rattle.cipher.proofs.encipher.Reads as encipher-reads
 
--- two tables of the S-box are one
-same-table : (s t : List ℕ) → IsSbox s → IsSbox t → s ≡ t
-same-table s t p q =
-    ext-getD 0 s t (p .size ∙ sym (q .size)) (λ i h. p .entry i (omega (arith, p .size)) ∙ sym (q .entry i (omega (arith, p .size))))
-
 pub is-suite : OneOutcome is-suite-kinds.ps is-suite-kinds.r is-suite-reads.Pre is-suite-reads.Post
 is-suite κs a h x y = (x .ensures ∙ sym (y .ensures), refl)
 
@@ -40,7 +34,7 @@ pub nonce-size : OneOutcome nonce-size-kinds.ps nonce-size-kinds.r nonce-size-re
 nonce-size κs a h x y = (x .ensures ∙ sym (y .ensures), refl)
 
 pub tables : OneOutcome tables-kinds.ps tables-kinds.r tables-reads.Pre tables-reads.Post
-tables κs a h x y = (same-table (x .result) (y .result) (x .ensures) (y .ensures), refl)
+tables κs a h x y = (table-only (x .result) (y .result) (x .ensures) (y .ensures), refl)
 
 pub encipher16 : OneOutcome encipher16-kinds.ps encipher16-kinds.r encipher16-reads.Pre encipher16-reads.Post
 encipher16 κs a h x y = (wide-told (x .result) (y .result) (omega arith) (omega arith) (omega arith) (omega arith) (x .ensures ∙ sym (y .ensures)), refl)

@@ -11,7 +11,7 @@ use Rattle.words.specs.Xors.{xors}
 use Rattle.words.proofs.Xor.{below}
 use Rattle.words.proofs.Lists.{all-nil, all-cons, all-append, all-replicate, all-part}
 use Rattle.words.proofs.Xors.{length-xors, all-xors}
-use Rattle.fips197.specs.Cipher.{from, cell, subBytes, shiftRows, mixed, mixColumns, addRoundKey, subWord, rotWord, power, rcon, temp, w, roundKey, state}
+use Rattle.fips197.specs.Cipher.{from, subBytes, shiftRows, mixed, mixColumns, addRoundKey, subWord, rotWord, power, rcon, temp, w, roundKey, state}
 use Rattle.fips197.proofs.Field.{xtime-byte, product-byte}
 use Rattle.fips197.proofs.Sbox.{sub-byte}
 

@@ -10,21 +10,17 @@ use lib.Bits.{bitOr}
 use lib.Dec.{eqb}
 use borrow.Author.Tests.{eqb-true}
 use Rattle.words.specs.Words.{xor}
-use Rattle.words.specs.Bytes.{AllBytes, bytes, sameBytes}
+use Rattle.words.specs.Bytes.{bytes, sameBytes}
 use Rattle.words.specs.Xors.{xors}
 use Rattle.words.specs.declared.block.Block.{Block}
 use Rattle.words.specs.Blocks.{wide}
-use Rattle.words.proofs.Lists.{all-append}
 use Rattle.words.proofs.Xor.{self, none-gathered}
 use Rattle.words.proofs.Same.{same-refl, same-true, test-iff}
-use Rattle.words.proofs.Bytes.{length-bytes, all-bytes, bytes-inj}
+use Rattle.words.proofs.Bytes.{length-bytes, bytes-inj}
 use Rattle.words.proofs.Xors.{bytes-xor, xors-append}
 
 pub length-wide : (a b : ℕ) → length (bytes 8 a ++ bytes 8 b) ≡ 16
 length-wide a b = length-append (bytes 8 a) (bytes 8 b) ∙ omega (arith, length-bytes 8 a, length-bytes 8 b)
-
-pub all-wide : (a b : ℕ) → AllBytes (bytes 8 a ++ bytes 8 b)
-all-wide a b = all-append (bytes 8 a) (bytes 8 b) (all-bytes 8 a) (all-bytes 8 b)
 
 pub wide-xor : (a b c d : ℕ) → bytes 8 (xor a c) ++ bytes 8 (xor b d) ≡ xors (bytes 8 a ++ bytes 8 b) (bytes 8 c ++ bytes 8 d)
 wide-xor a b c d =

@@ -1,12 +1,12 @@
 -- Lists of bytes: what keeps every element a byte, and lists written out element by element.
-use mathlib.Core.Path.{_≡_, refl, sym, ap, ap₂, _∙_}
+use mathlib.Core.Path.{_≡_, refl, sym, ap, _∙_}
 use mathlib.Core.List.{List, [], _∷_, _++_, append-nil}
 use Prim.Native.Nat.{ℕ, zero, suc, _+_, _-_, _≤_, _<_}
 use native.Mathlib.Numerals.{add-one}
 use native.Mathlib.Omega.{arith}
 use lib.ListN.{length, getD, set, take, drop, replicate, drop-of-length-le, take-append-drop, length-drop}
 use lib.Seq.{drop-cons, take-all, take-at, drop-at, take-append-seam, drop-append-seam, sets, sets-eq}
-use Rattle.words.specs.Bytes.{AllBytes, part, Each}
+use Rattle.words.specs.Bytes.{AllBytes, part}
 
 pub nil-of : (l : List ℕ) → length l ≡ 0 → l ≡ []
 nil-of [] e = refl
@@ -73,12 +73,6 @@ part-take (suc n) l i h =
 -- a list of n elements, written out
 pub part-whole : (n : ℕ) (l : List ℕ) → length l ≡ n → part n l 0 ≡ l
 part-whole n l e = part-take n l 0 (omega arith) ∙ take-all n l (omega arith)
-
-pub each-eq : (l m : List ℕ) → Each l m → l ≡ m
-each-eq [] [] e = refl
-each-eq [] (y ∷ m) e = absurd e
-each-eq (x ∷ l) [] e = absurd e
-each-eq (x ∷ l) (y ∷ m) e = ap₂ (λ (a : ℕ) (t : List ℕ). a ∷ t) (e .0) (each-eq l m (e .1))
 
 -- stores over a whole list
 pub overwrite : (vs d : List ℕ) → length d ≡ length vs → sets d 0 vs ≡ vs
