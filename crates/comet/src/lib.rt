@@ -44,30 +44,38 @@ impl Answer {
 }
 
 // Numbers 1 to 7 in the order of the table, from the suite and the lengths of key, nonce, associated data, text, output and tag.
-fn refused(suite: u8, k: usize, v: usize, a: usize, t: usize, o: usize, g: usize) -> Answer
-    ensures { λ r. ⌜ numberOf r ≡ refusal suite k v a t o g ⌝ }
+fn refused(
+    suite: u8,
+    key: usize,
+    nonce: usize,
+    ad: usize,
+    text: usize,
+    out: usize,
+    tag: usize,
+) -> Answer
+    ensures { λ r. ⌜ numberOf r ≡ refusal suite key nonce ad text out tag ⌝ }
 {
     if !cipher::is_suite(suite) {
         return Answer::Suite;
     }
-    if k != 16 {
+    if key != 16 {
         return Answer::Key;
     }
-    let vn = cipher::nonce_size(suite);
-    if v != vn {
+    let n = cipher::nonce_size(suite);
+    if nonce != n {
         return Answer::Nonce;
     }
-    if 65536 < a {
+    if 65536 < ad {
         return Answer::Data;
     }
-    if 65536 < t {
+    if 65536 < text {
         return Answer::Text;
     }
-    if o != t {
+    if out != text {
         return Answer::Room;
     }
-    let n = cipher::size_of(suite);
-    if g != n {
+    let b = cipher::size_of(suite);
+    if tag != b {
         return Answer::Tag;
     }
     Answer::Done
