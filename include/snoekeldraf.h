@@ -5,7 +5,8 @@
  *   - a pointer to bytes has the length that stands beside it, and leads to that many bytes, for the whole call;
  *     where the length is 0 nothing is read or written through the pointer;
  *   - what is written (out, tag of the sealer, row, places and lengths) overlaps nothing else that is passed:
- *     a record is not sealed or opened in place.
+ *     a record is not sealed or opened in place;
+ *   - suite is one byte, and C cuts a larger number to its lowest eight bits before the call: 257 would be suite 1.
  * The functions keep nothing from one call to the next, need no memory but the stack, and call memcpy and memset alone.
  * Nothing is promised of the time that a call takes.
  *
