@@ -3,7 +3,14 @@
  *     rt staticlib snoekeldraf
  *     cc examples/record.c -Iinclude target/staticlib/libsnoekeldraf.a -o target/record
  *     target/record samples/day.shift samples/ring.keys 4103
+ *
+ * The archive links only into x86-64 programs. On Arm, with Debian's cross compiler (gcc-x86-64-linux-gnu), say
+ * x86_64-linux-gnu-gcc for cc and ./run target/record for target/record, which runs it under the kit's emulator.
  */
+#ifndef __x86_64__
+#error "the archive links only into x86-64 programs; the comment above says how to make one on Arm"
+#endif
+
 #include <stdio.h>
 #include <stdlib.h>
 #include <string.h>
@@ -57,38 +64,30 @@ static size_t read_file(const char *path, uint8_t *bytes, size_t room) {
     return len;
 }
 
-/* The message's length in a row of the table of contents: its bytes 12 to 15. */
-static uint32_t message_length(const uint8_t *file, uint32_t row) {
-    const uint8_t *at = file + 8 + 32 * row + 12;
-    return at[0] | (uint32_t)at[1] << 8 | (uint32_t)at[2] << 16 | (uint32_t)at[3] << 24;
-}
-
 /* Checks the file, looks the job up, and opens it. One byte of room too many shows a file that is too long. */
 static void open_job(const char *file_path, const char *ring_path, uint32_t job) {
     static uint8_t file[LONGEST_FILE + 1], ring[RING + 1], message[LONGEST_MESSAGE];
     size_t file_len = read_file(file_path, file, sizeof file);
     size_t ring_len = read_file(ring_path, ring, sizeof ring);
-    uint32_t row, at, len;
+    uint32_t row, ad_at, ad_len, text_at, text_len;
 
     uint32_t number = shift_check(file, file_len, &row);
     printf("checking %s gives %u, row %u\n", file_path, number, row);
 
-    number = shift_lookup(file, file_len, job, &row);
+    number = shift_entry(file, file_len, job, &row, &ad_at, &ad_len, &text_at, &text_len);
     printf("looking job %u up gives %u, row %u\n", job, number, row);
     if (number != 0) {
         return;
     }
-    size_t message_len = message_length(file, row);
 
-    number = shift_open_job(file, file_len, ring, ring_len, job, message, message_len, &row);
+    number = shift_open_job(file, file_len, ring, ring_len, job, message, text_len, &row);
     printf("opening it gives %u, row %u\n", number, row);
     if (number != 0) {
         return;
     }
-    shift_associated(file, file_len, job, &at, &len);
-    print_hex("associated data", file + at, len);
-    printf("  %-16s%s\n", "unit", file[at + 4] == 1 ? "newton-metres" : "inch-pounds");
-    printf("  %-16s%.*s\n", "message", (int)message_len, (const char *)message);
+    print_hex("associated data", file + ad_at, ad_len);
+    printf("  %-16s%s\n", "unit", file[ad_at + 4] == 1 ? "newton-metres" : "inch-pounds");
+    printf("  %-16s%.*s\n", "message", (int)text_len, (const char *)message);
 }
 
 int main(int count, char **words) {

@@ -4,8 +4,9 @@
  * What the caller owes, since nothing in C checks it:
  *   - a pointer to bytes has the length that stands beside it, and leads to that many bytes, for the whole call;
  *     where the length is 0 nothing is read or written through the pointer;
- *   - what is written (out, tag of the sealer, row, at, len) overlaps nothing else that is passed:
- *     a record is not sealed or opened in place.
+ *   - what is written (out, tag of the sealer, row, places and lengths) overlaps nothing else that is passed:
+ *     a record is not sealed or opened in place;
+ *   - suite is one byte, and C cuts a larger number to its lowest eight bits before the call: 257 would be suite 1.
  * The functions keep nothing from one call to the next, need no memory but the stack, and call memcpy and memset alone.
  * Nothing is promised of the time that a call takes.
  *
@@ -94,8 +95,16 @@ uint32_t shift_lookup(const uint8_t *file, size_t file_len, uint32_t job, uint32
  */
 uint32_t shift_associated(const uint8_t *file, size_t file_len, uint32_t job, uint32_t *at, uint32_t *len);
 
+/* The lookup, with its number and row, and then where the job's entry lies: its associated data is *ad_len bytes from
+ * file + *ad_at, its text (the ciphertext, as long as the message) *text_len bytes from file + *text_at. Neither is yet
+ * shown to be genuine. All five are written always: *row as by shift_lookup; the places and lengths are 0 after every
+ * number but 0.
+ */
+uint32_t shift_entry(const uint8_t *file, size_t file_len, uint32_t job, uint32_t *row,
+                     uint32_t *ad_at, uint32_t *ad_len, uint32_t *text_at, uint32_t *text_len);
+
 /* Opens one job: the lookup, then 2, 6 and 8 in this order. The ring is 16 keys; key k is its bytes 16k to 16k + 15.
- * The message's length is in the file, four bytes from file + 8 + 32 * row + 12, the least first, with shift_lookup's row.
+ * The message's length, which out_len has to be, is shift_entry's *text_len.
  * After 0, out is the message, written whole; after 8, every byte of out is 0; after every other number, out is as it was.
  * *row is written always: the row at fault after 25 to 30, and 0 after every other number, 0 too.
  */

@@ -17,6 +17,7 @@ pub struct Library {
     pub check: fn(&[u8]) -> shift::Answer,
     pub lookup: fn(&[u8], u32) -> shift::Answer,
     pub associated: fn(&[u8], u32) -> (u32, usize, usize),
+    pub entry: fn(&[u8], u32) -> (shift::Answer, shift::Places),
     pub open_job: fn(&[u8], &[u8], u32, &mut [u8]) -> shift::Answer,
 }
 
@@ -29,6 +30,7 @@ pub const REFERENCE: Library = Library {
         let (at, length) = shift::associated_place(file, job);
         (shift::lookup(file, job).0, at, length)
     },
+    entry: shift::entry,
     open_job: shift::open_job,
 };
 
@@ -99,7 +101,7 @@ impl Call {
     }
 }
 
-/// A call of the shift file's four routines.
+/// A call of the shift file's routines.
 #[derive(Clone)]
 pub struct FileCall {
     pub file: Vec<u8>,
@@ -113,6 +115,7 @@ pub struct FileOutcome {
     pub check: shift::Answer,
     pub lookup: shift::Answer,
     pub associated: (u32, usize, usize),
+    pub entry: (shift::Answer, shift::Places),
     pub open: shift::Answer,
     pub out: Vec<u8>,
 }
@@ -124,6 +127,7 @@ impl FileCall {
             check: (by.check)(&self.file),
             lookup: (by.lookup)(&self.file, self.job),
             associated: (by.associated)(&self.file, self.job),
+            entry: (by.entry)(&self.file, self.job),
             open: (by.open_job)(&self.file, &self.ring, self.job, &mut out),
             out,
         }
@@ -143,12 +147,14 @@ impl FileCall {
 
     /// The answer as the program `files` writes it under op 0.
     pub fn line(&self, by: &Library) -> String {
-        let FileOutcome { check, lookup, associated: (_, at, length), open, out } = self.answer(by);
-        let out = shown(&out);
-        format!("{} {} {} {} {at} {length} {} {} {out}\n", check.0, check.1, lookup.0, lookup.1, open.0, open.1)
+        let FileOutcome { check, lookup, associated: (_, at, length), open, out, .. } = self.answer(by);
+        let (ad, out) = (shown(&self.file[at..at + length]), shown(&out));
+        let numbers = [check.0, check.1, lookup.0, lookup.1].map(|number| number.to_string()).join(" ");
+        format!("{numbers} {at} {length} {ad} {} {} {out}\n", open.0, open.1)
     }
 
-    /// The lines of op 1: for each place of the file, the fold of the answers to its 255 damages.
+    /// The lines of op 1: for each place of the file, the fold of the answers to its 255 damages: the numbers and
+    /// rows of check and lookup, the number of opening, and what the opening leaves in its output.
     pub fn damage_lines(&self) -> String {
         let mut damaged = self.clone();
         let mut lines = String::new();
@@ -156,8 +162,9 @@ impl FileCall {
             let mut answers = vec![];
             for x in 1..=255 {
                 damaged.file[place] = self.file[place] ^ x;
-                let FileOutcome { check, lookup, open, .. } = damaged.answer(&REFERENCE);
+                let FileOutcome { check, lookup, open, out, .. } = damaged.answer(&REFERENCE);
                 answers.extend([check.0, check.1, lookup.0, lookup.1, open.0].map(|number| number as u8));
+                answers.extend(out);
             }
             damaged.file[place] = self.file[place];
             lines += &format!("{}\n", fold(&answers));

@@ -21,4 +21,6 @@ pub mod show;
 pub mod trials;
 
 #[cfg(feature = "linked")]
+pub mod bridge;
+#[cfg(feature = "linked")]
 pub mod linked;

@@ -142,6 +142,19 @@ pub fn associated_place(file: &[u8], job: u32) -> (usize, usize) {
     }
 }
 
+/// Where a job's entry lies: place and length of its associated data, place and length of its text.
+pub type Places = [usize; 4];
+
+/// The lookup, and where the job's entry lies in the file; four times 0 where the lookup refuses.
+pub fn entry(file: &[u8], job: u32) -> (Answer, Places) {
+    let answer = lookup(file, job);
+    if answer.0 != 0 {
+        return (answer, [0; 4]);
+    }
+    let found = row(file, answer.1 as usize);
+    (answer, [found.offset, found.ad, found.offset + found.ad, found.message])
+}
+
 /// Opens one job: the full check, 32, then 2 (the ring's length), 6 and 8. The message goes into `out`;
 /// on 8 every byte of `out` is 0, on another refusal it is unchanged.
 pub fn open_job(file: &[u8], ring: &[u8], job: u32, out: &mut [u8]) -> Answer {

@@ -2,7 +2,7 @@
 
 use reference::comet::{double, open, pad, seal, shuffle};
 use reference::data::{files, samples};
-use reference::shift::{associated, check, lookup, open_job};
+use reference::shift::{associated, check, entry, lookup, open_job};
 use reference::show::unhex;
 
 #[test]
@@ -66,6 +66,7 @@ fn smallest_file() {
     assert_eq!((check(&file), lookup(&file, 7), lookup(&file, 8)), ((0, 0), (0, 0), (32, 0)));
     assert_eq!(associated(&file, 7), [7, 0, 0, 0, 1]);
     assert_eq!(associated(&file, 8), []);
+    assert_eq!((entry(&file, 7), entry(&file, 8)), (((0, 0), [40, 5, 45, 0]), ((32, 0), [0; 4])));
     assert_eq!(open_job(&file, &ring, 7, &mut []), (0, 0));
     assert_eq!(open_job(&file, &ring[1..], 7, &mut [0]), (2, 0));
     assert_eq!(open_job(&file, &ring, 7, &mut [0]), (6, 0));

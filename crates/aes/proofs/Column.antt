@@ -13,7 +13,7 @@ use Rattle.words.proofs.Bytes.{bytes-value, length-bytes, bytes-mod, bytes-join
 use Rattle.words.proofs.Xors.{bytes-xor}
 use Rattle.fips197.specs.Cipher.{mixed, subWord, rotWord}
 use Rattle.fips197.specs.Field.{xtime}
-use Rattle.fips197.proofs.Field.{xtime-sum, mixed-is}
+use Rattle.fips197.proofs.Field.{xtime-sum, two-product, three-product}
 use Rattle.fips197.proofs.Steps.{from-same}
 use Rattle.fips197.proofs.Schedule.{next-key}
 use Rattle.aes.specs.Columns.{mixColumn, Follows}
@@ -88,7 +88,7 @@ mixed-cell : (a b c d : ℕ) → xor (xor (xtime (xor a b)) b) (xor c d) ≡ mix
 mixed-cell a b c d =
     sym (assoc (xor (xtime (xor a b)) b) c d)
     ∙ ap (λ (v : ℕ). xor (xor v c) d) (ap (λ (v : ℕ). xor v b) (xtime-sum a b) ∙ assoc (xtime a) (xtime b) b)
-    ∙ sym (mixed-is a b c d)
+    ∙ sym (ap₂ (λ (u v : ℕ). xor (xor (xor u v) c) d) (two-product a) (three-product b))
 
 -- y is x turned, q the sum of both turned twice, and v that sum doubled
 pub mixed-column : (x y p q v : ℕ) → bytes 4 y ≡ rotWord (bytes 4 x) → bytes 4 v ≡ map xtime (bytes 4 (xor x y))

@@ -119,26 +119,28 @@ module _ (w : ℕ) where
 -- the image of a block is a block
 pub image : (w : ℕ) (key block : List ℕ) → (length (cham w key block) ≡ 4 * (w / 8)) × AllBytes (cham w key block)
 unfolding cham
-image w key block =
-    let s : State = rounds w (roundKeys w key) (stateOf w block) 80 in
-    (length-state w s, all-state w s)
+image w key block = (length-state w _, all-state w _)
 
--- under every key no two blocks share an image
-pub injective : (w : ℕ) → 8 ≤ w → w % 8 ≡ 0 → (key l m : List ℕ) → length l ≡ 4 * (w / 8) → length m ≡ 4 * (w / 8) → AllBytes l → AllBytes m
-    → cham w key l ≡ cham w key m → l ≡ m
-unfolding cham
-injective w wide whole-bytes key l m nl nm hl hm e =
-    let keys = roundKeys w key in
+-- after n rounds no two blocks have the same words
+blocks-tell : (w : ℕ) → 8 ≤ w → w % 8 ≡ 0 → (keys l m : List ℕ) → length l ≡ 4 * (w / 8) → length m ≡ 4 * (w / 8) → AllBytes l → AllBytes m
+    → (n : ℕ) → bytesOf w (rounds w keys (stateOf w l) n) ≡ bytesOf w (rounds w keys (stateOf w m) n) → n ≤ 2 ^ w → l ≡ m
+blocks-tell w wide whole-bytes keys l m nl nm hl hm n e r =
     let z : 8 * (w / 8) ≡ w = omega arith in
     let b : 256 ^ (w / 8) ≡ 2 ^ w = reach (w / 8) ∙ ap (λ (n : ℕ). 2 ^ n) z in
     let up : (s : State) → Small (256 ^ (w / 8)) s → Small (2 ^ w) s = λ s. subst (λ (n : ℕ). Small n s) b in
     let down : (s : State) → Small (2 ^ w) s → Small (256 ^ (w / 8)) s = λ s. subst (λ (n : ℕ). Small n s) (sym b) in
     let sl : Small (2 ^ w) (stateOf w l) = up (stateOf w l) (state-small w l hl) in
     let sm : Small (2 ^ w) (stateOf w m) = up (stateOf w m) (state-small w m hm) in
-    let rl : State = rounds w keys (stateOf w l) 80 in
-    let rm : State = rounds w keys (stateOf w m) 80 in
-    let r : 80 ≤ 2 ^ w = omega (arith, pow-mono wide) in
+    let rl : State = rounds w keys (stateOf w l) n in
+    let rm : State = rounds w keys (stateOf w m) n in
     sym (whole w l nl hl)
-    ∙ ap (bytesOf w) (rounds-inj w wide keys (stateOf w l) (stateOf w m) sl sm 80 r
-    (bytes-tell w rl rm (down rl (rounds-small w wide keys (stateOf w l) sl 80)) (down rm (rounds-small w wide keys (stateOf w m) sm 80)) e))
+    ∙ ap (bytesOf w) (rounds-inj w wide keys (stateOf w l) (stateOf w m) sl sm n r
+    (bytes-tell w rl rm (down rl (rounds-small w wide keys (stateOf w l) sl n)) (down rm (rounds-small w wide keys (stateOf w m) sm n)) e))
     ∙ whole w m nm hm
+
+-- under every key no two blocks share an image
+pub injective : (w : ℕ) → 8 ≤ w → w % 8 ≡ 0 → (key l m : List ℕ) → length l ≡ 4 * (w / 8) → length m ≡ 4 * (w / 8) → AllBytes l → AllBytes m
+    → cham w key l ≡ cham w key m → l ≡ m
+unfolding cham
+injective w wide whole-bytes key l m nl nm hl hm e =
+    blocks-tell w wide whole-bytes (roundKeys w key) l m nl nm hl hm _ e (omega (arith, pow-mono wide))

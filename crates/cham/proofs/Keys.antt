@@ -27,3 +27,7 @@ one-more w key i {j = j} {b = b} p q t r s =
     rw add-one
     (ap₂ (λ (l : List ℕ) (x : ℕ). set (set l i x) j b) p (r ∙ ap (mixed w 8) q)
     ∙ ap₂ (set (set (placed w key i) i (mixed w 8 (keyWord w key i)))) t (s ∙ ap (mixed w 11) q))
+
+-- and once all n words have
+pub all-put : (w : ℕ) (key keys : List ℕ) (i n : ℕ) → keys ≡ placed w key i → i ≡ n → keys ≡ placed w key n
+all-put w key keys i n p q = p ∙ ap (placed w key) q

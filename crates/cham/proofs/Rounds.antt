@@ -4,7 +4,7 @@ use mathlib.Core.List.{List}
 use Prim.Native.Nat.{ℕ, suc, _+_, _*_, _/_, _%_}
 use native.Mathlib.Omega.{arith}
 use lib.ListN.{getD}
-use Rattle.cham.specs.Cham.{State, state, roundKeys, turned, newWord, round, rounds, stateOf, bytesOf, cham}
+use Rattle.cham.specs.Cham.{State, state, roundKeys, turned, newWord, round, rounds, stateOf, bytesOf}
 
 pub same-state : {s t : State} → s .s0 ≡ t .s0 → s .s1 ≡ t .s1 → s .s2 ≡ t .s2 → s .s3 ≡ t .s3 → s ≡ t
 same-state {s} {t} a b c d = ap₂ (λ (x y : ℕ). state x y (s .s2) (s .s3)) a b ∙ ap₂ (state (t .s0) (t .s1)) c d
@@ -36,9 +36,8 @@ module _ (w : ℕ) (keys : List ℕ) (s : State) where
       = step (i + 2) (i + 3) 0 c d e f (omega arith) (omega arith) z2 ∙ ap (state d e f) (sym r) in
       step (i + 3) (i + 4) 1 d e f g (omega arith) (omega arith) z3 ∙ ap (state e f g) (sym t)
 
--- after the last round the state's bytes are the image
-pub done : (w : ℕ) (key block keys r : List ℕ) (i : ℕ) {s t : State} → keys ≡ roundKeys w key → s ≡ stateOf w block → i ≡ 80
-    → rounds w keys s i ≡ t → r ≡ bytesOf w t → r ≡ cham w key block
-unfolding cham
-done w key block keys r i {s} p q n e h =
-    h ∙ ap (bytesOf w) (sym e ∙ ap (rounds w keys s) n ∙ ap₂ (λ (l : List ℕ) (x : State). rounds w l x 80) p q)
+-- after the last round, the nth, the state's bytes are the image
+pub done : (w : ℕ) (key block keys r : List ℕ) (i n : ℕ) {s t : State} → keys ≡ roundKeys w key → s ≡ stateOf w block → i ≡ n
+    → rounds w keys s i ≡ t → r ≡ bytesOf w t → r ≡ bytesOf w (rounds w (roundKeys w key) (stateOf w block) n)
+done w key block keys r i n {s} p q m e h =
+    h ∙ ap (bytesOf w) (sym e ∙ ap (rounds w keys s) m ∙ ap₂ (λ (l : List ℕ) (x : State). rounds w l x n) p q)

@@ -1,17 +1,20 @@
--- Every public function of `cipher` leaves one outcome: a number, the table told by its entries, a block told by its bytes.
-use mathlib.Core.Path.{_≡_, refl, sym, ap₂, _∙_}
-use mathlib.Core.List.{List, _++_}
+-- Every public function of `cipher` leaves one outcome: a number or a yes or no, the table told by its entries, a block told by its bytes.
+use mathlib.Core.Path.{_≡_, refl, sym, _∙_}
+use mathlib.Core.List.{List}
 use Prim.Native.Nat.{ℕ}
 use native.Mathlib.Omega.{arith}
-use lib.ListN.{take, drop, take-append-drop}
-use lib.Seq.{ext-getD}
 use Rattle.words.specs.Outcome.{OneOutcome}
 use Rattle.words.proofs.Bytes.{bytes-inj}
+use Rattle.words.proofs.Lists.{parts-told}
 use Rattle.words.proofs.Blocks.{wide-told}
-use Rattle.fips197.specs.Sbox.{IsSbox}
+use Rattle.fips197.proofs.Sbox.{table-only}
 use Rattle.cipher.specs.Cipher.{sizeOf}
+use Rattle.cipher.proofs.is_suite.Kinds as is-suite-kinds
+use Rattle.cipher.proofs.is_suite.Reads as is-suite-reads
 use Rattle.cipher.proofs.size_of.Kinds as size-of-kinds
 use Rattle.cipher.proofs.size_of.Reads as size-of-reads
+use Rattle.cipher.proofs.nonce_size.Kinds as nonce-size-kinds
+use Rattle.cipher.proofs.nonce_size.Reads as nonce-size-reads
 use Rattle.cipher.proofs.tables.Kinds as tables-kinds
 use Rattle.cipher.proofs.tables.Reads as tables-reads
 use Rattle.cipher.proofs.encipher16.Kinds as encipher16-kinds
@@ -21,16 +24,17 @@ use Rattle.cipher.proofs.encipher8.Reads as encipher8-reads
 use Rattle.cipher.proofs.encipher.Kinds as encipher-kinds
 use Rattle.cipher.proofs.encipher.Reads as encipher-reads
 
--- two tables of the S-box are one
-same-table : (s t : List ℕ) → IsSbox s → IsSbox t → s ≡ t
-same-table s t p q =
-    ext-getD 0 s t (p .size ∙ sym (q .size)) (λ i h. p .entry i (omega (arith, p .size)) ∙ sym (q .entry i (omega (arith, p .size))))
+pub is-suite : OneOutcome is-suite-kinds.ps is-suite-kinds.r is-suite-reads.Pre is-suite-reads.Post
+is-suite κs a h x y = (x .ensures ∙ sym (y .ensures), refl)
 
 pub size-of : OneOutcome size-of-kinds.ps size-of-kinds.r size-of-reads.Pre size-of-reads.Post
 size-of κs a h x y = (x .ensures .0 ∙ sym (y .ensures .0), refl)
 
+pub nonce-size : OneOutcome nonce-size-kinds.ps nonce-size-kinds.r nonce-size-reads.Pre nonce-size-reads.Post
+nonce-size κs a h x y = (x .ensures ∙ sym (y .ensures), refl)
+
 pub tables : OneOutcome tables-kinds.ps tables-kinds.r tables-reads.Pre tables-reads.Post
-tables κs a h x y = (same-table (x .result) (y .result) (x .ensures) (y .ensures), refl)
+tables κs a h x y = (table-only (x .result) (y .result) (x .ensures) (y .ensures), refl)
 
 pub encipher16 : OneOutcome encipher16-kinds.ps encipher16-kinds.r encipher16-reads.Pre encipher16-reads.Post
 encipher16 κs a h x y = (wide-told (x .result) (y .result) (omega arith) (omega arith) (omega arith) (omega arith) (x .ensures ∙ sym (y .ensures)), refl)
@@ -38,13 +42,9 @@ encipher16 κs a h x y = (wide-told (x .result) (y .result) (omega arith) (omega
 pub encipher8 : OneOutcome encipher8-kinds.ps encipher8-kinds.r encipher8-reads.Pre encipher8-reads.Post
 encipher8 κs a h x y = (bytes-inj 8 (omega arith) (omega arith) (x .ensures ∙ sym (y .ensures)), refl)
 
--- a list is told by its first part and the rest
-joined : (n : ℕ) {s t u v : List ℕ} → take n s ≡ u → drop n s ≡ v → take n t ≡ u → drop n t ≡ v → s ≡ t
-joined n {s} {t} p q p′ q′ = sym (take-append-drop n s) ∙ ap₂ (λ (l m : List ℕ). l ++ m) (p ∙ sym p′) (q ∙ sym q′) ∙ take-append-drop n t
-
 pub encipher : OneOutcome encipher-kinds.ps encipher-kinds.r encipher-reads.Pre encipher-reads.Post
 encipher κs a h x y = (
   wide-told (x .result) (y .result) (omega arith) (omega arith) (omega arith) (omega arith)
-      (joined (sizeOf (a .1 .0)) (x .ensures .0) (x .ensures .1) (y .ensures .0) (y .ensures .1)),
+      (parts-told (sizeOf (a .1 .0)) _ _ (x .ensures .0 ∙ sym (y .ensures .0)) (x .ensures .1 ∙ sym (y .ensures .1))),
   refl,
 )

@@ -1,19 +1,14 @@
 // The sealer and the opener: COMET version 1 over the four ciphers.
 use words::block::Block;
 
-mod key;
-mod pad;
-mod shuffle;
-mod state;
-mod tag;
 mod text;
 
 ghost use mathlib.Core.Path.{_≡_};
-ghost use Prim.Native.Nat.{_≤_};
 ghost use lib.ListN.{length, take};
 ghost use Rattle.words.specs.Blocks.{wide};
-ghost use Rattle.cipher.specs.Cipher.{sizeOf, cipherOf};
-ghost use Rattle.mode.specs.Mode.{nonceSize, textOut, tagOut};
+ghost use Rattle.cipher.specs.Cipher.{IsSuite, sizeOf, nonceOf, cipherOf};
+ghost use Rattle.mode.specs.Mode.{textOut, tagOut};
+ghost use Rattle.step.specs.Two.{Clean};
 ghost use Rattle.comet.specs.Answers.{numberOf, refusal, Sealed, sealing, Opened, opening};
 
 // What a call answers: Done, or why it refused.
@@ -48,41 +43,39 @@ impl Answer {
     }
 }
 
-// The suite's nonce length.
-pub fn nonce_size(suite: u8) -> usize
-    ensures { λ r. ⌜ r ≡ nonceSize (cipherOf suite) ⌝ }
-{
-    if suite <= 2 { 16 } else { 15 }
-}
-
 // Numbers 1 to 7 in the order of the table, from the suite and the lengths of key, nonce, associated data, text, output and tag.
-fn refused(suite: u8, k: usize, v: usize, a: usize, t: usize, o: usize, g: usize) -> Answer
-    ensures { λ r. ⌜ numberOf r ≡ refusal suite k v a t o g ⌝ }
+fn refused(
+    suite: u8,
+    key: usize,
+    nonce: usize,
+    ad: usize,
+    text: usize,
+    out: usize,
+    tag: usize,
+) -> Answer
+    ensures { λ r. ⌜ numberOf r ≡ refusal suite key nonce ad text out tag ⌝ }
 {
-    if suite < 1 {
+    if !cipher::is_suite(suite) {
         return Answer::Suite;
     }
-    if 4 < suite {
-        return Answer::Suite;
-    }
-    if k != 16 {
+    if key != 16 {
         return Answer::Key;
     }
-    let vn = nonce_size(suite);
-    if v != vn {
+    let n = cipher::nonce_size(suite);
+    if nonce != n {
         return Answer::Nonce;
     }
-    if 65536 < a {
+    if 65536 < ad {
         return Answer::Data;
     }
-    if 65536 < t {
+    if 65536 < text {
         return Answer::Text;
     }
-    if o != t {
+    if out != text {
         return Answer::Room;
     }
-    let n = cipher::size_of(suite);
-    if g != n {
+    let b = cipher::size_of(suite);
+    if tag != b {
         return Answer::Tag;
     }
     Answer::Done
@@ -98,15 +91,16 @@ fn crypt(
     text: &[u8],
     out: &mut [u8],
 ) -> Block
-    requires { ⌜ (1 ≤ suite) × (suite ≤ 4) × (length (now key) ≡ 16) × (length (now nonce) ≡ nonceSize (cipherOf suite)) × (length (now out) ≡ length (now text)) ⌝ }
+    requires { ⌜ IsSuite suite × (length (now key) ≡ 16) × (length (now nonce) ≡ nonceOf suite) × (length (now out) ≡ length (now text)) ⌝ }
     ensures text { λ _. ⌜ now (out .exit) ≡ textOut (cipherOf suite) opening (now (key .entry)) (now (nonce .entry)) (now (ad .entry)) (now (text .entry)) ⌝ }
     ensures tag { λ r. ⌜ take (sizeOf suite) (wide r) ≡ tagOut (cipherOf suite) opening (now (key .entry)) (now (nonce .entry)) (now (ad .entry)) (now (text .entry)) ⌝ }
+    ensures clean { λ r. ⌜ Clean suite r ⌝ }
 {
     let tb = cipher::tables();
-    let s = state::start(&tb, suite, key, nonce);
+    let s = step::state::start(&tb, suite, key, nonce);
     let d = text::absorb_all(&tb, suite, s, ad);
     let t = text::crypt_all(&tb, opening, suite, d, text, out);
-    tag::tag_of(&tb, suite, t)
+    step::tag::tag_of(&tb, suite, t)
 }
 
 // Seals msg into out, and its tag into tag.
@@ -165,9 +159,9 @@ pub fn unseal(
         return a;
     };
     let t = crypt(true, suite, key, nonce, ad, text, out);
-    if tag::same(t, tag) {
+    if step::tag::same(t, tag) {
         return Answer::Done;
     }
-    tag::wipe(out);
+    words::zeros::wipe(out);
     Answer::Forged
 }

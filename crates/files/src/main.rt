@@ -1,13 +1,12 @@
 // Runs the calls of the shift file's routines that stand in the input, and writes a line for each.
 //
 // A call is op, job and the lengths of file, ring and output (4 bytes each, little-endian), then the file and the ring.
-// op 0: check, lookup, place and length of the associated data, opening with its output, on one line.
-// op 1: a line for each byte of the file, the fold of the answers to its 255 damages.
+// op 0: check, lookup, place, length and bytes of the associated data, opening with its output, on one line.
+// op 1: a line for each byte of the file, the fold of the answers to its 255 damages, outputs too.
 // The output holds 0xa5 before each opening.
 use libc::STDIN_FILENO;
 use libc::STDOUT_FILENO;
-use shift::answers::Answer;
-use shift::answers::Found;
+use table::answers::Answer;
 ghost use Prim.Native.Nat.{_≤_, _<_};
 ghost use lib.ListN.{length};
 
@@ -37,25 +36,15 @@ fn answer(a: Answer) {
     lines::show::space();
 }
 
-// Where the body of row i starts, by the row's own bytes.
-fn body_start(file: &[u8], i: usize) -> u32 {
-    if 512 < i {
-        return 0;
-    }
-    lines::read::number(file, 8 + 32 * i + 8)
-}
-
-// Place and length of the associated data.
+// Place, length and bytes of the associated data.
 fn place(file: &[u8], job: u32) {
-    let found = shift::lookup(file, job);
-    let mut at: u32 = 0;
-    if let Found::At(i) = found {
-        at = body_start(file, i);
-    }
+    let entry = shift::entry(file, job);
     let ad = shift::associated(file, job);
-    lines::show::number(at as u64);
+    lines::show::number(entry.ad_at as u64);
     lines::show::space();
     lines::show::number(ad.len() as u64);
+    lines::show::space();
+    lines::show::bytes(ad);
     lines::show::space();
 }
 
@@ -72,7 +61,7 @@ fn line(file: &[u8], ring: &[u8], c: Call) -> bool {
     if 65540 < o {
         return false;
     }
-    answer(shift::check(file).answer());
+    answer(table::check(file).answer());
     answer(shift::lookup(file, c.job).answer());
     place(file, c.job);
     opening(file, ring, c.job, &mut out[0..o]);
@@ -84,14 +73,22 @@ fn low(row: usize) -> u8 {
     (row % 256) as u8
 }
 
-// The number of opening into a fresh output of o bytes.
-fn opened(file: &[u8], ring: &[u8], job: u32, o: usize) -> u8
-    requires { ⌜ o ≤ 300 ⌝ }
+// The fold s with the number of opening, and the output that it leaves.
+fn opened_into(s: u64, file: &[u8], ring: &[u8], job: u32, out: &mut [u8]) -> u64
+    requires { ⌜ s < 4294967291 ⌝ }
+    ensures { λ r. ⌜ r < 4294967291 ⌝ }
+{
+    let a = shift::open_job(file, ring, job, out).answer();
+    lines::show::fold_from(lines::show::folded(s, a.number), out)
+}
+
+// The same with a fresh output of o bytes.
+fn opened(s: u64, file: &[u8], ring: &[u8], job: u32, o: usize) -> u64
+    requires { ⌜ (s < 4294967291) × (o ≤ 300) ⌝ }
+    ensures { λ r. ⌜ r < 4294967291 ⌝ }
 {
     let mut out = [0xa5u8; 300];
-    shift::open_job(file, ring, job, &mut out[0..o])
-        .answer()
-        .number
+    opened_into(s, file, ring, job, &mut out[0..o])
 }
 
 // The fold s with the answers to the file as it is.
@@ -99,13 +96,13 @@ fn answers(s: u64, file: &[u8], ring: &[u8], job: u32, o: usize) -> u64
     requires { ⌜ (s < 4294967291) × (o ≤ 300) ⌝ }
     ensures { λ r. ⌜ r < 4294967291 ⌝ }
 {
-    let a = shift::check(file).answer();
+    let a = table::check(file).answer();
     let b = shift::lookup(file, job).answer();
     let s1 = lines::show::folded(s, a.number);
     let s2 = lines::show::folded(s1, low(a.row));
     let s3 = lines::show::folded(s2, b.number);
     let s4 = lines::show::folded(s3, low(b.row));
-    lines::show::folded(s4, opened(file, ring, job, o))
+    opened(s4, file, ring, job, o)
 }
 
 // The 255 damages of byte p.

@@ -10,7 +10,6 @@ use Rattle.words.specs.Words.{xor}
 use Rattle.words.proofs.Xor.{self, zero-l, zero-r, middle, low, high, below as xor-below}
 use Rattle.words.proofs.Table.{below, at-below}
 use Rattle.fips197.specs.Field.{bit, _⊕_, xtime, multiples, _•_}
-use Rattle.fips197.specs.Cipher.{mixed}
 
 -- ---- a bit times a number
 
@@ -95,7 +94,17 @@ multiples-more (suc n) a b h =
     let p : 2 ^ suc n ≡ 2 ^ n * 2 = pow-suc 2 n in
     ap (xor (a % 2 * b)) (multiples-more n (a / 2) (xtime b) (omega arith))
 
+multiples-byte : (n a b : ℕ) → b < 256 → multiples n a b < 256
+unfolding multiples
+multiples-byte zero a b h = lit< tt
+multiples-byte (suc n) a b h =
+    xor-below 8 (bits (λ p. p * b < 256) (rw zero-mul (lit< tt)) (rw one-mul h) (a % 2) (digit a)) (multiples-byte n (a / 2) (xtime b) (xtime-byte b))
+
 -- ---- the product
+
+pub product-byte : (a b : ℕ) → b < 256 → a • b < 256
+unfolding _•_
+product-byte = multiples-byte 8
 
 product-sum : (a b c : ℕ) → (a ⊕ b) • c ≡ a • c ⊕ b • c
 unfolding _•_
@@ -109,16 +118,13 @@ pub one-product : (b : ℕ) → 1 • b ≡ b
 unfolding _•_ multiples
 one-product b = ap₂ xor (one-mul b) (multiples-zero 7 (xtime b)) ∙ zero-r b
 
-two-product : (b : ℕ) → 2 • b ≡ xtime b
+pub two-product : (b : ℕ) → 2 • b ≡ xtime b
 unfolding _•_ multiples
 two-product b = ap₂ xor (zero-mul b) (ap₂ xor (one-mul (xtime b)) (multiples-zero 6 (xtime (xtime b))) ∙ zero-r (xtime b)) ∙ zero-l (xtime b)
 
-three-product : (b : ℕ) → 3 • b ≡ xtime b ⊕ b
+pub three-product : (b : ℕ) → 3 • b ≡ xtime b ⊕ b
 unfolding xor
 three-product b = product-sum 2 1 b ∙ ap₂ xor (two-product b) (one-product b)
-
-pub mixed-is : (a b c d : ℕ) → mixed a b c d ≡ xtime a ⊕ (xtime b ⊕ b) ⊕ c ⊕ d
-mixed-is a b c d = ap₂ (λ (x y : ℕ). x ⊕ y ⊕ c ⊕ d) (two-product a) (three-product b)
 
 times-product : (a b p : ℕ) → p < 2 → p * (a • b) ≡ (p * a) • b
 times-product a b = bits (λ p. p * (a • b) ≡ (p * a) • b) (simp (zero-mul, zero-product)) (simp one-mul)

@@ -12,43 +12,29 @@ use Rattle.words.proofs.Xors.{xors-comm, xors-inj}
 use Rattle.fips197.specs.Field.{xtime}
 use Rattle.fips197.specs.Sbox.{subByte}
 use Rattle.fips197.specs.Cipher.{cell, grid, subBytes, shiftRows, mixed, mixColumns, addRoundKey, roundKey, state, cipher}
-use Rattle.fips197.proofs.Field.{xtime-sum, mixed-is}
+use Rattle.fips197.proofs.Field.{xtime-sum, two-product, three-product}
 use Rattle.fips197.proofs.Sbox.{unsub, unsub-sub}
 use Rattle.fips197.proofs.Steps.{from-same, sub-bytes, shift-bytes, add-bytes, add-length, key-length, key-bytes, state-length, state-bytes}
 
--- ---- one column, by sums and xtime alone
+-- ---- one column
 
-module _ (o : ℕ → ℕ → ℕ) (X : ℕ → ℕ) (z : ℕ)
-    (assoc : (a b c : ℕ) → o (o a b) c ≡ o a (o b c)) (comm : (a b : ℕ) → o a b ≡ o b a) (swap : (a b c : ℕ) → o a (o b c) ≡ o b (o a c))
-    (self : (a : ℕ) → o a a ≡ z) (again : (a b : ℕ) → o a (o a b) ≡ b) (none : (a : ℕ) → o z a ≡ a)
-    (linear : (a b : ℕ) → X (o a b) ≡ o (X a) (X b)) where
-  abbrev M : ℕ → ℕ → ℕ → ℕ → ℕ
-  M a b c d = o (o (o (X a) (o (X b) b)) c) d
+-- the columns' map applied twice joins only every other byte
+abbrev joined : ℕ → ℕ → ℕ
+joined a c = xor (xtime (xtime a)) (xor a (xtime (xtime c)))
 
-  -- the map applied twice joins only every other byte
-  abbrev S : ℕ → ℕ → ℕ
-  S a c = o (X (X a)) (o a (X (X c)))
+squared : (a b c d : ℕ) → mixed (mixed a b c d) (mixed b c d a) (mixed c d a b) (mixed d a b c) ≡ joined a c
+squared a b c d = simp (two-product, three-product, xtime-sum, assoc, comm, left-comm, twice)
 
-  squared : (a b c d : ℕ) → M (M a b c d) (M b c d a) (M c d a b) (M d a b c) ≡ S a c
-  squared a b c d = simp (linear, assoc, comm, swap, again)
+fourth : (a c : ℕ) → joined (joined a c) (joined c a) ≡ a
+fourth a c = simp (xtime-sum, assoc, comm, left-comm, self, twice, zero-l)
 
-  fourth : (a c : ℕ) → S (S a c) (S c a) ≡ a
-  fourth a c = simp (linear, assoc, comm, swap, self, again, none)
-
-  -- so a is made of the four bytes of the mixed column
-  unmixed : ℕ → ℕ → ℕ → ℕ → ℕ
-  unmixed e f g h = S (M e f g h) (M g h e f)
-
-  column-undone : (a b c d : ℕ) → a ≡ unmixed (M a b c d) (M b c d a) (M c d a b) (M d a b c)
-  unfolding unmixed
-  column-undone a b c d = sym (ap₂ S (squared a b c d) (squared c d a b) ∙ fourth a c)
-
+-- so a is made of the four bytes of the mixed column
 unmix : ℕ → ℕ → ℕ → ℕ → ℕ
-unmix = unmixed xor xtime 0 assoc comm left-comm self twice zero-l xtime-sum
+unmix e f g h = joined (mixed e f g h) (mixed g h e f)
 
 mixed-undone : (a b c d : ℕ) → unmix (mixed a b c d) (mixed b c d a) (mixed c d a b) (mixed d a b c) ≡ a
 unfolding unmix
-mixed-undone a b c d = simp mixed-is (sym (column-undone xor xtime 0 assoc comm left-comm self twice zero-l xtime-sum a b c d))
+mixed-undone a b c d = ap₂ joined (squared a b c d) (squared c d a b) ∙ fourth a c
 
 -- ---- the steps undone
 

@@ -11,8 +11,8 @@ use Rattle.words.specs.Xors.{xors}
 use Rattle.words.proofs.Xor.{below}
 use Rattle.words.proofs.Lists.{all-nil, all-cons, all-append, all-replicate, all-part}
 use Rattle.words.proofs.Xors.{length-xors, all-xors}
-use Rattle.fips197.specs.Cipher.{from, cell, subBytes, shiftRows, mixed, mixColumns, addRoundKey, subWord, rotWord, power, rcon, temp, w, roundKey, state}
-use Rattle.fips197.proofs.Field.{xtime-byte, mixed-is}
+use Rattle.fips197.specs.Cipher.{from, subBytes, shiftRows, mixed, mixColumns, addRoundKey, subWord, rotWord, power, rcon, temp, w, roundKey, state}
+use Rattle.fips197.proofs.Field.{xtime-byte, product-byte}
 use Rattle.fips197.proofs.Sbox.{sub-byte}
 
 pub from-same : (f g : ℕ → ℕ) → ((i : ℕ) → f i ≡ g i) → (i n : ℕ) → from i n f ≡ from i n g
@@ -25,8 +25,8 @@ all-from f h i (suc n) = all-cons (f i) (from (suc i) n f) (h i) (all-from f h (
 
 -- ---- the four steps
 
-mixed-byte : (a b c d : ℕ) → b < 256 → c < 256 → d < 256 → mixed a b c d < 256
-mixed-byte a b c d hb hc hd = rw mixed-is (below 8 (below 8 (below 8 (xtime-byte a) (below 8 (xtime-byte b) hb)) hc) hd)
+mixed-byte : (a b c d : ℕ) → a < 256 → b < 256 → c < 256 → d < 256 → mixed a b c d < 256
+mixed-byte a b c d ha hb hc hd = below 8 (below 8 (below 8 (product-byte _ a ha) (product-byte _ b hb)) hc) hd
 
 module _ (s : List ℕ) (hs : AllBytes s) where
   pub sub-bytes : AllBytes (subBytes s)
@@ -41,7 +41,7 @@ module _ (s : List ℕ) (hs : AllBytes s) where
   unfolding mixColumns
   mix-bytes =
       all-from _
-      (λ j. mixed-byte (cell s (j % 4) (j / 4)) _ _ _ (hs ((j % 4 + 1) % 4 + 4 * (j / 4))) (hs ((j % 4 + 2) % 4 + 4 * (j / 4))) (hs ((j % 4 + 3) % 4 + 4 * (j / 4))))
+      (λ j. mixed-byte _ _ _ _ (hs (j % 4 + 4 * (j / 4))) (hs ((j % 4 + 1) % 4 + 4 * (j / 4))) (hs ((j % 4 + 2) % 4 + 4 * (j / 4))) (hs ((j % 4 + 3) % 4 + 4 * (j / 4))))
       0 16
 
   pub add-bytes : (k : List ℕ) → AllBytes k → AllBytes (addRoundKey s k)

@@ -4,7 +4,6 @@
 // one line each. A file that cannot be read counts as zero bytes. The program takes files up to 524,288 bytes, half the
 // format's limit (longer: 20): the prover can carry no array of twice that.
 use libc::STDOUT_FILENO;
-use shift::answers::Found;
 ghost use Prim.Native.Nat.{_≤_};
 
 // Reads the file that argument i names into buf, as far as it goes.
@@ -18,23 +17,6 @@ fn load(i: usize, buf: &mut [u8]) -> &[u8] {
         libc::close(fd);
     }
     lines::read::front(&buf[..], got)
-}
-
-// The length of the message of row i, by the row's own bytes.
-fn message_length(file: &[u8], i: usize) -> usize {
-    if 512 < i {
-        return 0;
-    }
-    lines::read::number(file, 8 + 32 * i + 12) as usize
-}
-
-// The length of the job's message, 0 where the lookup refuses.
-fn room(file: &[u8], job: u32) -> usize {
-    let found = shift::lookup(file, job);
-    let Found::At(i) = found else {
-        return 0;
-    };
-    message_length(file, i)
 }
 
 fn print_unit(unit: u8) {
@@ -68,7 +50,7 @@ fn run(file: &[u8], job: u32) {
     let mut r = [0u8; 257];
     let mut out = [0u8; 65536];
     let ring = load(2, &mut r);
-    let n = room(file, job);
+    let n = shift::entry(file, job).text_len as usize;
     if n <= 65536 {
         open_into(file, ring, job, &mut out[0..n]);
     }

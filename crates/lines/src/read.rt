@@ -1,17 +1,19 @@
 // Reading.
 use libc::STDIN_FILENO;
 ghost use mathlib.Core.Path.{_≡_};
-ghost use lib.ListN.{length};
+ghost use lib.ListN.{take, replicate};
 
 // Zeros for a file of 524,288 bytes, and one byte more: the prover can carry no array of twice that.
 pub fn file_room() -> [u8; 524289]
-    ensures { λ r. ⌜ 524289 ≡ length r ⌝ }
+    ensures { λ r. ⌜ r ≡ replicate 524289 0 ⌝ }
 {
     [0u8; 524289]
 }
 
 // The first n bytes of buf, or all of it where it has no more.
-pub fn front(buf: &[u8], n: usize) -> &[u8] {
+pub fn front(buf: &[u8], n: usize) -> &[u8]
+    ensures { λ r. ⌜ (now r ≡ take n (now (buf .entry))) × (r .ptr ≡ buf .entry .ptr) ⌝ }
+{
     if buf.len() <= n {
         return buf;
     }
@@ -25,15 +27,4 @@ pub fn field(buf: &mut [u8], n: usize) -> &[u8] {
         got = io::read_full(STDIN_FILENO, &mut buf[0..n]);
     }
     front(&buf[..], got)
-}
-
-// The four bytes of buf from `at` as a number, 0 where they are not there.
-pub fn number(buf: &[u8], at: usize) -> u32 {
-    if buf.len() < 4 {
-        return 0;
-    }
-    if buf.len() - 4 < at {
-        return 0;
-    }
-    words::arx::le32(buf[at], buf[at + 1], buf[at + 2], buf[at + 3])
 }

@@ -3,7 +3,7 @@ use libc::STDOUT_FILENO;
 ghost use mathlib.Core.Path.{_≡_};
 ghost use Prim.Native.Nat.{_+_, _*_, _≤_, _<_};
 ghost use lib.ListN.{length};
-ghost use Rattle.lines.specs.Fold.{foldOf, next};
+ghost use Rattle.lines.specs.Fold.{foldOf, foldFrom, next};
 
 pub fn number(n: u64) {
     io::print_decimal(STDOUT_FILENO, n);
@@ -67,17 +67,25 @@ pub fn folded(s: u64, b: u8) -> u64
     (s * 257 + b as u64 + 1) % 4294967291
 }
 
+// The fold s with the bytes behind it.
+pub fn fold_from(s: u64, bytes: &[u8]) -> u64
+    requires { ⌜ s < 4294967291 ⌝ }
+    ensures { λ r. ⌜ (r ≡ foldFrom s (now (bytes .entry))) × (r < 4294967291) ⌝ }
+{
+    let mut t = s;
+    let mut i: usize = 0;
+    while i < bytes.len() {
+        t = folded(t, bytes[i]);
+        i += 1;
+    }
+    t
+}
+
 // One number for all the bytes, modulo the largest prime below 2^32.
 pub fn fold(bytes: &[u8]) -> u64
     ensures { λ r. ⌜ r ≡ foldOf (now (bytes .entry)) ⌝ }
 {
-    let mut s: u64 = 0;
-    let mut i: usize = 0;
-    while i < bytes.len() {
-        s = folded(s, bytes[i]);
-        i += 1;
-    }
-    s
+    fold_from(0, bytes)
 }
 
 // The bytes: in hex where there are at most 64, else how many there are and their fold.

@@ -7,19 +7,23 @@ use native.Mathlib.Omega.{arith}
 use mathlib.Core.List.{List}
 use lib.ListN.{length, replicate}
 use Rattle.comet.specs.Answers.{refusal, Sealed, sealedAs, sealing, Opened, openedAs, opening}
-use Rattle.comet.proofs.Outcomes.{number-tells}
+use Rattle.comet.proofs.Outcomes as comet
+use Rattle.table.proofs.Outcomes as table
+use Rattle.shift.proofs.Outcomes as shift
 use Rattle.comet.proofs.Refuse.{refusal-most}
-use Rattle.promises.specs.Demand1.{SealOnce, OpenOnce, SealKeeps, OpenKeeps}
+use Rattle.promises.specs.Demand1.{EntryPoints, SealKeeps, OpenKeeps}
 
-pub seal-once : SealOnce
-seal-once suite key nonce ad msg out₀ tag₀ r r′ out out′ tag tag′ p q =
-    let e = p ∙ sym q in
-    (number-tells r r′ (ap (λ (w : Sealed). w .number) e), ap (λ (w : Sealed). w .out) e, ap (λ (w : Sealed). w .tag) e)
-
-pub open-once : OpenOnce
-open-once suite key nonce ad text tag out₀ r r′ out out′ p q =
-    let e = p ∙ sym q in
-    (number-tells r r′ (ap (λ (w : Opened). w .number) e), ap (λ (w : Opened). w .out) e)
+pub entry-points : EntryPoints
+entry-points =
+    record {
+      seal = record { asks-nothing = λ κs a. tt; one-outcome = comet.seal };
+      unseal = record { asks-nothing = λ κs a. tt; one-outcome = comet.unseal };
+      check = record { asks-nothing = λ κs a. tt; one-outcome = table.check };
+      lookup = record { asks-nothing = λ κs a. tt; one-outcome = shift.lookup };
+      entry = record { asks-nothing = λ κs a. tt; one-outcome = shift.entry };
+      open-job = record { asks-nothing = λ κs a. tt; one-outcome = shift.open-job };
+      associated = shift.associated;
+    }
 
 sealed-keeps : (n : ℕ) (x y o t : List ℕ) → n ≤ 7 → (sealedAs n x y o t .number ≤ 7) × (0 < sealedAs n x y o t .number → (sealedAs n x y o t .out ≡ o) × (sealedAs n x y o t .tag ≡ t))
 sealed-keeps zero x y o t h = (omega arith, λ p. absurd (not-suc-le-zero p))

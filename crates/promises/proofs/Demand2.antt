@@ -11,7 +11,7 @@ use Rattle.mode.proofs.Demand2.{text-length, text-bytes, text-back, tag-back, t
 use Rattle.comet.specs.Answers.{sealedAs, sealing, Opened}
 use Rattle.promises.specs.Input.{Input}
 use Rattle.promises.specs.Demand2.{Sealing, Accepting, Returning, RoundTrip}
-use Rattle.promises.proofs.Answers.{right, opens, opened-tag}
+use Rattle.promises.proofs.Answers.{right, nonce-right, opens, opened-tag}
 
 pub sealing-is : Sealing
 unfolding sealing
@@ -20,7 +20,7 @@ sealing-is suite key nonce ad msg out₀ tag₀ i lo lt =
     (right suite key nonce ad msg out₀ tag₀ i lo lt)
 
 pub returning : Returning
-returning suite key nonce ad c t out₀ m i lo lt hm lm ec et =
+returning suite key nonce ad c t out₀ m i lo lt hm ec et =
     let κ = cipherOf suite in
     let L = lawful suite in
     let eg : tagOut κ true key nonce ad c ≡ t = ap (tagOut κ true key nonce ad) (sym ec) ∙ tag-back κ L key nonce ad false m hm ∙ et in
@@ -37,34 +37,35 @@ accepting suite key nonce ad c t out₀ i lo lt =
     let m = textOut κ true key nonce ad c in (
       λ e. (
         m,
-        text-bytes κ L key nonce ad true c (i .text-bytes),
-        text-length κ L key nonce ad true c (i .text-bytes),
-        text-back κ L key nonce ad true c (i .text-bytes),
-        tag-back κ L key nonce ad true c (i .text-bytes) ∙ opened-tag suite key nonce ad c t out₀ i lo lt e,
+        text-bytes κ L key nonce ad true c (i .texts .text-bytes),
+        text-back κ L key nonce ad true c (i .texts .text-bytes),
+        tag-back κ L key nonce ad true c (i .texts .text-bytes) ∙ opened-tag suite key nonce ad c t out₀ i lo lt e,
       ),
-      λ w. ap (λ (r : Opened). r .number) (returning suite key nonce ad c t out₀ (w .0) i lo lt (w .1) (w .2) (w .3) (w .4)),
+      λ w. ap (λ (r : Opened). r .number) (returning suite key nonce ad c t out₀ (w .0) i lo lt (w .1) (w .2) (w .3)),
     )
 
 pub round-trip : RoundTrip
 round-trip suite key nonce ad msg out₀ i lo =
+    let x = i .texts in
     let κ = cipherOf suite in
     let L = lawful suite in
     let c = ciphertext κ key nonce ad msg in
-    let lc : length c ≡ length msg = text-length κ L key nonce ad false msg (i .text-bytes) in
-    let hk : Block 16 key = record { long = i .key-length; bytes = i .key-bytes } in
+    let lc : length c ≡ length msg = text-length κ L key nonce ad false msg (x .text-bytes) in
+    let hk : Block 16 key = record { long = x .key-length; bytes = x .key-bytes } in
     let ic : Input suite key nonce ad c =
     record {
-      suite-first = i .suite-first;
-      suite-last = i .suite-last;
-      key-bytes = i .key-bytes;
-      key-length = i .key-length;
-      nonce-bytes = i .nonce-bytes;
-      nonce-length = i .nonce-length;
-      ad-bytes = i .ad-bytes;
-      ad-length = i .ad-length;
-      text-bytes = text-bytes κ L key nonce ad false msg (i .text-bytes);
-      text-length = subst (λ (n : ℕ). n ≤ 65536) (sym lc) (i .text-length);
+      texts = record {
+        suite-is = x .suite-is;
+        key-bytes = x .key-bytes;
+        key-length = x .key-length;
+        nonce-bytes = x .nonce-bytes;
+        nonce-length = x .nonce-length;
+        ad-bytes = x .ad-bytes;
+        text-bytes = text-bytes κ L key nonce ad false msg (x .text-bytes);
+      };
+      ad-most = i .ad-most;
+      text-most = subst (λ (n : ℕ). n ≤ 65536) (sym lc) (i .text-most);
     } in
     returning suite key nonce ad c (tag κ key nonce ad msg) out₀ msg ic (lo ∙ sym lc)
-    (tag-block κ L key nonce ad false msg hk (i .nonce-bytes) (i .nonce-length) (i .ad-bytes) (i .text-bytes) .long)
-    (i .text-bytes) (sym lc) refl refl
+    (tag-block κ L key nonce ad false msg hk (x .nonce-bytes) (nonce-right suite key nonce ad msg x) (x .ad-bytes) (x .text-bytes) .long)
+    (x .text-bytes) refl refl

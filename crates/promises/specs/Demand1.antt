@@ -1,26 +1,44 @@
--- Demand 1: every call answers with one outcome; a refused length or suite changes nothing, a wrong tag leaves zeros.
+-- Demand 1: every entry point answers on any bytes and any lengths, with one outcome; a refused length or suite changes nothing, a wrong tag leaves zeros.
 use mathlib.Core.Path.{_≡_}
 use Prim.Native.Nat.{ℕ, _≤_, _<_}
 use mathlib.Core.List.{List}
 use lib.ListN.{length, replicate}
-use Rattle.comet.specs.declared.Answer.{Answer}
-use Rattle.comet.specs.Answers.{numberOf, Sealed, sealing, Opened, opening}
+use contract.Lifetimes.{Lfts}
+use denote.Ref.{now}
+use borrow.Fn.Kinds.{PK, RK, In, Out, Dens}
+use Rattle.words.specs.Outcome.{Outcome, OneOutcome}
+use Rattle.comet.specs.Answers.{Sealed, sealing, Opened, opening}
+use Rattle.comet.proofs.seal.Kinds as seal-kinds
+use Rattle.comet.proofs.seal.Reads as seal-reads
+use Rattle.comet.proofs.unseal.Kinds as unseal-kinds
+use Rattle.comet.proofs.unseal.Reads as unseal-reads
+use Rattle.table.proofs.check.Kinds as check-kinds
+use Rattle.table.proofs.check.Reads as check-reads
+use Rattle.shift.proofs.lookup.Kinds as lookup-kinds
+use Rattle.shift.proofs.lookup.Reads as lookup-reads
+use Rattle.shift.proofs.entry.Kinds as entry-kinds
+use Rattle.shift.proofs.entry.Reads as entry-reads
+use Rattle.shift.proofs.associated.Kinds as associated-kinds
+use Rattle.shift.proofs.associated.Reads as associated-reads
+use Rattle.shift.proofs.open_job.Kinds as open-job-kinds
+use Rattle.shift.proofs.open_job.Reads as open-job-reads
 
--- two answers with their buffers that the sealer's contract allows for one input are equal
-abbrev pub SealOnce : Type 0
-SealOnce =
-    (suite : ℕ) (key nonce ad msg out₀ tag₀ : List ℕ) (r r′ : Answer) (out out′ tag tag′ : List ℕ)
-    → _≡_ {A = Sealed} (record { number = numberOf r; out = out; tag = tag }) (sealing suite key nonce ad msg out₀ tag₀)
-    → _≡_ {A = Sealed} (record { number = numberOf r′; out = out′; tag = tag′ }) (sealing suite key nonce ad msg out₀ tag₀)
-    → (r ≡ r′) × (out ≡ out′) × (tag ≡ tag′)
+-- of a routine's own signature and contract: it asks nothing of its arguments, and they leave one outcome
+pub record Answers {n : ℕ} (ps : List (PK n)) (r : RK n) (Pre : In n ps) (Post : Out n ps r) : Type 0 where
+  pub asks-nothing : (κs : Lfts n) (a : Dens κs ps) → Pre κs a
+  pub one-outcome : OneOutcome ps r Pre Post
 
--- the same of the opener
-abbrev pub OpenOnce : Type 0
-OpenOnce =
-    (suite : ℕ) (key nonce ad text tag out₀ : List ℕ) (r r′ : Answer) (out out′ : List ℕ)
-    → _≡_ {A = Opened} (record { number = numberOf r; out = out }) (opening suite key nonce ad text tag out₀)
-    → _≡_ {A = Opened} (record { number = numberOf r′; out = out′ }) (opening suite key nonce ad text tag out₀)
-    → (r ≡ r′) × (out ≡ out′)
+-- every entry point of document 01
+pub record EntryPoints : Type 0 where
+  pub seal : Answers seal-kinds.ps seal-kinds.r seal-reads.Pre seal-reads.Post
+  pub unseal : Answers unseal-kinds.ps unseal-kinds.r unseal-reads.Pre unseal-reads.Post
+  pub check : Answers check-kinds.ps check-kinds.r check-reads.Pre check-reads.Post
+  pub lookup : Answers lookup-kinds.ps lookup-kinds.r lookup-reads.Pre lookup-reads.Post
+  pub entry : Answers entry-kinds.ps entry-kinds.r entry-reads.Pre entry-reads.Post
+  pub open-job : Answers open-job-kinds.ps open-job-kinds.r open-job-reads.Pre open-job-reads.Post
+  -- the associated data is a part of the file: its bytes and its place are one; a reference's ghost name belongs to the proof and is no outcome
+  pub associated : (κs : Lfts 1) (a : Dens κs associated-kinds.ps) (x y : Outcome associated-kinds.ps associated-kinds.r associated-reads.Post κs a)
+      → (now (x .result) ≡ now (y .result)) × (x .result .ptr ≡ y .result .ptr)
 
 -- the sealer gives 0 to 7, and on any but 0 both buffers are as they were
 abbrev pub SealKeeps : Type 0

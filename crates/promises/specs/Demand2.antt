@@ -16,18 +16,18 @@ Sealing =
     (suite : ℕ) (key nonce ad msg out₀ tag₀ : List ℕ) → Input suite key nonce ad msg → length out₀ ≡ length msg → length tag₀ ≡ sizeOf suite
     → sealing suite key nonce ad msg out₀ tag₀ ≡ record { number = 0; out = ciphertext (cipherOf suite) key nonce ad msg; tag = tag (cipherOf suite) key nonce ad msg }
 
--- a pair (c, t) is accepted exactly if some message of c's length seals to it
+-- a pair (c, t) is accepted exactly if some message seals to it
 abbrev pub Accepting : Type 0
 Accepting =
     (suite : ℕ) (key nonce ad c t out₀ : List ℕ) → Input suite key nonce ad c → length out₀ ≡ length c → length t ≡ sizeOf suite
     → (opening suite key nonce ad c t out₀ .number ≡ 0)
-    ↔ ((m : List ℕ) × AllBytes m × (length m ≡ length c) × (ciphertext (cipherOf suite) key nonce ad m ≡ c) × (tag (cipherOf suite) key nonce ad m ≡ t))
+    ↔ ((m : List ℕ) × AllBytes m × (ciphertext (cipherOf suite) key nonce ad m ≡ c) × (tag (cipherOf suite) key nonce ad m ≡ t))
 
 -- and that message is what the opener returns
 abbrev pub Returning : Type 0
 Returning =
     (suite : ℕ) (key nonce ad c t out₀ m : List ℕ) → Input suite key nonce ad c → length out₀ ≡ length c → length t ≡ sizeOf suite
-    → AllBytes m → length m ≡ length c → ciphertext (cipherOf suite) key nonce ad m ≡ c → tag (cipherOf suite) key nonce ad m ≡ t
+    → AllBytes m → ciphertext (cipherOf suite) key nonce ad m ≡ c → tag (cipherOf suite) key nonce ad m ≡ t
     → opening suite key nonce ad c t out₀ ≡ record { number = 0; out = m }
 
 -- so what was sealed opens, into any buffer of its length

@@ -8,12 +8,12 @@ use Rattle.cipher.specs.Cipher.{cipherOf, sizeOf}
 use Rattle.mode.specs.Mode.{tag}
 use Rattle.comet.specs.declared.Answer.{Answer}
 use Rattle.comet.specs.Answers.{numberOf, Opened, opening}
-use Rattle.promises.specs.Input.{Input}
+use Rattle.promises.specs.Input.{Texts, Input}
 
 -- one suite, key and nonce; two inputs of equal lengths that differ, every difference inside block j of the message or inside block j of the associated data: the specification's tags differ
 abbrev pub OneBlock : Type 0
 OneBlock =
-    (suite : ℕ) (key nonce ad ad′ msg msg′ : List ℕ) (j : ℕ) → Input suite key nonce ad msg → Input suite key nonce ad′ msg′
+    (suite : ℕ) (key nonce ad ad′ msg msg′ : List ℕ) (j : ℕ) → Texts suite key nonce ad msg → Texts suite key nonce ad′ msg′
     → length ad ≡ length ad′ → length msg ≡ length msg′
     → ((ad ≡ ad′) × (msg ≡ msg′ → ⊥) × ((i : ℕ) → (getD msg i 0 ≡ getD msg′ i 0 → ⊥) → (j * sizeOf suite ≤ i) × (i < j * sizeOf suite + sizeOf suite)))
     ⊎ ((msg ≡ msg′) × (ad ≡ ad′ → ⊥) × ((i : ℕ) → (getD ad i 0 ≡ getD ad′ i 0 → ⊥) → (j * sizeOf suite ≤ i) × (i < j * sizeOf suite + sizeOf suite)))

@@ -7,8 +7,8 @@ use Rattle.cham.specs.Cham.{secondPlace}
 use Rattle.cipher.specs.Cipher.{cipherOf}
 use Rattle.mode.specs.Words.{double, Four, four, shuffleWords, pad}
 use Rattle.mode.specs.Keys.{marks}
-use Rattle.shift.specs.declared.answers.Answer.{Answer}
-use Rattle.shift.specs.Check.{checkFile}
+use Rattle.table.specs.declared.answers.Answer.{Answer}
+use Rattle.table.specs.Check.{checkFile}
 
 -- four words as a row, the highest first
 abbrev pub row : Four → List ℕ

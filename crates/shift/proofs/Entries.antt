@@ -1,35 +1,28 @@
--- A row that a lookup found is one that the opener takes: suite and every length are right, so it answers 0 or 8.
+-- A row of a file that passes is one that the opener takes: suite and every length are right, so it answers 0 or 8.
 use Prim.Native.Nat.{ℕ, _+_, _*_, _≤_, _<_}
 use native.Mathlib.Omega.{arith}
 use mathlib.Core.Path.{_≡_, refl, ap, _∙_}
 use mathlib.Core.Bool.{Bool, true, false, not, cond}
 use mathlib.Core.List.{List}
 use lib.Dec.{eqb}
-use borrow.Author.Tests.{le-leb, le-ltb, eq-eqb}
-use lib.ListN.{length, take, length-take, length-drop}
+use borrow.Author.Tests.{le-ltb, eq-eqb}
+use lib.ListN.{length, take, length-take}
 use Rattle.words.specs.Bytes.{sameBytes}
-use Rattle.cipher.specs.Cipher.{sizeOf, cipherOf}
-use Rattle.mode.specs.Mode.{nonceSize, textOut, tagOut}
-use Rattle.mode.proofs.Start.{nonce-most}
+use Rattle.cipher.specs.Cipher.{sizeOf, nonceOf, cipherOf}
+use Rattle.cipher.proofs.Suites.{nonce-most}
+use Rattle.mode.specs.Mode.{textOut, tagOut}
 use Rattle.comet.specs.Answers.{refusal, Opened, openedAs, opening}
-use Rattle.shift.specs.Format.{stretch, edition, rowSize, restStart, nonceAt, bodyEnd}
-use Rattle.shift.specs.declared.row.Row.{Row}
-use Rattle.shift.specs.Lookup.{rowOf, lookupJob}
-use Rattle.shift.specs.Opening.{ringKey, nonceRead, dataOf, textOf, tagOf, entryOpening, left, rowOpening}
-use Rattle.shift.specs.Inside.{RowIn, EntryIn, Lendable}
-use Rattle.shift.specs.Answers.{answer}
-use Rattle.shift.proofs.Lookups.{entry, entry-sound, entry-row}
-
-pub stretch-length : (f : List ℕ) (at len : ℕ) → at + len ≤ length f → length (stretch f at len) ≡ len
-stretch-length f at len h = simp (length-take, length-drop) (omega arith)
-
-nonce-length : (w : ℕ) (f : List ℕ) (i : ℕ) → RowIn w f i → length (nonceAt w f i) ≡ 16
-unfolding nonceAt restStart
-nonce-length w f i h = stretch-length f (restStart w i + 12) 16 (omega (arith, h .broad, h .fits))
+use Rattle.table.specs.declared.row.Row.{Row}
+use Rattle.table.specs.Format.{edition, rowSize, nonceAt, rowOf, dataOf, textOf, tagOf, bodyEnd}
+use Rattle.table.specs.Answers.{answer}
+use Rattle.table.specs.Inside.{EntryIn}
+use Rattle.table.proofs.Rows.{stretch-length, nonce-length}
+use Rattle.shift.specs.Opening.{ringKey, nonceRead, entryOpening, left, rowOpening}
+use Rattle.shift.specs.Inside.{Lendable}
 
 -- lent the entry's own bytes, the opener gives and leaves what the definition says
 pub lent : (f ring : List ℕ) (i : ℕ) (r : Row) (x : Opened) (key nonce ad text tag out : List ℕ) → x ≡ opening (r .suite) key nonce ad text tag out → r ≡ rowOf f i
-    → key ≡ ringKey ring (r .key) → nonce ≡ take (nonceSize (cipherOf (r .suite))) (nonceAt (rowSize edition) f i)
+    → key ≡ ringKey ring (r .key) → nonce ≡ take (nonceOf (r .suite)) (nonceAt (rowSize edition) f i)
     → ad ≡ dataOf f r → text ≡ textOf f r → tag ≡ tagOf f r → x ≡ entryOpening f ring i out
 unfolding entryOpening
 lent f ring i r x key nonce ad text tag out e q ek en ea et eg = e ∙ simp (ek, en, ea, et, eg, q)
@@ -45,14 +38,14 @@ entryText f ring i =
     let r = rowOf f i in
     textOut (cipherOf (r .suite)) true (ringKey ring (r .key)) (nonceRead f i) (dataOf f r) (textOf f r)
 
-module _ (f ring : List ℕ) (i : ℕ) (h : EntryIn f i) (g : length ring ≡ 256) where
+module _ (f ring : List ℕ) (i : ℕ) (h : EntryIn (rowSize edition) f i) (g : length ring ≡ 256) where
   pub key-long : length (ringKey ring (rowOf f i .key)) ≡ 16
   key-long = stretch-length ring (16 * rowOf f i .key) 16 (omega (arith, h .key-high))
 
-  pub nonce-long : length (nonceRead f i) ≡ nonceSize (cipherOf (rowOf f i .suite))
+  pub nonce-long : length (nonceRead f i) ≡ nonceOf (rowOf f i .suite)
   nonce-long =
-      let κ = cipherOf (rowOf f i .suite) in
-      length-take (nonceSize κ) (nonceAt (rowSize edition) f i) ∙ omega (arith, nonce-length (rowSize edition) f i (h .row-in), nonce-most κ)
+      let s = rowOf f i .suite in
+      length-take (nonceOf s) (nonceAt (rowSize edition) f i) ∙ omega (arith, nonce-length (rowSize edition) f i (h .row-in), nonce-most s)
 
   pub data-long : length (dataOf f (rowOf f i)) ≡ rowOf f i .ad
   unfolding bodyEnd
@@ -72,8 +65,7 @@ module _ (f ring : List ℕ) (i : ℕ) (h : EntryIn f i) (g : length ring ≡ 25
   unfolding refusal
   entry-lengths out =
       simp (
-        le-leb _ _ (h .suite-low),
-        le-leb _ _ (h .suite-high),
+        h .suite-is,
         key-long,
         eq-eqb _ _ nonce-long,
         data-long,
@@ -118,18 +110,3 @@ module _ (f ring : List ℕ) (i : ℕ) (h : EntryIn f i) (g : length ring ≡ 25
   lendable r q =
       let k : r .key ≤ 15 = rw q (h .key-high) in
       record { is-row = q; row-in = h .row-in; key-in = omega arith; body-in = rw q (h .body-in) }
-
--- a row that a lookup found
-pub entry-in : (f : List ℕ) (job i : ℕ) → lookupJob f job ≡ answer 0 i → EntryIn f i
-entry-in f job i q =
-    let e = entry edition f job i q in
-    let s = entry-sound edition f job i e in
-    record {
-      row-in = entry-row edition f job i e;
-      suite-low = s .suit .suite-low;
-      suite-high = s .suit .suite-high;
-      key-high = s .suit .key-high;
-      data-high = s .size .ad-high;
-      text-high = s .size .len-high;
-      body-in = s .place .ends;
-    }

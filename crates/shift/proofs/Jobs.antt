@@ -9,28 +9,21 @@ use lib.ListN.{length, replicate}
 use lib.Dec.{eqb}
 use borrow.Author.Tests.{eqb-true, eqb-false}
 use Rattle.comet.specs.Answers.{openedAs}
-use Rattle.shift.specs.Answers.{answer}
-use Rattle.shift.specs.Lookup.{lookupJob, rowOf}
+use Rattle.table.specs.Format.{edition, rowSize, rowOf}
+use Rattle.table.specs.Answers.{answer}
+use Rattle.table.specs.Inside.{EntryIn}
+use Rattle.shift.specs.Lookup.{lookupJob}
 use Rattle.shift.specs.Opening.{entryOpening, JobOpened, left, rowOpening, jobOpening}
-use Rattle.shift.specs.Inside.{EntryIn}
-use Rattle.shift.proofs.Entries.{entryRight, entryText, entry-in, entry-opened, row-opens}
+use Rattle.shift.specs.Promised.{Answered, OpensEntry, OpeningAnswers}
+use Rattle.shift.proofs.Lookups.{found-in}
+use Rattle.shift.proofs.Entries.{entryRight, entryText, entry-opened, row-opens}
 use Rattle.shift.proofs.Told.{lookup-told}
 
--- a found row and a ring of 256 bytes: number and output are the opener's on the entry's own bytes, 6 among them
-pub opens : (f ring : List ℕ) (job i : ℕ) (out : List ℕ) → lookupJob f job ≡ answer 0 i → length ring ≡ 256
-    → jobOpening f ring job out ≡ left (answer (entryOpening f ring i out .number) 0) (entryOpening f ring i out .out)
+pub opens : OpensEntry
 unfolding jobOpening
-opens f ring job i out q g = simp q (sym (row-opens f ring i (entry-in f job i q) g out))
+opens f ring job i out q g = simp q (sym (row-opens f ring i (found-in f job i q) g out))
 
--- what opening can answer, and what it leaves in an output that held out₀
-pub record Answered (out₀ : List ℕ) (r : JobOpened) : Type 0 where
-  -- never 1, 3, 4, 5 or 7
-  pub number : (r .answer .number ≡ 0) ⊎ (r .answer .number ≡ 2) ⊎ (r .answer .number ≡ 6) ⊎ (r .answer .number ≡ 8) ⊎ ((20 ≤ r .answer .number) × (r .answer .number ≤ 32))
-  pub row : (r .answer .row ≡ 0) ⊎ ((25 ≤ r .answer .number) × (r .answer .number ≤ 30))
-  pub wiped : r .answer .number ≡ 8 → r .out ≡ replicate (length out₀) 0
-  pub kept : (r .answer .number ≡ 0 → ⊥) → (r .answer .number ≡ 8 → ⊥) → r .out ≡ out₀
-
-row-answered : (f ring : List ℕ) (i : ℕ) (out₀ : List ℕ) → EntryIn f i → Answered out₀ (rowOpening f ring i out₀)
+row-answered : (f ring : List ℕ) (i : ℕ) (out₀ : List ℕ) → EntryIn (rowSize edition) f i → Answered out₀ (rowOpening f ring i out₀)
 unfolding rowOpening
 row-answered f ring i out₀ h = ring-case (eqb (length ring) 256) refl
   where
@@ -46,7 +39,7 @@ row-answered f ring i out₀ h = ring-case (eqb (length ring) 256) refl
         (rw (entry-opened f ring i h g out₀) (opened-case (not (eqb (length out₀) (rowOf f i .len))) (entryRight f ring i) (entryText f ring i)))
     ring-case false e = simp e (record { number = inr (inl refl); row = inl refl; wiped = λ z. absurd (omega arith); kept = λ z y. refl })
 
-pub answered : (f ring : List ℕ) (job : ℕ) (out₀ : List ℕ) → Answered out₀ (jobOpening f ring job out₀)
+pub answered : OpeningAnswers
 unfolding jobOpening
 answered f ring job out₀ = lookup-case (eqb (lookupJob f job .number) 0) refl
   where
@@ -54,7 +47,7 @@ answered f ring job out₀ = lookup-case (eqb (lookupJob f job .number) 0) refl
     lookup-case true e =
         let z = eqb-true (lookupJob f job .number) 0 e in
         let i = lookupJob f job .row in
-        simp e (row-answered f ring i out₀ (entry-in f job i (ap (λ (m : ℕ). answer m i) z)))
+        simp e (row-answered f ring i out₀ (found-in f job i (ap (λ (m : ℕ). answer m i) z)))
     lookup-case false e =
         let t = lookup-told f job (eqb-false (lookupJob f job .number) 0 e) in
         simp e (record {

@@ -1,14 +1,8 @@
-pub mod Searches
-pub mod Numbers
-pub mod Rows
-pub mod Sound
-pub mod Passed
 pub mod Lookups
-pub mod Entries
+pub mod Places
+pub mod Finding
 pub mod Told
+pub mod Entries
 pub mod Jobs
-pub mod Alike
 pub mod Units
 pub mod Outcomes
-pub mod Bodies
-pub mod Finding

@@ -1,30 +1,28 @@
--- What a lookup that finds a row says: the file passes, the row has the job, and its associated data lies in the file.
-use Prim.Native.Nat.{ℕ, _+_, _-_, _≤_, _<_}
+-- What a lookup that finds a row says: the file passes, the row has the job, and can be read and opened.
+use Prim.Native.Nat.{ℕ, _-_, _<_}
 use native.Mathlib.Omega.{arith}
 use mathlib.Core.Path.{_≡_, sym, ap, _∙_}
 use mathlib.Core.List.{List, [], _∷_}
 use mathlib.Core.Logic.{⊎-elim}
-use lib.ListN.{length}
 use borrow.Author.Tests.{eqb-true}
 use types.Run.{OneOf, miss}
 use denote.Enum.Declared.{tagOf}
-use Rattle.shift.specs.declared.answers.Answer.{Answer}
+use Rattle.table.specs.declared.answers.Answer.{Answer}
+use Rattle.table.specs.Format.{countOf, edition, rowSize, rowAt}
+use Rattle.table.specs.Answers.{answer}
+use Rattle.table.specs.Check.{checkAs}
+use Rattle.table.specs.Inside.{EntryIn}
+use Rattle.table.proofs.Searches.{first-says}
+use Rattle.table.proofs.Numbers.{refusal-some}
+use Rattle.table.proofs.Passed.{Passes, passes, both-zero, entry-in}
 use Rattle.shift.specs.declared.answers.Found.{Found}
 use Rattle.shift.specs.declared.answers.Found.the-variants as found
-use Rattle.shift.specs.Format.{countOf, rowSize, rowAt, bodyEnd}
-use Rattle.shift.specs.Answers.{answer, foundAnswer}
-use Rattle.shift.specs.Check.{checkAs}
-use Rattle.shift.specs.Lookup.{findFrom, lookupAs}
-use Rattle.shift.specs.Inside.{RowIn}
-use Rattle.shift.proofs.Searches.{first-says}
-use Rattle.shift.proofs.Rows.{row-in}
-use Rattle.shift.proofs.Numbers.{refusal-some}
-use Rattle.shift.proofs.Sound.{Sound}
-use Rattle.shift.proofs.Passed.{Passes, passes, both-zero}
+use Rattle.shift.specs.Answers.{foundAnswer}
+use Rattle.shift.specs.Lookup.{findFrom, lookupAs, lookupJob}
 use Rattle.shift.proofs.answers.Found.{the-type}
 
 -- row i of a file that passes has the job
-pub record Entry (e : ℕ) (f : List ℕ) (job i : ℕ) : Type 0 where
+pub record Holding (e : ℕ) (f : List ℕ) (job i : ℕ) : Type 0 where
   pub file : Passes e f
   pub within : i < countOf f
   pub right : rowAt (rowSize e) f i .job ≡ job
@@ -37,23 +35,16 @@ found-says w f n job i q =
     (λ h. absurd (let z = ap (λ (x : Answer). x .number) (h .gives) in omega arith))
     (first-says _ _ _ (n - 0) 0 (answer 0 i) q)
 
-pub entry : (e : ℕ) (f : List ℕ) (job i : ℕ) → lookupAs e f job ≡ answer 0 i → Entry e f job i
+pub holding : (e : ℕ) (f : List ℕ) (job i : ℕ) → lookupAs e f job ≡ answer 0 i → Holding e f job i
 unfolding lookupAs
-entry e f job i q =
+holding e f job i q =
     let b = both-zero (checkAs e f) (findFrom (rowSize e) f (countOf f) job 0) (ap (λ (x : Answer). x .number) q) in
     let s = found-says (rowSize e) f (countOf f) job i (sym (b .1) ∙ q) in
     record { file = passes e f (b .0); within = s .0; right = s .1 }
 
-module _ (e : ℕ) (f : List ℕ) (job i : ℕ) (h : Entry e f job i) where
-  pub entry-sound : Sound (rowSize e) f (countOf f) i
-  entry-sound = h .file .walk .rows i (h .within)
-
-  pub entry-row : RowIn (rowSize e) f i
-  entry-row = row-in (rowSize e) f (countOf f) i (h .file .head .table) (h .within)
-
-  pub entry-data : rowAt (rowSize e) f i .at + rowAt (rowSize e) f i .ad ≤ length f
-  unfolding bodyEnd
-  entry-data = omega (arith, entry-sound .place .ends)
+-- a row that a lookup found can be read and opened
+pub found-in : (f : List ℕ) (job i : ℕ) → lookupJob f job ≡ answer 0 i → EntryIn (rowSize edition) f i
+found-in f job i q = let h = holding edition f job i q in entry-in edition f (h .file) i (h .within)
 
 -- only a found row has number 0
 pub not-at : (x : Found) → OneOf (1 ∷ 2 ∷ []) (tagOf the-type x) → foundAnswer x .number ≡ 0 → ⊥

@@ -1,31 +1,11 @@
--- What the crate's own functions ask of each other, and `row_of` of a sister crate; no entry point's contract cites it.
+-- What the crate's own functions ask of each other; no entry point's contract cites it.
 use Prim.Native.Nat.{ℕ, _+_, _*_, _≤_}
 use mathlib.Core.Path.{_≡_}
 use mathlib.Core.List.{List}
 use lib.ListN.{length}
-use Rattle.shift.specs.declared.row.Row.{Row}
-use Rattle.shift.specs.Format.{edition, rowSize, rowStart, bodyEnd}
-use Rattle.shift.specs.Lookup.{rowOf}
-
--- row i lies in the file
-pub record RowIn (w : ℕ) (f : List ℕ) (i : ℕ) : Type 0 where
-  pub broad : 32 ≤ w
-  pub fits : rowStart w i + w ≤ length f
-
--- the table of n rows lies in the file
-pub record TableIn (w : ℕ) (f : List ℕ) (n : ℕ) : Type 0 where
-  pub broad : 32 ≤ w
-  pub fits : rowStart w n ≤ length f
-
--- row i of a file that passes, as far as opening it goes by that
-pub record EntryIn (f : List ℕ) (i : ℕ) : Type 0 where
-  pub row-in : RowIn (rowSize edition) f i
-  pub suite-low : 1 ≤ rowOf f i .suite
-  pub suite-high : rowOf f i .suite ≤ 4
-  pub key-high : rowOf f i .key ≤ 15
-  pub data-high : rowOf f i .ad ≤ 1024
-  pub text-high : rowOf f i .len ≤ 65536
-  pub body-in : bodyEnd (rowOf f i) ≤ length f
+use Rattle.table.specs.declared.row.Row.{Row}
+use Rattle.table.specs.Format.{edition, rowSize, rowOf, bodyEnd}
+use Rattle.table.specs.Inside.{RowIn}
 
 -- what the opener is lent of row i lies in the file and in the ring
 pub record Lendable (f ring : List ℕ) (i : ℕ) (r : Row) : Type 0 where

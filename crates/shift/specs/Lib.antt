@@ -1,7 +1,6 @@
-pub mod Search
-pub mod Format
 pub mod Answers
-pub mod Check
 pub mod Lookup
+pub mod Entry
 pub mod Opening
 pub mod Inside
+pub mod Promised

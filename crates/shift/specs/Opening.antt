@@ -1,17 +1,16 @@
 -- Opening one job (document 01, "The shift file"): the full check, 32, then 2, 6, 8.
-use Prim.Native.Nat.{ℕ, _+_, _*_}
+use Prim.Native.Nat.{ℕ, _*_}
 use mathlib.Core.Bool.{not, cond}
 use mathlib.Core.List.{List}
 use lib.ListN.{length, take}
 use lib.Dec.{eqb}
-use Rattle.cipher.specs.Cipher.{sizeOf, cipherOf}
-use Rattle.mode.specs.Mode.{nonceSize}
+use Rattle.cipher.specs.Cipher.{nonceOf}
 use Rattle.comet.specs.Answers as comet
-use Rattle.shift.specs.declared.row.Row.{Row}
-use Rattle.shift.specs.declared.answers.Answer.{Answer}
-use Rattle.shift.specs.Format.{stretch, edition, rowSize, nonceAt}
-use Rattle.shift.specs.Answers.{answer}
-use Rattle.shift.specs.Lookup.{lookupJob, rowOf}
+use Rattle.table.specs.declared.answers.Answer.{Answer}
+use Rattle.table.specs.Part.{stretch}
+use Rattle.table.specs.Format.{edition, rowSize, nonceAt, rowOf, dataOf, textOf, tagOf}
+use Rattle.table.specs.Answers.{answer}
+use Rattle.shift.specs.Lookup.{lookupJob}
 
 -- the ring is 16 keys, 256 bytes; key k is bytes 16k to 16k + 15
 abbrev pub ringKey : List ℕ → ℕ → List ℕ
@@ -19,21 +18,9 @@ ringKey ring k = stretch ring (16 * k) 16
 
 -- suites 3 and 4 use the first 15 nonce bytes; the 16th is not read
 abbrev pub nonceRead : List ℕ → ℕ → List ℕ
-nonceRead f i = take (nonceSize (cipherOf (rowOf f i .suite))) (nonceAt (rowSize edition) f i)
+nonceRead f i = take (nonceOf (rowOf f i .suite)) (nonceAt (rowSize edition) f i)
 
--- the entry's own stretch of the file: its associated data
-abbrev pub dataOf : List ℕ → Row → List ℕ
-dataOf f r = stretch f (r .at) (r .ad)
-
--- its ciphertext
-abbrev pub textOf : List ℕ → Row → List ℕ
-textOf f r = stretch f (r .at + r .ad) (r .len)
-
--- its tag
-abbrev pub tagOf : List ℕ → Row → List ℕ
-tagOf f r = stretch f (r .at + r .ad + r .len) (sizeOf (r .suite))
-
--- what the opener gives and leaves on the own bytes of row i
+-- what the opener gives and leaves on the entry's own stretch of the file, and its key
 unfoldable pub entryOpening : List ℕ → List ℕ → ℕ → List ℕ → comet.Opened
 entryOpening f ring i out₀ =
     let r = rowOf f i in

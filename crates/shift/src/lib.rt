@@ -1,47 +1,61 @@
-// The plant's shift file: the full check, the lookup of a job, its associated data, and the opening of one job.
+// The jobs of the plant's shift file: the lookup of a job, its entry, its associated data, and its opening.
 pub mod answers;
-mod entry;
-pub mod row;
-mod rules;
-mod table;
+mod find;
+mod opening;
 
-use answers::Checked;
+use answers::Entry;
 use answers::Found;
 use answers::Opened;
-use row::EDITION;
-use row::row_of;
+use opening::row_of;
+use table::row::EDITION;
+use table::row::stretch;
 ghost use mathlib.Core.Path.{_≡_};
-ghost use Rattle.shift.specs.Answers.{checkedAnswer, foundAnswer, openedAnswer};
-ghost use Rattle.shift.specs.Check.{checkFile};
-ghost use Rattle.shift.specs.Lookup.{lookupJob, dataStart, dataLength, PartOf};
+ghost use Rattle.table.specs.Part.{PartOf};
+ghost use Rattle.shift.specs.Answers.{foundAnswer, openedAnswer};
+ghost use Rattle.shift.specs.Lookup.{lookupJob};
+ghost use Rattle.shift.specs.Entry.{dataStart, dataLength, entryOf};
 ghost use Rattle.shift.specs.Opening.{JobOpened, jobOpening};
-
-// The full check: numbers 20 to 31.
-pub fn check(file: &[u8]) -> Checked
-    ensures { λ r. ⌜ checkedAnswer r ≡ checkFile (now (file .entry)) ⌝ }
-{
-    table::check_as(EDITION, file)
-}
 
 // The full check, and then the row that has the job, or 32.
 pub fn lookup(file: &[u8], job: u32) -> Found
     ensures { λ r. ⌜ foundAnswer r ≡ lookupJob (now (file .entry)) job ⌝ }
 {
-    table::lookup_as(EDITION, file, job)
+    find::lookup_as(EDITION, file, job)
+}
+
+// The lookup, and where in the file the job's associated data and its text lie; 0 where the lookup refuses.
+pub fn entry(file: &[u8], job: u32) -> Entry
+    ensures { λ r. ⌜ r ≡ entryOf (now (file .entry)) job ⌝ }
+{
+    let found = lookup(file, job);
+    let Found::At(i) = found else {
+        let a = found.answer();
+        return Entry {
+            number: a.number,
+            row: a.row,
+            ad_at: 0,
+            ad_len: 0,
+            text_at: 0,
+            text_len: 0,
+        };
+    };
+    let row = row_of(file, i);
+    Entry {
+        number: 0,
+        row: i,
+        ad_at: row.at,
+        ad_len: row.ad as u32,
+        text_at: row.at + row.ad as u32,
+        text_len: row.len,
+    }
 }
 
 // The associated data of a job, as a part of the file; its first zero bytes where the lookup refuses.
 pub fn associated(file: &[u8], job: u32) -> &[u8]
     ensures { λ r. ⌜ PartOf (file .entry) r (dataStart (now (file .entry)) (lookupJob (now (file .entry)) job)) (dataLength (now (file .entry)) (lookupJob (now (file .entry)) job)) ⌝ }
 {
-    let found = lookup(file, job);
-    let Found::At(i) = found else {
-        return &file[0..0];
-    };
-    let row = row_of(file, i);
-    let at = row.at as usize;
-    let ad = row.ad as usize;
-    &file[at..at + ad]
+    let e = entry(file, job);
+    stretch(file, e.ad_at as usize, e.ad_len as usize)
 }
 
 // Opens one job into out: the full check, 32, then 2, 6, 8.
@@ -50,7 +64,7 @@ pub fn open_job(file: &[u8], ring: &[u8], job: u32, out: &mut [u8]) -> Opened
 {
     let found = lookup(file, job);
     let Found::At(i) = found else {
-        return entry::stopped(found);
+        return opening::stopped(found);
     };
-    entry::open_entry(file, ring, i, out)
+    opening::open_entry(file, ring, i, out)
 }

@@ -2,7 +2,8 @@
 use mathlib.Core.Path.{sym, ap, _∙_}
 use Rattle.words.specs.Outcome.{OneOutcome}
 use Rattle.comet.specs.Answers.{Sealed, Opened}
-use Rattle.shift.specs.declared.answers.Answer.{Answer}
+use Rattle.table.specs.declared.answers.Answer.{Answer}
+use Rattle.shift.specs.declared.answers.Entry.{Entry}
 use Rattle.shift.specs.Opening.{JobOpened}
 use Rattle.snoekeldraf.specs.Located.{Located}
 use Rattle.snoekeldraf.proofs.record.comet_seal.Kinds as seal-kinds
@@ -15,6 +16,8 @@ use Rattle.snoekeldraf.proofs.file.shift_lookup.Kinds as lookup-kinds
 use Rattle.snoekeldraf.proofs.file.shift_lookup.Reads as lookup-reads
 use Rattle.snoekeldraf.proofs.file.shift_associated.Kinds as associated-kinds
 use Rattle.snoekeldraf.proofs.file.shift_associated.Reads as associated-reads
+use Rattle.snoekeldraf.proofs.file.shift_entry.Kinds as entry-kinds
+use Rattle.snoekeldraf.proofs.file.shift_entry.Reads as entry-reads
 use Rattle.snoekeldraf.proofs.file.shift_open_job.Kinds as open-job-kinds
 use Rattle.snoekeldraf.proofs.file.shift_open_job.Reads as open-job-reads
 
@@ -42,6 +45,11 @@ pub shift-associated : OneOutcome associated-kinds.ps associated-kinds.r associa
 shift-associated κs a h x y =
     let e = x .ensures ∙ sym (y .ensures) in
     (ap (λ (w : Located). w .number) e, ap (λ (w : Located). (tt, (tt, (w .at, (w .len, tt))))) e)
+
+pub shift-entry : OneOutcome entry-kinds.ps entry-kinds.r entry-reads.Pre entry-reads.Post
+shift-entry κs a h x y =
+    let e = x .ensures ∙ sym (y .ensures) in
+    (ap (λ (w : Entry). w .number) e, ap (λ (w : Entry). (tt, (tt, (w .row, (w .«ad_at», (w .«ad_len», (w .«text_at», (w .«text_len», tt)))))))) e)
 
 pub shift-open-job : OneOutcome open-job-kinds.ps open-job-kinds.r open-job-reads.Pre open-job-reads.Post
 shift-open-job κs a h x y =

@@ -8,16 +8,16 @@ use mathlib.Core.Logic.{⊎-elim}
 use lib.ListN.{length}
 use lib.Dec.{eqb}
 use borrow.Author.Tests.{eqb-true}
-use Rattle.shift.specs.declared.answers.Answer.{Answer}
-use Rattle.shift.specs.Format.{countOf, edition, rowSize}
-use Rattle.shift.specs.Answers.{answer}
-use Rattle.shift.specs.Check.{bodyStart, endAnswer, rowsFrom, headNumber, andThen, checkAs, checkFile}
-use Rattle.shift.specs.Search.{firstOf}
-use Rattle.shift.specs.Lookup.{findFrom, lookupAs, lookupJob, rowOf}
+use Rattle.table.specs.declared.answers.Answer.{Answer}
+use Rattle.table.specs.Search.{firstOf}
+use Rattle.table.specs.Format.{countOf, edition, rowSize, rowOf}
+use Rattle.table.specs.Answers.{answer}
+use Rattle.table.specs.Check.{bodyStart, endAnswer, rowsFrom, headNumber, andThen, checkAs, checkFile}
+use Rattle.table.proofs.Searches.{first-says}
+use Rattle.table.proofs.Sound.{headed}
+use Rattle.table.proofs.Passed.{passes}
+use Rattle.shift.specs.Lookup.{findFrom, lookupAs, lookupJob}
 use Rattle.shift.specs.Opening.{entryOpening, left, rowOpening, jobOpening}
-use Rattle.shift.proofs.Searches.{first-says}
-use Rattle.shift.proofs.Sound.{headed}
-use Rattle.shift.proofs.Passed.{passes}
 
 -- the first of n rows, or what no row gives
 first-row : (hit : ℕ → Bool) (num : ℕ → ℕ) (rest : Answer) (n : ℕ) → rest .row ≤ n → firstOf hit (λ j. answer (num j) j) rest 0 (n - 0) .row ≤ n

@@ -1,11 +1,12 @@
 // The shift file.
-use shift::answers::Answer;
-use shift::answers::Found;
+use table::answers::Answer;
 ghost use mathlib.Core.Path.{_≡_};
 ghost use Prim.Native.Nat.{_≤_};
-ghost use Rattle.shift.specs.Answers.{answer};
-ghost use Rattle.shift.specs.Check.{checkFile};
+ghost use Rattle.table.specs.Answers.{answer};
+ghost use Rattle.table.specs.Check.{checkFile};
+ghost use Rattle.shift.specs.declared.answers.Entry.{Entry};
 ghost use Rattle.shift.specs.Lookup.{lookupJob};
+ghost use Rattle.shift.specs.Entry.{entryOf};
 ghost use Rattle.shift.specs.Opening.{JobOpened, jobOpening};
 ghost use Rattle.snoekeldraf.specs.Located.{Located, locating};
 
@@ -23,7 +24,7 @@ fn told(a: Answer, row: &mut u32) -> u32
 pub extern "C" fn shift_check(file: &[u8], row: &mut u32) -> u32
     ensures { λ r. ⌜ answer r (now (row .exit)) ≡ checkFile (now (file .entry)) ⌝ }
 {
-    told(shift::check(file).answer(), row)
+    told(table::check(file).answer(), row)
 }
 
 // The full check, and then the row that has the job, or 32.
@@ -39,16 +40,40 @@ pub extern "C" fn shift_lookup(file: &[u8], job: u32, row: &mut u32) -> u32
 pub extern "C" fn shift_associated(file: &[u8], job: u32, at: &mut u32, len: &mut u32) -> u32
     ensures { λ r. ⌜ _≡_ {A = Located} (record { number = r; at = now (at .exit); len = now (len .exit) }) (locating (now (file .entry)) job) ⌝ }
 {
-    let found = shift::lookup(file, job);
-    let Found::At(i) = found else {
-        *at = 0;
-        *len = 0;
-        return found.answer().number as u32;
-    };
-    let row = shift::row::row_of(file, i);
-    *at = row.at;
-    *len = row.ad as u32;
-    0
+    let e = shift::entry(file, job);
+    *at = e.ad_at;
+    *len = e.ad_len;
+    e.number as u32
+}
+
+// The lookup's number and row, and where in the file the job's associated data and its text lie; 0 where the lookup refuses.
+#[no_mangle]
+pub extern "C" fn shift_entry(
+    file: &[u8],
+    job: u32,
+    row: &mut u32,
+    ad_at: &mut u32,
+    ad_len: &mut u32,
+    text_at: &mut u32,
+    text_len: &mut u32,
+) -> u32
+    ensures { λ r. ⌜ _≡_ {A = Entry} (record {
+      number = r;
+      row = now (row .exit);
+      «ad_at» = now («ad_at» .exit);
+      «ad_len» = now («ad_len» .exit);
+      «text_at» = now («text_at» .exit);
+      «text_len» = now («text_len» .exit);
+    })
+        (entryOf (now (file .entry)) job) ⌝ }
+{
+    let e = shift::entry(file, job);
+    *row = e.row as u32;
+    *ad_at = e.ad_at;
+    *ad_len = e.ad_len;
+    *text_at = e.text_at;
+    *text_len = e.text_len;
+    e.number as u32
 }
 
 // Opens one job into out: the full check, 32, then 2, 6, 8.

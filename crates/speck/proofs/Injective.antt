@@ -11,7 +11,7 @@ use Rattle.words.proofs.Rotate.{rotl-lt, rotl-inj}
 use Rattle.words.proofs.Add.{add-lt, add-cancel-r}
 use Rattle.words.proofs.Lists.{all-append, two-takes, append-inj}
 use Rattle.words.proofs.Bytes.{length-bytes, all-bytes, bytes-inj, word-lt, unpack}
-use Rattle.speck.specs.Speck.{State, Schedule, upper, lower, round, start, schedule, rounds, stateOf, bytesOf, speck}
+use Rattle.speck.specs.Speck.{State, upper, lower, round, start, schedule, rounds, stateOf, bytesOf, speck}
 use Rattle.speck.proofs.Parts.{same-state}
 
 -- both words are below 2 ^ 32
@@ -24,7 +24,7 @@ state-small l h = record { hi = word-lt 4 l 4 h; lo = word-lt 4 l 0 h }
 
 round-small : (x : State) (r : ℕ) → Small x → r < 2 ^ 32 → Small (round x r)
 round-small x r s h =
-    let u : upper (x .x1) (x .x0) r < 2 ^ 32 = below 32 (add-lt 32 (rotr 32 8 (x .x1)) (x .x0)) h in
+    let u : upper (x .x1) (x .x0) r < 2 ^ 32 = below 32 (add-lt 32 _ _) h in
     record { hi = u; lo = below 32 (rotl-lt 32 3 (omega arith) (s .lo)) u }
 
 round-inj : (x y : State) (r : ℕ) → Small x → Small y → round x r ≡ round y r → x ≡ y
@@ -44,8 +44,7 @@ module _ (key : List ℕ) (hk : AllBytes key) where
   unfolding schedule
   key-small zero h = word-lt 4 key 0 hk
   key-small (suc i) h =
-      let k : Schedule = schedule (start key) i in
-      below 32 (rotl-lt 32 3 (omega arith) (key-small i (omega arith))) (below 32 (add-lt 32 (k .r) (rotr 32 8 (k .l0))) (omega arith))
+      below 32 (rotl-lt 32 3 (omega arith) (key-small i (omega arith))) (below 32 (add-lt 32 _ _) (omega arith))
 
   rounds-small : (x : State) → Small x → (i : ℕ) → i ≤ 27 → Small (rounds (start key) x i)
   unfolding rounds

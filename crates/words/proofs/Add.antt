@@ -1,7 +1,7 @@
--- Addition modulo 2 ^ w is one to one in each argument: what was added can be taken off again.
+-- Addition modulo 2 ^ w is one to one: what was added can be taken off again.
 use mathlib.Core.Path.{_≡_, sym, ap, _∙_}
 use Prim.Native.Nat.{ℕ, zero, suc, _+_, _-_, _*_, _/_, _%_, _^_, _<_}
-use native.Mathlib.Nat.{mod-lt, mod-add-mod, add-mul-mod-self-right, mod-eq-of-lt, div-add-mod', suc-mul, add-comm}
+use native.Mathlib.Nat.{mod-lt, mod-add-mod, add-mul-mod-self-right, mod-eq-of-lt, div-add-mod', suc-mul}
 use native.Mathlib.Omega.{arith}
 use lib.Pow.{pow-pos}
 use Rattle.words.specs.Words.{add}
@@ -26,7 +26,3 @@ add-cancel-r w z {x} {y} hx hy e =
     sym (unadd (2 ^ w) x z (pow-pos w) hx)
     ∙ ap (λ (n : ℕ). (n + (2 ^ w - z % 2 ^ w)) % 2 ^ w) e
     ∙ unadd (2 ^ w) y z (pow-pos w) hy
-
-pub add-cancel-l : (w z : ℕ) {x y : ℕ} → x < 2 ^ w → y < 2 ^ w → add w z x ≡ add w z y → x ≡ y
-add-cancel-l w z {x} {y} hx hy e =
-    add-cancel-r w z hx hy (ap (λ (n : ℕ). n % 2 ^ w) (add-comm x z) ∙ e ∙ ap (λ (n : ℕ). n % 2 ^ w) (add-comm z y))

@@ -6,7 +6,7 @@ use native.Mathlib.Numerals.{add-one}
 use native.Mathlib.Omega.{arith}
 use lib.ListN.{length, getD, set, take, drop, replicate, drop-of-length-le, take-append-drop, length-drop}
 use lib.Seq.{drop-cons, take-all, take-at, drop-at, take-append-seam, drop-append-seam, sets, sets-eq}
-use Rattle.words.specs.Bytes.{AllBytes, part, Each}
+use Rattle.words.specs.Bytes.{AllBytes, part}
 
 pub nil-of : (l : List ℕ) → length l ≡ 0 → l ≡ []
 nil-of [] e = refl
@@ -74,12 +74,6 @@ part-take (suc n) l i h =
 pub part-whole : (n : ℕ) (l : List ℕ) → length l ≡ n → part n l 0 ≡ l
 part-whole n l e = part-take n l 0 (omega arith) ∙ take-all n l (omega arith)
 
-pub each-eq : (l m : List ℕ) → Each l m → l ≡ m
-each-eq [] [] e = refl
-each-eq [] (y ∷ m) e = absurd e
-each-eq (x ∷ l) [] e = absurd e
-each-eq (x ∷ l) (y ∷ m) e = ap₂ (λ (a : ℕ) (t : List ℕ). a ∷ t) (e .0) (each-eq l m (e .1))
-
 -- stores over a whole list
 pub overwrite : (vs d : List ℕ) → length d ≡ length vs → sets d 0 vs ≡ vs
 overwrite vs d e =
@@ -99,3 +93,7 @@ append-inj p q s t n e = (
   sym (take-append-seam p q) ∙ ap (take (length p)) e ∙ take-at s t (length p) (sym n),
   sym (drop-append-seam p q) ∙ ap (drop (length p)) e ∙ drop-at s t (length p) (sym n),
 )
+
+-- a list is told by its first part and the rest
+pub parts-told : (n : ℕ) (s t : List ℕ) → take n s ≡ take n t → drop n s ≡ drop n t → s ≡ t
+parts-told n s t p q = sym (take-append-drop n s) ∙ ap₂ (λ (l m : List ℕ). l ++ m) p q ∙ take-append-drop n t

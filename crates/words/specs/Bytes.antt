@@ -1,7 +1,6 @@
 -- Bytes and the words they make: byte 0 is the least significant, and word 0 stands first (document 01, "Bytes, words and the two states").
 use mathlib.Core.Bool.{Bool, true, false, _&&_}
 use mathlib.Core.List.{List, [], _∷_}
-use mathlib.Core.Path.{_≡_}
 use Prim.Native.Nat.{ℕ, zero, suc, _+_, _*_, _/_, _%_, _<_}
 use lib.Dec.{eqb}
 use lib.ListN.{getD}
@@ -28,13 +27,6 @@ part (suc n) l i = getD l i 0 ∷ part n l (i + 1)
 -- the word of n bytes at place i of a list of bytes
 abbrev pub word : ℕ → List ℕ → ℕ → ℕ
 word n l i = value (part n l i)
-
--- two lists are equal element by element: as a contract this is a row of equations
-abbrev pub Each : List ℕ → List ℕ → Type 0
-Each [] [] = Unit
-Each [] (y ∷ ys) = ⊥
-Each (x ∷ xs) [] = ⊥
-Each (x ∷ xs) (y ∷ ys) = (x ≡ y) × Each xs ys
 
 -- the same bytes, all of them
 abbrev pub sameBytes : List ℕ → List ℕ → Bool

@@ -130,6 +130,10 @@ fn misses(suite: u8, what: &str, measured: &[Measured; 4], growth: f64) -> Vec<S
 }
 
 fn main() {
+    if !cfg!(target_arch = "x86_64") {
+        eprintln!("bench: the proved library is for x86-64 alone, and a time under emulation means nothing");
+        std::process::exit(1);
+    }
     let repetitions = std::env::args().nth(1).map_or(101, |count| count.parse().expect("REPETITIONS is a number"));
     let mut random = Random::new(1);
     let (mut missed, mut growths) = (vec![], vec![]);

@@ -3,9 +3,10 @@
 //!
 //!     compare [SEED]
 
+use reference::bridge::PROVED;
 use reference::calls::{Call, FileCall, Library, REFERENCE};
 use reference::data::{cases, files};
-use reference::linked::{PLAIN, PROVED};
+use reference::linked::PLAIN;
 use reference::random::Random;
 use reference::show::hex;
 use reference::trials;

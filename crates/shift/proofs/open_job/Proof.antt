@@ -4,8 +4,7 @@ use borrow.Author.Tests.{ne-eqb}
 use denote.Ref.{now}
 use Rattle.shift.specs.Answers.{foundAnswer}
 use Rattle.shift.specs.Opening.{jobOpening}
-use Rattle.shift.proofs.Lookups.{not-at}
-use Rattle.shift.proofs.Entries.{entry-in}
+use Rattle.shift.proofs.Lookups.{found-in, not-at}
 use borrow.Author.Needs.{needs}
 use Rattle.shift.proofs.open_job.Statement.{statement}
 use Rattle.shift.proofs.open_job.Tie as tie
@@ -29,7 +28,7 @@ open-entry-requires : tie.Need-open-entry-requires
 open-entry-requires c κs =
     let l = c .before .before .before .before in
     let a = l .before .before .before .before .args in
-    entry-in (now (a .file)) (a .job) _ (sym (l .lookup .ensures) ∙ ap foundAnswer (c .before .before .found .given .1))
+    found-in (now (a .file)) (a .job) _ (sym (l .lookup .ensures) ∙ ap foundAnswer (c .before .before .found .given .1))
 
 same-length : tie.Need-same-length
 same-length c = search needs

@@ -3,7 +3,7 @@ use borrow.Author.Needs.{needs}
 use mathlib.Core.Path.{_≡_, refl, ap, _∙_}
 use Prim.Native.Nat.{ℕ, _%_, _^_}
 use native.Mathlib.Nat.{add-comm}
-use Rattle.words.specs.Words.{rotl, rotr, xor}
+use Rattle.words.specs.Words.{rotl, xor}
 use Rattle.speck.specs.Speck.{upper, nextL}
 use Rattle.speck.proofs.next.Statement.{statement}
 use Rattle.speck.proofs.next.Tie as tie
@@ -12,7 +12,7 @@ round-requires : tie.Need-round-requires
 round-requires c κs = search needs
 
 turned : (r l i : ℕ) → upper l r i ≡ nextL r l i
-turned r l i = ap (λ (n : ℕ). xor (n % 2 ^ 32) i) (add-comm (rotr 32 8 l) r)
+turned r l i = ap (λ (n : ℕ). xor (n % 2 ^ 32) i) (add-comm _ r)
 
 returns : tie.Need-returns
 returns c =

@@ -4,7 +4,7 @@ use Prim.Native.Nat.{_≤_, _-_, _%_}
 use mathlib.Core.Path.{_≡_, refl}
 use native.Mathlib.Omega.{arith}
 use Rattle.cham.specs.declared.c64.Words.{Words}
-use Rattle.cham.specs.Cham.{State, state, rounds}
+use Rattle.cham.specs.Cham.{State, state, rounds, cham}
 use Rattle.cham.proofs.Rounds.{same-state, four, done}
 use Rattle.cham.proofs.c64.encrypt.Statement.{statement}
 use Rattle.cham.proofs.c64.encrypt.Tie as tie
@@ -47,12 +47,13 @@ store4-16-requires : tie.Need-store4-16-requires Inv-loop μ-loop
 store4-16-requires c κs = search needs
 
 returns : tie.Need-returns Inv-loop μ-loop
+unfolding cham
 returns c =
     let l = c .before .before .loop in
     let x = c .before .before .before .words-of .ensures in
     let k = c .before .before .before .before .round-keys in
     let args = c .before .before .before .before .before .args in
-    done 16 (args .key) (args .block) (k .result) _ (l .i)
+    done 16 (args .key) (args .block) (k .result) _ (l .i) _
     (k .ensures) (same-state (x .0) (x .1) (x .2) (x .3)) (omega arith) (l .inv .2) (c .store4-16 .ensures)
 
 pub encrypt-spec : {M : Type 1} → statement M

@@ -1,10 +1,10 @@
 -- `cham::c64::round_keys` meets its contract: turn i puts in the round keys of word i, each at its place.
 use borrow.Author.Needs.{needs}
 use Prim.Native.Nat.{_≤_, _-_}
-use mathlib.Core.Path.{_≡_, refl, ap, _∙_}
+use mathlib.Core.Path.{_≡_, refl}
 use native.Mathlib.Omega.{arith}
 use Rattle.cham.specs.Cham.{placed}
-use Rattle.cham.proofs.Keys.{one-more}
+use Rattle.cham.proofs.Keys.{one-more, all-put}
 use Rattle.cham.proofs.c64.round_keys.Statement.{statement}
 use Rattle.cham.proofs.c64.round_keys.Tie as tie
 
@@ -58,9 +58,7 @@ loop-again c =
     )
 
 returns : tie.Need-returns Inv-loop μ-loop
-returns c =
-    let n : c .before .loop .i ≡ 8 = omega arith in
-    c .before .loop .inv .1 ∙ ap (placed 16 (c .before .before .args .key)) n
+returns c = all-put _ _ _ _ _ (c .before .loop .inv .1) (omega arith)
 
 pub round-keys-spec : {M : Type 1} → statement M
 round-keys-spec =

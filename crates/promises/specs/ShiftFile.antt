@@ -1,0 +1,15 @@
+-- The shift file: what holds of every file that passes the check, of every lookup and of every opening of a job.
+use Rattle.table.specs.Laid.{BodiesLaid}
+use Rattle.shift.specs.Promised.{JobFound, OpensEntry, OpeningAnswers, UnitRefused}
+
+pub record ShiftFile : Type 0 where
+  -- the bodies lie one after the other, apart, and end where the file ends
+  pub laid : BodiesLaid
+  -- a job is found exactly if a row has it, and one row at most has
+  pub found : JobFound
+  -- opening a job is the opener on the entry's own bytes
+  pub opens : OpensEntry
+  -- which numbers it gives, and what it leaves in the output
+  pub answers : OpeningAnswers
+  -- the altered unit of an accepted entry with an empty message is refused
+  pub unit : UnitRefused

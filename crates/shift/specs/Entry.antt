@@ -1,0 +1,46 @@
+-- A job's entry: where its associated data and its text lie in the file (document 01, "The shift file").
+use Prim.Native.Nat.{ℕ, _+_, _≤_}
+use mathlib.Core.Path.{_≡_}
+use mathlib.Core.Bool.{cond}
+use mathlib.Core.List.{List}
+use lib.ListN.{length}
+use lib.Dec.{eqb}
+use Rattle.table.specs.declared.answers.Answer.{Answer}
+use Rattle.table.specs.Format.{rowOf}
+use Rattle.shift.specs.declared.answers.Entry.{Entry}
+use Rattle.shift.specs.Lookup.{lookupJob}
+
+-- where the associated data of the row that a lookup found starts; 0 where it refuses
+unfoldable pub dataStart : List ℕ → Answer → ℕ
+dataStart f x = cond (eqb (x .number) 0) (rowOf f (x .row) .at) 0
+
+-- and how long it is; the file's first zero bytes where it refuses
+unfoldable pub dataLength : List ℕ → Answer → ℕ
+dataLength f x = cond (eqb (x .number) 0) (rowOf f (x .row) .ad) 0
+
+-- the text lies behind it
+unfoldable pub textStart : List ℕ → Answer → ℕ
+textStart f x = cond (eqb (x .number) 0) (rowOf f (x .row) .at + rowOf f (x .row) .ad) 0
+
+unfoldable pub textLength : List ℕ → Answer → ℕ
+textLength f x = cond (eqb (x .number) 0) (rowOf f (x .row) .len) 0
+
+-- the lookup's number and row, and the places
+abbrev pub entryOf : List ℕ → ℕ → Entry
+entryOf f job = record {
+  number = lookupJob f job .number;
+  row = lookupJob f job .row;
+  «ad_at» = dataStart f (lookupJob f job);
+  «ad_len» = dataLength f (lookupJob f job);
+  «text_at» = textStart f (lookupJob f job);
+  «text_len» = textLength f (lookupJob f job);
+}
+
+-- an entry lies in the file, its text right behind its associated data
+pub record Lies (f : List ℕ) (x : Entry) : Type 0 where
+  pub behind : x .«ad_at» + x .«ad_len» ≡ x .«text_at»
+  pub ends : x .«text_at» + x .«text_len» ≤ length f
+
+-- so does every entry that is given, the file's first zero bytes where the lookup refuses among them
+abbrev pub EntriesLie : Type 0
+EntriesLie = (f : List ℕ) (job : ℕ) → Lies f (entryOf f job)

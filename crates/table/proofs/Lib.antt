@@ -1,0 +1,11 @@
+pub mod Searches
+pub mod Numbers
+pub mod Rows
+pub mod Sound
+pub mod Passed
+pub mod Told
+pub mod Alike
+pub mod Bodies
+pub mod Rising
+pub mod Units
+pub mod Outcomes

@@ -1,0 +1,137 @@
+-- One outcome for each input: an answer's number and row are those of one case, so what a contract allows is one value.
+use Prim.Native.Nat.{ℕ, _<_}
+use native.Mathlib.Omega.{arith}
+use mathlib.Core.Path.{_≡_, refl, sym, ap, ap₂, _∙_}
+use mathlib.Core.Bool.{false, cond}
+use mathlib.Core.List.{List}
+use mathlib.Core.Logic.{_⊎_, ⊎-elim}
+use lib.Dec.{eqb}
+use borrow.Author.Tests.{ne-eqb}
+use denote.Ref.{RefT, now}
+use contract.Lifetimes.{Lfts}
+use borrow.Fn.Kinds.{Dens}
+use Rattle.words.specs.Outcome.{Outcome, OneOutcome}
+use Rattle.table.specs.declared.answers.Answer.{Answer}
+use Rattle.table.specs.declared.answers.Fault.the-variants.{Order, Suite, Length, Place, Nonce, Data}
+use Rattle.table.specs.declared.answers.Refusal.{Refusal}
+use Rattle.table.specs.declared.answers.Refusal.the-variants.{Size, Edition, Count, Total, Table, InRow, End}
+use Rattle.table.specs.declared.answers.Checked.{Checked}
+use Rattle.table.specs.declared.answers.Checked.the-variants as checked
+use Rattle.table.specs.Part.{PartOf}
+use Rattle.table.specs.Answers.{refusalAnswer, checkedAnswer}
+use Rattle.table.proofs.Numbers.{refusal-range, refusal-some}
+use Rattle.table.proofs.check_head.Kinds as check-head-kinds
+use Rattle.table.proofs.check_head.Reads as check-head-reads
+use Rattle.table.proofs.check_as.Kinds as check-as-kinds
+use Rattle.table.proofs.check_as.Reads as check-as-reads
+use Rattle.table.proofs.check.Kinds as check-kinds
+use Rattle.table.proofs.check.Reads as check-reads
+use Rattle.table.proofs.row.count.Kinds as count-kinds
+use Rattle.table.proofs.row.count.Reads as count-reads
+use Rattle.table.proofs.row.row_size.Kinds as row-size-kinds
+use Rattle.table.proofs.row.row_size.Reads as row-size-reads
+use Rattle.table.proofs.row.row_at.Kinds as row-at-kinds
+use Rattle.table.proofs.row.row_at.Reads as row-at-reads
+use Rattle.table.proofs.row.stretch.Kinds as stretch-kinds
+use Rattle.table.proofs.row.stretch.Reads as stretch-reads
+use Rattle.table.proofs.row.nonce_at.Kinds as nonce-at-kinds
+use Rattle.table.proofs.row.nonce_at.Reads as nonce-at-reads
+use Rattle.table.proofs.row.body_end.Kinds as body-end-kinds
+use Rattle.table.proofs.row.body_end.Reads as body-end-reads
+use Rattle.table.proofs.answers.Fault.number.Kinds as fault-kinds
+use Rattle.table.proofs.answers.Fault.number.Reads as fault-reads
+use Rattle.table.proofs.answers.Refusal.answer.Kinds as refusal-kinds
+use Rattle.table.proofs.answers.Refusal.answer.Reads as refusal-reads
+use Rattle.table.proofs.answers.Checked.answer.Kinds as checked-kinds
+use Rattle.table.proofs.answers.Checked.answer.Reads as checked-reads
+
+-- the case that a number and a row stand for
+abbrev pub refusalOf : Answer → Refusal
+refusalOf x =
+    cond (eqb (x .number) 20) Size
+    (cond (eqb (x .number) 21) Edition
+    (cond (eqb (x .number) 22) Count
+    (cond (eqb (x .number) 23) Total
+    (cond (eqb (x .number) 24) Table
+    (cond (eqb (x .number) 25) (InRow Order (x .row))
+    (cond (eqb (x .number) 26) (InRow Suite (x .row))
+    (cond (eqb (x .number) 27) (InRow Length (x .row))
+    (cond (eqb (x .number) 28) (InRow Place (x .row))
+    (cond (eqb (x .number) 29) (InRow Nonce (x .row))
+    (cond (eqb (x .number) 30) (InRow Data (x .row))
+    End))))))))))
+
+pub refusal-back : (x : Refusal) → refusalOf (refusalAnswer x) ≡ x
+refusal-back Size = refl
+refusal-back Edition = refl
+refusal-back Count = refl
+refusal-back Total = refl
+refusal-back Table = refl
+refusal-back (InRow Order i) = refl
+refusal-back (InRow Suite i) = refl
+refusal-back (InRow Length i) = refl
+refusal-back (InRow Place i) = refl
+refusal-back (InRow Nonce i) = refl
+refusal-back (InRow Data i) = refl
+refusal-back End = refl
+
+-- a refusal's number is none below 20 or above 31
+pub unlike : (x : Refusal) (m : ℕ) → (m < 20) ⊎ (31 < m) → eqb (refusalAnswer x .number) m ≡ false
+unlike x m h = ne-eqb (refusalAnswer x .number) m (λ q. ⊎-elim (λ l. omega (arith, refusal-range x)) (λ l. omega (arith, refusal-range x)) h)
+
+abbrev checkedOf : Answer → Checked
+checkedOf x = cond (eqb (x .number) 0) checked.Passed (checked.Refused (refusalOf x))
+
+checked-back : (x : Checked) → checkedOf (checkedAnswer x) ≡ x
+checked-back checked.Passed = refl
+checked-back (checked.Refused x) = simp (ne-eqb _ _ (refusal-some x)) (ap checked.Refused (refusal-back x))
+
+pub checked-one : {x y : Checked} → checkedAnswer x ≡ checkedAnswer y → x ≡ y
+checked-one {x} {y} q = sym (checked-back x) ∙ ap checkedOf q ∙ checked-back y
+
+pub answer-one : {a x y : Answer} → (x .number ≡ a .number) × (x .row ≡ a .row) → (y .number ≡ a .number) × (y .row ≡ a .row) → x ≡ y
+answer-one p q = ap₂ (λ (m i : ℕ). record { number = m; row = i }) (p .0 ∙ sym (q .0)) (p .1 ∙ sym (q .1))
+
+-- two parts of the same bytes are at the same place; a reference's ghost name belongs to the proof and is no outcome
+pub part-one : {s x y : RefT (List ℕ)} {at len : ℕ} → PartOf s x at len → PartOf s y at len → (now x ≡ now y) × (x .ptr ≡ y .ptr)
+part-one p q = (p .bytes ∙ sym (q .bytes), p .place ∙ sym (q .place))
+
+-- ---- the routines
+
+pub check-head : OneOutcome check-head-kinds.ps check-head-kinds.r check-head-reads.Pre check-head-reads.Post
+check-head κs a h x y = (checked-one (x .ensures ∙ sym (y .ensures)), refl)
+
+pub check-as : OneOutcome check-as-kinds.ps check-as-kinds.r check-as-reads.Pre check-as-reads.Post
+check-as κs a h x y = (checked-one (x .ensures ∙ sym (y .ensures)), refl)
+
+pub check : OneOutcome check-kinds.ps check-kinds.r check-reads.Pre check-reads.Post
+check κs a h x y = (checked-one (x .ensures ∙ sym (y .ensures)), refl)
+
+pub count : OneOutcome count-kinds.ps count-kinds.r count-reads.Pre count-reads.Post
+count κs a h x y = (x .ensures ∙ sym (y .ensures), refl)
+
+pub row-size : OneOutcome row-size-kinds.ps row-size-kinds.r row-size-reads.Pre row-size-reads.Post
+row-size κs a h x y = (x .ensures ∙ sym (y .ensures), refl)
+
+pub row-at : OneOutcome row-at-kinds.ps row-at-kinds.r row-at-reads.Pre row-at-reads.Post
+row-at κs a h x y = (x .ensures ∙ sym (y .ensures), refl)
+
+pub stretch : (κs : Lfts 1) (a : Dens κs stretch-kinds.ps) (x y : Outcome stretch-kinds.ps stretch-kinds.r stretch-reads.Post κs a)
+    → (now (x .result) ≡ now (y .result)) × (x .result .ptr ≡ y .result .ptr)
+stretch κs a x y = part-one (x .ensures .0) (y .ensures .0)
+
+pub nonce-at : (κs : Lfts 1) (a : Dens κs nonce-at-kinds.ps) (x y : Outcome nonce-at-kinds.ps nonce-at-kinds.r nonce-at-reads.Post κs a)
+    → (now (x .result) ≡ now (y .result)) × (x .result .ptr ≡ y .result .ptr)
+nonce-at κs a x y = part-one (x .ensures .0) (y .ensures .0)
+
+pub body-end : OneOutcome body-end-kinds.ps body-end-kinds.r body-end-reads.Pre body-end-reads.Post
+body-end κs a h x y = (x .ensures ∙ sym (y .ensures), refl)
+
+pub fault-number : OneOutcome fault-kinds.ps fault-kinds.r fault-reads.Pre fault-reads.Post
+fault-number κs a h x y = (x .ensures ∙ sym (y .ensures), refl)
+
+pub refusal-answer : OneOutcome refusal-kinds.ps refusal-kinds.r refusal-reads.Pre refusal-reads.Post
+refusal-answer κs a h x y = (answer-one (x .ensures) (y .ensures), refl)
+
+pub checked-answer : OneOutcome checked-kinds.ps checked-kinds.r checked-reads.Pre checked-reads.Post
+checked-answer κs a h x y = (answer-one (x .ensures) (y .ensures), refl)

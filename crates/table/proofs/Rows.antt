@@ -1,0 +1,36 @@
+-- Where rows lie: a table that lies in the file has each of its rows there, and a row its nonce.
+use Prim.Native.Nat.{ℕ, _+_, _≤_, _<_}
+use native.Mathlib.Nat.{mul-suc, mul-le-mul-left}
+use native.Mathlib.Omega.{arith}
+use mathlib.Core.Path.{_≡_}
+use mathlib.Core.List.{List}
+use lib.ListN.{length, length-take, length-drop}
+use lib.Dec.{lit≤}
+use Rattle.table.specs.Part.{stretch}
+use Rattle.table.specs.Format.{rowSize, rowStart, restStart, nonceStart, nonceAt}
+use Rattle.table.specs.Inside.{RowIn, TableIn}
+
+pub stretch-length : (f : List ℕ) (at len : ℕ) → at + len ≤ length f → length (stretch f at len) ≡ len
+stretch-length f at len h = simp (length-take, length-drop) (omega arith)
+
+-- a row ends where a later one starts, or before
+pub row-below : (w i j : ℕ) → i < j → rowStart w i + w ≤ rowStart w j
+unfolding rowStart
+row-below w i j h = omega (arith, mul-suc w i, mul-le-mul-left w h)
+
+pub row-in : (w : ℕ) (f : List ℕ) (n i : ℕ) → TableIn w f n → i < n → RowIn w f i
+row-in w f n i t h = record { broad = t .broad; fits = omega (arith, row-below w i n h, t .fits) }
+
+pub nonce-length : (w : ℕ) (f : List ℕ) (i : ℕ) → RowIn w f i → length (nonceAt w f i) ≡ 16
+unfolding nonceAt nonceStart restStart
+nonce-length w f i h = stretch-length f (nonceStart w i) 16 (omega (arith, h .broad, h .fits))
+
+-- a row holds what the format puts into it, in every edition
+pub row-broad : (e : ℕ) → 32 ≤ rowSize e
+unfolding rowSize
+row-broad e = lit≤ tt
+
+-- as many rows as 22 lets through are counted without wrapping
+pub rows-small : (e n : ℕ) → n ≤ 512 → rowStart (rowSize e) n < 0x1_0000_0000_0000_0000
+unfolding rowStart rowSize
+rows-small e n h = omega arith

@@ -1,0 +1,117 @@
+-- What number 0 says: of a row that each of 25 to 30 lets it pass, of a header that each of 20 to 24 does.
+use Prim.Native.Nat.{ℕ, _+_, _≤_, _<_}
+use native.Mathlib.Omega.{arith}
+use mathlib.Core.Path.{_≡_, refl}
+use mathlib.Core.Bool.{Bool, true, false, _||_, not, cond}
+use mathlib.Core.List.{List}
+use lib.ListN.{length}
+use lib.Dec.{ltb, eqb, lit<}
+use borrow.Author.Tests.{ltb-false, eqb-true, not-false}
+use Rattle.cipher.specs.Cipher.{isSuite, IsSuite}
+use Rattle.table.specs.declared.row.Row.{Row}
+use Rattle.table.specs.Format.{editionOf, countOf, totalOf, rowSize, rowStart, rowAt, bodyEnd}
+use Rattle.table.specs.Check.{notAbove, outside, badSuite, badLength, bodyStart, misplaced, nonceSeen, badData, bodyNumber, rowNumber, headNumber}
+use Rattle.table.specs.Inside.{TableIn}
+use Rattle.table.proofs.Searches.{or-false}
+use Rattle.table.proofs.Rows.{row-broad}
+
+cond-zero : (b : Bool) (k rest : ℕ) → 0 < k → cond b k rest ≡ 0 → (b ≡ false) × (rest ≡ 0)
+cond-zero true k rest h e = absurd (omega arith)
+cond-zero false k rest h e = (refl, e)
+
+-- ---- a row
+
+-- a number lies in its range, and another is small enough: the form of 27
+range : (a x b y d : ℕ) → outside a b x || ltb d y ≡ false → (a ≤ x) × (x ≤ b) × (y ≤ d)
+range a x b y d h =
+    let o = or-false (outside a b x) (ltb d y) h in
+    let r = or-false (ltb x a) (ltb b x) (o .0) in
+    (ltb-false _ _ (r .0), ltb-false _ _ (r .1), ltb-false _ _ (o .1))
+
+pub record Suited (r : Row) : Type 0 where
+  pub suite-is : IsSuite (r .suite)
+  pub key-high : r .key ≤ 15
+
+suited : (r : Row) → badSuite r ≡ false → Suited r
+unfolding badSuite
+suited r h =
+    let o = or-false (not (isSuite (r .suite))) (ltb 15 (r .key)) h in
+    record { suite-is = not-false _ (o .0); key-high = ltb-false _ _ (o .1) }
+
+pub record Sized (r : Row) : Type 0 where
+  pub ad-low : 5 ≤ r .ad
+  pub ad-high : r .ad ≤ 1024
+  pub len-high : r .len ≤ 65536
+
+sized : (r : Row) → badLength r ≡ false → Sized r
+unfolding badLength
+sized r h = let q = range 5 (r .ad) 1024 (r .len) 65536 h in record { ad-low = q .0; ad-high = q .1; len-high = q .2 }
+
+pub record Placed (w : ℕ) (f : List ℕ) (n i : ℕ) : Type 0 where
+  pub starts : rowAt w f i .at ≡ bodyStart w f n i
+  pub ends : bodyEnd (rowAt w f i) ≤ length f
+
+placed : (w : ℕ) (f : List ℕ) (n i : ℕ) → misplaced w f n i ≡ false → Placed w f n i
+unfolding misplaced
+placed w f n i h =
+    let o = or-false (not (eqb (rowAt w f i .at) (bodyStart w f n i))) (ltb (length f) (bodyEnd (rowAt w f i))) h in
+    record { starts = eqb-true _ _ (not-false _ (o .0)); ends = ltb-false _ _ (o .1) }
+
+-- after 27 and 28, the associated data's first five bytes are in the file
+pub head-in : (w : ℕ) (f : List ℕ) (n i : ℕ) → badLength (rowAt w f i) ≡ false → misplaced w f n i ≡ false → rowAt w f i .at + 5 ≤ length f
+unfolding bodyEnd
+head-in w f n i s p = omega (arith, sized (rowAt w f i) s .ad-low, placed w f n i p .ends)
+
+pub record Sound (w : ℕ) (f : List ℕ) (n i : ℕ) : Type 0 where
+  pub order : notAbove w f i ≡ false
+  pub suit : Suited (rowAt w f i)
+  pub size : Sized (rowAt w f i)
+  pub place : Placed w f n i
+  pub fresh : nonceSeen w f i ≡ false
+  pub held : badData f (rowAt w f i) ≡ false
+
+pub sound : (w : ℕ) (f : List ℕ) (n i : ℕ) → rowNumber w f n i ≡ 0 → Sound w f n i
+unfolding rowNumber bodyNumber
+sound w f n i z =
+    let p25 = cond-zero (notAbove w f i) 25 _ (lit< tt) z in
+    let p26 = cond-zero (badSuite (rowAt w f i)) 26 _ (lit< tt) (p25 .1) in
+    let p27 = cond-zero (badLength (rowAt w f i)) 27 _ (lit< tt) (p26 .1) in
+    let p28 = cond-zero (misplaced w f n i) 28 _ (lit< tt) (p27 .1) in
+    let p29 = cond-zero (nonceSeen w f i) 29 _ (lit< tt) (p28 .1) in
+    let p30 = cond-zero (badData f (rowAt w f i)) 30 _ (lit< tt) (p29 .1) in
+    record {
+      order = p25 .0;
+      suit = suited (rowAt w f i) (p26 .0);
+      size = sized (rowAt w f i) (p27 .0);
+      place = placed w f n i (p28 .0);
+      fresh = p29 .0;
+      held = p30 .0;
+    }
+
+-- ---- the header
+
+pub record Headed (e : ℕ) (f : List ℕ) : Type 0 where
+  pub long : 8 ≤ length f
+  pub short : length f ≤ 1048576
+  pub edition : editionOf f ≡ e
+  pub few : countOf f ≤ 512
+  pub total : totalOf f ≡ length f
+  pub table : TableIn (rowSize e) f (countOf f)
+
+pub headed : (e : ℕ) (f : List ℕ) → headNumber e f ≡ 0 → Headed e f
+unfolding headNumber
+headed e f h =
+    let p20 = cond-zero (ltb (length f) 8 || ltb 1048576 (length f)) 20 _ (lit< tt) h in
+    let p21 = cond-zero (not (eqb (editionOf f) e)) 21 _ (lit< tt) (p20 .1) in
+    let p22 = cond-zero (ltb 512 (countOf f)) 22 _ (lit< tt) (p21 .1) in
+    let p23 = cond-zero (not (eqb (totalOf f) (length f))) 23 _ (lit< tt) (p22 .1) in
+    let p24 = cond-zero (ltb (length f) (rowStart (rowSize e) (countOf f))) 24 _ (lit< tt) (p23 .1) in
+    let len = or-false (ltb (length f) 8) (ltb 1048576 (length f)) (p20 .0) in
+    record {
+      long = ltb-false _ _ (len .0);
+      short = ltb-false _ _ (len .1);
+      edition = eqb-true _ _ (not-false _ (p21 .0));
+      few = ltb-false _ _ (p22 .0);
+      total = eqb-true _ _ (not-false _ (p23 .0));
+      table = record { broad = row-broad e; fits = ltb-false _ _ (p24 .0) };
+    }

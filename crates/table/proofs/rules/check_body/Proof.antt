@@ -1,0 +1,57 @@
+-- The first of three tests that holds gives the number.
+use mathlib.Core.Path.{sym, _∙_}
+use denote.Ref.{now}
+use Rattle.table.specs.Check.{bodyNumber}
+use Rattle.table.proofs.Sound.{head-in}
+use borrow.Author.Needs.{needs}
+use Rattle.table.proofs.rules.check_body.Statement.{statement}
+use Rattle.table.proofs.rules.check_body.Tie as tie
+
+out-of-place-requires : tie.Need-out-of-place-requires
+out-of-place-requires c κs = search needs
+
+returns : tie.Need-returns
+unfolding bodyNumber
+returns c = simp (← c .before .out-of-place .ensures, c .if1 .taken)
+
+nonce-seen-requires : tie.Need-nonce-seen-requires
+nonce-seen-requires c κs = search needs
+
+returns-2 : tie.Need-returns-2
+unfolding bodyNumber
+returns-2 c =
+    let p28 = c .before .before in
+    simp (← p28 .before .out-of-place .ensures, p28 .if1 .left, ← c .before .nonce-seen .ensures, c .if2 .taken)
+
+bad-data-requires : tie.Need-bad-data-requires
+bad-data-requires c κs =
+    let p28 = c .before .before in
+    let s = p28 .before .before .before in
+    let q = s .pre .1 .1 .0 in
+    rw q (head-in (s .args .w) (now (s .args .f)) (s .args .n) (s .args .i) (rw q at (s .pre .1 .1 .1)) (sym (p28 .before .out-of-place .ensures) ∙ p28 .if1 .left))
+
+returns-3 : tie.Need-returns-3
+unfolding bodyNumber
+returns-3 c =
+    let p29 = c .before .before in
+    let p28 = p29 .before .before in
+    simp (← p28 .before .before .before .pre .1 .1 .0, ← p28 .before .out-of-place .ensures, p28 .if1 .left, ← p29 .before .nonce-seen .ensures, p29 .if2 .left, ← c .before .bad-data .ensures, c .if3 .taken)
+
+returns-4 : tie.Need-returns-4
+unfolding bodyNumber
+returns-4 c =
+    let p29 = c .before .before in
+    let p28 = p29 .before .before in
+    simp (← p28 .before .before .before .pre .1 .1 .0, ← p28 .before .out-of-place .ensures, p28 .if1 .left, ← p29 .before .nonce-seen .ensures, p29 .if2 .left, ← c .before .bad-data .ensures, c .if3 .left)
+
+pub check-body-spec : {M : Type 1} → statement M
+check-body-spec =
+    tie.close
+    (tie.spec
+    out-of-place-requires
+    returns
+    nonce-seen-requires
+    returns-2
+    bad-data-requires
+    returns-3
+    returns-4)

@@ -1,0 +1,60 @@
+-- No row below j clashes with row i.
+use Prim.Native.Nat.{_≤_, _-_}
+use mathlib.Core.Bool.{false}
+use mathlib.Core.Path.{_≡_}
+use native.Mathlib.Omega.{arith}
+use borrow.Author.Needs.{needs}
+use denote.Ref.{now}
+use Rattle.table.specs.Search.{anyBelow}
+use Rattle.table.specs.Check.{clash, nonceSeen}
+use Rattle.table.proofs.Searches.{any-more, any-hit}
+use Rattle.table.proofs.rules.nonce_seen.Statement.{statement}
+use Rattle.table.proofs.rules.nonce_seen.Tie as tie
+
+abbrev Inv-loop : tie.InvT-loop
+Inv-loop w f n i j₀ j = (j ≤ i) × (anyBelow (clash w f i) j ≡ false)
+
+abbrev μ-loop : tie.MeasureT-loop
+μ-loop w f n i j₀ j = i - j
+
+loop-holds : tie.Need-loop-holds Inv-loop μ-loop
+unfolding anyBelow
+loop-holds c = search needs
+
+clashes-requires : tie.Need-clashes-requires Inv-loop μ-loop
+clashes-requires c κs = search needs
+
+returns : tie.Need-returns Inv-loop μ-loop
+unfolding nonceSeen
+returns c =
+    let a = c .before .before .before .before .before .args in
+    simp (any-hit (clash (a .w) (now (a .f)) (a .i)) (c .before .before .before .loop .j) (a .i) (c .before .before .loop-test .taken) (cc))
+
+add-j : tie.Need-add-j Inv-loop μ-loop
+add-j c = search needs
+
+loop-less : tie.Need-loop-less Inv-loop μ-loop
+loop-less c = search needs
+
+loop-again : tie.Need-loop-again Inv-loop μ-loop
+loop-again c = (omega arith, any-more _ _ (c .before .before .before .loop .inv .1) (cc))
+
+returns-2 : tie.Need-returns-2 Inv-loop μ-loop
+unfolding nonceSeen
+returns-2 c =
+    let q : c .before .loop .j ≡ c .before .before .before .args .i = omega arith in
+    simp (rw q at (c .before .loop .inv .1))
+
+pub nonce-seen-spec : {M : Type 1} → statement M
+nonce-seen-spec =
+    tie.close
+    (tie.spec
+    Inv-loop
+    μ-loop
+    loop-holds
+    clashes-requires
+    returns
+    add-j
+    loop-less
+    loop-again
+    returns-2)

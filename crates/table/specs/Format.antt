@@ -1,0 +1,88 @@
+-- The shift file's format (document 01, "The shift file"): header, table of contents, bodies. Numbers are little-endian.
+use Prim.Native.Nat.{ℕ, _+_, _-_, _*_}
+use mathlib.Core.Bool.{Bool, _||_}
+use mathlib.Core.List.{List}
+use lib.Dec.{eqb}
+use lib.ListN.{getD}
+use Rattle.words.specs.Bytes.{word}
+use Rattle.cipher.specs.Cipher.{sizeOf}
+use Rattle.table.specs.declared.row.Row.{Row}
+use Rattle.table.specs.Part.{stretch}
+
+-- header, 8 bytes: edition (2 bytes)
+abbrev pub editionOf : List ℕ → ℕ
+editionOf f = word 2 f 0
+
+-- row count n (2)
+abbrev pub countOf : List ℕ → ℕ
+countOf f = word 2 f 2
+
+-- total length (4)
+abbrev pub totalOf : List ℕ → ℕ
+totalOf f = word 4 f 4
+
+-- the edition of a shift file
+abbrev pub edition : ℕ
+edition = 1
+
+-- the bytes of a row, in edition e
+unfoldable pub rowSize : ℕ → ℕ
+rowSize e = 32
+
+-- where row i starts, rows being w bytes long; the bodies start where row n would
+unfoldable pub rowStart : ℕ → ℕ → ℕ
+rowStart w i = 8 + w * i
+
+-- where the rest of row i starts: its last 28 bytes, all but the job number
+unfoldable pub restStart : ℕ → ℕ → ℕ
+restStart w i = rowStart w i + (w - 28)
+
+-- row i: job number (4), suite (1), key number (1), associated data length (2), body offset (4), message length (4), nonce (16)
+unfoldable pub rowAt : ℕ → List ℕ → ℕ → Row
+rowAt w f i = record {
+  job = word 4 f (rowStart w i);
+  suite = getD f (restStart w i) 0;
+  key = getD f (restStart w i + 1) 0;
+  ad = word 2 f (restStart w i + 2);
+  at = word 4 f (restStart w i + 4);
+  len = word 4 f (restStart w i + 8);
+}
+
+-- its nonce, the last sixteen bytes: where they start
+unfoldable pub nonceStart : ℕ → ℕ → ℕ
+nonceStart w i = restStart w i + 12
+
+unfoldable pub nonceAt : ℕ → List ℕ → ℕ → List ℕ
+nonceAt w f i = stretch f (nonceStart w i) 16
+
+-- row i of a shift file
+abbrev pub rowOf : List ℕ → ℕ → Row
+rowOf f i = rowAt (rowSize edition) f i
+
+-- a body is associated data
+abbrev pub dataOf : List ℕ → Row → List ℕ
+dataOf f r = stretch f (r .at) (r .ad)
+
+-- ciphertext
+abbrev pub textOf : List ℕ → Row → List ℕ
+textOf f r = stretch f (r .at + r .ad) (r .len)
+
+-- and tag, which is one block of the suite's cipher
+abbrev pub tagOf : List ℕ → Row → List ℕ
+tagOf f r = stretch f (r .at + r .ad + r .len) (sizeOf (r .suite))
+
+-- where it ends
+unfoldable pub bodyEnd : Row → ℕ
+bodyEnd r = r .at + r .ad + r .len + sizeOf (r .suite)
+
+-- associated data starts with the job number (4 bytes)
+abbrev pub dataJob : List ℕ → Row → ℕ
+dataJob f r = word 4 f (r .at)
+
+-- and a unit code (1 byte): 1 newton-metres, 2 inch-pounds
+abbrev pub unitOf : List ℕ → Row → ℕ
+unitOf f r = getD f (r .at + 4) 0
+
+-- a unit is 1 or 2
+abbrev pub isUnit : ℕ → Bool
+isUnit v = eqb v 1 || eqb v 2

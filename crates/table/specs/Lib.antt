@@ -1,0 +1,7 @@
+pub mod Search
+pub mod Part
+pub mod Format
+pub mod Answers
+pub mod Check
+pub mod Inside
+pub mod Laid

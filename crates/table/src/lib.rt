@@ -1,0 +1,85 @@
+// The table of contents of the plant's shift file: its rows, and the full check.
+pub mod answers;
+pub mod row;
+mod rules;
+
+use answers::Checked;
+use answers::Refusal;
+use answers::RowCheck;
+use row::EDITION;
+use row::count;
+use row::get16;
+use row::get32;
+use row::row_size;
+use row::row_start;
+use rules::body_start;
+use rules::check_row;
+ghost use mathlib.Core.Path.{_≡_};
+ghost use Rattle.table.specs.Answers.{answer, checkedAnswer};
+ghost use Rattle.table.specs.Check.{headNumber, rowsFrom, checkAs, checkFile};
+ghost use Rattle.table.specs.Inside.{TableIn};
+
+// 20 to 24; e is the edition that is wanted.
+pub fn check_head(e: u16, f: &[u8]) -> Checked
+    ensures { λ r. ⌜ checkedAnswer r ≡ answer (headNumber e (now (f .entry))) 0 ⌝ }
+{
+    if f.len() < 8 {
+        return Checked::Refused(Refusal::Size);
+    }
+    if 1048576 < f.len() {
+        return Checked::Refused(Refusal::Size);
+    }
+    if get16(f, 0) != e {
+        return Checked::Refused(Refusal::Edition);
+    }
+    let n = count(f);
+    if 512 < n {
+        return Checked::Refused(Refusal::Count);
+    }
+    if get32(f, 4) as usize != f.len() {
+        return Checked::Refused(Refusal::Total);
+    }
+    if f.len() < row_start(row_size(e), n) {
+        return Checked::Refused(Refusal::Table);
+    }
+    Checked::Passed
+}
+
+// The n rows, each with 25 to 30, and then 31.
+fn check_rows(w: usize, f: &[u8], n: usize) -> Checked
+    requires { ⌜ TableIn w (now f) n ⌝ }
+    ensures { λ r. ⌜ checkedAnswer r ≡ rowsFrom w (now (f .entry)) n 0 ⌝ }
+{
+    let mut i: usize = 0;
+    while i < n {
+        match check_row(w, f, n, i) {
+            RowCheck::Bad(fault) => {
+                return Checked::Refused(Refusal::InRow(fault, i));
+            }
+            RowCheck::Sound => {}
+        }
+        i += 1;
+    }
+    if body_start(w, f, n, n) != f.len() {
+        return Checked::Refused(Refusal::End);
+    }
+    Checked::Passed
+}
+
+// The full check of a file of edition e.
+pub fn check_as(e: u16, f: &[u8]) -> Checked
+    ensures { λ r. ⌜ checkedAnswer r ≡ checkAs e (now (f .entry)) ⌝ }
+{
+    let head = check_head(e, f);
+    let Checked::Passed = head else {
+        return head;
+    };
+    check_rows(row_size(e), f, count(f))
+}
+
+// The full check of a shift file: numbers 20 to 31.
+pub fn check(file: &[u8]) -> Checked
+    ensures { λ r. ⌜ checkedAnswer r ≡ checkFile (now (file .entry)) ⌝ }
+{
+    check_as(EDITION, file)
+}

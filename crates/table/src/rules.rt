@@ -1,0 +1,160 @@
+// The rules of one row: numbers 25 to 30.
+use crate::answers::Fault;
+use crate::answers::RowCheck;
+use crate::row::Row;
+use crate::row::body_end;
+use crate::row::get32;
+use crate::row::nonce_block;
+use crate::row::row_at;
+use crate::row::row_start;
+ghost use mathlib.Core.Path.{_≡_};
+ghost use mathlib.Core.Bool.{false};
+ghost use Prim.Native.Nat.{_+_, _≤_, _<_};
+ghost use lib.ListN.{length};
+ghost use Rattle.table.specs.Format.{rowAt};
+ghost use Rattle.table.specs.Answers.{rowNumberOf};
+ghost use Rattle.table.specs.Check.{notAbove, outside, badSuite, badLength, bodyStart, misplaced, clash, nonceSeen, badData, bodyNumber, rowNumber};
+ghost use Rattle.table.specs.Inside.{TableIn};
+
+// 25: the job number is not above the row before's.
+fn not_above(w: usize, f: &[u8], n: usize, i: usize) -> bool
+    requires { ⌜ TableIn w (now f) n × (i < n) ⌝ }
+    ensures { λ r. ⌜ r ≡ notAbove w (now (f .entry)) i ⌝ }
+{
+    if i == 0 {
+        return false;
+    }
+    let row = row_at(w, f, i);
+    let before = row_at(w, f, i - 1);
+    row.job <= before.job
+}
+
+// x is outside low to high.
+fn outside(low: u16, high: u16, x: u16) -> bool
+    ensures { λ r. ⌜ r ≡ outside low high x ⌝ }
+{
+    if x < low {
+        return true;
+    }
+    high < x
+}
+
+// 26: no such suite, or no such key.
+fn bad_suite(row: Row) -> bool
+    ensures { λ r. ⌜ r ≡ badSuite row ⌝ }
+{
+    if !cipher::is_suite(row.suite) {
+        return true;
+    }
+    15 < row.key
+}
+
+// 27: associated data or message of a length that is not allowed.
+fn bad_length(row: Row) -> bool
+    ensures { λ r. ⌜ r ≡ badLength row ⌝ }
+{
+    if outside(5, 1024, row.ad) {
+        return true;
+    }
+    65536 < row.len
+}
+
+// Where the body of row i of n has to start; at i = n, where the last body ends.
+pub(crate) fn body_start(w: usize, f: &[u8], n: usize, i: usize) -> usize
+    requires { ⌜ TableIn w (now f) n × (i ≤ n) ⌝ }
+    ensures { λ r. ⌜ r ≡ bodyStart w (now (f .entry)) n i ⌝ }
+{
+    if i == 0 {
+        return row_start(w, n);
+    }
+    body_end(row_at(w, f, i - 1))
+}
+
+// 28: the body does not start where it has to, or ends past the file.
+fn out_of_place(w: usize, f: &[u8], n: usize, i: usize) -> bool
+    requires { ⌜ TableIn w (now f) n × (i < n) ⌝ }
+    ensures { λ r. ⌜ r ≡ misplaced w (now (f .entry)) n i ⌝ }
+{
+    let row = row_at(w, f, i);
+    let at = row.at as usize;
+    let start = body_start(w, f, n, i);
+    if at != start {
+        return true;
+    }
+    f.len() < body_end(row)
+}
+
+// Rows i and j clash.
+fn clashes(w: usize, f: &[u8], n: usize, i: usize, j: usize) -> bool
+    requires { ⌜ TableIn w (now f) n × ((i < n) × (j < n)) ⌝ }
+    ensures { λ r. ⌜ r ≡ clash w (now (f .entry)) i j ⌝ }
+{
+    words::block::same(nonce_block(w, f, i), nonce_block(w, f, j))
+}
+
+// 29: the row clashes with an earlier one.
+fn nonce_seen(w: usize, f: &[u8], n: usize, i: usize) -> bool
+    requires { ⌜ TableIn w (now f) n × (i < n) ⌝ }
+    ensures { λ r. ⌜ r ≡ nonceSeen w (now (f .entry)) i ⌝ }
+{
+    let mut j: usize = 0;
+    while j < i {
+        if clashes(w, f, n, i, j) {
+            return true;
+        }
+        j += 1;
+    }
+    false
+}
+
+// 30: the associated data has another job number, or no unit.
+fn bad_data(f: &[u8], row: Row) -> bool
+    requires { ⌜ row .at + 5 ≤ length (now f) ⌝ }
+    ensures { λ r. ⌜ r ≡ badData (now (f .entry)) row ⌝ }
+{
+    let at = row.at as usize;
+    let job = row.job;
+    if get32(f, at) != job {
+        return true;
+    }
+    let unit = f[at + 4];
+    if unit == 1 {
+        return false;
+    }
+    unit != 2
+}
+
+// 28 to 30, of row i of n.
+fn check_body(w: usize, f: &[u8], n: usize, i: usize, row: Row) -> RowCheck
+    requires { ⌜ TableIn w (now f) n × ((i < n) × ((row ≡ rowAt w (now f) i) × (badLength row ≡ false))) ⌝ }
+    ensures { λ r. ⌜ rowNumberOf r ≡ bodyNumber w (now (f .entry)) n i ⌝ }
+{
+    if out_of_place(w, f, n, i) {
+        return RowCheck::Bad(Fault::Place);
+    }
+    if nonce_seen(w, f, n, i) {
+        return RowCheck::Bad(Fault::Nonce);
+    }
+    if bad_data(f, row) {
+        return RowCheck::Bad(Fault::Data);
+    }
+    RowCheck::Sound
+}
+
+// 25 to 30, of row i of n.
+pub(crate) fn check_row(w: usize, f: &[u8], n: usize, i: usize) -> RowCheck
+    requires { ⌜ TableIn w (now f) n × (i < n) ⌝ }
+    ensures { λ r. ⌜ rowNumberOf r ≡ rowNumber w (now (f .entry)) n i ⌝ }
+{
+    let row = row_at(w, f, i);
+    if not_above(w, f, n, i) {
+        return RowCheck::Bad(Fault::Order);
+    }
+    if bad_suite(row) {
+        return RowCheck::Bad(Fault::Suite);
+    }
+    if bad_length(row) {
+        return RowCheck::Bad(Fault::Length);
+    }
+    check_body(w, f, n, i, row)
+}

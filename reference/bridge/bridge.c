@@ -1,0 +1,112 @@
+/* The proved library as a program for the comparison: it reads calls and writes what each gives.
+ *
+ * A call is the number of a function of the table below (1 byte) and the function's arguments in the order of
+ * snoekeldraf.h: a number is 8 bytes; bytes, and whatever is lent for writing, are a length (4 bytes) and that many
+ * bytes. The answer is what the function gives (4 bytes), then all that was lent for writing, in the same order.
+ * Numbers are little-endian. The program ends where its input does.
+ */
+#include "snoekeldraf.h"
+#include <stdio.h>
+#include <stdlib.h>
+
+/* ---- what a call brings; it lies in one room, that the next call takes anew ---- */
+
+typedef struct {
+    uint8_t *at;
+    size_t len;
+} bytes;
+
+/* A slice as the functions take it. */
+#define SLICE(b) (b).at, (b).len
+
+static _Alignas(16) uint8_t room[1 << 23];
+static size_t used;
+static bytes written[8];
+static int count;
+
+static void get(void *to, size_t len) {
+    if (fread(to, 1, len, stdin) != len) exit(2);
+}
+
+static uint64_t number(void) {
+    uint64_t x;
+    get(&x, 8);
+    return x;
+}
+
+static bytes given(void) {
+    uint32_t len;
+    get(&len, 4);
+    bytes b = {room + used, len};
+    if (len > sizeof room - used) exit(2);
+    get(b.at, len);
+    used += (b.len + 15) / 16 * 16;
+    return b;
+}
+
+static bytes lent(void) {
+    return written[count++] = given();
+}
+
+static uint32_t *lent_number(void) {
+    return (uint32_t *)lent().at;
+}
+
+/* ---- the functions ---- */
+
+static uint32_t seal(void) {
+    uint8_t suite = (uint8_t)number();
+    bytes key = given(), nonce = given(), ad = given(), msg = given(), out = lent(), tag = lent();
+    return comet_seal(suite, SLICE(key), SLICE(nonce), SLICE(ad), SLICE(msg), SLICE(out), SLICE(tag));
+}
+
+static uint32_t open_record(void) {
+    uint8_t suite = (uint8_t)number();
+    bytes key = given(), nonce = given(), ad = given(), text = given(), tag = given(), out = lent();
+    return comet_open(suite, SLICE(key), SLICE(nonce), SLICE(ad), SLICE(text), SLICE(tag), SLICE(out));
+}
+
+static uint32_t check(void) {
+    bytes file = given();
+    return shift_check(SLICE(file), lent_number());
+}
+
+static uint32_t lookup(void) {
+    bytes file = given();
+    uint32_t job = (uint32_t)number();
+    return shift_lookup(SLICE(file), job, lent_number());
+}
+
+static uint32_t associated(void) {
+    bytes file = given();
+    uint32_t job = (uint32_t)number(), *at = lent_number(), *len = lent_number();
+    return shift_associated(SLICE(file), job, at, len);
+}
+
+static uint32_t open_job(void) {
+    bytes file = given(), ring = given();
+    uint32_t job = (uint32_t)number();
+    bytes out = lent();
+    return shift_open_job(SLICE(file), SLICE(ring), job, SLICE(out), lent_number());
+}
+
+static uint32_t entry(void) {
+    bytes file = given();
+    uint32_t job = (uint32_t)number(), *row = lent_number(), *ad_at = lent_number(), *ad_len = lent_number(),
+             *text_at = lent_number(), *text_len = lent_number();
+    return shift_entry(SLICE(file), job, row, ad_at, ad_len, text_at, text_len);
+}
+
+static uint32_t (*const functions[])(void) = {seal, open_record, check, lookup, associated, open_job, entry};
+
+int main(void) {
+    for (int function; (function = getchar()) != EOF; fflush(stdout)) {
+        used = 0;
+        count = 0;
+        if ((size_t)function >= sizeof functions / sizeof *functions) exit(2);
+        uint32_t answer = functions[function]();
+        fwrite(&answer, 4, 1, stdout);
+        for (int i = 0; i < count; i++) fwrite(written[i].at, 1, written[i].len, stdout);
+    }
+    return 0;
+}

@@ -1,0 +1,139 @@
+//! The proved library, asked through the C program bridge/bridge.c, which is linked with its archive.
+//!
+//! The archive is for x86-64 alone. On another processor that program is compiled for x86-64 by a cross compiler
+//! and runs under the emulator of the kit that proves the library.
+
+use crate::calls::Library;
+use crate::shift::{Answer, Places};
+use std::env;
+use std::io::{BufReader, BufWriter, Read, Write};
+use std::path::PathBuf;
+use std::process::{ChildStdin, ChildStdout, Command, Stdio};
+use std::sync::{Mutex, OnceLock};
+
+/// The program, as build.rs compiled it.
+const PROGRAM: &str = env!("BRIDGE");
+
+/// The kit's folder: what RATTLE_HOME names, or the one above that of the command `rt`.
+fn kit() -> Option<PathBuf> {
+    let by_command = || {
+        let commands = env::split_paths(&env::var_os("PATH")?).map(|folder| folder.join("rt")).collect::<Vec<_>>();
+        let command = commands.into_iter().find(|path| path.is_file())?.canonicalize().ok()?;
+        Some(command.parent()?.parent()?.to_path_buf())
+    };
+    env::var_os("RATTLE_HOME").map(PathBuf::from).or_else(by_command)
+}
+
+/// The emulator beside the kit's compiler, or the one on the path.
+fn emulator() -> PathBuf {
+    let place = format!("on/{}/toolchain/bin/qemu-x86_64", env::consts::ARCH);
+    let of_kit = kit().map(|kit| kit.join(place)).filter(|path| path.is_file());
+    of_kit.unwrap_or(PathBuf::from("qemu-x86_64"))
+}
+
+struct Bridge {
+    calls: BufWriter<ChildStdin>,
+    answers: BufReader<ChildStdout>,
+}
+
+impl Bridge {
+    fn start() -> Bridge {
+        let mut command = if cfg!(target_arch = "x86_64") {
+            Command::new(PROGRAM)
+        } else {
+            let mut command = Command::new(emulator());
+            command.arg(PROGRAM);
+            command
+        };
+        let started = command.stdin(Stdio::piped()).stdout(Stdio::piped()).spawn();
+        let child = started.unwrap_or_else(|e| panic!("{command:?}: {e}"));
+        Bridge { calls: BufWriter::new(child.stdin.unwrap()), answers: BufReader::new(child.stdout.unwrap()) }
+    }
+
+    /// Puts a call and waits for its answer.
+    fn ask(&mut self, function: u8, arguments: &mut [Argument]) -> std::io::Result<u32> {
+        self.calls.write_all(&[function])?;
+        for argument in arguments.iter() {
+            match argument {
+                Number(number) => self.calls.write_all(&number.to_le_bytes())?,
+                Given(bytes) => self.send(bytes)?,
+                Lent(bytes) => self.send(bytes)?,
+            }
+        }
+        self.calls.flush()?;
+        let mut number = [0; 4];
+        self.answers.read_exact(&mut number)?;
+        for argument in arguments {
+            if let Lent(bytes) = argument {
+                self.answers.read_exact(bytes)?;
+            }
+        }
+        Ok(u32::from_le_bytes(number))
+    }
+
+    fn send(&mut self, bytes: &[u8]) -> std::io::Result<()> {
+        self.calls.write_all(&(bytes.len() as u32).to_le_bytes())?;
+        self.calls.write_all(bytes)
+    }
+}
+
+/// An argument of a function of snoekeldraf.h; `Lent` is for writing.
+enum Argument<'a> {
+    Number(u64),
+    Given(&'a [u8]),
+    Lent(&'a mut [u8]),
+}
+
+use Argument::{Given, Lent, Number};
+
+/// What a number that is lent for writing holds before.
+const UNWRITTEN: [u8; 4] = [0xa5; 4];
+
+/// What a function gives, and the numbers that it writes last; its number is its place in the table of bridge.c.
+fn ask<const N: usize>(function: u8, given: Vec<Argument>) -> (u32, [u32; N]) {
+    static BRIDGE: OnceLock<Mutex<Bridge>> = OnceLock::new();
+    let mut numbers = [UNWRITTEN; N];
+    let mut arguments = given;
+    arguments.extend(numbers.iter_mut().map(|number| Lent(number)));
+    let mut bridge = BRIDGE.get_or_init(|| Mutex::new(Bridge::start())).lock().unwrap();
+    let answer = bridge.ask(function, &mut arguments).unwrap_or_else(|e| panic!("{PROGRAM}, function {function}: {e}"));
+    (answer, numbers.map(u32::from_le_bytes))
+}
+
+fn seal(suite: u8, key: &[u8], nonce: &[u8], ad: &[u8], msg: &[u8], out: &mut [u8], tag: &mut [u8]) -> u32 {
+    let given = vec![Number(suite.into()), Given(key), Given(nonce), Given(ad), Given(msg), Lent(out), Lent(tag)];
+    ask::<0>(0, given).0
+}
+
+fn open(suite: u8, key: &[u8], nonce: &[u8], ad: &[u8], text: &[u8], tag: &[u8], out: &mut [u8]) -> u32 {
+    let given = vec![Number(suite.into()), Given(key), Given(nonce), Given(ad), Given(text), Given(tag), Lent(out)];
+    ask::<0>(1, given).0
+}
+
+fn check(file: &[u8]) -> Answer {
+    let (number, [row]) = ask(2, vec![Given(file)]);
+    (number, row)
+}
+
+fn lookup(file: &[u8], job: u32) -> Answer {
+    let (number, [row]) = ask(3, vec![Given(file), Number(job.into())]);
+    (number, row)
+}
+
+/// The number, and place and length of the associated data in the file.
+fn associated(file: &[u8], job: u32) -> (u32, usize, usize) {
+    let (number, [at, length]) = ask(4, vec![Given(file), Number(job.into())]);
+    (number, at as usize, length as usize)
+}
+
+fn open_job(file: &[u8], ring: &[u8], job: u32, out: &mut [u8]) -> Answer {
+    let (number, [row]) = ask(5, vec![Given(file), Given(ring), Number(job.into()), Lent(out)]);
+    (number, row)
+}
+
+fn entry(file: &[u8], job: u32) -> (Answer, Places) {
+    let (number, [row, places @ ..]) = ask::<5>(6, vec![Given(file), Number(job.into())]);
+    ((number, row), places.map(|place| place as usize))
+}
+
+pub const PROVED: Library = Library { seal, open, check, lookup, associated, entry, open_job };
