@@ -23,7 +23,6 @@ pub front : (κs : Lfts 1) (a : Dens κs front-kinds.ps) (x y : Outcome front-ki
     → (now (x .result) ≡ now (y .result)) × (x .result .ptr ≡ y .result .ptr)
 front κs a x y = (x .ensures .0 ∙ sym (y .ensures .0), x .ensures .1 ∙ sym (y .ensures .1))
 
-
 pub folded : OneOutcome folded-kinds.ps folded-kinds.r folded-reads.Pre folded-reads.Post
 folded κs a h x y = (x .ensures .0 ∙ sym (y .ensures .0), refl)
 
