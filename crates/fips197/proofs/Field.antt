@@ -95,7 +95,17 @@ multiples-more (suc n) a b h =
     let p : 2 ^ suc n ≡ 2 ^ n * 2 = pow-suc 2 n in
     ap (xor (a % 2 * b)) (multiples-more n (a / 2) (xtime b) (omega arith))
 
+multiples-byte : (n a b : ℕ) → b < 256 → multiples n a b < 256
+unfolding multiples
+multiples-byte zero a b h = lit< tt
+multiples-byte (suc n) a b h =
+    xor-below 8 (bits (λ p. p * b < 256) (rw zero-mul (lit< tt)) (rw one-mul h) (a % 2) (digit a)) (multiples-byte n (a / 2) (xtime b) (xtime-byte b))
+
 -- ---- the product
+
+pub product-byte : (a b : ℕ) → b < 256 → a • b < 256
+unfolding _•_
+product-byte = multiples-byte 8
 
 product-sum : (a b c : ℕ) → (a ⊕ b) • c ≡ a • c ⊕ b • c
 unfolding _•_

@@ -64,7 +64,10 @@ pub fn parts() -> [Part; 2] {
         stdin.push(suite);
         stdin.extend(key);
         stdin.extend(block);
-        stdout += &format!("{}\n", hex(&image));
+        // suite 1: by the plain engine and by columns
+        for _ in 0..if suite == 1 { 2 } else { 1 } {
+            stdout += &format!("{}\n", hex(&image));
+        }
     }
     [("stdin", stdin), ("stdout", stdout.into_bytes())]
 }
