@@ -45,6 +45,6 @@ summed x y z u a b c d p q r s =
     ∙ shares a b c d
 
 -- the second byte of a share of row 0 is taken once
-pub once-is : (e s : ℕ) → s < 256 → e ≡ value (share 0 s) → e / 256 % 256 ≡ s
+pub once-is : (e s : ℕ) → bytes 4 e ≡ share 0 s → e / 256 % 256 ≡ s
 unfolding bytes
-once-is e s h q = ap (λ (l : List ℕ). getD l 1 0) (ap (bytes 4) q ∙ share-bytes 0 s h) ∙ one-product s
+once-is e s h = ap (λ (l : List ℕ). getD l 1 0) h ∙ one-product s

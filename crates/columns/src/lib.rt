@@ -16,12 +16,12 @@ mod rows;
 // Four rows of 256 words: a row for each place of a byte in a column.
 pub type Tables = [[u32; 256]; 4];
 
-// What the byte in row p of a column brings to the rows of the mixed column.
-fn brought(t: &Tables, x: u32, p: u32) -> u32
-    requires { ⌜ IsTables (now t) × (p < 4) ⌝ }
-    ensures { λ r. ⌜ bytes 4 r ≡ share p (subByte (row p x)) ⌝ }
+// The table of place p at the byte in row k of a column: what the S-box there brings from row p to the mixed column.
+fn entry(t: &Tables, p: u32, x: u32, k: u32) -> u32
+    requires { ⌜ IsTables (now t) × (p < 4) × (k < 4) ⌝ }
+    ensures { λ r. ⌜ bytes 4 r ≡ share p (subByte (row k x)) ⌝ }
 {
-    t[p as usize][((x >> (8 * p)) % 256) as usize]
+    t[p as usize][((x >> (8 * k)) % 256) as usize]
 }
 
 // SubBytes, ShiftRows and MixColumns of one column: row r comes from the r-th of the four columns.
@@ -29,15 +29,15 @@ fn mixed(t: &Tables, a: u32, b: u32, c: u32, d: u32) -> u32
     requires { ⌜ IsTables (now t) ⌝ }
     ensures { λ r. ⌜ bytes 4 r ≡ mixColumn (subByte (row 0 a) ∷ subByte (row 1 b) ∷ subByte (row 2 c) ∷ subByte (row 3 d) ∷ []) ⌝ }
 {
-    brought(t, a, 0) ^ brought(t, b, 1) ^ brought(t, c, 2) ^ brought(t, d, 3)
+    entry(t, 0, a, 0) ^ entry(t, 1, b, 1) ^ entry(t, 2, c, 2) ^ entry(t, 3, d, 3)
 }
 
-// The S-box at the byte in row k of a column: the second byte of its word in the first row, which is taken once.
+// The S-box at the byte in row k of a column: in the table of place 0 the second byte is the S-box's once.
 fn sub_byte(t: &Tables, x: u32, k: u32) -> u8
     requires { ⌜ IsTables (now t) × (k < 4) ⌝ }
     ensures { λ r. ⌜ r ≡ subByte (row k x) ⌝ }
 {
-    ((t[0][((x >> (8 * k)) % 256) as usize] >> 8) % 256) as u8
+    ((entry(t, 0, x, k) >> 8) % 256) as u8
 }
 
 // SubBytes and ShiftRows of one column, as above.

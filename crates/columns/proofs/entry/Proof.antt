@@ -1,4 +1,4 @@
--- `columns::brought` meets its contract: a shift by 8 p drops p rows, and the entry that is read is a share.
+-- `columns::entry` meets its contract: a shift by 8 k drops k rows, and the entry that is read is a share.
 use mathlib.Core.Path.{ap, _∙_}
 use Prim.Native.Nat.{ℕ, _*_, _/_, _%_, _^_}
 use Rattle.words.specs.Bytes.{bytes}
@@ -8,8 +8,8 @@ use Rattle.aes.proofs.Column.{row-is}
 use Rattle.columns.specs.Tables.{share}
 use Rattle.columns.proofs.Sums.{share-bytes}
 use borrow.Author.Needs.{needs}
-use Rattle.columns.proofs.brought.Statement.{statement}
-use Rattle.columns.proofs.brought.Tie as tie
+use Rattle.columns.proofs.entry.Statement.{statement}
+use Rattle.columns.proofs.entry.Tie as tie
 
 mul-result : tie.Need-mul-result
 mul-result c = search needs
@@ -36,13 +36,13 @@ returns : tie.Need-returns
 returns c =
     let a = c .before .args in
     let h = c .before .pre in
-    let x = a .x / 2 ^ (8 * a .p) % 256 in
+    let x = a .x / 2 ^ (8 * a .k) % 256 in
     ap (bytes 4) (h .0 .entry (a .p) x (h .1) (search needs))
     ∙ share-bytes (a .p) (subByte x) (sub-byte x (search needs))
-    ∙ ap (λ (v : ℕ). share (a .p) (subByte v)) (row-is (a .p) (a .x) (h .1))
+    ∙ ap (λ (v : ℕ). share (a .p) (subByte v)) (row-is (a .k) (a .x) (h .2))
 
-pub brought-spec : {M : Type 1} → statement M
-brought-spec =
+pub entry-spec : {M : Type 1} → statement M
+entry-spec =
     tie.close
     (tie.spec
     mul-result
