@@ -1,17 +1,16 @@
 -- Each of the four ciphers keeps the promise, by its own theorems.
-use mathlib.Core.Path.{_≡_, sym, subst}
+use mathlib.Core.Path.{_≡_}
 use mathlib.Core.List.{List}
 use Prim.Native.Nat.{ℕ, _*_, _/_, _%_, _≤_}
 use native.Mathlib.Omega.{arith}
-use native.Mathlib.Decide.{decLe}
 use Rattle.fips197.specs.Cipher.{cipher}
 use Rattle.fips197.proofs.Injective as aes
 use Rattle.cham.specs.Cham.{cham}
 use Rattle.cham.proofs.Injective as cham-laws
 use Rattle.speck.specs.Speck.{speck}
 use Rattle.speck.proofs.Injective as speck-laws
-use Rattle.cipher.specs.Cipher.{Block, Lawful, sizeOf, engineOf, cipherOf}
-use Rattle.cipher.proofs.Suites.{Engine, size-16, size-8, sizes-two, engine-1, engine-2, engine-3, engine-4}
+use Rattle.cipher.specs.Cipher.{Block, Lawful, Facts, sizeOf, engineOf, cipherOf}
+use Rattle.cipher.proofs.Suites.{Engine, each, sizes-two}
 
 -- what the promise says of an engine on blocks of n bytes
 record Good (n : ℕ) (e : Engine) : Type 0 where
@@ -43,21 +42,12 @@ cham-good w wide even = record {
   one-to-one = λ k b b′ hk hb hb′. cham-laws.injective w wide even k b b′ (hb .long) (hb′ .long) (hb .bytes) (hb′ .bytes);
 }
 
-suite-good : (s n : ℕ) (e : Engine) → sizeOf s ≡ n → engineOf s ≡ e → Good n e → Good (sizeOf s) (engineOf s)
-suite-good s n e p q g = subst (λ (f : Engine). Good (sizeOf s) f) (sym q) (subst (λ (m : ℕ). Good m e) (sym p) g)
+abbrev Keeps : Facts → Type 0
+Keeps f = Good (f .block) (f .E)
 
 good : (s : ℕ) → Good (sizeOf s) (engineOf s)
-good s =
-    elim (decLe s 1) [
-      | yes h ↦ suite-good s 16 cipher (size-16 s (omega arith)) (engine-1 s h) aes-good
-      | no h ↦ elim (decLe s 2) [
-        | yes i ↦ suite-good s 16 (cham 32) (size-16 s i) (engine-2 s (omega arith) i) (cham-good 32 (omega arith) (omega arith))
-        | no i ↦ elim (decLe s 3) [
-          | yes j ↦ suite-good s 8 speck (size-8 s (omega arith)) (engine-3 s (omega arith) j) speck-good
-          | no j ↦ suite-good s 8 (cham 16) (size-8 s (omega arith)) (engine-4 s (omega arith)) (cham-good 16 (omega arith) (omega arith))
-        ]
-      ]
-    ]
+unfolding sizeOf engineOf
+good = each Keeps aes-good (cham-good 32 (omega arith) (omega arith)) speck-good (cham-good 16 (omega arith) (omega arith))
 
 pub lawful : (s : ℕ) → Lawful (cipherOf s)
 lawful s = record { sizes = sizes-two s; image = good s .image; one-to-one = good s .one-to-one }

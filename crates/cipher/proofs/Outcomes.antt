@@ -1,4 +1,4 @@
--- Every public function of `cipher` leaves one outcome: a number, the table told by its entries, a block told by its bytes.
+-- Every public function of `cipher` leaves one outcome: a number or a yes or no, the table told by its entries, a block told by its bytes.
 use mathlib.Core.Path.{_≡_, refl, sym, ap₂, _∙_}
 use mathlib.Core.List.{List, _++_}
 use Prim.Native.Nat.{ℕ}
@@ -10,8 +10,12 @@ use Rattle.words.proofs.Bytes.{bytes-inj}
 use Rattle.words.proofs.Blocks.{wide-told}
 use Rattle.fips197.specs.Sbox.{IsSbox}
 use Rattle.cipher.specs.Cipher.{sizeOf}
+use Rattle.cipher.proofs.is_suite.Kinds as is-suite-kinds
+use Rattle.cipher.proofs.is_suite.Reads as is-suite-reads
 use Rattle.cipher.proofs.size_of.Kinds as size-of-kinds
 use Rattle.cipher.proofs.size_of.Reads as size-of-reads
+use Rattle.cipher.proofs.nonce_size.Kinds as nonce-size-kinds
+use Rattle.cipher.proofs.nonce_size.Reads as nonce-size-reads
 use Rattle.cipher.proofs.tables.Kinds as tables-kinds
 use Rattle.cipher.proofs.tables.Reads as tables-reads
 use Rattle.cipher.proofs.encipher16.Kinds as encipher16-kinds
@@ -26,8 +30,14 @@ same-table : (s t : List ℕ) → IsSbox s → IsSbox t → s ≡ t
 same-table s t p q =
     ext-getD 0 s t (p .size ∙ sym (q .size)) (λ i h. p .entry i (omega (arith, p .size)) ∙ sym (q .entry i (omega (arith, p .size))))
 
+pub is-suite : OneOutcome is-suite-kinds.ps is-suite-kinds.r is-suite-reads.Pre is-suite-reads.Post
+is-suite κs a h x y = (x .ensures ∙ sym (y .ensures), refl)
+
 pub size-of : OneOutcome size-of-kinds.ps size-of-kinds.r size-of-reads.Pre size-of-reads.Post
 size-of κs a h x y = (x .ensures .0 ∙ sym (y .ensures .0), refl)
+
+pub nonce-size : OneOutcome nonce-size-kinds.ps nonce-size-kinds.r nonce-size-reads.Pre nonce-size-reads.Post
+nonce-size κs a h x y = (x .ensures ∙ sym (y .ensures), refl)
 
 pub tables : OneOutcome tables-kinds.ps tables-kinds.r tables-reads.Pre tables-reads.Post
 tables κs a h x y = (same-table (x .result) (y .result) (x .ensures) (y .ensures), refl)

@@ -1,67 +1,164 @@
--- The size and the engine of a suite, test by test.
-use mathlib.Core.Path.{_≡_, refl}
+-- The facts of a suite: what every line of the table has, and the line that a test leads to.
+use mathlib.Core.Path.{_≡_, refl, sym, ap, _∙_}
 use mathlib.Core.Bool.{Bool, true, false, cond}
 use mathlib.Core.List.{List}
 use mathlib.Core.Logic.{_⊎_, inl, inr}
 use Prim.Native.Nat.{ℕ, _≤_, _<_}
 use native.Mathlib.Omega.{arith}
+use native.Mathlib.Decide.{decLe}
 use lib.Dec.{leb}
 use borrow.Author.Tests.{le-leb, lt-leb}
 use Rattle.fips197.specs.Cipher.{cipher}
 use Rattle.cham.specs.Cham.{cham}
 use Rattle.speck.specs.Speck.{speck}
-use Rattle.cipher.specs.Cipher.{sizeOf, engineOf}
-
--- ---- sizes
-
-pub size-16 : (s : ℕ) → s ≤ 2 → sizeOf s ≡ 16
-unfolding sizeOf
-size-16 s h = simp (le-leb s 2 h)
-
-pub size-8 : (s : ℕ) → 2 < s → sizeOf s ≡ 8
-unfolding sizeOf
-size-8 s h = simp (lt-leb s 2 h)
-
-abbrev Either : ℕ → Type 0
-Either n = (n ≡ 16) ⊎ (n ≡ 8)
-
-cond-two : (t : Bool) → Either (cond t 16 8)
-cond-two true = inl refl
-cond-two false = inr refl
-
-pub sizes-two : (s : ℕ) → (sizeOf s ≡ 16) ⊎ (sizeOf s ≡ 8)
-unfolding sizeOf
-sizes-two s = cond-two (leb s 2)
-
-at-most : {n : ℕ} → Either n → n ≤ 16
-at-most (inl e) = omega arith
-at-most (inr e) = omega arith
-
-pub size-most : (s : ℕ) → sizeOf s ≤ 16
-size-most s = at-most (sizes-two s)
-
--- ---- engines
+use Rattle.cipher.specs.Cipher.{Facts, facts, factsOf, sizeOf, nonceOf, engineOf}
 
 abbrev pub Engine : Type 0
 Engine = List ℕ → List ℕ → List ℕ
 
-pub engine-1 : (s : ℕ) → s ≤ 1 → engineOf s ≡ cipher
-unfolding engineOf
-engine-1 s h = simp (le-leb s 1 h)
+-- ---- what each line has, every suite has
 
-pub engine-2 : (s : ℕ) → 1 < s → s ≤ 2 → engineOf s ≡ cham 32
-unfolding engineOf
-engine-2 s g h = simp (lt-leb s 1 g, le-leb s 2 h)
+module _ (P : Facts → Type 0) where
+  either : (t : Bool) (x y : Facts) → P x → P y → P (cond t x y)
+  either true x y p q = p
+  either false x y p q = q
 
-pub engine-3 : (s : ℕ) → 2 < s → s ≤ 3 → engineOf s ≡ speck
-unfolding engineOf
-engine-3 s g h =
+  pub each : P (facts 16 16 16 cipher) → P (facts 16 16 16 (cham 32)) → P (facts 8 15 8 speck) → P (facts 8 15 8 (cham 16)) → (s : ℕ) → P (factsOf s)
+  unfolding factsOf
+  each p q r t s = either (leb s 1) _ _ p (either (leb s 2) _ _ q (either (leb s 3) _ _ r t))
+
+-- block, nonce and tag go together
+record Shape (b n t : ℕ) (f : Facts) : Type 0 where
+  block : f .block ≡ b
+  nonce : f .nonce ≡ n
+  tag : f .tag ≡ t
+
+abbrev Shaped : Facts → Type 0
+Shaped f = Shape 16 16 16 f ⊎ Shape 8 15 8 f
+
+shaped : (s : ℕ) → Shaped (factsOf s)
+shaped =
+    each Shaped
+    (inl (record { block = refl; nonce = refl; tag = refl })) (inl (record { block = refl; nonce = refl; tag = refl }))
+    (inr (record { block = refl; nonce = refl; tag = refl })) (inr (record { block = refl; nonce = refl; tag = refl }))
+
+-- ---- sizes
+
+pub sizes-two : (s : ℕ) → (sizeOf s ≡ 16) ⊎ (sizeOf s ≡ 8)
+unfolding sizeOf
+sizes-two s = two (shaped s)
+  where
+    two : Shaped (factsOf s) → (factsOf s .block ≡ 16) ⊎ (factsOf s .block ≡ 8)
+    two (inl h) = inl (h .block)
+    two (inr h) = inr (h .block)
+
+pub size-most : (s : ℕ) → sizeOf s ≤ 16
+size-most s = most (sizes-two s)
+  where
+    most : (sizeOf s ≡ 16) ⊎ (sizeOf s ≡ 8) → sizeOf s ≤ 16
+    most (inl e) = omega arith
+    most (inr e) = omega arith
+
+-- a block that has not 16 bytes has 8
+pub size-other : (s : ℕ) → (sizeOf s ≡ 16 → ⊥) → sizeOf s ≡ 8
+size-other s n = other (sizes-two s)
+  where
+    other : (sizeOf s ≡ 16) ⊎ (sizeOf s ≡ 8) → sizeOf s ≡ 8
+    other (inl e) = absurd (n e)
+    other (inr e) = e
+
+-- a tag has as many bytes as a block
+pub tag-size : (s : ℕ) → factsOf s .tag ≡ sizeOf s
+unfolding sizeOf
+tag-size s = two (shaped s)
+  where
+    two : Shaped (factsOf s) → factsOf s .tag ≡ factsOf s .block
+    two (inl h) = h .tag ∙ sym (h .block)
+    two (inr h) = h .tag ∙ sym (h .block)
+
+-- a nonce has 16 bytes where a block has, else 15
+pub nonce-wide : (s : ℕ) → sizeOf s ≡ 16 → nonceOf s ≡ 16
+unfolding sizeOf nonceOf
+nonce-wide s e = two (shaped s)
+  where
+    two : Shaped (factsOf s) → factsOf s .nonce ≡ 16
+    two (inl h) = h .nonce
+    two (inr h) = absurd (omega (arith, h .block))
+
+pub nonce-narrow : (s : ℕ) → sizeOf s ≡ 8 → nonceOf s ≡ 15
+unfolding sizeOf nonceOf
+nonce-narrow s e = two (shaped s)
+  where
+    two : Shaped (factsOf s) → factsOf s .nonce ≡ 15
+    two (inl h) = absurd (omega (arith, h .block))
+    two (inr h) = h .nonce
+
+pub nonce-most : (s : ℕ) → nonceOf s ≤ 16
+nonce-most s = most (sizes-two s)
+  where
+    most : (sizeOf s ≡ 16) ⊎ (sizeOf s ≡ 8) → nonceOf s ≤ 16
+    most (inl e) = omega (arith, nonce-wide s e)
+    most (inr e) = omega (arith, nonce-narrow s e)
+
+-- ---- the line that a test leads to
+
+line-1 : (s : ℕ) → s ≤ 1 → factsOf s ≡ facts 16 16 16 cipher
+unfolding factsOf
+line-1 s h = simp (le-leb s 1 h)
+
+line-2 : (s : ℕ) → 1 < s → s ≤ 2 → factsOf s ≡ facts 16 16 16 (cham 32)
+unfolding factsOf
+line-2 s g h = simp (lt-leb s 1 g, le-leb s 2 h)
+
+line-3 : (s : ℕ) → 2 < s → s ≤ 3 → factsOf s ≡ facts 8 15 8 speck
+unfolding factsOf
+line-3 s g h =
     let f : 1 < s = omega arith in
     simp (lt-leb s 1 f, lt-leb s 2 g, le-leb s 3 h)
 
-pub engine-4 : (s : ℕ) → 3 < s → engineOf s ≡ cham 16
-unfolding engineOf
-engine-4 s h =
+line-4 : (s : ℕ) → 3 < s → factsOf s ≡ facts 8 15 8 (cham 16)
+unfolding factsOf
+line-4 s h =
     let f : 1 < s = omega arith in
     let g : 2 < s = omega arith in
     simp (lt-leb s 1 f, lt-leb s 2 g, lt-leb s 3 h)
+
+pub size-16 : (s : ℕ) → s ≤ 2 → sizeOf s ≡ 16
+unfolding sizeOf
+size-16 s h =
+    elim (decLe s 1) [
+      | yes k ↦ ap (λ (f : Facts). f .block) (line-1 s k)
+      | no k ↦ ap (λ (f : Facts). f .block) (line-2 s (omega arith) h)
+    ]
+
+pub size-8 : (s : ℕ) → 2 < s → sizeOf s ≡ 8
+unfolding sizeOf
+size-8 s h =
+    elim (decLe s 3) [
+      | yes k ↦ ap (λ (f : Facts). f .block) (line-3 s h k)
+      | no k ↦ ap (λ (f : Facts). f .block) (line-4 s (omega arith))
+    ]
+
+pub engine-1 : (s : ℕ) → s ≤ 1 → engineOf s ≡ cipher
+unfolding engineOf
+engine-1 s h = ap (λ (f : Facts). f .E) (line-1 s h)
+
+pub engine-2 : (s : ℕ) → 1 < s → sizeOf s ≡ 16 → engineOf s ≡ cham 32
+unfolding engineOf
+engine-2 s g e =
+    elim (decLe s 2) [
+      | yes h ↦ ap (λ (f : Facts). f .E) (line-2 s g h)
+      | no h ↦ absurd (omega (arith, size-8 s (omega arith)))
+    ]
+
+pub engine-3 : (s : ℕ) → sizeOf s ≡ 8 → s ≤ 3 → engineOf s ≡ speck
+unfolding engineOf
+engine-3 s e h =
+    elim (decLe s 2) [
+      | yes g ↦ absurd (omega (arith, size-16 s g))
+      | no g ↦ ap (λ (f : Facts). f .E) (line-3 s (omega arith) h)
+    ]
+
+pub engine-4 : (s : ℕ) → 3 < s → engineOf s ≡ cham 16
+unfolding engineOf
+engine-4 s h = ap (λ (f : Facts). f .E) (line-4 s h)

@@ -6,7 +6,7 @@ use Prim.Native.Nat.{ℕ}
 use lib.Dec.{leb}
 use lib.ListN.{length}
 use Rattle.words.specs.Bytes.{AllBytes}
-use mathlib.Core.Bool.{cond}
+use mathlib.Core.Bool.{Bool, true, cond, _&&_}
 use Rattle.fips197.specs.Sbox.{IsSbox}
 use Rattle.fips197.specs.Cipher.{cipher}
 use Rattle.cham.specs.Cham.{cham}
@@ -28,13 +28,40 @@ pub record Lawful (κ : Cipher) : Type 0 where
   pub image : (k b : List ℕ) → Block 16 k → Block (κ .size) b → Block (κ .size) (κ .E k b)
   pub one-to-one : (k b b′ : List ℕ) → Block 16 k → Block (κ .size) b → Block (κ .size) b′ → κ .E k b ≡ κ .E k b′ → b ≡ b′
 
--- the block of suites 1 and 2 is 16 bytes, of 3 and 4 it is 8
-unfoldable pub sizeOf : ℕ → ℕ
-sizeOf s = cond (leb s 2) 16 8
+-- what a suite has: block, nonce and tag in bytes, and its cipher
+pub record Facts : Type 0 where
+  pub block : ℕ
+  pub nonce : ℕ
+  pub tag : ℕ
+  pub E : List ℕ → List ℕ → List ℕ
 
--- AES-128 for suite 1, CHAM-128/128 for 2, Speck-64/128 for 3, CHAM-64/128 for 4
+abbrev pub facts : ℕ → ℕ → ℕ → (List ℕ → List ℕ → List ℕ) → Facts
+facts b n t e = record { block = b; nonce = n; tag = t; E = e }
+
+-- document 01's table, a line for each suite: AES-128 for 1, CHAM-128/128 for 2, Speck-64/128 for 3, CHAM-64/128 for 4
+unfoldable pub factsOf : ℕ → Facts
+factsOf s =
+    cond (leb s 1) (facts 16 16 16 cipher)
+    (cond (leb s 2) (facts 16 16 16 (cham 32))
+    (cond (leb s 3) (facts 8 15 8 speck)
+    (facts 8 15 8 (cham 16))))
+
+-- a suite that we have; of any other number the table's facts are asked nowhere
+unfoldable pub isSuite : ℕ → Bool
+isSuite s = leb 1 s && leb s 4
+
+abbrev pub IsSuite : ℕ → Type 0
+IsSuite s = isSuite s ≡ true
+
+-- the bytes of a suite's block, and of its nonce
+unfoldable pub sizeOf : ℕ → ℕ
+sizeOf s = factsOf s .block
+
+unfoldable pub nonceOf : ℕ → ℕ
+nonceOf s = factsOf s .nonce
+
 unfoldable pub engineOf : ℕ → List ℕ → List ℕ → List ℕ
-engineOf s = cond (leb s 1) cipher (cond (leb s 2) (cham 32) (cond (leb s 3) speck (cham 16)))
+engineOf s = factsOf s .E
 
 abbrev pub cipherOf : ℕ → Cipher
 cipherOf s = record { size = sizeOf s; E = engineOf s }

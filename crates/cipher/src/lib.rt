@@ -9,7 +9,17 @@ ghost use Rattle.words.specs.Blocks.{wide};
 ghost use Rattle.fips197.specs.Cipher.{cipher};
 ghost use Rattle.cham.specs.Cham.{cham};
 ghost use Rattle.speck.specs.Speck.{speck};
-ghost use Rattle.cipher.specs.Cipher.{Ready, sizeOf, cipherOf};
+ghost use Rattle.cipher.specs.Cipher.{Ready, isSuite, IsSuite, sizeOf, nonceOf, cipherOf};
+
+// Whether we have the suite.
+pub fn is_suite(suite: u8) -> bool
+    ensures { λ r. ⌜ r ≡ isSuite suite ⌝ }
+{
+    if suite < 1 {
+        return false;
+    }
+    suite <= 4
+}
 
 // The suite's block size.
 pub fn size_of(suite: u8) -> usize
@@ -17,6 +27,13 @@ pub fn size_of(suite: u8) -> usize
     ensures bounds { λ r. ⌜ (0 < r) × (r ≤ 16) ⌝ }
 {
     if suite <= 2 { 16 } else { 8 }
+}
+
+// The suite's nonce length.
+pub fn nonce_size(suite: u8) -> usize
+    ensures { λ r. ⌜ r ≡ nonceOf suite ⌝ }
+{
+    if size_of(suite) == 16 { 16 } else { 15 }
 }
 
 // What encipher is lent: made once a message.
@@ -61,9 +78,9 @@ fn by_cham64(ka: u64, kb: u64, x: u64) -> u64
     words::block::number8(cham::c64::encrypt(k, b))
 }
 
-// The image of a block of 16 bytes, under suite 1 or 2.
+// The image of a block of 16 bytes.
 pub fn encipher16(t: &Lent, suite: u8, key: Block, block: Block) -> Block
-    requires { ⌜ Ready (now t) × (1 ≤ suite) × (suite ≤ 2) ⌝ }
+    requires { ⌜ Ready (now t) × IsSuite suite × (sizeOf suite ≡ 16) ⌝ }
     ensures { λ r. ⌜ wide r ≡ cipherOf suite .E (wide key) (wide block) ⌝ }
 {
     if suite <= 1 {
@@ -72,9 +89,9 @@ pub fn encipher16(t: &Lent, suite: u8, key: Block, block: Block) -> Block
     by_cham128(key, block)
 }
 
-// The image of a block of 8 bytes, under suite 3 or 4: as numbers, which pass in registers.
+// The image of a block of 8 bytes: as numbers, which pass in registers.
 pub fn encipher8(suite: u8, ka: u64, kb: u64, x: u64) -> u64
-    requires { ⌜ (2 < suite) × (suite ≤ 4) ⌝ }
+    requires { ⌜ IsSuite suite × (sizeOf suite ≡ 8) ⌝ }
     ensures { λ r. ⌜ bytes 8 r ≡ cipherOf suite .E (bytes 8 ka ++ bytes 8 kb) (bytes 8 x) ⌝ }
 {
     if suite <= 3 {
@@ -85,11 +102,11 @@ pub fn encipher8(suite: u8, ka: u64, kb: u64, x: u64) -> u64
 
 // The image of the block's first bytes, as many as the suite's block has, and zeros behind it.
 pub fn encipher(t: &Lent, suite: u8, key: Block, block: Block) -> Block
-    requires { ⌜ Ready (now t) × (1 ≤ suite) × (suite ≤ 4) ⌝ }
+    requires { ⌜ Ready (now t) × IsSuite suite ⌝ }
     ensures image { λ r. ⌜ take (sizeOf suite) (wide r) ≡ cipherOf suite .E (wide key) (take (sizeOf suite) (wide block)) ⌝ }
     ensures rest { λ r. ⌜ drop (sizeOf suite) (wide r) ≡ replicate (16 - sizeOf suite) 0 ⌝ }
 {
-    if suite <= 2 {
+    if size_of(suite) == 16 {
         return encipher16(t, suite, key, block);
     }
     Block {

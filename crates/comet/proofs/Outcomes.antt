@@ -8,8 +8,6 @@ use Rattle.comet.specs.declared.Answer.the-variants.{Done, Suite, Key, N
 use Rattle.comet.specs.Answers.{numberOf, Sealed, Opened}
 use Rattle.comet.proofs.Answer.number.Kinds as number-kinds
 use Rattle.comet.proofs.Answer.number.Reads as number-reads
-use Rattle.comet.proofs.nonce_size.Kinds as nonce-size-kinds
-use Rattle.comet.proofs.nonce_size.Reads as nonce-size-reads
 use Rattle.comet.proofs.seal.Kinds as seal-kinds
 use Rattle.comet.proofs.seal.Reads as seal-reads
 use Rattle.comet.proofs.unseal.Kinds as unseal-kinds
@@ -43,9 +41,6 @@ number-tells a b e = sym (answer-back a) ∙ ap answerOf e ∙ answer-back b
 
 pub number : OneOutcome number-kinds.ps number-kinds.r number-reads.Pre number-reads.Post
 number κs a h x y = (x .ensures ∙ sym (y .ensures), refl)
-
-pub nonce-size : OneOutcome nonce-size-kinds.ps nonce-size-kinds.r nonce-size-reads.Pre nonce-size-reads.Post
-nonce-size κs a h x y = (x .ensures ∙ sym (y .ensures), refl)
 
 pub seal : OneOutcome seal-kinds.ps seal-kinds.r seal-reads.Pre seal-reads.Post
 seal κs a h x y =

@@ -7,25 +7,23 @@ use native.Mathlib.Nat.{not-suc-le-zero, suc-ne-zero}
 use native.Mathlib.Omega.{arith}
 use mathlib.Core.List.{List, [], _∷_}
 use lib.ListN.{length}
-use lib.Dec.{leb, ltb, eqb}
-use borrow.Author.Tests.{leb-true, ltb-false, eqb-true, le-leb, le-ltb, eq-eqb, not-false}
+use lib.Dec.{ltb, eqb}
+use borrow.Author.Tests.{ltb-false, eqb-true, le-ltb, eq-eqb, not-false}
 use denote.Enum.Declared
 use types.Run.{OneOf}
 use Rattle.words.specs.Bytes.{sameBytes}
-use Rattle.words.proofs.Same.{and-true}
-use Rattle.cipher.specs.Cipher.{sizeOf, cipherOf}
-use Rattle.mode.specs.Mode.{nonceSize, ciphertext, tag, textOut, tagOut}
-use Rattle.comet.specs.Answers.{numberOf, isSuite, refusal, Sealed, sealedAs, sealing, Opened, openedAs, opening}
+use Rattle.cipher.specs.Cipher.{isSuite, IsSuite, sizeOf, nonceOf, cipherOf}
+use Rattle.mode.specs.Mode.{ciphertext, tag, textOut, tagOut}
+use Rattle.comet.specs.Answers.{numberOf, refusal, Sealed, sealedAs, sealing, Opened, openedAs, opening}
 use Rattle.comet.specs.declared.Answer.{Answer}
 use Rattle.comet.specs.declared.Answer.the-variants.{Done, Suite, Key, Nonce, Data, Text, Room, Tag, Forged}
 use Rattle.comet.proofs.Answer.{the-type}
 
 -- the suite and every length are right
 pub record Passed (s k v a t o g : ℕ) : Type 0 where
-  pub low : 1 ≤ s
-  pub high : s ≤ 4
+  pub suite : IsSuite s
   pub key : k ≡ 16
-  pub nonce : v ≡ nonceSize (cipherOf s)
+  pub nonce : v ≡ nonceOf s
   pub extra : a ≤ 65536
   pub text : t ≤ 65536
   pub room : o ≡ t
@@ -41,17 +39,15 @@ unfolding refusal
 passed s k v a t o g e =
     let p1 = passes (not (isSuite s)) 0 _ e in
     let p2 = passes (not (eqb k 16)) 1 _ (p1 .1) in
-    let p3 = passes (not (eqb v (nonceSize (cipherOf s)))) 2 _ (p2 .1) in
+    let p3 = passes (not (eqb v (nonceOf s))) 2 _ (p2 .1) in
     let p4 = passes (ltb 65536 a) 3 _ (p3 .1) in
     let p5 = passes (ltb 65536 t) 4 _ (p4 .1) in
     let p6 = passes (not (eqb o t)) 5 _ (p5 .1) in
     let p7 = passes (not (eqb g (sizeOf s))) 6 _ (p6 .1) in
-    let hs = and-true (leb 1 s) (leb s 4) (not-false (isSuite s) (p1 .0)) in
     record {
-      low = leb-true 1 s (hs .0);
-      high = leb-true s 4 (hs .1);
+      suite = not-false (isSuite s) (p1 .0);
       key = eqb-true k 16 (not-false (eqb k 16) (p2 .0));
-      nonce = eqb-true v (nonceSize (cipherOf s)) (not-false (eqb v (nonceSize (cipherOf s))) (p3 .0));
+      nonce = eqb-true v (nonceOf s) (not-false (eqb v (nonceOf s)) (p3 .0));
       extra = ltb-false 65536 a (p4 .0);
       text = ltb-false 65536 t (p5 .0);
       room = eqb-true o t (not-false (eqb o t) (p6 .0));
@@ -62,10 +58,9 @@ pub none-bad : (s k v a t o g : ℕ) → Passed s k v a t o g → refusal s k v 
 unfolding refusal
 none-bad s k v a t o g p =
     simp (
-      le-leb 1 s (p .low),
-      le-leb s 4 (p .high),
+      p .suite,
       eq-eqb k 16 (p .key),
-      eq-eqb v (nonceSize (cipherOf s)) (p .nonce),
+      eq-eqb v (nonceOf s) (p .nonce),
       le-ltb 65536 a (p .extra),
       le-ltb 65536 t (p .text),
       eq-eqb o t (p .room),
@@ -82,7 +77,7 @@ unfolding refusal
 refusal-most s k v a t o g =
     rung-most (not (isSuite s)) 1 _ (omega arith)
     (rung-most (not (eqb k 16)) 2 _ (omega arith)
-    (rung-most (not (eqb v (nonceSize (cipherOf s)))) 3 _ (omega arith)
+    (rung-most (not (eqb v (nonceOf s))) 3 _ (omega arith)
     (rung-most (ltb 65536 a) 4 _ (omega arith)
     (rung-most (ltb 65536 t) 5 _ (omega arith)
     (rung-most (not (eqb o t)) 6 _ (omega arith)

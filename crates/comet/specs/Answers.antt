@@ -1,12 +1,12 @@
 -- The numbers that sealer and opener give, and what they leave in every buffer (document 01, "Numbers given by sealer and opener").
-use mathlib.Core.Bool.{Bool, true, false, cond, not, _&&_}
+use mathlib.Core.Bool.{Bool, true, false, cond, not}
 use Prim.Native.Nat.{ℕ, zero, suc}
 use mathlib.Core.List.{List}
 use lib.ListN.{length, replicate}
-use lib.Dec.{leb, ltb, eqb}
+use lib.Dec.{ltb, eqb}
 use Rattle.words.specs.Bytes.{sameBytes}
-use Rattle.cipher.specs.Cipher.{cipherOf, sizeOf}
-use Rattle.mode.specs.Mode.{nonceSize, ciphertext, tag, textOut, tagOut}
+use Rattle.cipher.specs.Cipher.{isSuite, sizeOf, nonceOf, cipherOf}
+use Rattle.mode.specs.Mode.{ciphertext, tag, textOut, tagOut}
 use Rattle.comet.specs.declared.Answer.{Answer}
 use Rattle.comet.specs.declared.Answer.the-variants.{Done, Suite, Key, Nonce, Data, Text, Room, Tag, Forged}
 
@@ -22,16 +22,12 @@ numberOf Room = 6
 numberOf Tag = 7
 numberOf Forged = 8
 
--- suites are 1 to 4
-abbrev pub isSuite : ℕ → Bool
-isSuite s = leb 1 s && leb s 4
-
 -- numbers 1 to 7, from the suite and the lengths of key, nonce, associated data, text, output and tag: the first that applies, 0 where none does
 unfoldable pub refusal : ℕ → ℕ → ℕ → ℕ → ℕ → ℕ → ℕ → ℕ
 refusal suite key nonce ad text out tag =
     cond (not (isSuite suite)) 1
     (cond (not (eqb key 16)) 2
-    (cond (not (eqb nonce (nonceSize (cipherOf suite)))) 3
+    (cond (not (eqb nonce (nonceOf suite))) 3
     (cond (ltb 65536 ad) 4
     (cond (ltb 65536 text) 5
     (cond (not (eqb out text)) 6

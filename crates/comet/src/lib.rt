@@ -9,11 +9,10 @@ mod tag;
 mod text;
 
 ghost use mathlib.Core.Path.{_≡_};
-ghost use Prim.Native.Nat.{_≤_};
 ghost use lib.ListN.{length, take};
 ghost use Rattle.words.specs.Blocks.{wide};
-ghost use Rattle.cipher.specs.Cipher.{sizeOf, cipherOf};
-ghost use Rattle.mode.specs.Mode.{nonceSize, textOut, tagOut};
+ghost use Rattle.cipher.specs.Cipher.{IsSuite, sizeOf, nonceOf, cipherOf};
+ghost use Rattle.mode.specs.Mode.{textOut, tagOut};
 ghost use Rattle.comet.specs.Answers.{numberOf, refusal, Sealed, sealing, Opened, opening};
 
 // What a call answers: Done, or why it refused.
@@ -48,27 +47,17 @@ impl Answer {
     }
 }
 
-// The suite's nonce length.
-pub fn nonce_size(suite: u8) -> usize
-    ensures { λ r. ⌜ r ≡ nonceSize (cipherOf suite) ⌝ }
-{
-    if suite <= 2 { 16 } else { 15 }
-}
-
 // Numbers 1 to 7 in the order of the table, from the suite and the lengths of key, nonce, associated data, text, output and tag.
 fn refused(suite: u8, k: usize, v: usize, a: usize, t: usize, o: usize, g: usize) -> Answer
     ensures { λ r. ⌜ numberOf r ≡ refusal suite k v a t o g ⌝ }
 {
-    if suite < 1 {
-        return Answer::Suite;
-    }
-    if 4 < suite {
+    if !cipher::is_suite(suite) {
         return Answer::Suite;
     }
     if k != 16 {
         return Answer::Key;
     }
-    let vn = nonce_size(suite);
+    let vn = cipher::nonce_size(suite);
     if v != vn {
         return Answer::Nonce;
     }
@@ -98,7 +87,7 @@ fn crypt(
     text: &[u8],
     out: &mut [u8],
 ) -> Block
-    requires { ⌜ (1 ≤ suite) × (suite ≤ 4) × (length (now key) ≡ 16) × (length (now nonce) ≡ nonceSize (cipherOf suite)) × (length (now out) ≡ length (now text)) ⌝ }
+    requires { ⌜ IsSuite suite × (length (now key) ≡ 16) × (length (now nonce) ≡ nonceOf suite) × (length (now out) ≡ length (now text)) ⌝ }
     ensures text { λ _. ⌜ now (out .exit) ≡ textOut (cipherOf suite) opening (now (key .entry)) (now (nonce .entry)) (now (ad .entry)) (now (text .entry)) ⌝ }
     ensures tag { λ r. ⌜ take (sizeOf suite) (wide r) ≡ tagOut (cipherOf suite) opening (now (key .entry)) (now (nonce .entry)) (now (ad .entry)) (now (text .entry)) ⌝ }
 {

@@ -8,11 +8,11 @@ ghost use Rattle.words.specs.Blocks.{wide};
 ghost use Rattle.cipher.specs.Cipher.{sizeOf};
 ghost use Rattle.mode.specs.Words.{shuffle};
 
-// Four words of 32 bits for suites 1 and 2, of 16 bits for 3 and 4.
+// Four words of 32 bits where the block has 16 bytes, of 16 bits where it has 8.
 pub(crate) fn shuffled(suite: u8, x: Block) -> Block
     ensures { λ r. ⌜ take (sizeOf suite) (wide r) ≡ shuffle (sizeOf suite) (take (sizeOf suite) (wide x)) ⌝ }
 {
-    if suite <= 2 {
+    if cipher::size_of(suite) == 16 {
         let t = rotl32((x.b % 0x1_0000_0000) as u32, 31) as u64;
         return Block {
             a: x.b / 0x1_0000_0000 + 0x1_0000_0000 * t,

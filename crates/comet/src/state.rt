@@ -2,13 +2,12 @@
 use cipher::Lent;
 use words::block::Block;
 ghost use mathlib.Core.Path.{_≡_};
-ghost use Prim.Native.Nat.{_≤_};
 ghost use lib.ListN.{length, take};
 ghost use Rattle.words.specs.Xors.{xors};
 ghost use Rattle.words.specs.Blocks.{wide};
-ghost use Rattle.cipher.specs.Cipher.{Ready, sizeOf, cipherOf};
+ghost use Rattle.cipher.specs.Cipher.{Ready, IsSuite, sizeOf, nonceOf, cipherOf};
 ghost use Rattle.mode.specs.Keys.{nextKey};
-ghost use Rattle.mode.specs.Mode.{nonceSize, startY, startZ};
+ghost use Rattle.mode.specs.Mode.{startY, startZ};
 
 // Y in the first bytes of y, as many as the suite's block has, and Z.
 pub(crate) struct State {
@@ -18,13 +17,13 @@ pub(crate) struct State {
 
 // The state that key and nonce start.
 pub(crate) fn start(tb: &Lent, suite: u8, key: &[u8], nonce: &[u8]) -> State
-    requires { ⌜ Ready (now tb) × (1 ≤ suite) × (suite ≤ 4) × (length (now key) ≡ 16) × (length (now nonce) ≡ nonceSize (cipherOf suite)) ⌝ }
+    requires { ⌜ Ready (now tb) × IsSuite suite × (length (now key) ≡ 16) × (length (now nonce) ≡ nonceOf suite) ⌝ }
     ensures y { λ r. ⌜ take (sizeOf suite) (wide (r .y)) ≡ startY (cipherOf suite) (now (key .entry)) ⌝ }
     ensures z { λ r. ⌜ wide (r .z) ≡ startZ (cipherOf suite) (now (key .entry)) (now (nonce .entry)) ⌝ }
 {
     let k = words::block::filled(key);
     let v = words::block::filled(nonce);
-    if suite <= 2 {
+    if cipher::size_of(suite) == 16 {
         let z = cipher::encipher16(tb, suite, k, v);
         return State { y: k, z: z };
     }
@@ -38,7 +37,7 @@ pub(crate) fn start(tb: &Lent, suite: u8, key: &[u8], nonce: &[u8]) -> State
 
 // The next block key under the mark m, and X, the image of Y under it.
 pub(crate) fn turn(tb: &Lent, suite: u8, s: State, m: u8) -> State
-    requires { ⌜ Ready (now tb) × (1 ≤ suite) × (suite ≤ 4) ⌝ }
+    requires { ⌜ Ready (now tb) × IsSuite suite ⌝ }
     ensures y { λ r. ⌜ take (sizeOf suite) (wide (r .y)) ≡ cipherOf suite .E (nextKey m (wide (s .z))) (take (sizeOf suite) (wide (s .y))) ⌝ }
     ensures z { λ r. ⌜ wide (r .z) ≡ nextKey m (wide (s .z)) ⌝ }
 {

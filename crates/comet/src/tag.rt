@@ -8,13 +8,13 @@ ghost use Prim.Native.Nat.{_≤_};
 ghost use lib.ListN.{length, take, replicate};
 ghost use Rattle.words.specs.Blocks.{wide};
 ghost use Rattle.words.specs.Bytes.{sameBytes};
-ghost use Rattle.cipher.specs.Cipher.{Ready, sizeOf, cipherOf};
+ghost use Rattle.cipher.specs.Cipher.{Ready, IsSuite, sizeOf, cipherOf};
 ghost use Rattle.mode.specs.Mode.{image};
 ghost use Rattle.comet.specs.Chain.{chain};
 
 // The tag of a state: the last call, under the last mark.
 pub(crate) fn tag_of(tb: &Lent, suite: u8, s: State) -> Block
-    requires { ⌜ Ready (now tb) × (1 ≤ suite) × (suite ≤ 4) ⌝ }
+    requires { ⌜ Ready (now tb) × IsSuite suite ⌝ }
     ensures { λ r. ⌜ take (sizeOf suite) (wide r) ≡ image (cipherOf suite) (chain suite s (0x80 ∷ [])) ⌝ }
 {
     let t = crate::state::turn(tb, suite, s, 0x80);

@@ -9,7 +9,7 @@ ghost use lib.ListN.{length};
 ghost use Rattle.words.specs.Words.{xor};
 ghost use Rattle.words.specs.Xors.{xors};
 ghost use Rattle.words.specs.Blocks.{wide};
-ghost use Rattle.cipher.specs.Cipher.{Ready, sizeOf, cipherOf};
+ghost use Rattle.cipher.specs.Cipher.{Ready, IsSuite, sizeOf, cipherOf};
 ghost use Rattle.mode.specs.Blocks.{blocks, lengths};
 ghost use Rattle.mode.specs.Keys.{textMarks};
 ghost use Rattle.mode.specs.Mode.{absorbed, absorb, masked, message, after, crypted};
@@ -17,7 +17,7 @@ ghost use Rattle.comet.specs.Chain.{chain};
 
 // A full block of associated data.
 fn absorb_block(tb: &Lent, suite: u8, s: State, m: u8, b: &[u8]) -> State
-    requires { ⌜ Ready (now tb) × (1 ≤ suite) × (suite ≤ 4) × (length (now b) ≡ sizeOf suite) ⌝ }
+    requires { ⌜ Ready (now tb) × IsSuite suite × (length (now b) ≡ sizeOf suite) ⌝ }
     ensures { λ r. ⌜ ((ms : List ℕ) → absorbed (cipherOf suite) (chain suite s (m ∷ ms)) (now (b .entry)) ≡ chain suite r ms) ⌝ }
 {
     let t = crate::state::turn(tb, suite, s, m);
@@ -27,7 +27,7 @@ fn absorb_block(tb: &Lent, suite: u8, s: State, m: u8, b: &[u8]) -> State
 
 // A short block of associated data.
 fn absorb_last(tb: &Lent, suite: u8, s: State, m: u8, b: &[u8]) -> State
-    requires { ⌜ Ready (now tb) × (1 ≤ suite) × (suite ≤ 4) × (length (now b) < sizeOf suite) ⌝ }
+    requires { ⌜ Ready (now tb) × IsSuite suite × (length (now b) < sizeOf suite) ⌝ }
     ensures { λ r. ⌜ ((ms : List ℕ) → absorbed (cipherOf suite) (chain suite s (m ∷ ms)) (now (b .entry)) ≡ chain suite r ms) ⌝ }
 {
     let t = crate::state::turn(tb, suite, s, m);
@@ -37,7 +37,7 @@ fn absorb_last(tb: &Lent, suite: u8, s: State, m: u8, b: &[u8]) -> State
 
 // All blocks of the associated data.
 pub(crate) fn absorb_all(tb: &Lent, suite: u8, s: State, ad: &[u8]) -> State
-    requires { ⌜ Ready (now tb) × (1 ≤ suite) × (suite ≤ 4) ⌝ }
+    requires { ⌜ Ready (now tb) × IsSuite suite ⌝ }
     ensures { λ r. ⌜ ((ms : List ℕ) → absorb (cipherOf suite) (chain suite s (textMarks (sizeOf suite) 0x08 0x10 (lengths (sizeOf suite) (length (now (ad .entry)))) ++ ms)) (blocks (sizeOf suite) (now (ad .entry))) ≡ chain suite r ms) ⌝ }
 {
     let n = cipher::size_of(suite);
@@ -66,7 +66,7 @@ fn crypt_block(
     b: &[u8],
     out: &mut [u8],
 ) -> State
-    requires { ⌜ Ready (now tb) × (1 ≤ suite) × (suite ≤ 4) × (length (now b) ≡ sizeOf suite) × (length (now out) ≡ length (now b)) ⌝ }
+    requires { ⌜ Ready (now tb) × IsSuite suite × (length (now b) ≡ sizeOf suite) × (length (now out) ≡ length (now b)) ⌝ }
     ensures text { λ _. ⌜ ((ms : List ℕ) → now (out .exit) ≡ masked (cipherOf suite) (chain suite s (m ∷ ms)) (now (b .entry))) ⌝ }
     ensures state { λ r. ⌜ ((ms : List ℕ) → absorbed (cipherOf suite) (chain suite s (m ∷ ms)) (message (cipherOf suite) opening (chain suite s (m ∷ ms)) (now (b .entry))) ≡ chain suite r ms) ⌝ }
 {
@@ -100,7 +100,7 @@ fn crypt_last(
     b: &[u8],
     out: &mut [u8],
 ) -> State
-    requires { ⌜ Ready (now tb) × (1 ≤ suite) × (suite ≤ 4) × (length (now b) < sizeOf suite) × (length (now out) ≡ length (now b)) ⌝ }
+    requires { ⌜ Ready (now tb) × IsSuite suite × (length (now b) < sizeOf suite) × (length (now out) ≡ length (now b)) ⌝ }
     ensures text { λ _. ⌜ ((ms : List ℕ) → now (out .exit) ≡ masked (cipherOf suite) (chain suite s (m ∷ ms)) (now (b .entry))) ⌝ }
     ensures state { λ r. ⌜ ((ms : List ℕ) → absorbed (cipherOf suite) (chain suite s (m ∷ ms)) (message (cipherOf suite) opening (chain suite s (m ∷ ms)) (now (b .entry))) ≡ chain suite r ms) ⌝ }
 {
@@ -123,7 +123,7 @@ pub(crate) fn crypt_all(
     text: &[u8],
     out: &mut [u8],
 ) -> State
-    requires { ⌜ Ready (now tb) × (1 ≤ suite) × (suite ≤ 4) × (length (now out) ≡ length (now text)) ⌝ }
+    requires { ⌜ Ready (now tb) × IsSuite suite × (length (now out) ≡ length (now text)) ⌝ }
     ensures text { λ _. ⌜ ((ms : List ℕ) → now (out .exit) ≡ crypted (cipherOf suite) opening (chain suite s (textMarks (sizeOf suite) 0x20 0x40 (lengths (sizeOf suite) (length (now (text .entry)))) ++ ms)) (blocks (sizeOf suite) (now (text .entry)))) ⌝ }
     ensures state { λ r. ⌜ ((ms : List ℕ) → after (cipherOf suite) opening (chain suite s (textMarks (sizeOf suite) 0x20 0x40 (lengths (sizeOf suite) (length (now (text .entry)))) ++ ms)) (blocks (sizeOf suite) (now (text .entry))) ≡ chain suite r ms) ⌝ }
 {

@@ -14,7 +14,8 @@ use Rattle.words.specs.Bytes.{AllBytes}
 use Rattle.words.specs.Xors.{xors}
 use Rattle.words.proofs.Lists.{all-take, all-drop, all-append, all-replicate}
 use Rattle.words.proofs.Xors.{length-xors, all-xors}
-use Rattle.cipher.specs.Cipher.{Cipher, Lawful, Block}
+use Rattle.cipher.specs.Cipher.{Cipher, Lawful, Block, cipherOf, sizeOf, nonceOf}
+use Rattle.cipher.proofs.Suites as suites
 use Rattle.mode.specs.Blocks.{blocks, lengths}
 use Rattle.mode.specs.Keys.{marks}
 use Rattle.mode.specs.Mode.{nonceSize, startY, startZ, start, afterData}
@@ -64,6 +65,14 @@ module _ (κ : Cipher) where
       pub startZ-narrow : κ .size ≡ 8 → startZ κ key nonce ≡ xors (take 15 key) nonce ++ drop 15 key
       unfolding startZ
       startZ-narrow e = ap (λ (t : Bool). cond t (κ .E key nonce) (xors (take 15 key) nonce ++ drop 15 key)) (narrow-test e)
+
+-- the table's nonce is the mode's
+pub suite-nonce : (s : ℕ) → nonceSize (cipherOf s) ≡ nonceOf s
+suite-nonce s = two (suites.sizes-two s)
+  where
+    two : (sizeOf s ≡ 16) ⊎ (sizeOf s ≡ 8) → nonceSize (cipherOf s) ≡ nonceOf s
+    two (inl e) = nonce-wide (cipherOf s) e ∙ sym (suites.nonce-wide s e)
+    two (inr e) = nonce-narrow (cipherOf s) e ∙ sym (suites.nonce-narrow s e)
 
 module _ (κ : Cipher) (L : Lawful κ) (key nonce : List ℕ) (hk : Block 16 key) (hv : AllBytes nonce) (lv : length nonce ≡ nonceSize κ) where
   y-block : (κ .size ≡ 16) ⊎ (κ .size ≡ 8) → Block (κ .size) (startY κ key)

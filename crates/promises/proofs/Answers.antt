@@ -8,20 +8,24 @@ use lib.ListN.{length, replicate}
 use Rattle.words.specs.Bytes.{sameBytes}
 use Rattle.words.proofs.Same.{same-refl, same-true}
 use Rattle.cipher.specs.Cipher.{cipherOf, sizeOf}
-use Rattle.mode.specs.Mode.{textOut, tagOut}
+use Rattle.mode.specs.Mode.{nonceSize, textOut, tagOut}
+use Rattle.mode.proofs.Start.{suite-nonce}
 use Rattle.comet.specs.Answers.{refusal, Opened, openedAs, opening}
 use Rattle.comet.proofs.Refuse.{none-bad}
 use Rattle.promises.specs.Input.{Input}
 
 -- ---- lengths that are right
 
+-- the nonce's, as the mode knows it
+pub nonce-right : (suite : ℕ) (key nonce ad text : List ℕ) → Input suite key nonce ad text → length nonce ≡ nonceSize (cipherOf suite)
+nonce-right suite key nonce ad text i = i .nonce-length ∙ sym (suite-nonce suite)
+
 pub right : (suite : ℕ) (key nonce ad text out tag : List ℕ) → Input suite key nonce ad text → length out ≡ length text → length tag ≡ sizeOf suite
     → refusal suite (length key) (length nonce) (length ad) (length text) (length out) (length tag) ≡ 0
 right suite key nonce ad text out tag i lo lt =
     none-bad suite (length key) (length nonce) (length ad) (length text) (length out) (length tag)
     (record {
-      low = i .suite-first;
-      high = i .suite-last;
+      suite = i .suite-is;
       key = i .key-length;
       nonce = i .nonce-length;
       extra = i .ad-length;

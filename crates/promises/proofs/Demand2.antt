@@ -11,7 +11,7 @@ use Rattle.mode.proofs.Demand2.{text-length, text-bytes, text-back, tag-back, t
 use Rattle.comet.specs.Answers.{sealedAs, sealing, Opened}
 use Rattle.promises.specs.Input.{Input}
 use Rattle.promises.specs.Demand2.{Sealing, Accepting, Returning, RoundTrip}
-use Rattle.promises.proofs.Answers.{right, opens, opened-tag}
+use Rattle.promises.proofs.Answers.{right, nonce-right, opens, opened-tag}
 
 pub sealing-is : Sealing
 unfolding sealing
@@ -54,8 +54,7 @@ round-trip suite key nonce ad msg out₀ i lo =
     let hk : Block 16 key = record { long = i .key-length; bytes = i .key-bytes } in
     let ic : Input suite key nonce ad c =
     record {
-      suite-first = i .suite-first;
-      suite-last = i .suite-last;
+      suite-is = i .suite-is;
       key-bytes = i .key-bytes;
       key-length = i .key-length;
       nonce-bytes = i .nonce-bytes;
@@ -66,5 +65,5 @@ round-trip suite key nonce ad msg out₀ i lo =
       text-length = subst (λ (n : ℕ). n ≤ 65536) (sym lc) (i .text-length);
     } in
     returning suite key nonce ad c (tag κ key nonce ad msg) out₀ msg ic (lo ∙ sym lc)
-    (tag-block κ L key nonce ad false msg hk (i .nonce-bytes) (i .nonce-length) (i .ad-bytes) (i .text-bytes) .long)
+    (tag-block κ L key nonce ad false msg hk (i .nonce-bytes) (nonce-right suite key nonce ad msg i) (i .ad-bytes) (i .text-bytes) .long)
     (i .text-bytes) (sym lc) refl refl

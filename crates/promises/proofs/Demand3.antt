@@ -15,7 +15,7 @@ use Rattle.comet.specs.declared.Answer.{Answer}
 use Rattle.comet.specs.Answers.{numberOf, Opened}
 use Rattle.promises.specs.Input.{Input}
 use Rattle.promises.specs.Demand3.{OneBlock, LastBlock, EmptyMessage}
-use Rattle.promises.proofs.Answers.{opened-tag, refuses}
+use Rattle.promises.proofs.Answers.{nonce-right, opened-tag, refuses}
 
 key-block : (suite : ℕ) (key nonce ad text : List ℕ) → Input suite key nonce ad text → Block 16 key
 key-block suite key nonce ad text i = record { long = i .key-length; bytes = i .key-bytes }
@@ -25,13 +25,13 @@ one-block suite key nonce ad ad′ msg msg′ j i i′ la lm (inl (ea, ne, insid
     let n = sizeOf suite in
     ne (message-told (cipherOf suite) (lawful suite) j msg msg′ (i .text-bytes) (i′ .text-bytes) lm
     (same-before n j msg msg′ lm inside) (same-behind n j msg msg′ lm inside)
-    key nonce ad (key-block suite key nonce ad msg i) (i .nonce-bytes) (i .nonce-length) (i .ad-bytes)
+    key nonce ad (key-block suite key nonce ad msg i) (i .nonce-bytes) (nonce-right suite key nonce ad msg i) (i .ad-bytes)
     (e ∙ ap (λ (a : List ℕ). tag (cipherOf suite) key nonce a msg′) (sym ea)))
 one-block suite key nonce ad ad′ msg msg′ j i i′ la lm (inr (em, ne, inside)) e =
     let n = sizeOf suite in
     ne (data-told (cipherOf suite) (lawful suite) j ad ad′ (i .ad-bytes) (i′ .ad-bytes) la
     (same-before n j ad ad′ la inside) (same-behind n j ad ad′ la inside)
-    key nonce msg (key-block suite key nonce ad msg i) (i .nonce-bytes) (i .nonce-length) (i .text-bytes)
+    key nonce msg (key-block suite key nonce ad msg i) (i .nonce-bytes) (nonce-right suite key nonce ad msg i) (i .text-bytes)
     (e ∙ ap (tag (cipherOf suite) key nonce ad′) (sym em)))
 
 -- what the contract says of an answer, of a call whose outcome is known
@@ -44,7 +44,7 @@ last-block suite key nonce ad c c′ t out₀ out₁ j i i′ lo lo′ lt e l ne
     told r out _ _ p
     (refuses suite key nonce ad c′ t out₁ i′ lo′ lt
     (λ q. ne (last-told (cipherOf suite) (lawful suite) j key nonce ad c c′ (i .text-bytes) (i′ .text-bytes) l inside last (same-before n j c c′ l differ)
-    (key-block suite key nonce ad c i) (i .nonce-bytes) (i .nonce-length) (i .ad-bytes)
+    (key-block suite key nonce ad c i) (i .nonce-bytes) (nonce-right suite key nonce ad c i) (i .ad-bytes)
     (opened-tag suite key nonce ad c t out₀ i lo lt e ∙ sym q))))
 
 -- of an empty text both directions make the same tag
@@ -62,5 +62,5 @@ empty-message suite key nonce ad ad′ t out₀ out₁ j i i′ lo lo′ lt e l 
     (refuses suite key nonce ad′ [] t out₁ i′ lo′ lt
     (λ q. ne (data-told (cipherOf suite) (lawful suite) j ad ad′ (i .ad-bytes) (i′ .ad-bytes) l
     (same-before n j ad ad′ l differ) (same-behind n j ad ad′ l differ)
-    key nonce [] (key-block suite key nonce ad [] i) (i .nonce-bytes) (i .nonce-length) all-nil
+    key nonce [] (key-block suite key nonce ad [] i) (i .nonce-bytes) (nonce-right suite key nonce ad [] i) all-nil
     (sym (empty-tag suite key nonce ad) ∙ opened-tag suite key nonce ad [] t out₀ i lo lt e ∙ sym q ∙ empty-tag suite key nonce ad′))))

@@ -5,12 +5,12 @@ use mathlib.Core.Path.{_≡_, refl, ap, _∙_}
 use mathlib.Core.Bool.{Bool, true, false, not, cond}
 use mathlib.Core.List.{List}
 use lib.Dec.{eqb}
-use borrow.Author.Tests.{le-leb, le-ltb, eq-eqb}
+use borrow.Author.Tests.{le-ltb, eq-eqb}
 use lib.ListN.{length, take, length-take, length-drop}
 use Rattle.words.specs.Bytes.{sameBytes}
-use Rattle.cipher.specs.Cipher.{sizeOf, cipherOf}
-use Rattle.mode.specs.Mode.{nonceSize, textOut, tagOut}
-use Rattle.mode.proofs.Start.{nonce-most}
+use Rattle.cipher.specs.Cipher.{sizeOf, nonceOf, cipherOf}
+use Rattle.cipher.proofs.Suites.{nonce-most}
+use Rattle.mode.specs.Mode.{textOut, tagOut}
 use Rattle.comet.specs.Answers.{refusal, Opened, openedAs, opening}
 use Rattle.shift.specs.Format.{stretch, edition, rowSize, restStart, nonceAt, bodyEnd}
 use Rattle.shift.specs.declared.row.Row.{Row}
@@ -29,7 +29,7 @@ nonce-length w f i h = stretch-length f (restStart w i + 12) 16 (omega (arith, h
 
 -- lent the entry's own bytes, the opener gives and leaves what the definition says
 pub lent : (f ring : List ℕ) (i : ℕ) (r : Row) (x : Opened) (key nonce ad text tag out : List ℕ) → x ≡ opening (r .suite) key nonce ad text tag out → r ≡ rowOf f i
-    → key ≡ ringKey ring (r .key) → nonce ≡ take (nonceSize (cipherOf (r .suite))) (nonceAt (rowSize edition) f i)
+    → key ≡ ringKey ring (r .key) → nonce ≡ take (nonceOf (r .suite)) (nonceAt (rowSize edition) f i)
     → ad ≡ dataOf f r → text ≡ textOf f r → tag ≡ tagOf f r → x ≡ entryOpening f ring i out
 unfolding entryOpening
 lent f ring i r x key nonce ad text tag out e q ek en ea et eg = e ∙ simp (ek, en, ea, et, eg, q)
@@ -49,10 +49,10 @@ module _ (f ring : List ℕ) (i : ℕ) (h : EntryIn f i) (g : length ring ≡ 25
   pub key-long : length (ringKey ring (rowOf f i .key)) ≡ 16
   key-long = stretch-length ring (16 * rowOf f i .key) 16 (omega (arith, h .key-high))
 
-  pub nonce-long : length (nonceRead f i) ≡ nonceSize (cipherOf (rowOf f i .suite))
+  pub nonce-long : length (nonceRead f i) ≡ nonceOf (rowOf f i .suite)
   nonce-long =
-      let κ = cipherOf (rowOf f i .suite) in
-      length-take (nonceSize κ) (nonceAt (rowSize edition) f i) ∙ omega (arith, nonce-length (rowSize edition) f i (h .row-in), nonce-most κ)
+      let s = rowOf f i .suite in
+      length-take (nonceOf s) (nonceAt (rowSize edition) f i) ∙ omega (arith, nonce-length (rowSize edition) f i (h .row-in), nonce-most s)
 
   pub data-long : length (dataOf f (rowOf f i)) ≡ rowOf f i .ad
   unfolding bodyEnd
@@ -72,8 +72,7 @@ module _ (f ring : List ℕ) (i : ℕ) (h : EntryIn f i) (g : length ring ≡ 25
   unfolding refusal
   entry-lengths out =
       simp (
-        le-leb _ _ (h .suite-low),
-        le-leb _ _ (h .suite-high),
+        h .suite-is,
         key-long,
         eq-eqb _ _ nonce-long,
         data-long,
@@ -126,8 +125,7 @@ entry-in f job i q =
     let s = entry-sound edition f job i e in
     record {
       row-in = entry-row edition f job i e;
-      suite-low = s .suit .suite-low;
-      suite-high = s .suit .suite-high;
+      suite-is = s .suit .suite-is;
       key-high = s .suit .key-high;
       data-high = s .size .ad-high;
       text-high = s .size .len-high;

@@ -7,6 +7,7 @@ use mathlib.Core.List.{List}
 use lib.ListN.{length}
 use lib.Dec.{ltb, eqb, lit<}
 use borrow.Author.Tests.{ltb-false, eqb-true, not-false}
+use Rattle.cipher.specs.Cipher.{isSuite, IsSuite}
 use Rattle.shift.specs.declared.row.Row.{Row}
 use Rattle.shift.specs.Format.{editionOf, countOf, totalOf, rowSize, rowStart, rowAt, bodyEnd}
 use Rattle.shift.specs.Check.{notAbove, outside, badSuite, badLength, bodyStart, misplaced, nonceSeen, badData, bodyNumber, rowNumber, headNumber}
@@ -20,7 +21,7 @@ cond-zero false k rest h e = (refl, e)
 
 -- ---- a row
 
--- a number lies in its range, and another is small enough: the form of 26 and 27
+-- a number lies in its range, and another is small enough: the form of 27
 range : (a x b y d : ℕ) → outside a b x || ltb d y ≡ false → (a ≤ x) × (x ≤ b) × (y ≤ d)
 range a x b y d h =
     let o = or-false (outside a b x) (ltb d y) h in
@@ -28,13 +29,14 @@ range a x b y d h =
     (ltb-false _ _ (r .0), ltb-false _ _ (r .1), ltb-false _ _ (o .1))
 
 pub record Suited (r : Row) : Type 0 where
-  pub suite-low : 1 ≤ r .suite
-  pub suite-high : r .suite ≤ 4
+  pub suite-is : IsSuite (r .suite)
   pub key-high : r .key ≤ 15
 
 suited : (r : Row) → badSuite r ≡ false → Suited r
 unfolding badSuite
-suited r h = let q = range 1 (r .suite) 4 (r .key) 15 h in record { suite-low = q .0; suite-high = q .1; key-high = q .2 }
+suited r h =
+    let o = or-false (not (isSuite (r .suite))) (ltb 15 (r .key)) h in
+    record { suite-is = not-false _ (o .0); key-high = ltb-false _ _ (o .1) }
 
 pub record Sized (r : Row) : Type 0 where
   pub ad-low : 5 ≤ r .ad

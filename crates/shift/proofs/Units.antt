@@ -11,14 +11,15 @@ use lib.Seq.{getD-set-same, getD-set-other, getD-take, getD-drop}
 use lib.Dec.{eqb}
 use borrow.Author.Tests.{eq-eqb, eqb-true, eqb-false, not-true, not-false}
 use Rattle.words.specs.Bytes.{AllBytes, sameBytes}
-use Rattle.cipher.specs.Cipher.{Cipher, cipherOf, sizeOf}
+use Rattle.cipher.specs.Cipher.{Cipher, cipherOf, sizeOf, nonceOf}
 use Rattle.mode.specs.Blocks.{blocks, chop}
-use Rattle.mode.specs.Mode.{nonceSize, after, tagOut}
+use Rattle.mode.specs.Mode.{after, tagOut}
 use Rattle.comet.specs.Answers.{Opened, openedAs}
 use Rattle.words.proofs.Same.{same-true}
 use Rattle.words.proofs.Lists.{all-nil, all-take, all-drop, all-set}
 use Rattle.cipher.proofs.Suites.{sizes-two}
 use Rattle.cipher.proofs.Lawful.{lawful}
+use Rattle.mode.proofs.Start.{suite-nonce}
 use Rattle.mode.proofs.Demand3.{same-before, same-behind, data-told}
 use Rattle.shift.specs.declared.row.Row.{Row}
 use Rattle.shift.specs.declared.answers.Answer.{Answer}
@@ -224,7 +225,7 @@ module _ (f ring : List ℕ) (job i v : ℕ) (found : lookupJob f job ≡ answer
 
     nonce-bytes : AllBytes (nonceRead f i)
     unfolding nonceAt
-    nonce-bytes = all-take (nonceSize (cipherOf (rowOf f i .suite))) (nonceAt (rowSize edition) f i) (all-stretch f (restStart (rowSize edition) i + 12) 16 hf)
+    nonce-bytes = all-take (nonceOf (rowOf f i .suite)) (nonceAt (rowSize edition) f i) (all-stretch f (restStart (rowSize edition) i + 12) 16 hf)
 
     -- the tag over x as associated data, an empty message, and all else the entry's
     abbrev tagOver : List ℕ → List ℕ
@@ -245,7 +246,7 @@ module _ (f ring : List ℕ) (job i v : ℕ) (found : lookupJob f job ≡ answer
         (data-told κ (lawful (r .suite)) 0 d d′ (all-stretch f (r .at) (r .ad) hf) (all-stretch otherUnit (r .at) (r .ad) (all-set f (r .at + 4) v hf hv)) l
         (same-before n 0 d d′ l differ-inside) (same-behind n 0 d d′ l differ-inside) key nonce []
         (record { long = key-long f ring i h g; bytes = all-stretch ring (16 * r .key) 16 hr })
-        nonce-bytes (nonce-long f ring i h g) all-nil
+        nonce-bytes (nonce-long f ring i h g ∙ sym (suite-nonce (r .suite))) all-nil
         (sym (empty-tag κ key nonce d) ∙ e ∙ empty-tag κ key nonce d′))
 
     -- what the opener compares
@@ -260,7 +261,7 @@ module _ (f ring : List ℕ) (job i v : ℕ) (found : lookupJob f job ≡ answer
 
     other-is : entryRight otherUnit ring i ≡ sameBytes (tagOver (dataOf otherUnit (rowOf f i))) (tagOf f (rowOf f i))
     other-is =
-        (λ t. rightOf (row-is t) (take (nonceSize (cipherOf (row-is t .suite))) (nonce-is t)) (dataOf otherUnit (row-is t)) (textOf otherUnit (row-is t)) (tagOf otherUnit (row-is t)))
+        (λ t. rightOf (row-is t) (take (nonceOf (row-is t .suite)) (nonce-is t)) (dataOf otherUnit (row-is t)) (textOf otherUnit (row-is t)) (tagOf otherUnit (row-is t)))
         ∙ ap₂ (λ (t u : List ℕ). rightOf (rowOf f i) (nonceRead f i) (dataOf otherUnit (rowOf f i)) t u) (no-text otherUnit) tag-is
 
     other-wrong : entryRight f ring i ≡ true → entryRight otherUnit ring i ≡ false

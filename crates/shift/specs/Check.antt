@@ -5,6 +5,7 @@ use mathlib.Core.Bool.{Bool, _||_, _&&_, not, cond}
 use lib.ListN.{length}
 use lib.Dec.{ltb, leb, eqb}
 use Rattle.words.specs.Bytes.{sameBytes}
+use Rattle.cipher.specs.Cipher.{isSuite}
 use Rattle.shift.specs.declared.row.Row.{Row}
 use Rattle.shift.specs.declared.answers.Answer.{Answer}
 use Rattle.shift.specs.Search.{anyBelow, firstOf}
@@ -19,9 +20,9 @@ notAbove w f i = not (eqb i 0) && leb (rowAt w f i .job) (rowAt w f (i - 1) .job
 abbrev pub outside : ℕ → ℕ → ℕ → Bool
 outside low high x = ltb x low || ltb high x
 
--- 26: suite not 1 to 4, or key number over 15
+-- 26: no suite that we have, or key number over 15
 unfoldable pub badSuite : Row → Bool
-badSuite r = outside 1 4 (r .suite) || ltb 15 (r .key)
+badSuite r = not (isSuite (r .suite)) || ltb 15 (r .key)
 
 -- 27: associated data length outside 5 to 1,024, or message over 65,536
 unfoldable pub badLength : Row → Bool

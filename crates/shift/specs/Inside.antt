@@ -3,6 +3,7 @@ use Prim.Native.Nat.{ℕ, _+_, _*_, _≤_}
 use mathlib.Core.Path.{_≡_}
 use mathlib.Core.List.{List}
 use lib.ListN.{length}
+use Rattle.cipher.specs.Cipher.{IsSuite}
 use Rattle.shift.specs.declared.row.Row.{Row}
 use Rattle.shift.specs.Format.{edition, rowSize, rowStart, bodyEnd}
 use Rattle.shift.specs.Lookup.{rowOf}
@@ -20,8 +21,7 @@ pub record TableIn (w : ℕ) (f : List ℕ) (n : ℕ) : Type 0 where
 -- row i of a file that passes, as far as opening it goes by that
 pub record EntryIn (f : List ℕ) (i : ℕ) : Type 0 where
   pub row-in : RowIn (rowSize edition) f i
-  pub suite-low : 1 ≤ rowOf f i .suite
-  pub suite-high : rowOf f i .suite ≤ 4
+  pub suite-is : IsSuite (rowOf f i .suite)
   pub key-high : rowOf f i .key ≤ 15
   pub data-high : rowOf f i .ad ≤ 1024
   pub text-high : rowOf f i .len ≤ 65536

@@ -4,8 +4,7 @@ use mathlib.Core.Bool.{not, cond}
 use mathlib.Core.List.{List}
 use lib.ListN.{length, take}
 use lib.Dec.{eqb}
-use Rattle.cipher.specs.Cipher.{sizeOf, cipherOf}
-use Rattle.mode.specs.Mode.{nonceSize}
+use Rattle.cipher.specs.Cipher.{sizeOf, nonceOf}
 use Rattle.comet.specs.Answers as comet
 use Rattle.shift.specs.declared.row.Row.{Row}
 use Rattle.shift.specs.declared.answers.Answer.{Answer}
@@ -19,7 +18,7 @@ ringKey ring k = stretch ring (16 * k) 16
 
 -- suites 3 and 4 use the first 15 nonce bytes; the 16th is not read
 abbrev pub nonceRead : List ℕ → ℕ → List ℕ
-nonceRead f i = take (nonceSize (cipherOf (rowOf f i .suite))) (nonceAt (rowSize edition) f i)
+nonceRead f i = take (nonceOf (rowOf f i .suite)) (nonceAt (rowSize edition) f i)
 
 -- the entry's own stretch of the file: its associated data
 abbrev pub dataOf : List ℕ → Row → List ℕ

@@ -10,8 +10,7 @@ use crate::row::stretch;
 use comet::Answer;
 ghost use mathlib.Core.Path.{_≡_};
 ghost use lib.ListN.{take};
-ghost use Rattle.cipher.specs.Cipher.{cipherOf};
-ghost use Rattle.mode.specs.Mode.{nonceSize};
+ghost use Rattle.cipher.specs.Cipher.{nonceOf};
 ghost use Rattle.comet.specs.Answers.{numberOf};
 ghost use Rattle.comet.specs.Answers as comet;
 ghost use Rattle.shift.specs.Format.{edition, rowSize, nonceAt};
@@ -22,10 +21,10 @@ ghost use Rattle.shift.specs.Inside.{RowIn, EntryIn, Lendable};
 // The nonce bytes of row i that its suite reads.
 fn nonce_read(f: &[u8], i: usize, suite: u8) -> &[u8]
     requires { ⌜ RowIn (rowSize edition) (now f) i ⌝ }
-    ensures { λ r. ⌜ now r ≡ take (nonceSize (cipherOf suite)) (nonceAt (rowSize edition) (now (f .entry)) i) ⌝ }
+    ensures { λ r. ⌜ now r ≡ take (nonceOf suite) (nonceAt (rowSize edition) (now (f .entry)) i) ⌝ }
 {
     let nonce = nonce_at(row_size(EDITION), f, i);
-    stretch(nonce, 0, comet::nonce_size(suite))
+    stretch(nonce, 0, cipher::nonce_size(suite))
 }
 
 // Lends row i to the opener: the entry's own stretch of the file, and its key.

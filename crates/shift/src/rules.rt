@@ -46,7 +46,7 @@ fn outside(low: u16, high: u16, x: u16) -> bool
 fn bad_suite(row: Row) -> bool
     ensures { λ r. ⌜ r ≡ badSuite row ⌝ }
 {
-    if outside(1, 4, row.suite as u16) {
+    if !cipher::is_suite(row.suite) {
         return true;
     }
     15 < row.key

@@ -1,41 +1,51 @@
 -- `cipher::encipher` meets its contract: the image fills the front of the block, and zeros the rest.
 use borrow.Author.Needs.{needs}
-use native.Mathlib.Omega.{arith}
-use mathlib.Core.Path.{sym, ap, _∙_}
+use mathlib.Core.Path.{_≡_, sym, ap, _∙_}
 use mathlib.Core.List.{List, _++_}
 use Prim.Native.Nat.{ℕ}
 use lib.ListN.{replicate}
 use Rattle.words.specs.Bytes.{bytes}
 use Rattle.words.specs.Blocks.{wide}
 use Rattle.words.proofs.Blocks.{length-wide, first-eight}
-use Rattle.cipher.specs.Cipher.{engineOf}
-use Rattle.cipher.proofs.Suites.{size-16, size-8}
+use Rattle.cipher.specs.Cipher.{sizeOf, engineOf}
+use Rattle.cipher.proofs.Suites.{size-other}
 use Rattle.cipher.proofs.Paths.{whole, half}
 use Rattle.cipher.proofs.encipher.Statement.{statement}
 use Rattle.cipher.proofs.encipher.Tie as tie
 
+size-of-requires : tie.Need-size-of-requires
+size-of-requires c κs = search needs
+
+wide-is : (c : tie.Then1) → sizeOf (c .before .before .args .suite) ≡ 16
+wide-is c = sym (c .before .size-of .ensures .0) ∙ c .if1 .taken
+
+narrow-is : (c : tie.Else1) → sizeOf (c .before .before .args .suite) ≡ 8
+narrow-is c = size-other (c .before .before .args .suite) (λ e. c .if1 .left (c .before .size-of .ensures .0 ∙ e))
+
 encipher16-requires : tie.Need-encipher16-requires
-encipher16-requires c κs = search needs
+encipher16-requires c κs =
+    let p = c .before .before .pre in
+    (p .0, p .1, wide-is c)
 
 returns : tie.Need-returns
 returns c =
-    let x = c .before .before .args in
+    let x = c .before .before .before .args in
     let r = c .encipher16 .result in
     whole (x .suite) (wide (x .key)) (wide (x .block)) (wide r) (length-wide (r .a) (r .b))
-    (size-16 (x .suite) (omega arith)) (length-wide (x .block .a) (x .block .b)) (c .encipher16 .ensures)
+    (wide-is (c .before)) (length-wide (x .block .a) (x .block .b)) (c .encipher16 .ensures)
 
 encipher8-requires : tie.Need-encipher8-requires
-encipher8-requires c κs = search needs
+encipher8-requires c κs = (c .before .before .pre .1, narrow-is c)
 
 returns-2 : tie.Need-returns-2
 unfolding bytes
 returns-2 c =
-    let x = c .before .before .args in
+    let x = c .before .before .before .args in
     let r = c .encipher8 .result in
     half (x .suite) (wide (x .key)) (wide (x .block)) (bytes 8 r ++ bytes 8 0) (length-wide r 0)
-    (size-8 (x .suite) (omega arith))
+    (narrow-is (c .before))
     (ap (λ (l : List ℕ). l ++ replicate 8 0) (c .encipher8 .ensures ∙ ap (engineOf (x .suite) (wide (x .key))) (sym (first-eight (x .block .a) (x .block .b)))))
 
 pub encipher-spec : {M : Type 1} → statement M
 encipher-spec =
-    tie.close (tie.spec encipher16-requires returns encipher8-requires returns-2)
+    tie.close (tie.spec size-of-requires encipher16-requires returns encipher8-requires returns-2)

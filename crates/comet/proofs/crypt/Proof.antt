@@ -21,22 +21,22 @@ tables-requires c κs = search needs
 start-requires : tie.Need-start-requires
 start-requires c κs =
     let p = c .before .before .before .before .before .before .before .pre in
-    (c .before .tables .ensures, p .0, p .1, p .2, p .3)
+    (c .before .tables .ensures, p .0, p .1, p .2)
 
 absorb-all-requires : tie.Need-absorb-all-requires
 absorb-all-requires c κs =
     let p = c .before .before .before .before .before .before .before .before .before .pre in
-    (c .before .before .before .tables .ensures, p .0, p .1)
+    (c .before .before .before .tables .ensures, p .0)
 
 crypt-all-requires : tie.Need-crypt-all-requires
 crypt-all-requires c κs =
     let p = c .before .before .before .before .before .before .before .before .before .before .before .before .pre in
-    (c .before .before .before .before .before .before .tables .ensures, p .0, p .1, p .4)
+    (c .before .before .before .before .before .before .tables .ensures, p .0, p .3)
 
 tag-of-requires : tie.Need-tag-of-requires
 tag-of-requires c κs =
     let p = c .before .before .before .before .before .before .before .before .before .before .before .before .before .before .before .before .pre in
-    (c .before .before .before .before .before .before .before .before .before .before .tables .ensures, p .0, p .1)
+    (c .before .before .before .before .before .before .before .before .before .before .tables .ensures, p .0)
 
 same-length : tie.Need-same-length
 same-length c = search needs

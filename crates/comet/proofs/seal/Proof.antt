@@ -35,7 +35,7 @@ returns c =
 crypt-requires : tie.Need-crypt-requires
 crypt-requires c κs =
     let p = ok (c .before .before) in
-    (p .low, p .high, p .key, p .nonce, p .room)
+    (p .suite, p .key, p .nonce, p .room)
 
 put-requires : tie.Need-put-requires
 put-requires c κs =

@@ -62,7 +62,7 @@ returns c =
 crypt-requires : tie.Need-crypt-requires
 crypt-requires c κs =
     let p = ok (c .before .before) in
-    (p .low, p .high, p .key, p .nonce, p .room)
+    (p .suite, p .key, p .nonce, p .room)
 
 same-requires : tie.Need-same-requires
 same-requires c κs =

@@ -50,7 +50,7 @@ absorb-block-requires c κs =
     let st = c .before .before .before .before .before in
     let i = c .before .before .loop .i in
     let n = c .before .before .before .size-of in
-    (st .pre .0, st .pre .1, st .pre .2, omega (arith, length-take (i + n .result - i) (drop i (now (st .args .ad))), length-drop i (now (st .args .ad)), n .ensures .0))
+    (st .pre .0, st .pre .1, omega (arith, length-take (i + n .result - i) (drop i (now (st .args .ad))), length-drop i (now (st .args .ad)), n .ensures .0))
 
 loop-less : tie.Need-loop-less Inv-loop μ-loop
 loop-less c = omega arith
@@ -86,7 +86,7 @@ absorb-last-requires c κs =
     let st = c .before .before .before .before .before .before in
     let i = c .before .before .before .loop .i in
     let ad = now (st .args .ad) in
-    (st .pre .0, st .pre .1, st .pre .2, omega (arith, length-take (length ad - i) (drop i ad), c .before .before .before .before .size-of .ensures .0))
+    (st .pre .0, st .pre .1, omega (arith, length-take (length ad - i) (drop i ad), c .before .before .before .before .size-of .ensures .0))
 
 returns : tie.Need-returns Inv-loop μ-loop
 unfolding xor

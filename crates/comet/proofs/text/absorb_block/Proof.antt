@@ -13,7 +13,7 @@ turn-requires : tie.Need-turn-requires
 turn-requires c κs = search needs
 
 whole-requires : tie.Need-whole-requires
-whole-requires c κs = full-two _ (c .before .before .args .suite) (c .before .before .pre .3)
+whole-requires c κs = full-two _ (c .before .before .args .suite) (c .before .before .pre .2)
 
 mix-requires : tie.Need-mix-requires
 mix-requires c κs = search needs
@@ -25,7 +25,7 @@ returns c =
     let b = now (st .args .b) in
     let t = c .before .before .turn in
     put-in suite (st .args .s) (t .result) (st .args .m) (t .ensures .0) (t .ensures .1) b (wide (c .before .whole .result)) (c .mix .result)
-    (pad-kept (sizeOf suite) b (wide (c .before .whole .result)) (st .pre .3) (c .before .whole .ensures)) (c .mix .ensures .0) (c .mix .ensures .1)
+    (pad-kept (sizeOf suite) b (wide (c .before .whole .result)) (st .pre .2) (c .before .whole .ensures)) (c .mix .ensures .0) (c .mix .ensures .1)
 
 pub absorb-block-spec : {M : Type 1} → statement M
 absorb-block-spec = tie.close (tie.spec turn-requires whole-requires mix-requires returns)

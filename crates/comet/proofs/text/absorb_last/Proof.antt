@@ -17,7 +17,7 @@ turn-requires : tie.Need-turn-requires
 turn-requires c κs = search needs
 
 padded-requires : tie.Need-padded-requires
-padded-requires c κs = omega (arith, size-most (c .before .before .args .suite), c .before .before .pre .3)
+padded-requires c κs = omega (arith, size-most (c .before .before .args .suite), c .before .before .pre .2)
 
 mix-requires : tie.Need-mix-requires
 mix-requires c κs = search needs
@@ -29,7 +29,7 @@ returns c =
     let b = now (st .args .b) in
     let t = c .before .before .turn in
     put-in suite (st .args .s) (t .result) (st .args .m) (t .ensures .0) (t .ensures .1) b (wide (c .before .padded .result)) (c .mix .result)
-    (ap (take (sizeOf suite)) (c .before .padded .ensures) ∙ pad-cut (sizeOf suite) b (st .pre .3) (size-most suite)) (c .mix .ensures .0) (c .mix .ensures .1)
+    (ap (take (sizeOf suite)) (c .before .padded .ensures) ∙ pad-cut (sizeOf suite) b (st .pre .2) (size-most suite)) (c .mix .ensures .0) (c .mix .ensures .1)
 
 pub absorb-last-spec : {M : Type 1} → statement M
 absorb-last-spec = tie.close (tie.spec turn-requires padded-requires mix-requires returns)

@@ -77,9 +77,8 @@ crypt-block-requires c κs =
     let text = now (st .args .text) in (
       st .pre .0,
       st .pre .1,
-      st .pre .2,
       omega (arith, length-take (e - i) (drop i text), length-drop i text, size .ensures .0),
-      omega (arith, at .inv .1, st .pre .3, length-take (e - i) (drop i text), length-take (e - i) (drop i (at .out)), length-drop i text, length-drop i (at .out)),
+      omega (arith, at .inv .1, st .pre .2, length-take (e - i) (drop i text), length-take (e - i) (drop i (at .out)), length-drop i text, length-drop i (at .out)),
     )
 
 loop-less : tie.Need-loop-less Inv-loop μ-loop
@@ -102,7 +101,7 @@ loop-again c =
     let x = call .last .1 .1 .1 .1 .1 .1 .0 in
     let b = take (e - i) (drop i text) in
     let inside : i < length text = omega (arith, c .before .before .before .before .before .loop-test .taken, size .ensures .1 .0) in
-    let lo : length out ≡ length text = at .inv .1 ∙ st .pre .3 in
+    let lo : length out ≡ length text = at .inv .1 ∙ st .pre .2 in
     let lx : length x ≡ e - i = call .kept .1 .1 .1 .1 .1 .1 .0 ∙ omega (arith, lo, inside, c .before .before .before .before .before .loop-test .taken, length-take (e - i) (drop i out), length-drop i out) in
     let em : xor (at .m) (shortMark n 0x40 (e - i)) ≡ at .m = mark-full n (at .m) 0x40 (e - i) (omega arith) in
     let step = marked-step κ d (chain suite (at .t)) (chain suite (call .result)) b _ _ em (call .ensures .1) in (
@@ -141,9 +140,8 @@ crypt-last-requires c κs =
     let k = length text - i in (
       st .pre .0,
       st .pre .1,
-      st .pre .2,
       omega (arith, length-take k (drop i text), c .before .before .before .before .before .size-of .ensures .0),
-      omega (arith, at .inv .1, st .pre .3, length-take k (drop i text), length-take k (drop i (at .out)), length-drop i text, length-drop i (at .out)),
+      omega (arith, at .inv .1, st .pre .2, length-take k (drop i text), length-take k (drop i (at .out)), length-drop i text, length-drop i (at .out)),
     )
 
 same-length : tie.Need-same-length Inv-loop μ-loop
@@ -171,7 +169,7 @@ returns c =
     let x = call .last .1 .1 .1 .1 .1 .1 .0 in
     let b = take (e - i) (drop i text) in
     let inside : i < e = omega (arith, c .before .before .before .before .before .if1 .taken) in
-    let lo : length out ≡ e = at .inv .1 ∙ st .pre .3 in
+    let lo : length out ≡ e = at .inv .1 ∙ st .pre .2 in
     let lx : length x ≡ e - i = call .kept .1 .1 .1 .1 .1 .1 .0 ∙ omega (arith, lo, inside, length-take (e - i) (drop i out), length-drop i out) in
     let em : xor (at .m) (shortMark n 0x40 (e - i)) ≡ xor (at .m) 0x40 = mark-short n (at .m) 0x40 (e - i) (omega arith) in
     let C = chain suite (at .t) in
@@ -204,7 +202,7 @@ returns-2 c =
     let pos = size .ensures .1 .0 in
     let S = chain suite (at .t) in
     let end : length text ≤ at .i = omega arith in
-    let lo : length (at .out) ≤ at .i = omega (arith, at .inv .1, st .pre .3, end) in (
+    let lo : length (at .out) ≤ at .i = omega (arith, at .inv .1, st .pre .2, end) in (
       λ ms. text-done κ n (at .m) 0x40 pos text (at .i) end S d _ _ ms lo (at .inv .2 ms)
           ∙ ap (λ (k : ℕ). crypted κ d (chain suite (st .args .s) (marksFrom k 0x20 0x40 (length text) ms)) (blocks k text)) (size .ensures .0),
       λ ms. ap (λ (k : ℕ). after κ d (chain suite (st .args .s) (marksFrom k 0x20 0x40 (length text) ms)) (blocks k text)) (sym (size .ensures .0))

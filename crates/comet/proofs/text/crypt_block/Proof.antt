@@ -46,8 +46,8 @@ module _ (d : tie.After-put-whole) where
       let k = length (now (st .args .out)) in
       d .put-whole .ensures
       ∙ ap (take k) (d .before .before .xor .ensures ∙ ap (λ (l : List ℕ). xors l h) (d .before .before .before .before .whole .ensures))
-      ∙ mask-is B (replicate (16 - length B) 0) h k (st .pre .4)
-      ∙ mask-out (st .args .suite) (st .args .s) (t .result) (st .args .m) (t .ensures .0) (t .ensures .1) B h (le-of-eq (st .pre .3)) (d .before .before .before .shuffled .ensures) ms
+      ∙ mask-is B (replicate (16 - length B) 0) h k (st .pre .3)
+      ∙ mask-out (st .args .suite) (st .args .s) (t .result) (st .args .m) (t .ensures .0) (t .ensures .1) B h (le-of-eq (st .pre .2)) (d .before .before .before .shuffled .ensures) ms
 
   -- the state r after v was put in, which p has in its first bytes
   put-v : (v p : List ℕ) (r : State) → take n p ≡ pad n v → wide (r .y) ≡ xors (wide (d .before .before .before .before .before .before .turn .result .y)) p
@@ -59,7 +59,7 @@ module _ (d : tie.After-put-whole) where
   -- what went out is a full block, the first bytes of c
   out-kept : take n (wide (d .before .before .xor .result)) ≡ pad n o
   out-kept =
-      let lo : length (now (st .args .out)) ≡ n = st .pre .4 ∙ st .pre .3 in
+      let lo : length (now (st .args .out)) ≡ n = st .pre .3 ∙ st .pre .2 in
       ap (λ (k : ℕ). take k (wide (d .before .before .xor .result))) (sym lo)
       ∙ sym (d .put-whole .ensures)
       ∙ sym (pad-full n o (d .put-whole .kept .1 .0 ∙ lo))
@@ -70,7 +70,7 @@ turn-requires c κs = search needs
 whole-requires : tie.Need-whole-requires
 whole-requires c κs =
     let st = c .before .before .before .before in
-    full-two _ (st .args .suite) (st .pre .3)
+    full-two _ (st .args .suite) (st .pre .2)
 
 shuffled-requires : tie.Need-shuffled-requires
 shuffled-requires c κs = search needs
@@ -81,7 +81,7 @@ xor-requires c κs = search needs
 put-whole-requires : tie.Need-put-whole-requires
 put-whole-requires c κs =
     let st = c .before .before .before .before .before .before .before .before in
-    full-two _ (st .args .suite) (st .pre .4 ∙ st .pre .3)
+    full-two _ (st .args .suite) (st .pre .3 ∙ st .pre .2)
 
 mix-requires : tie.Need-mix-requires
 mix-requires c κs = search needs
@@ -111,7 +111,7 @@ returns-2 c =
     let p = d .before .before .before .before .whole in (
       masked-is d,
       λ ms. rw (c .before .if1 .left)
-          (put-v d (B d) (wide (p .result)) (c .mix2 .result) (pad-kept (n d) (B d) (wide (p .result)) (st d .pre .3) (p .ensures)) (c .mix2 .ensures .0) (c .mix2 .ensures .1) ms),
+          (put-v d (B d) (wide (p .result)) (c .mix2 .result) (pad-kept (n d) (B d) (wide (p .result)) (st d .pre .2) (p .ensures)) (c .mix2 .ensures .0) (c .mix2 .ensures .1) ms),
     )
 
 pub crypt-block-spec : {M : Type 1} → statement M

@@ -40,13 +40,13 @@ module _ (d : tie.After-mask) where
   o = d .mask .last .1 .1 .0
 
   out-short : length o < n
-  out-short = omega (arith, d .mask .kept .1 .1 .0, st .pre .4, st .pre .3)
+  out-short = omega (arith, d .mask .kept .1 .1 .0, st .pre .3, st .pre .2)
 
   masked-is : (ms : List ℕ) → o ≡ masked κ (C ms) B
   masked-is ms =
       let t = d .before .before .before .before .turn in
       d .mask .ensures
-      ∙ mask-out (st .args .suite) (st .args .s) (t .result) (st .args .m) (t .ensures .0) (t .ensures .1) B (wide (d .before .before .shuffled .result)) (omega (arith, st .pre .3)) (d .before .before .shuffled .ensures) ms
+      ∙ mask-out (st .args .suite) (st .args .s) (t .result) (st .args .m) (t .ensures .0) (t .ensures .1) B (wide (d .before .before .shuffled .result)) (omega (arith, st .pre .2)) (d .before .before .shuffled .ensures) ms
 
   -- the state r after v was put in, padded to p
   put-v : (v p : List ℕ) (r : State) → length v < n → p ≡ pad 16 v → wide (r .y) ≡ xors (wide (d .before .before .before .before .turn .result .y)) p
@@ -65,7 +65,7 @@ shuffled-requires c κs = search needs
 mask-requires : tie.Need-mask-requires
 mask-requires c κs =
     let st = c .before .before .before .before .before .before in
-    (omega (arith, st .pre .3, size-most (st .args .suite)), st .pre .4)
+    (omega (arith, st .pre .2, size-most (st .args .suite)), st .pre .3)
 
 padded-requires : tie.Need-padded-requires
 padded-requires c κs =
@@ -90,7 +90,7 @@ returns c =
 padded-requires-2 : tie.Need-padded-requires-2
 padded-requires-2 c κs =
     let st = c .before .before .before .before .before .before .before .before .before .before in
-    omega (arith, st .pre .3, size-most (st .args .suite))
+    omega (arith, st .pre .2, size-most (st .args .suite))
 
 mix-requires-2 : tie.Need-mix-requires-2
 mix-requires-2 c κs = search needs
@@ -104,7 +104,7 @@ returns-2 c =
     let d = c .before .before .before .before .before in (
       masked-is d,
       λ ms. rw (c .before .before .if1 .left)
-          (put-v d (B d) _ (c .mix2 .result) (st d .pre .3) (c .before .padded2 .ensures) (c .mix2 .ensures .0) (c .mix2 .ensures .1) ms),
+          (put-v d (B d) _ (c .mix2 .result) (st d .pre .2) (c .before .padded2 .ensures) (c .mix2 .ensures .0) (c .mix2 .ensures .1) ms),
     )
 
 pub crypt-last-spec : {M : Type 1} → statement M

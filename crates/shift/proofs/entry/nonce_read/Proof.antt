@@ -1,7 +1,6 @@
 -- The suite reads at most sixteen bytes.
 use native.Mathlib.Omega.{arith}
-use Rattle.cipher.specs.Cipher.{cipherOf}
-use Rattle.mode.proofs.Start.{nonce-most}
+use Rattle.cipher.proofs.Suites.{nonce-most}
 use borrow.Author.Needs.{needs}
 use Rattle.shift.proofs.entry.nonce_read.Statement.{statement}
 use Rattle.shift.proofs.entry.nonce_read.Tie as tie
@@ -16,7 +15,7 @@ nonce-size-requires : tie.Need-nonce-size-requires
 nonce-size-requires c κs = search needs
 
 stretch-requires : tie.Need-stretch-requires
-stretch-requires c κs = omega (arith, c .before .nonce-at .ensures .1, c .nonce-size .ensures, nonce-most (cipherOf (c .before .before .before .before .args .suite)))
+stretch-requires c κs = omega (arith, c .before .nonce-at .ensures .1, c .nonce-size .ensures, nonce-most (c .before .before .before .before .args .suite))
 
 returns : tie.Need-returns
 returns c = rw (← c .before .before .before .row-size .ensures, ← c .before .nonce-size .ensures, ← c .before .before .nonce-at .ensures .0) (c .stretch .ensures .0)

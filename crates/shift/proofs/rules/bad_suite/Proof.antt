@@ -4,19 +4,16 @@ use borrow.Author.Needs.{needs}
 use Rattle.shift.proofs.rules.bad_suite.Statement.{statement}
 use Rattle.shift.proofs.rules.bad_suite.Tie as tie
 
-cast-outside : tie.Need-cast-outside
-cast-outside c = search needs
-
-outside-requires : tie.Need-outside-requires
-outside-requires c κs = search needs
+is-suite-requires : tie.Need-is-suite-requires
+is-suite-requires c κs = search needs
 
 returns : tie.Need-returns
 unfolding badSuite
-returns c = simp (← c .before .outside .ensures, c .if1 .taken)
+returns c = simp (← c .before .is-suite .ensures, c .if1 .taken)
 
 returns-2 : tie.Need-returns-2
 unfolding badSuite
-returns-2 c = simp (← c .before .before .outside .ensures, c .before .if1 .left)
+returns-2 c = simp (← c .before .before .is-suite .ensures, c .before .if1 .left)
 
 pub bad-suite-spec : {M : Type 1} → statement M
-bad-suite-spec = tie.close (tie.spec cast-outside outside-requires returns returns-2)
+bad-suite-spec = tie.close (tie.spec is-suite-requires returns returns-2)
