@@ -1,21 +1,23 @@
--- Every public function of `cipher` leaves one outcome: a number or a yes or no, the table told by its entries, a block told by its bytes.
+-- Every public function of `cipher` leaves one outcome: a number or a yes or no, the tables told by their rule, a block told by its bytes.
 use mathlib.Core.Path.{_≡_, refl, sym, ap₂, _∙_}
-use mathlib.Core.List.{List, _++_}
-use Prim.Native.Nat.{ℕ}
+use mathlib.Core.List.{List, [], _++_}
+use Prim.Native.Nat.{ℕ, zero, suc, _<_}
 use native.Mathlib.Omega.{arith}
-use lib.ListN.{take, drop, take-append-drop}
+use lib.ListN.{getD, take, drop, take-append-drop}
 use lib.Seq.{ext-getD}
 use Rattle.words.specs.Outcome.{OneOutcome}
 use Rattle.words.proofs.Bytes.{bytes-inj}
 use Rattle.words.proofs.Blocks.{wide-told}
-use Rattle.fips197.specs.Sbox.{IsSbox}
-use Rattle.cipher.specs.Cipher.{sizeOf}
+use Rattle.columns.proofs.Table.{table-only}
+use Rattle.cipher.specs.Cipher.{Full, sizeOf}
 use Rattle.cipher.proofs.is_suite.Kinds as is-suite-kinds
 use Rattle.cipher.proofs.is_suite.Reads as is-suite-reads
 use Rattle.cipher.proofs.size_of.Kinds as size-of-kinds
 use Rattle.cipher.proofs.size_of.Reads as size-of-reads
 use Rattle.cipher.proofs.nonce_size.Kinds as nonce-size-kinds
 use Rattle.cipher.proofs.nonce_size.Reads as nonce-size-reads
+use Rattle.cipher.proofs.lends.Kinds as lends-kinds
+use Rattle.cipher.proofs.lends.Reads as lends-reads
 use Rattle.cipher.proofs.tables.Kinds as tables-kinds
 use Rattle.cipher.proofs.tables.Reads as tables-reads
 use Rattle.cipher.proofs.encipher16.Kinds as encipher16-kinds
@@ -25,10 +27,13 @@ use Rattle.cipher.proofs.encipher8.Reads as encipher8-reads
 use Rattle.cipher.proofs.encipher.Kinds as encipher-kinds
 use Rattle.cipher.proofs.encipher.Reads as encipher-reads
 
--- two tables of the S-box are one
-same-table : (s t : List ℕ) → IsSbox s → IsSbox t → s ≡ t
-same-table s t p q =
-    ext-getD 0 s t (p .size ∙ sym (q .size)) (λ i h. p .entry i (omega (arith, p .size)) ∙ sym (q .entry i (omega (arith, p .size))))
+-- two that are full have one and the same element
+same-lent : (s t : List (List (List ℕ))) → Full s → Full t → s ≡ t
+same-lent s t p q = ext-getD [] s t (p .0 ∙ sym (q .0)) (λ i h. first i (omega (arith, p .0)))
+  where
+    first : (i : ℕ) → i < 1 → getD s i [] ≡ getD t i []
+    first zero h = table-only (getD s 0 []) (getD t 0 []) (p .1) (q .1)
+    first (suc i) h = let no : ⊥ = omega arith in absurd no
 
 pub is-suite : OneOutcome is-suite-kinds.ps is-suite-kinds.r is-suite-reads.Pre is-suite-reads.Post
 is-suite κs a h x y = (x .ensures ∙ sym (y .ensures), refl)
@@ -39,8 +44,11 @@ size-of κs a h x y = (x .ensures .0 ∙ sym (y .ensures .0), refl)
 pub nonce-size : OneOutcome nonce-size-kinds.ps nonce-size-kinds.r nonce-size-reads.Pre nonce-size-reads.Post
 nonce-size κs a h x y = (x .ensures ∙ sym (y .ensures), refl)
 
+pub lends : OneOutcome lends-kinds.ps lends-kinds.r lends-reads.Pre lends-reads.Post
+lends κs a h x y = (x .ensures ∙ sym (y .ensures), refl)
+
 pub tables : OneOutcome tables-kinds.ps tables-kinds.r tables-reads.Pre tables-reads.Post
-tables κs a h x y = (same-table (x .result) (y .result) (x .ensures) (y .ensures), refl)
+tables κs a h x y = (same-lent (x .result) (y .result) (x .ensures .full h) (y .ensures .full h), refl)
 
 pub encipher16 : OneOutcome encipher16-kinds.ps encipher16-kinds.r encipher16-reads.Pre encipher16-reads.Post
 encipher16 κs a h x y = (wide-told (x .result) (y .result) (omega arith) (omega arith) (omega arith) (omega arith) (x .ensures ∙ sym (y .ensures)), refl)
