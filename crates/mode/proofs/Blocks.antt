@@ -27,6 +27,15 @@ past t k e q =
       | no h ↦ drop-of-length-le t {i = e} (omega arith) ∙ sym (drop-of-length-le t {i = k} (omega arith))
     ]
 
+-- the blocks' lengths
+abbrev pub sizes : List (List ℕ) → List ℕ
+sizes [] = []
+sizes (b ∷ bs) = length b ∷ sizes bs
+
+length-sizes : (bs : List (List ℕ)) → length (sizes bs) ≡ length bs
+length-sizes [] = refl
+length-sizes (b ∷ bs) = ap suc (length-sizes bs)
+
 module _ (n : ℕ) (pos : 0 < n) where
   -- any count that is large enough gives the same blocks
   chop-same : (f g : ℕ) (l : List ℕ) → length l ≤ f → length l ≤ g → chop n f l ≡ chop n g l
@@ -89,22 +98,24 @@ module _ (n : ℕ) (pos : 0 < n) where
       let r : l - i - n ≡ l - e = omega arith in
       lengths-more (l - i) (omega arith) ∙ ap₂ (λ (x y : ℕ). x ∷ lengths n y) p r
 
-  -- as many blocks as lengths
-  none-same : (l : List ℕ) → length l ≡ 0 → length (blocks n l) ≡ length (lengths n (length l))
-  none-same l z =
-      let e : l ≡ [] = nil-of l z in
-      ap (λ (x : List ℕ). length (blocks n x)) e ∙ ap length blocks-nil ∙ sym (ap length (ap (lengths n) z ∙ lengths-nil))
+  -- the blocks have these lengths
+  none-sizes : (l : List ℕ) → length l ≡ 0 → sizes (blocks n l) ≡ lengths n (length l)
+  none-sizes l z = ap (λ (x : List ℕ). sizes (blocks n x)) (nil-of l z) ∙ ap sizes blocks-nil ∙ sym (ap (lengths n) z ∙ lengths-nil)
 
-  pub count-same : (f : ℕ) (l : List ℕ) → length l ≤ f → length (blocks n l) ≡ length (lengths n (length l))
-  count-same zero l h = none-same l (omega arith)
-  count-same (suc f) l h =
+  pub blocks-sizes : (f : ℕ) (l : List ℕ) → length l ≤ f → sizes (blocks n l) ≡ lengths n (length l)
+  blocks-sizes zero l h = none-sizes l (omega arith)
+  blocks-sizes (suc f) l h =
       elim (decLe 1 (length l)) [
         | yes p ↦
-            ap length (blocks-more l p)
-            ∙ ap suc (count-same f (drop n l) (omega (arith, length-drop n l)) ∙ ap (λ (x : ℕ). length (lengths n x)) (length-drop n l))
-            ∙ sym (ap length (lengths-more (length l) p))
-        | no p ↦ none-same l (omega arith)
+            ap sizes (blocks-more l p)
+            ∙ ap₂ (λ (x : ℕ) (r : List ℕ). x ∷ r) (length-take n l) (blocks-sizes f (drop n l) (omega (arith, length-drop n l)) ∙ ap (lengths n) (length-drop n l))
+            ∙ sym (lengths-more (length l) p)
+        | no p ↦ none-sizes l (omega arith)
       ]
+
+  -- so there are as many
+  pub count-same : (l : List ℕ) → length (blocks n l) ≡ length (lengths n (length l))
+  count-same l = sym (length-sizes (blocks n l)) ∙ ap length (blocks-sizes (length l) l (le-refl (length l)))
 
   -- a block in front: full, or nothing behind it
   pub blocks-cons : (x r : List ℕ) → 0 < length x → length x ≤ n → (length x ≡ n) ⊎ (r ≡ []) → blocks n (x ++ r) ≡ x ∷ blocks n r

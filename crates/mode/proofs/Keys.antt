@@ -38,7 +38,7 @@ next-block m z h b =
 
 -- ---- marks are bytes, and there are as many as blocks
 
-short-lt : (n short k : ℕ) → short < 256 → shortMark n short k < 256
+pub short-lt : (n short k : ℕ) → short < 256 → shortMark n short k < 256
 short-lt n short k h = go (ltb k n)
   where
     go : (t : Bool) → cond t short 0 < 256

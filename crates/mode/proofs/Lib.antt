@@ -2,6 +2,8 @@ pub mod Blocks
 pub mod Words
 pub mod Keys
 pub mod Chain
+pub mod Cut
+pub mod Walk
 pub mod Start
 pub mod Demand2
 pub mod Demand3

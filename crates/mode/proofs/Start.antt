@@ -110,7 +110,7 @@ module _ (κ : Cipher) (L : Lawful κ) (key nonce : List ℕ) (hk : Block 16 key
   good-start-blocks a m =
       let n = κ .size in
       subst (λ (f : ℕ). Good κ f (start κ key nonce (length a) (length m)))
-      (sym (ap₂ (λ (x y : ℕ). x + y) (count-same n (some κ L) (length a) a (le-refl (length a))) (count-same n (some κ L) (length m) m (le-refl (length m)))))
+      (sym (ap₂ (λ (x y : ℕ). x + y) (count-same n (some κ L) a) (count-same n (some κ L) m)))
       (good-start (length a) (length m))
 
   pub good-data : (a m : List ℕ) → AllBytes a → Good κ (length (blocks (κ .size) m)) (afterData κ key nonce a (length m))

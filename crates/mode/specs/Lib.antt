@@ -2,3 +2,4 @@ pub mod Blocks
 pub mod Words
 pub mod Keys
 pub mod Mode
+pub mod Walk

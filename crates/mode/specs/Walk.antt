@@ -1,0 +1,83 @@
+-- The chain, walked block by block: the two states Y and Z before and after each block, and what goes out for it. A walk knows nothing of what comes later, so a text may come in parts.
+use Prim.Native.Nat.{ℕ, _*_, _/_}
+use mathlib.Core.Bool.{Bool, false, cond}
+use mathlib.Core.List.{List, [], _∷_, _++_}
+use lib.ListN.{length, take, drop}
+use Rattle.words.specs.Words.{xor}
+use Rattle.words.specs.Xors.{xors}
+use Rattle.cipher.specs.Cipher.{Cipher}
+use Rattle.mode.specs.Blocks.{blocks}
+use Rattle.mode.specs.Words.{shuffle, pad}
+use Rattle.mode.specs.Keys.{shortMark, nextKey, keys}
+use Rattle.mode.specs.Mode.{Chain, startY, startZ}
+
+-- the two states
+pub record States : Type 0 where
+  pub Y : List ℕ
+  pub Z : List ℕ
+
+-- the chain that they stand for, where the marks ms are still to come
+abbrev pub chainOf : States → List ℕ → Chain
+chainOf s ms = record { Y = s .Y; left = keys (s .Z) ms }
+
+-- the whole blocks of a text, and the bytes behind them, which are less than a block
+unfoldable pub whole : ℕ → List ℕ → List ℕ
+whole n l = take (length l / n * n) l
+
+unfoldable pub rest : ℕ → List ℕ → List ℕ
+rest n l = drop (length l / n * n) l
+
+-- the key of a block under the mark m, and the Z that is kept behind it
+abbrev pub blockKey : ℕ → List ℕ → List ℕ
+blockKey m z = nextKey m z
+
+abbrev pub blockZ : ℕ → List ℕ → List ℕ
+blockZ m z = nextKey m z
+
+module _ (κ : Cipher) where
+  -- the mark of a block: `first` if it is the first, and `short` if it is short
+  abbrev pub markOf : ℕ → ℕ → List ℕ → ℕ
+  markOf first short b = xor first (shortMark (κ .size) short (length b))
+
+  -- X = E(block key, Y)
+  abbrev pub imageOf : ℕ → States → List ℕ
+  imageOf m s = κ .E (blockKey m (s .Z)) (s .Y)
+
+  -- a block goes in under the mark m: Y = X XOR padded block
+  unfoldable pub turned : ℕ → States → List ℕ → States
+  turned m s b = record { Y = xors (imageOf m s) (pad (κ .size) b); Z = blockZ m (s .Z) }
+
+  -- what goes out for a block of text: the block XOR as many first bytes of shuffle(X)
+  unfoldable pub hidden : ℕ → States → List ℕ → List ℕ
+  hidden m s b = xors b (shuffle (κ .size) (imageOf m s))
+
+  -- the message's block, which goes in: in sealing the block itself, in opening what goes out
+  abbrev pub messageOf : Bool → ℕ → States → List ℕ → List ℕ
+  messageOf opening m s b = cond opening (hidden m s b) b
+
+  -- the states after the blocks of a text, of which the first has the mark `first`
+  unfoldable pub walked : Bool → ℕ → ℕ → States → List (List ℕ) → States
+  walked opening first short s [] = s
+  walked opening first short s (b ∷ bs) =
+      let m : ℕ = markOf first short b in
+      walked opening 0 short (turned m s (messageOf opening m s b)) bs
+
+  -- the text that goes out for them
+  unfoldable pub covered : Bool → ℕ → ℕ → States → List (List ℕ) → List ℕ
+  covered opening first short s [] = []
+  covered opening first short s (b ∷ bs) =
+      let m : ℕ = markOf first short b in
+      hidden m s b ++ covered opening 0 short (turned m s (messageOf opening m s b)) bs
+
+  -- the tag: the last call, under the last mark
+  unfoldable pub tagged : States → List ℕ
+  tagged s = κ .E (nextKey 0x80 (s .Z)) (s .Y)
+
+  module _ (key nonce : List ℕ) where
+    -- the states that key and nonce start
+    abbrev pub origin : States
+    origin = record { Y = startY κ key; Z = startZ κ key nonce }
+
+    -- the states after associated data a: a block of it goes in as a message's does in sealing
+    abbrev pub dataDone : List ℕ → States
+    dataDone a = walked false 0x08 0x10 origin (blocks (κ .size) a)
