@@ -27,7 +27,7 @@ use Rattle.cipher.proofs.encipher8.Reads as encipher8-reads
 use Rattle.cipher.proofs.encipher.Kinds as encipher-kinds
 use Rattle.cipher.proofs.encipher.Reads as encipher-reads
 
--- two that are full have one and the same element
+-- what is full is one element, the tables
 same-lent : (s t : List (List (List ℕ))) → Full s → Full t → s ≡ t
 same-lent s t p q = ext-getD [] s t (p .0 ∙ sym (q .0)) (λ i h. first i (omega (arith, p .0)))
   where

@@ -1,16 +1,15 @@
 -- What four bytes bring, added up, is the mixed column.
-use mathlib.Core.Path.{_≡_, refl, sym, ap, ap₂, _∙_}
+use mathlib.Core.Path.{_≡_, ap, ap₂, _∙_}
 use mathlib.Core.List.{List, [], _∷_}
 use Prim.Native.Nat.{ℕ, _+_, _-_, _/_, _%_, _<_}
 use lib.ListN.{getD}
 use Rattle.words.specs.Words.{xor}
-use Rattle.words.specs.Bytes.{AllBytes, value, bytes}
+use Rattle.words.specs.Bytes.{value, bytes}
 use Rattle.words.specs.Xors.{xors}
 use Rattle.words.proofs.Xor.{assoc, comm}
 use Rattle.words.proofs.Bytes.{bytes-value}
 use Rattle.words.proofs.Xors.{bytes-xor}
 use Rattle.fips197.specs.Field.{_⊕_, _•_}
-use Rattle.fips197.specs.Sbox.{subByte}
 use Rattle.fips197.specs.Cipher.{mixed}
 use Rattle.fips197.proofs.Field.{one-product, product-byte}
 use Rattle.fips197.proofs.Steps.{all-from}
@@ -44,7 +43,7 @@ summed x y z u a b c d p q r s =
     ∙ ap₂ xors (bytes-xor 4 (xor x y) z ∙ ap₂ xors (bytes-xor 4 x y ∙ ap₂ xors p q) r) s
     ∙ shares a b c d
 
--- the second byte of a share of row 0 is taken once
+-- the second byte of what row 0 brings is the byte itself
 pub once-is : (e s : ℕ) → bytes 4 e ≡ share 0 s → e / 256 % 256 ≡ s
 unfolding bytes
 once-is e s h = ap (λ (l : List ℕ). getD l 1 0) h ∙ one-product s

@@ -32,7 +32,7 @@ fn mixed(t: &Tables, a: u32, b: u32, c: u32, d: u32) -> u32
     entry(t, 0, a, 0) ^ entry(t, 1, b, 1) ^ entry(t, 2, c, 2) ^ entry(t, 3, d, 3)
 }
 
-// The S-box at the byte in row k of a column: in the table of place 0 the second byte is the S-box's once.
+// The S-box at the byte in row k of a column: the second byte of its entry for place 0, where the multiple is 01.
 fn sub_byte(t: &Tables, x: u32, k: u32) -> u8
     requires { ⌜ IsTables (now t) × (k < 4) ⌝ }
     ensures { λ r. ⌜ r ≡ subByte (row k x) ⌝ }

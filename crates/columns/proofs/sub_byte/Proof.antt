@@ -1,4 +1,4 @@
--- `columns::sub_byte` meets its contract: the second byte of a share of row 0 is the byte itself.
+-- `columns::sub_byte` meets its contract: the second byte of what row 0 brings is the byte itself.
 use Rattle.columns.proofs.Sums.{once-is}
 use borrow.Author.Needs.{needs}
 use Rattle.columns.proofs.sub_byte.Statement.{statement}
