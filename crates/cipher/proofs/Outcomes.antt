@@ -1,12 +1,13 @@
 -- Every public function of `cipher` leaves one outcome: a number or a yes or no, the tables told by their rule, a block told by its bytes.
-use mathlib.Core.Path.{_≡_, refl, sym, ap₂, _∙_}
-use mathlib.Core.List.{List, [], _++_}
+use mathlib.Core.Path.{_≡_, refl, sym, _∙_}
+use mathlib.Core.List.{List, []}
 use Prim.Native.Nat.{ℕ, zero, suc, _<_}
 use native.Mathlib.Omega.{arith}
-use lib.ListN.{getD, take, drop, take-append-drop}
+use lib.ListN.{getD}
 use lib.Seq.{ext-getD}
 use Rattle.words.specs.Outcome.{OneOutcome}
 use Rattle.words.proofs.Bytes.{bytes-inj}
+use Rattle.words.proofs.Lists.{parts-told}
 use Rattle.words.proofs.Blocks.{wide-told}
 use Rattle.columns.proofs.Table.{table-only}
 use Rattle.cipher.specs.Cipher.{Full, sizeOf}
@@ -56,13 +57,9 @@ encipher16 κs a h x y = (wide-told (x .result) (y .result) (omega arith) (omega
 pub encipher8 : OneOutcome encipher8-kinds.ps encipher8-kinds.r encipher8-reads.Pre encipher8-reads.Post
 encipher8 κs a h x y = (bytes-inj 8 (omega arith) (omega arith) (x .ensures ∙ sym (y .ensures)), refl)
 
--- a list is told by its first part and the rest
-joined : (n : ℕ) {s t u v : List ℕ} → take n s ≡ u → drop n s ≡ v → take n t ≡ u → drop n t ≡ v → s ≡ t
-joined n {s} {t} p q p′ q′ = sym (take-append-drop n s) ∙ ap₂ (λ (l m : List ℕ). l ++ m) (p ∙ sym p′) (q ∙ sym q′) ∙ take-append-drop n t
-
 pub encipher : OneOutcome encipher-kinds.ps encipher-kinds.r encipher-reads.Pre encipher-reads.Post
 encipher κs a h x y = (
   wide-told (x .result) (y .result) (omega arith) (omega arith) (omega arith) (omega arith)
-      (joined (sizeOf (a .1 .0)) (x .ensures .0) (x .ensures .1) (y .ensures .0) (y .ensures .1)),
+      (parts-told (sizeOf (a .1 .0)) _ _ (x .ensures .0 ∙ sym (y .ensures .0)) (x .ensures .1 ∙ sym (y .ensures .1))),
   refl,
 )

@@ -59,6 +59,10 @@ size-most s = most (sizes-two s)
     most (inl e) = omega arith
     most (inr e) = omega arith
 
+-- so has a full block
+pub full-two : (k s : ℕ) → k ≡ sizeOf s → (k ≡ 16) ⊎ (k ≡ 8)
+full-two k s e = subst (λ (j : ℕ). (j ≡ 16) ⊎ (j ≡ 8)) (sym e) (sizes-two s)
+
 -- a block that has not 16 bytes has 8
 pub size-other : (s : ℕ) → (sizeOf s ≡ 16 → ⊥) → sizeOf s ≡ 8
 size-other s n = other (sizes-two s)

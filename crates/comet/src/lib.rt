@@ -1,11 +1,6 @@
 // The sealer and the opener: COMET version 1 over the four ciphers.
 use words::block::Block;
 
-mod key;
-mod pad;
-mod shuffle;
-mod state;
-mod tag;
 mod text;
 
 ghost use mathlib.Core.Path.{_≡_};
@@ -13,6 +8,7 @@ ghost use lib.ListN.{length, take};
 ghost use Rattle.words.specs.Blocks.{wide};
 ghost use Rattle.cipher.specs.Cipher.{IsSuite, sizeOf, nonceOf, cipherOf};
 ghost use Rattle.mode.specs.Mode.{textOut, tagOut};
+ghost use Rattle.step.specs.Two.{Clean};
 ghost use Rattle.comet.specs.Answers.{numberOf, refusal, Sealed, sealing, Opened, opening};
 
 // What a call answers: Done, or why it refused.
@@ -90,12 +86,13 @@ fn crypt(
     requires { ⌜ IsSuite suite × (length (now key) ≡ 16) × (length (now nonce) ≡ nonceOf suite) × (length (now out) ≡ length (now text)) ⌝ }
     ensures text { λ _. ⌜ now (out .exit) ≡ textOut (cipherOf suite) opening (now (key .entry)) (now (nonce .entry)) (now (ad .entry)) (now (text .entry)) ⌝ }
     ensures tag { λ r. ⌜ take (sizeOf suite) (wide r) ≡ tagOut (cipherOf suite) opening (now (key .entry)) (now (nonce .entry)) (now (ad .entry)) (now (text .entry)) ⌝ }
+    ensures clean { λ r. ⌜ Clean suite r ⌝ }
 {
     let tb = cipher::tables();
-    let s = state::start(&tb, suite, key, nonce);
+    let s = step::state::start(&tb, suite, key, nonce);
     let d = text::absorb_all(&tb, suite, s, ad);
     let t = text::crypt_all(&tb, opening, suite, d, text, out);
-    tag::tag_of(&tb, suite, t)
+    step::tag::tag_of(&tb, suite, t)
 }
 
 // Seals msg into out, and its tag into tag.
@@ -154,9 +151,9 @@ pub fn unseal(
         return a;
     };
     let t = crypt(true, suite, key, nonce, ad, text, out);
-    if tag::same(t, tag) {
+    if step::tag::same(t, tag) {
         return Answer::Done;
     }
-    tag::wipe(out);
+    words::zeros::wipe(out);
     Answer::Forged
 }

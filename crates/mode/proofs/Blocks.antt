@@ -92,12 +92,6 @@ module _ (n : ℕ) (pos : 0 < n) where
       blocks-more (drop i l) (omega arith)
       ∙ ap₂ (λ (b r : List ℕ). b ∷ blocks n r) (sym (cut (drop i l) n (e - i) (omega arith))) (drop-drop n i l ∙ sym (past l (i + n) e q))
 
-  pub lengths-turn : (l i e : ℕ) → i < l → e ≡ min (i + n) l → lengths n (l - i) ≡ (e - i) ∷ lengths n (l - e)
-  lengths-turn l i e h q =
-      let p : min n (l - i) ≡ e - i = omega arith in
-      let r : l - i - n ≡ l - e = omega arith in
-      lengths-more (l - i) (omega arith) ∙ ap₂ (λ (x y : ℕ). x ∷ lengths n y) p r
-
   -- the blocks have these lengths
   none-sizes : (l : List ℕ) → length l ≡ 0 → sizes (blocks n l) ≡ lengths n (length l)
   none-sizes l z = ap (λ (x : List ℕ). sizes (blocks n x)) (nil-of l z) ∙ ap sizes blocks-nil ∙ sym (ap (lengths n) z ∙ lengths-nil)

@@ -6,7 +6,7 @@ use native.Mathlib.Nat.{le-refl, div-add-mod', mod-lt}
 use native.Mathlib.Omega.{arith}
 use native.Mathlib.Decide.{decLe}
 use mathlib.Core.List.{List, [], _∷_, _++_, append-assoc, append-nil}
-use lib.ListN.{length, take, drop}
+use lib.ListN.{length, take, drop, drop-of-length-le}
 use lib.Dec.{ltb}
 use borrow.Author.Tests.{lt-ltb, le-ltb}
 use Rattle.words.specs.Bytes.{AllBytes}
@@ -146,21 +146,37 @@ module _ (κ : Cipher) where
       ap (λ (r : List ℕ). hidden κ m s b ++ r) (covered-append d 0 short (turned κ m s (messageOf κ d m s b)) (x ∷ xs) ys)
       ∙ sym (append-assoc (hidden κ m s b) _ _)
 
-  -- what a loop over the blocks does in a turn: the block from i to e of l, full or short
+  -- what a loop over the blocks does in a turn: the block from i to e of l, full or short, under its mark k; r is the walk's next states
   module _ (pos : 0 < κ .size) (d : Bool) (first short : ℕ) (s : States) (l : List ℕ) (i e : ℕ) (h : i < length l) (q : e ≡ min (i + κ .size) (length l)) where
-    abbrev pub block : List ℕ
+    abbrev block : List ℕ
     block = take (e - i) (drop i l)
 
-    abbrev pub next : States
-    next = turned κ (markOf κ first short block) s (messageOf κ d (markOf κ first short block) s block)
+    module _ (k : ℕ) (ek : markOf κ first short block ≡ k) (r : States) (er : r ≡ turned κ k s (messageOf κ d k s block)) where
+      next : r ≡ turned κ (markOf κ first short block) s (messageOf κ d (markOf κ first short block) s block)
+      next = er ∙ ap (λ (m : ℕ). turned κ m s (messageOf κ d m s block)) (sym ek)
 
-    pub walked-turn : walked κ d first short s (blocks (κ .size) (drop i l)) ≡ walked κ d 0 short next (blocks (κ .size) (drop e l))
+      pub walked-turn : walked κ d 0 short r (blocks (κ .size) (drop e l)) ≡ walked κ d first short s (blocks (κ .size) (drop i l))
+      unfolding walked
+      walked-turn = ap (λ (w : States). walked κ d 0 short w (blocks (κ .size) (drop e l))) next ∙ sym (ap (walked κ d first short s) (blocks-turn (κ .size) pos l i e h q))
+
+      pub covered-turn : (x : List ℕ) → x ≡ hidden κ k s block → x ++ covered κ d 0 short r (blocks (κ .size) (drop e l)) ≡ covered κ d first short s (blocks (κ .size) (drop i l))
+      unfolding covered
+      covered-turn x ex =
+          ap₂ (λ (y : List ℕ) (w : States). y ++ covered κ d 0 short w (blocks (κ .size) (drop e l))) (ex ∙ ap (λ (m : ℕ). hidden κ m s block) (sym ek)) next
+          ∙ sym (ap (covered κ d first short s) (blocks-turn (κ .size) pos l i e h q))
+
+  -- behind the last block nothing is left
+  module _ (pos : 0 < κ .size) (d : Bool) (first short : ℕ) (s : States) (l : List ℕ) (e : ℕ) (h : length l ≤ e) where
+    nil : blocks (κ .size) (drop e l) ≡ []
+    nil = ap (blocks (κ .size)) (drop-of-length-le l {i = e} h) ∙ blocks-nil (κ .size) pos
+
+    pub walked-done : walked κ d first short s (blocks (κ .size) (drop e l)) ≡ s
     unfolding walked
-    walked-turn = ap (walked κ d first short s) (blocks-turn (κ .size) pos l i e h q)
+    walked-done = ap (walked κ d first short s) nil
 
-    pub covered-turn : covered κ d first short s (blocks (κ .size) (drop i l)) ≡ hidden κ (markOf κ first short block) s block ++ covered κ d 0 short next (blocks (κ .size) (drop e l))
+    pub covered-done : covered κ d first short s (blocks (κ .size) (drop e l)) ≡ []
     unfolding covered
-    covered-turn = ap (covered κ d first short s) (blocks-turn (κ .size) pos l i e h q)
+    covered-done = ap (covered κ d first short s) nil
 
   -- ---- states are blocks
 

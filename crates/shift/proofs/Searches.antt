@@ -1,18 +1,11 @@
 -- A search as a loop goes through it: one number more, or the outcome; and what an outcome says of every number passed.
-use Prim.Native.Nat.{ℕ, zero, suc, _+_, _-_, _^_, _≤_, _<_}
+use Prim.Native.Nat.{ℕ, zero, suc, _+_, _-_, _≤_, _<_}
 use native.Mathlib.Nat.{not-suc-le-zero, le-of-suc-le-suc, eq-or-lt-of-le}
 use native.Mathlib.Numerals.{add-one}
 use native.Mathlib.Omega.{arith}
-use mathlib.Core.Path.{_≡_, refl, sym, ap}
-use mathlib.Core.Bool.{Bool, true, false, _||_, _&&_, or-true, true≢false}
+use mathlib.Core.Path.{_≡_, refl}
+use mathlib.Core.Bool.{Bool, true, false, _||_, or-true, true≢false}
 use mathlib.Core.Logic.{_⊎_, inl, inr, ⊎-elim}
-use lib.Dec.{eqb}
-use borrow.Author.Tests.{eqb-true, eq-eqb}
-use Rattle.words.specs.Bytes.{sameBytes}
-use Rattle.words.specs.Blocks.{wide}
-use Rattle.words.proofs.Same.{and-true, same-refl, same-true}
-use Rattle.words.proofs.Blocks.{wide-told}
-use Rattle.words.specs.declared.block.Block.{Block}
 use Rattle.shift.specs.Search.{anyBelow, firstOf}
 
 -- ---- tests
@@ -20,12 +13,6 @@ use Rattle.shift.specs.Search.{anyBelow, firstOf}
 pub or-false : (a b : Bool) → a || b ≡ false → (a ≡ false) × (b ≡ false)
 or-false true b e = absurd (true≢false e)
 or-false false b e = (refl, e)
-
--- two tests that say the same
-pub test-iff : (a b : Bool) → (a ≡ true → b ≡ true) → (b ≡ true → a ≡ true) → a ≡ b
-test-iff true b f g = sym (f refl)
-test-iff false true f g = absurd (true≢false (sym (g refl)))
-test-iff false false f g = refl
 
 -- ---- some number below n
 
@@ -89,12 +76,3 @@ module _ {A : Type 0} (hit : ℕ → Bool) (what : ℕ → A) (rest : A) where
             gives = n .gives;
           }))
           (later (simp e at q))
-
--- two blocks have the same bytes where their two numbers are equal
-pub same-blocks : (x y : Block) → x .a < 2 ^ 64 → x .b < 2 ^ 64 → y .a < 2 ^ 64 → y .b < 2 ^ 64 → sameBytes (wide x) (wide y) ≡ eqb (x .a) (y .a) && eqb (x .b) (y .b)
-same-blocks x y xa xb ya yb =
-    test-iff _ _
-    (λ e. let q = wide-told x y xa xb ya yb (same-true (wide x) (wide y) e) in simp (eq-eqb _ _ (ap (λ (z : Block). z .a) q), eq-eqb _ _ (ap (λ (z : Block). z .b) q)))
-    (λ e.
-    let b = and-true (eqb (x .a) (y .a)) (eqb (x .b) (y .b)) e in
-    simp (eqb-true (x .a) (y .a) (b .0), eqb-true (x .b) (y .b) (b .1), same-refl))

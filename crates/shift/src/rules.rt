@@ -7,13 +7,10 @@ use crate::row::get32;
 use crate::row::nonce_block;
 use crate::row::row_at;
 use crate::row::row_start;
-use words::block::Block;
 ghost use mathlib.Core.Path.{_≡_};
 ghost use mathlib.Core.Bool.{false};
 ghost use Prim.Native.Nat.{_+_, _≤_, _<_};
 ghost use lib.ListN.{length};
-ghost use Rattle.words.specs.Bytes.{sameBytes};
-ghost use Rattle.words.specs.Blocks.{wide};
 ghost use Rattle.shift.specs.Format.{rowAt};
 ghost use Rattle.shift.specs.Answers.{rowNumberOf};
 ghost use Rattle.shift.specs.Check.{notAbove, outside, badSuite, badLength, bodyStart, misplaced, clash, nonceSeen, badData, bodyNumber, rowNumber};
@@ -87,22 +84,12 @@ fn out_of_place(w: usize, f: &[u8], n: usize, i: usize) -> bool
     f.len() < body_end(row)
 }
 
-// The same sixteen bytes.
-fn same(x: Block, y: Block) -> bool
-    ensures { λ r. ⌜ r ≡ sameBytes (wide x) (wide y) ⌝ }
-{
-    if x.a != y.a {
-        return false;
-    }
-    x.b == y.b
-}
-
 // Rows i and j clash.
 fn clashes(w: usize, f: &[u8], n: usize, i: usize, j: usize) -> bool
     requires { ⌜ TableIn w (now f) n × ((i < n) × (j < n)) ⌝ }
     ensures { λ r. ⌜ r ≡ clash w (now (f .entry)) i j ⌝ }
 {
-    same(nonce_block(w, f, i), nonce_block(w, f, j))
+    words::block::same(nonce_block(w, f, i), nonce_block(w, f, j))
 }
 
 // 29: the row clashes with an earlier one.

@@ -6,12 +6,17 @@ use Prim.Native.Nat.{ℕ, _+_, _-_, _^_, _<_}
 use native.Mathlib.Omega.{arith}
 use lib.ListN.{length, take, drop, drop-of-length-le, length-append, length-drop}
 use lib.Seq.{take-at, drop-at}
+use lib.Bits.{bitOr}
+use lib.Dec.{eqb}
+use borrow.Author.Tests.{eqb-true}
 use Rattle.words.specs.Words.{xor}
-use Rattle.words.specs.Bytes.{AllBytes, bytes}
+use Rattle.words.specs.Bytes.{AllBytes, bytes, sameBytes}
 use Rattle.words.specs.Xors.{xors}
 use Rattle.words.specs.declared.block.Block.{Block}
 use Rattle.words.specs.Blocks.{wide}
 use Rattle.words.proofs.Lists.{all-append}
+use Rattle.words.proofs.Xor.{self, none-gathered}
+use Rattle.words.proofs.Same.{same-refl, same-true, test-iff}
 use Rattle.words.proofs.Bytes.{length-bytes, all-bytes, bytes-inj}
 use Rattle.words.proofs.Xors.{bytes-xor, xors-append}
 
@@ -53,3 +58,16 @@ wide-told x y xa xb ya yb e =
     let p : x .a ≡ y .a = bytes-inj 8 xa ya (sym (first-eight (x .a) (x .b)) ∙ ap (take 8) e ∙ first-eight (y .a) (y .b)) in
     let q : x .b ≡ y .b = bytes-inj 8 xb yb (sym (last-eight (x .a) (x .b)) ∙ ap (drop 8) e ∙ last-eight (y .a) (y .b)) in
     ap₂ (λ (c d : ℕ). record { a = c; b = d }) p q
+
+-- two blocks are the same where their differences, gathered, are none
+pub same-gathered : (x y : Block) → x .a < 2 ^ 64 → x .b < 2 ^ 64 → y .a < 2 ^ 64 → y .b < 2 ^ 64
+    → eqb (bitOr (xor (x .a) (y .a)) (xor (x .b) (y .b))) 0 ≡ sameBytes (wide x) (wide y)
+same-gathered x y xa xb ya yb =
+    test-iff _ _
+    (λ e.
+    let q = none-gathered (x .a) (x .b) (y .a) (y .b) (eqb-true _ 0 e) in
+    ap₂ (λ (a b : ℕ). sameBytes (bytes 8 a ++ bytes 8 b) (wide y)) (q .0) (q .1) ∙ same-refl (wide y))
+    (λ e.
+    let q = wide-told x y xa xb ya yb (same-true (wide x) (wide y) e) in
+    ap (λ (z : Block). eqb (bitOr (xor (z .a) (y .a)) (xor (z .b) (y .b))) 0) q
+    ∙ ap₂ (λ (a b : ℕ). eqb (bitOr a b) 0) (self (y .a)) (self (y .b)))

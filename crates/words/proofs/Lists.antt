@@ -99,3 +99,7 @@ append-inj p q s t n e = (
   sym (take-append-seam p q) ∙ ap (take (length p)) e ∙ take-at s t (length p) (sym n),
   sym (drop-append-seam p q) ∙ ap (drop (length p)) e ∙ drop-at s t (length p) (sym n),
 )
+
+-- a list is told by its first part and the rest
+pub parts-told : (n : ℕ) (s t : List ℕ) → take n s ≡ take n t → drop n s ≡ drop n t → s ≡ t
+parts-told n s t p q = sym (take-append-drop n s) ∙ ap₂ (λ (l m : List ℕ). l ++ m) p q ∙ take-append-drop n t

@@ -26,6 +26,8 @@ use Rattle.words.proofs.arx.store4_32.Kinds as store4-32-kinds
 use Rattle.words.proofs.arx.store4_32.Reads as store4-32-reads
 use Rattle.words.proofs.block.xor.Kinds as xor-kinds
 use Rattle.words.proofs.block.xor.Reads as xor-reads
+use Rattle.words.proofs.block.same.Kinds as same-kinds
+use Rattle.words.proofs.block.same.Reads as same-reads
 use Rattle.words.proofs.block.bytes_of.Kinds as bytes-of-kinds
 use Rattle.words.proofs.block.bytes_of.Reads as bytes-of-reads
 use Rattle.words.proofs.block.block_of.Kinds as block-of-kinds
@@ -44,6 +46,8 @@ use Rattle.words.proofs.block.filled.Kinds as filled-kinds
 use Rattle.words.proofs.block.filled.Reads as filled-reads
 use Rattle.words.proofs.block.put.Kinds as put-kinds
 use Rattle.words.proofs.block.put.Reads as put-reads
+use Rattle.words.proofs.zeros.wipe.Kinds as wipe-kinds
+use Rattle.words.proofs.zeros.wipe.Reads as wipe-reads
 
 pub add16 : OneOutcome add16-kinds.ps add16-kinds.r add16-reads.Pre add16-reads.Post
 add16 κs a h x y = (x .ensures ∙ sym (y .ensures), refl)
@@ -75,6 +79,9 @@ store4-32 κs a h x y = (x .ensures ∙ sym (y .ensures), refl)
 pub xor : OneOutcome xor-kinds.ps xor-kinds.r xor-reads.Pre xor-reads.Post
 xor κs a h x y = (wide-told (x .result) (y .result) (omega arith) (omega arith) (omega arith) (omega arith) (x .ensures ∙ sym (y .ensures)), refl)
 
+pub same : OneOutcome same-kinds.ps same-kinds.r same-reads.Pre same-reads.Post
+same κs a h x y = (x .ensures ∙ sym (y .ensures), refl)
+
 pub bytes-of : OneOutcome bytes-of-kinds.ps bytes-of-kinds.r bytes-of-reads.Pre bytes-of-reads.Post
 bytes-of κs a h x y = (x .ensures ∙ sym (y .ensures), refl)
 
@@ -101,3 +108,6 @@ filled κs a h x y = (wide-told (x .result) (y .result) (omega arith) (omega ari
 
 pub put : OneOutcome put-kinds.ps put-kinds.r put-reads.Pre put-reads.Post
 put κs a h x y = (refl, ap (λ (l : List ℕ). (tt, (l, tt))) (x .ensures ∙ sym (y .ensures)))
+
+pub wipe : OneOutcome wipe-kinds.ps wipe-kinds.r wipe-reads.Pre wipe-reads.Post
+wipe κs a h x y = (refl, ap (λ (l : List ℕ). (l, tt)) (x .ensures ∙ sym (y .ensures)))

@@ -1,13 +1,12 @@
 -- Comparing all bytes tells whether two strings are equal.
-use mathlib.Core.Path.{_≡_, refl, ap₂}
+use mathlib.Core.Path.{_≡_, refl, sym, ap, ap₂}
 use mathlib.Core.Bool.{Bool, true, false, _&&_}
-use mathlib.Core.List.{List, [], _∷_}
-use Prim.Native.Nat.{ℕ, _+_, _<_}
-use native.Mathlib.Numerals.{add-one}
+use mathlib.Core.List.{List, [], _∷_, _++_}
+use Prim.Native.Nat.{ℕ}
+use native.Mathlib.Nat.{suc-inj, suc-ne-zero}
 use native.Mathlib.Omega.{arith}
 use lib.Dec.{eqb}
-use lib.ListN.{length, getD, drop}
-use lib.Seq.{drop-cons}
+use lib.ListN.{length}
 use borrow.Author.Tests.{eq-eqb, eqb-true}
 use Rattle.words.specs.Bytes.{sameBytes}
 
@@ -30,7 +29,15 @@ same-true (x ∷ s) (y ∷ t) e =
     let b = and-true (eqb x y) (sameBytes s t) e in
     ap₂ (λ (a : ℕ) (l : List ℕ). a ∷ l) (eqb-true x y (b .0)) (same-true s t (b .1))
 
--- one turn of a loop that compares: what is left from place i on
-pub same-turn : (x y : List ℕ) (i : ℕ) → i < length x → i < length y
-    → sameBytes (drop i x) (drop i y) ≡ eqb (getD x i 0) (getD y i 0) && sameBytes (drop (i + 1) x) (drop (i + 1) y)
-same-turn x y i hx hy = rw add-one (ap₂ sameBytes (drop-cons x i 0 hx) (drop-cons y i 0 hy))
+-- what stands behind both does not matter
+pub same-behind : (s t u : List ℕ) → length s ≡ length t → sameBytes (s ++ u) (t ++ u) ≡ sameBytes s t
+same-behind [] [] u e = same-refl u
+same-behind [] (y ∷ t) u e = absurd (suc-ne-zero (length t) (sym e))
+same-behind (x ∷ s) [] u e = absurd (suc-ne-zero (length s) e)
+same-behind (x ∷ s) (y ∷ t) u e = ap (λ (b : Bool). eqb x y && b) (same-behind s t u (suc-inj e))
+
+-- two tests are one if each gives the other
+pub test-iff : (a b : Bool) → (a ≡ true → b ≡ true) → (b ≡ true → a ≡ true) → a ≡ b
+test-iff true b f g = sym (f refl)
+test-iff false true f g = absurd (no-truth (g refl))
+test-iff false false f g = refl

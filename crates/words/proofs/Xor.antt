@@ -3,7 +3,7 @@ use mathlib.Core.Path.{_≡_, refl, sym, ap, ap₂, _∙_}
 use Prim.Native.Nat.{ℕ, zero, suc, _+_, _*_, _/_, _%_, _^_, _<_}
 use native.Mathlib.Nat.{not-suc-le-zero, le-of-suc-le-suc}
 use native.Mathlib.Omega.{arith}
-use lib.Bits.{bitXor, differ, xor-step, xor-shr, xor-mod, xor-comm, xor-self, xor-zero-l, xor-zero-r, xor-lt}
+use lib.Bits.{bitXor, bitOr, and-le-l, and-le-r, or-add-and, xor-add-and, differ, xor-step, xor-shr, xor-mod, xor-comm, xor-self, xor-zero-l, xor-zero-r, xor-lt}
 use lib.Arith.{bin-ind}
 use Rattle.words.specs.Words.{xor}
 
@@ -49,6 +49,16 @@ comm = xor-comm
 pub self : (a : ℕ) → xor a a ≡ 0
 unfolding xor
 self = xor-self
+
+-- numbers whose differences, gathered, are none
+pub none-gathered : (a b c d : ℕ) → bitOr (xor a c) (xor b d) ≡ 0 → (a ≡ c) × (b ≡ d)
+unfolding xor
+none-gathered a b c d e =
+    let x = bitXor a c in
+    let y = bitXor b d in
+    let ex : x ≡ 0 = omega (arith, or-add-and x y, and-le-l x y, and-le-r x y) in
+    let ey : y ≡ 0 = omega (arith, or-add-and x y, and-le-l x y, and-le-r x y) in
+    (omega (arith, xor-add-and a c, and-le-l a c, and-le-r a c), omega (arith, xor-add-and b d, and-le-l b d, and-le-r b d))
 
 pub zero-l : (a : ℕ) → xor 0 a ≡ a
 unfolding xor

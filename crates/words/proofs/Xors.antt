@@ -3,11 +3,11 @@ use mathlib.Core.Path.{_≡_, refl, sym, ap, ap₂, _∙_}
 use mathlib.Core.List.{List, [], _∷_, _++_}
 use Prim.Native.Nat.{ℕ, zero, suc, _/_, _%_, _≤_, _<_}
 use native.Mathlib.Nat.{le-of-suc-le-suc, not-suc-le-zero, suc-inj, suc-ne-zero}
-use lib.ListN.{length, getD, take}
+use lib.ListN.{length, getD, take, drop, replicate}
 use Rattle.words.specs.Words.{xor}
 use Rattle.words.specs.Bytes.{AllBytes, bytes}
 use Rattle.words.specs.Xors.{xors}
-use Rattle.words.proofs.Xor.{assoc, comm, twice, below, low, high}
+use Rattle.words.proofs.Xor.{assoc, comm, self, twice, below, low, high}
 use Rattle.words.proofs.Lists.{all-tail}
 
 pub length-xors : (s t : List ℕ) → length s ≤ length t → length (xors s t) ≡ length s
@@ -51,6 +51,18 @@ take-xors zero s t = refl
 take-xors (suc n) [] t = refl
 take-xors (suc n) (a ∷ s) [] = refl
 take-xors (suc n) (a ∷ s) (b ∷ t) = ap (λ (r : List ℕ). xor a b ∷ r) (take-xors n s t)
+
+pub drop-xors : (n : ℕ) (s t : List ℕ) → length s ≡ length t → drop n (xors s t) ≡ xors (drop n s) (drop n t)
+drop-xors zero s t e = refl
+drop-xors (suc n) [] [] e = refl
+drop-xors (suc n) [] (b ∷ t) e = absurd (suc-ne-zero (length t) (sym e))
+drop-xors (suc n) (a ∷ s) [] e = absurd (suc-ne-zero (length s) e)
+drop-xors (suc n) (a ∷ s) (b ∷ t) e = drop-xors n s t (suc-inj e)
+
+-- zeros XOR zeros
+pub xors-zeros : (n : ℕ) → xors (replicate n 0) (replicate n 0) ≡ replicate n 0
+xors-zeros zero = refl
+xors-zeros (suc n) = ap₂ (λ (x : ℕ) (r : List ℕ). x ∷ r) (self 0) (xors-zeros n)
 
 -- what is past the end of the first does not count
 pub xors-take : (s t : List ℕ) (n : ℕ) → length s ≤ n → xors s (take n t) ≡ xors s t

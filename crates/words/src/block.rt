@@ -4,7 +4,7 @@ ghost use mathlib.Core.List.{[], _∷_, _++_};
 ghost use mathlib.Core.Logic.{_⊎_};
 ghost use Prim.Native.Nat.{_-_, _≤_};
 ghost use lib.ListN.{length, take, replicate};
-ghost use Rattle.words.specs.Bytes.{value, bytes};
+ghost use Rattle.words.specs.Bytes.{value, bytes, sameBytes};
 ghost use Rattle.words.specs.Xors.{xors};
 ghost use Rattle.words.specs.Blocks.{wide};
 
@@ -22,6 +22,13 @@ pub fn xor(x: Block, y: Block) -> Block
         a: x.a ^ y.a,
         b: x.b ^ y.b,
     }
+}
+
+// Whether two blocks are the same: their differences gathered, and one test.
+pub fn same(x: Block, y: Block) -> bool
+    ensures { λ r. ⌜ r ≡ sameBytes (wide x) (wide y) ⌝ }
+{
+    ((x.a ^ y.a) | (x.b ^ y.b)) == 0
 }
 
 // Eight bytes as a number.

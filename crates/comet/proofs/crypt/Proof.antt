@@ -1,17 +1,17 @@
--- `comet::crypt` meets its contract: the chain is walked from the start to the tag, and every call takes its marks off the front.
+-- `comet::crypt` meets its contract: the states are walked from the start to the tag, and the walk is the chain.
 use borrow.Author.Needs.{needs}
 use denote.Ref.{now}
-use lib.ListN.{length}
-use mathlib.Core.List.{List, [], _∷_}
+use mathlib.Core.Bool.{false}
 use mathlib.Core.Path.{_≡_, sym, ap, _∙_}
-use Prim.Native.Nat.{ℕ, _-_}
+use Prim.Native.Nat.{_-_}
 use Rattle.cipher.specs.Cipher.{sizeOf, cipherOf}
+use Rattle.cipher.proofs.Lawful.{lawful}
 use Rattle.mode.specs.Blocks.{blocks}
-use Rattle.mode.specs.Keys.{marks, keys}
-use Rattle.mode.specs.Mode.{Chain, start, image, absorb, after, crypted, afterData, textOut, tagOut}
+use Rattle.mode.specs.Walk.{States, walked, covered, tagged, dataDone}
+use Rattle.mode.proofs.Chain.{some}
+use Rattle.mode.proofs.Walk.{text-walk, tag-walk}
+use Rattle.step.specs.Two.{twoOf}
 use Rattle.comet.specs.Answers.{opening}
-use Rattle.comet.specs.Chain.{chain}
-use Rattle.comet.proofs.Turns.{chain-path, marksFrom}
 use Rattle.comet.proofs.crypt.Statement.{statement}
 use Rattle.comet.proofs.crypt.Tie as tie
 
@@ -42,13 +42,11 @@ same-length : tie.Need-same-length
 same-length c = search needs
 
 returns : tie.Need-returns
-unfolding start afterData textOut tagOut marks
 returns c =
     let st = c .before .before .before .before .before .before .before .before .before .before .before .before .before .before .before .before .before in
     let suite = st .args .suite in
     let κ = cipherOf suite in
     let d = st .args .opening in
-    let n = sizeOf suite in
     let key = now (st .args .key) in
     let nonce = now (st .args .nonce) in
     let ad = now (st .args .ad) in
@@ -56,12 +54,13 @@ returns c =
     let begun = c .before .before .before .before .before .before .before .before .before .start in
     let read = c .before .before .before .before .before .before .before .absorb-all in
     let done = c .before .before .before .before .crypt-all in
-    let later = marksFrom n 0x20 0x40 (length text) (0x80 ∷ []) in
-    let e : afterData κ key nonce ad (length text) ≡ chain suite (read .result) later =
-    ap (λ (x : Chain). absorb κ x (blocks n ad)) (sym (chain-path (begun .ensures .0) (ap (λ (z : List ℕ). keys z (marks n (length ad) (length text))) (begun .ensures .1))))
-    ∙ read .ensures later in (
-      done .ensures .0 (0x80 ∷ []) ∙ ap (λ (x : Chain). crypted κ d x (blocks n text)) (sym e),
-      c .tag-of .ensures ∙ ap (image κ) (sym (done .ensures .1 (0x80 ∷ []))) ∙ ap (λ (x : Chain). image κ (after κ d x (blocks n text))) (sym e),
+    let pos = some κ (lawful suite) in
+    let e : twoOf suite (read .result) ≡ dataDone κ key nonce ad = read .ensures ∙ ap (λ (s : States). walked κ false 0x08 0x10 s (blocks (sizeOf suite) ad)) (begun .ensures .two) in (
+      done .ensures .0 ∙ ap (λ (s : States). covered κ d 0x20 0x40 s (blocks (sizeOf suite) text)) e ∙ sym (text-walk κ pos key nonce ad text d),
+      (
+        c .tag-of .ensures .0 ∙ ap (tagged κ) (done .ensures .1 ∙ ap (λ (s : States). walked κ d 0x20 0x40 s (blocks (sizeOf suite) text)) e) ∙ sym (tag-walk κ pos key nonce ad text d),
+        c .tag-of .ensures .1,
+      ),
     )
 
 pub crypt-spec : {M : Type 1} → statement M

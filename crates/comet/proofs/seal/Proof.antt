@@ -55,7 +55,7 @@ returns-2 c =
     let t = c .before .before .before .before .before .before .crypt in
     sealing-done (x .suite) (now (x .key)) (now (x .nonce)) (now (x .ad)) (now (x .msg)) (now (x .out)) (now (x .tag)) (numberOf a) (k .before .refused .ensures)
     (sym (place-is a) ∙ k .match .keys1) _ _ (t .ensures .0)
-    (c .before .before .put .ensures ∙ ap (λ (n : ℕ). take n (wide (t .result))) (ok k .tag) ∙ t .ensures .1)
+    (c .before .before .put .ensures ∙ ap (λ (n : ℕ). take n (wide (t .result))) (ok k .tag) ∙ t .ensures .1 .0)
 
 pub seal-spec : {M : Type 1} → statement M
 seal-spec =

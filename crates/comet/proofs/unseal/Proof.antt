@@ -1,7 +1,7 @@
 -- `comet::unseal` meets its contract: a refusal leaves the buffer, a wrong tag wipes it, and otherwise the text is the definition's.
 use borrow.Author.Needs.{needs}
 use denote.Ref.{now}
-use lib.ListN.{length, take, replicate}
+use lib.ListN.{length, take, drop, replicate}
 use mathlib.Core.Bool.{Bool, true, false}
 use mathlib.Core.List.{List}
 use mathlib.Core.Path.{_≡_, sym, ap, _∙_, subst}
@@ -10,7 +10,7 @@ use Prim.Native.Nat.{ℕ, _-_, _<_}
 use Rattle.words.specs.Blocks.{wide}
 use Rattle.words.specs.Bytes.{sameBytes}
 use Rattle.cipher.specs.Cipher.{cipherOf}
-use Rattle.cipher.proofs.Suites.{size-most}
+use Rattle.cipher.proofs.Suites.{full-two}
 use Rattle.mode.specs.Mode.{textOut, tagOut}
 use Rattle.comet.specs.Answers.{numberOf, Opened, openedAs, opening}
 use Rattle.comet.proofs.Refuse.{Passed, passed, place-is, one-of-pos, opening-kept, opening-done}
@@ -35,7 +35,7 @@ module _ (d : tie.After-same) where
   same-is : d .same .result ≡ sameBytes (tagOut (cipherOf (x .args .suite)) true (now (x .args .key)) (now (x .args .nonce)) (now (x .args .ad)) (now (x .args .text))) (now (x .args .tag))
   same-is =
       d .same .ensures
-      ∙ ap (λ (l : List ℕ). sameBytes l (now (x .args .tag))) (ap (λ (n : ℕ). take n (wide (d .before .before .before .crypt .result))) (ok k .tag) ∙ d .before .before .before .crypt .ensures .1)
+      ∙ ap (λ (l : List ℕ). sameBytes l (now (x .args .tag))) (ap (λ (n : ℕ). take n (wide (d .before .before .before .crypt .result))) (ok k .tag) ∙ d .before .before .before .crypt .ensures .1 .0)
 
   -- every length is right, and the comparison gave b
   done : (b : Bool) → d .same .result ≡ b
@@ -66,7 +66,12 @@ crypt-requires c κs =
 
 same-requires : tie.Need-same-requires
 same-requires c κs =
-    omega (arith, ok (c .before .before .before .before .before) .tag, size-most (c .before .before .before .before .before .before .before .before .before .before .before .before .before .args .suite))
+    let suite = c .before .before .before .before .before .before .before .before .before .before .before .before .before .args .suite in
+    let e = ok (c .before .before .before .before .before) .tag in
+    let t = c .before .before .crypt in (
+      full-two _ suite e,
+      ap (λ (n : ℕ). drop n (wide (t .result))) e ∙ t .ensures .1 .1 ∙ sym (ap (λ (n : ℕ). replicate (16 - n) 0) e),
+    )
 
 same-length : tie.Need-same-length
 same-length c = search needs

@@ -1,22 +1,21 @@
--- `comet::text::crypt_all` meets its contract: each turn takes one full block and its mark off what is left, and the last takes the short one.
+-- `comet::text::crypt_all` meets its contract: each turn takes one full block off what is left, and the last takes the short one.
 use borrow.Author.Needs.{needs}
 use borrow.Rule.Slice.PartMut.{postOf, same-len-mid}
 use denote.Ref.{now}
 use lib.ListN.{length, take, drop, length-drop, length-take}
-use mathlib.Core.Bool.{Bool}
-use mathlib.Core.List.{List, _∷_, _++_}
+use mathlib.Core.List.{List, _++_}
 use mathlib.Core.Path.{_≡_, refl, sym, ap, _∙_}
 use native.Mathlib.Nat.{le-of-eq}
 use native.Mathlib.Omega.{arith}
 use Prim.Native.Nat.{ℕ, _+_, _-_, _≤_, _<_}
 use Rattle.words.specs.Words.{xor}
-use Rattle.cipher.specs.Cipher.{Cipher, cipherOf}
+use Rattle.cipher.specs.Cipher.{sizeOf, cipherOf}
 use Rattle.mode.specs.Blocks.{blocks}
-use Rattle.mode.specs.Keys.{shortMark}
-use Rattle.mode.specs.Mode.{Chain, absorbed, masked, message, after, crypted}
+use Rattle.mode.specs.Walk.{markOf, walked, covered}
+use Rattle.mode.proofs.Walk.{mark-full, mark-short, walked-turn, covered-turn, walked-done, covered-done}
+use Rattle.step.specs.Two.{twoOf}
 use Rattle.comet.specs.Answers.{opening}
-use Rattle.comet.specs.Chain.{chain}
-use Rattle.comet.proofs.Turns.{marksFrom, mark-full, mark-short, after-turn, text-turn, after-done, text-done}
+use Rattle.comet.proofs.Turns.{text-turn, text-done}
 use Rattle.comet.proofs.text.crypt_all.Statement.{statement}
 use Rattle.comet.proofs.text.crypt_all.Tie as tie
 
@@ -24,24 +23,19 @@ abbrev Inv-loop : tie.InvT-loop
 Inv-loop tb opening suite text out₀ n t₀ m₀ i₀ out t m i =
     (i ≤ length text)
     × (length out ≡ length out₀)
-    × ((ms : List ℕ) → take i out ++ crypted (cipherOf suite) opening (chain suite t (marksFrom n m 0x40 (length (drop i text)) ms)) (blocks n (drop i text))
-    ≡ crypted (cipherOf suite) opening (chain suite t₀ (marksFrom n 0x20 0x40 (length text) ms)) (blocks n text))
-    × ((ms : List ℕ) → after (cipherOf suite) opening (chain suite t (marksFrom n m 0x40 (length (drop i text)) ms)) (blocks n (drop i text))
-    ≡ after (cipherOf suite) opening (chain suite t₀ (marksFrom n 0x20 0x40 (length text) ms)) (blocks n text))
+    × (take i out ++ covered (cipherOf suite) opening m 0x40 (twoOf suite t) (blocks (sizeOf suite) (drop i text))
+    ≡ covered (cipherOf suite) opening 0x20 0x40 (twoOf suite t₀) (blocks (sizeOf suite) text))
+    × (walked (cipherOf suite) opening m 0x40 (twoOf suite t) (blocks (sizeOf suite) (drop i text))
+    ≡ walked (cipherOf suite) opening 0x20 0x40 (twoOf suite t₀) (blocks (sizeOf suite) text))
 
 abbrev μ-loop : tie.MeasureT-loop
 μ-loop tb opening suite text out₀ n t₀ m₀ i₀ out t m i = length text - i
-
--- a step under the mark that the block's length gives, from one under the mark that was passed
-marked-step : (κ : Cipher) (d : Bool) (c s : List ℕ → Chain) (b : List ℕ) (k m : ℕ) → k ≡ m
-    → ((ms : List ℕ) → absorbed κ (c (m ∷ ms)) (message κ d (c (m ∷ ms)) b) ≡ s ms) → (ms : List ℕ) → absorbed κ (c (k ∷ ms)) (message κ d (c (k ∷ ms)) b) ≡ s ms
-marked-step κ d c s b k m e step ms = ap (λ (j : ℕ). absorbed κ (c (j ∷ ms)) (message κ d (c (j ∷ ms)) b)) e ∙ step ms
 
 size-of-requires : tie.Need-size-of-requires Inv-loop μ-loop
 size-of-requires c κs = search needs
 
 loop-holds : tie.Need-loop-holds Inv-loop μ-loop
-loop-holds c = (omega arith, refl, λ ms. refl, λ ms. refl)
+loop-holds c = (omega arith, refl, refl, refl)
 
 sub-loop : tie.Need-sub-loop Inv-loop μ-loop
 sub-loop c = omega arith
@@ -49,26 +43,26 @@ sub-loop c = omega arith
 add-end : tie.Need-add-end Inv-loop μ-loop
 add-end c = search needs
 
-sub-crypt-block : tie.Need-sub-crypt-block Inv-loop μ-loop
-sub-crypt-block c = search needs
+sub-crypt-full : tie.Need-sub-crypt-full Inv-loop μ-loop
+sub-crypt-full c = search needs
 
-part-crypt-block-start : tie.Need-part-crypt-block-start Inv-loop μ-loop
-part-crypt-block-start c = search needs
+part-crypt-full-start : tie.Need-part-crypt-full-start Inv-loop μ-loop
+part-crypt-full-start c = search needs
 
-part-crypt-block-end : tie.Need-part-crypt-block-end Inv-loop μ-loop
-part-crypt-block-end c = search needs
+part-crypt-full-end : tie.Need-part-crypt-full-end Inv-loop μ-loop
+part-crypt-full-end c = search needs
 
-sub-crypt-block-2 : tie.Need-sub-crypt-block-2 Inv-loop μ-loop
-sub-crypt-block-2 c = search needs
+sub-crypt-full-2 : tie.Need-sub-crypt-full-2 Inv-loop μ-loop
+sub-crypt-full-2 c = search needs
 
-part-crypt-block-start-2 : tie.Need-part-crypt-block-start-2 Inv-loop μ-loop
-part-crypt-block-start-2 c = search needs
+part-crypt-full-start-2 : tie.Need-part-crypt-full-start-2 Inv-loop μ-loop
+part-crypt-full-start-2 c = search needs
 
-part-crypt-block-end-2 : tie.Need-part-crypt-block-end-2 Inv-loop μ-loop
-part-crypt-block-end-2 c = search needs
+part-crypt-full-end-2 : tie.Need-part-crypt-full-end-2 Inv-loop μ-loop
+part-crypt-full-end-2 c = search needs
 
-crypt-block-requires : tie.Need-crypt-block-requires Inv-loop μ-loop
-crypt-block-requires c κs =
+crypt-full-requires : tie.Need-crypt-full-requires Inv-loop μ-loop
+crypt-full-requires c κs =
     let st = c .before .before .before .before .before .before .before in
     let at = c .before .before .before .loop in
     let size = c .before .before .before .before .size-of in
@@ -88,51 +82,56 @@ loop-again : tie.Need-loop-again Inv-loop μ-loop
 loop-again c =
     let st = c .before .before .before .before .before .before .before .before .before .before in
     let at = c .before .before .before .before .before .before .loop in
-    let call = c .before .before .crypt-block in
+    let call = c .before .before .crypt-full in
     let suite = st .args .suite in
     let κ = cipherOf suite in
     let d = st .args .opening in
     let text = now (st .args .text) in
     let size = c .before .before .before .before .before .before .before .size-of in
-    let n = size .result in
     let i = at .i in
-    let e = i + n in
+    let e = i + size .result in
     let out = at .out in
     let x = call .last .1 .1 .1 .1 .1 .1 .0 in
-    let b = take (e - i) (drop i text) in
-    let inside : i < length text = omega (arith, c .before .before .before .before .before .loop-test .taken, size .ensures .1 .0) in
+    let kept = call .kept .1 .1 .1 .1 .1 .1 .0 in
+    let en : size .result ≡ sizeOf suite = size .ensures .0 in
+    let pos : 0 < sizeOf suite = omega (arith, size .ensures .1 .0) in
+    let le : e ≤ length text = omega (arith, c .before .before .before .before .before .loop-test .taken) in
+    let inside : i < length text = omega arith in
     let lo : length out ≡ length text = at .inv .1 ∙ st .pre .2 in
-    let lx : length x ≡ e - i = call .kept .1 .1 .1 .1 .1 .1 .0 ∙ omega (arith, lo, inside, c .before .before .before .before .before .loop-test .taken, length-take (e - i) (drop i out), length-drop i out) in
-    let em : xor (at .m) (shortMark n 0x40 (e - i)) ≡ at .m = mark-full n (at .m) 0x40 (e - i) (omega arith) in
-    let step = marked-step κ d (chain suite (at .t)) (chain suite (call .result)) b _ _ em (call .ensures .1) in (
+    let lx : length x ≡ e - i = kept ∙ omega (arith, length-take (e - i) (drop i out), length-drop i out) in
+    let S = twoOf suite (at .t) in
+    let r = twoOf suite (call .result) in
+    let lb : length (take (e - i) (drop i text)) ≡ sizeOf suite = omega (arith, length-take (e - i) (drop i text), length-drop i text) in
+    let em = mark-full (sizeOf suite) (at .m) 0x40 (length (take (e - i) (drop i text))) lb in (
       omega arith,
-      same-len-mid i (e - i) out x (call .kept .1 .1 .1 .1 .1 .1 .0) ∙ at .inv .1,
-      λ ms. text-turn κ n (at .m) 0x40 (size .ensures .1 .0) text i e inside (omega arith) (chain suite (at .t)) (chain suite (call .result)) d step
-          out x (postOf i (e - i) out) _ ms lo lx
-          (call .ensures .0 _ ∙ ap (λ (m : ℕ). masked κ (chain suite (at .t) (m ∷ marksFrom n 0 0x40 (length (drop e text)) ms)) b) (sym em)) (at .inv .2 ms),
-      λ ms. after-turn κ n (at .m) 0x40 (size .ensures .1 .0) text i e inside (omega arith) (chain suite (at .t)) (chain suite (call .result)) d step ms ∙ at .inv .3 ms,
+      same-len-mid i (e - i) out x kept ∙ at .inv .1,
+      text-turn out x (postOf i (e - i) out) _ i e (omega arith) (omega arith) lx
+          ∙ ap (λ (l : List ℕ). take i out ++ l)
+          (covered-turn κ pos d (at .m) 0x40 S text i e inside (omega arith) (at .m) em r (call .ensures .1 .two) x (call .ensures .0))
+          ∙ at .inv .2,
+      walked-turn κ pos d (at .m) 0x40 S text i e inside (omega arith) (at .m) em r (call .ensures .1 .two) ∙ at .inv .3,
     )
 
-sub-crypt-last : tie.Need-sub-crypt-last Inv-loop μ-loop
-sub-crypt-last c = search needs
+sub-crypt-short : tie.Need-sub-crypt-short Inv-loop μ-loop
+sub-crypt-short c = search needs
 
-part-crypt-last-start : tie.Need-part-crypt-last-start Inv-loop μ-loop
-part-crypt-last-start c = search needs
+part-crypt-short-start : tie.Need-part-crypt-short-start Inv-loop μ-loop
+part-crypt-short-start c = search needs
 
-part-crypt-last-end : tie.Need-part-crypt-last-end Inv-loop μ-loop
-part-crypt-last-end c = search needs
+part-crypt-short-end : tie.Need-part-crypt-short-end Inv-loop μ-loop
+part-crypt-short-end c = search needs
 
-sub-crypt-last-2 : tie.Need-sub-crypt-last-2 Inv-loop μ-loop
-sub-crypt-last-2 c = search needs
+sub-crypt-short-2 : tie.Need-sub-crypt-short-2 Inv-loop μ-loop
+sub-crypt-short-2 c = search needs
 
-part-crypt-last-start-2 : tie.Need-part-crypt-last-start-2 Inv-loop μ-loop
-part-crypt-last-start-2 c = search needs
+part-crypt-short-start-2 : tie.Need-part-crypt-short-start-2 Inv-loop μ-loop
+part-crypt-short-start-2 c = search needs
 
-part-crypt-last-end-2 : tie.Need-part-crypt-last-end-2 Inv-loop μ-loop
-part-crypt-last-end-2 c = search needs
+part-crypt-short-end-2 : tie.Need-part-crypt-short-end-2 Inv-loop μ-loop
+part-crypt-short-end-2 c = search needs
 
-crypt-last-requires : tie.Need-crypt-last-requires Inv-loop μ-loop
-crypt-last-requires c κs =
+crypt-short-requires : tie.Need-crypt-short-requires Inv-loop μ-loop
+crypt-short-requires c κs =
     let st = c .before .before .before .before .before .before .before .before in
     let at = c .before .before .before .before .loop in
     let i = at .i in
@@ -147,7 +146,7 @@ crypt-last-requires c κs =
 same-length : tie.Need-same-length Inv-loop μ-loop
 same-length c =
     let at = c .before .before .before .before .before .before .before .loop in
-    let call = c .before .before .crypt-last in
+    let call = c .before .before .crypt-short in
     same-len-mid (at .i) (length (now (c .before .before .before .before .before .before .before .before .before .before .before .args .text)) - at .i) (at .out) (call .last .1 .1 .1 .1 .1 .1 .0) (call .kept .1 .1 .1 .1 .1 .1 .0) ∙ at .inv .1
 
 returns : tie.Need-returns Inv-loop μ-loop
@@ -155,35 +154,35 @@ unfolding xor
 returns c =
     let st = c .before .before .before .before .before .before .before .before .before .before .before in
     let at = c .before .before .before .before .before .before .before .loop in
-    let call = c .before .before .crypt-last in
+    let call = c .before .before .crypt-short in
     let suite = st .args .suite in
     let κ = cipherOf suite in
     let d = st .args .opening in
     let text = now (st .args .text) in
     let size = c .before .before .before .before .before .before .before .before .size-of in
-    let n = size .result in
-    let pos = size .ensures .1 .0 in
     let i = at .i in
     let e = length text in
     let out = at .out in
     let x = call .last .1 .1 .1 .1 .1 .1 .0 in
-    let b = take (e - i) (drop i text) in
+    let kept = call .kept .1 .1 .1 .1 .1 .1 .0 in
+    let en : size .result ≡ sizeOf suite = size .ensures .0 in
+    let pos : 0 < sizeOf suite = omega (arith, size .ensures .1 .0) in
     let inside : i < e = omega (arith, c .before .before .before .before .before .if1 .taken) in
     let lo : length out ≡ e = at .inv .1 ∙ st .pre .2 in
-    let lx : length x ≡ e - i = call .kept .1 .1 .1 .1 .1 .1 .0 ∙ omega (arith, lo, inside, length-take (e - i) (drop i out), length-drop i out) in
-    let em : xor (at .m) (shortMark n 0x40 (e - i)) ≡ xor (at .m) 0x40 = mark-short n (at .m) 0x40 (e - i) (omega arith) in
-    let C = chain suite (at .t) in
-    let S = chain suite (call .result) in
-    let step = marked-step κ d C S b _ _ em (call .ensures .1) in
-    let lw : length (take i out ++ (x ++ postOf i (e - i) out)) ≤ e = le-of-eq (same-len-mid i (e - i) out x (call .kept .1 .1 .1 .1 .1 .1 .0) ∙ lo) in (
-      λ ms. text-done κ n 0 0x40 pos text e (omega arith) S d _ _ ms lw
-          (text-turn κ n (at .m) 0x40 pos text i e inside (omega arith) C S d step out x (postOf i (e - i) out) _ ms lo lx
-          (call .ensures .0 _ ∙ ap (λ (m : ℕ). masked κ (C (m ∷ marksFrom n 0 0x40 (length (drop e text)) ms)) b) (sym em)) (at .inv .2 ms))
-          ∙ ap (λ (k : ℕ). crypted κ d (chain suite (st .args .s) (marksFrom k 0x20 0x40 (length text) ms)) (blocks k text)) (size .ensures .0),
-      λ ms. ap (λ (k : ℕ). after κ d (chain suite (st .args .s) (marksFrom k 0x20 0x40 (length text) ms)) (blocks k text)) (sym (size .ensures .0))
-          ∙ sym (at .inv .3 ms)
-          ∙ sym (after-turn κ n (at .m) 0x40 pos text i e inside (omega arith) C S d step ms)
-          ∙ after-done κ n 0 0x40 pos text e (omega arith) S d ms,
+    let lx : length x ≡ e - i = kept ∙ omega (arith, length-take (e - i) (drop i out), length-drop i out) in
+    let S = twoOf suite (at .t) in
+    let r = twoOf suite (call .result) in
+    let lb : length (take (e - i) (drop i text)) < sizeOf suite = omega (arith, length-take (e - i) (drop i text)) in
+    let em = mark-short (sizeOf suite) (at .m) 0x40 (length (take (e - i) (drop i text))) lb in
+    let lw : length (take i out ++ (x ++ postOf i (e - i) out)) ≤ e = le-of-eq (same-len-mid i (e - i) out x kept ∙ lo) in (
+      text-done _ (covered κ d 0 0x40 r (blocks (sizeOf suite) (drop e text))) _ e lw (covered-done κ pos d 0 0x40 r text e (omega arith))
+          (text-turn out x (postOf i (e - i) out) _ i e (omega arith) (omega arith) lx
+          ∙ ap (λ (l : List ℕ). take i out ++ l)
+          (covered-turn κ pos d (at .m) 0x40 S text i e inside (omega arith) (xor (at .m) 0x40) em r (call .ensures .1 .two) x (call .ensures .0))
+          ∙ at .inv .2),
+      sym (walked-done κ pos d 0 0x40 r text e (omega arith))
+          ∙ walked-turn κ pos d (at .m) 0x40 S text i e inside (omega arith) (xor (at .m) 0x40) em r (call .ensures .1 .two)
+          ∙ at .inv .3,
     )
 
 same-length-2 : tie.Need-same-length-2 Inv-loop μ-loop
@@ -198,16 +197,12 @@ returns-2 c =
     let d = st .args .opening in
     let text = now (st .args .text) in
     let size = c .before .before .before .size-of in
-    let n = size .result in
-    let pos = size .ensures .1 .0 in
-    let S = chain suite (at .t) in
+    let pos : 0 < sizeOf suite = omega (arith, size .ensures .0, size .ensures .1 .0) in
+    let S = twoOf suite (at .t) in
     let end : length text ≤ at .i = omega arith in
     let lo : length (at .out) ≤ at .i = omega (arith, at .inv .1, st .pre .2, end) in (
-      λ ms. text-done κ n (at .m) 0x40 pos text (at .i) end S d _ _ ms lo (at .inv .2 ms)
-          ∙ ap (λ (k : ℕ). crypted κ d (chain suite (st .args .s) (marksFrom k 0x20 0x40 (length text) ms)) (blocks k text)) (size .ensures .0),
-      λ ms. ap (λ (k : ℕ). after κ d (chain suite (st .args .s) (marksFrom k 0x20 0x40 (length text) ms)) (blocks k text)) (sym (size .ensures .0))
-          ∙ sym (at .inv .3 ms)
-          ∙ after-done κ n (at .m) 0x40 pos text (at .i) end S d ms,
+      text-done (at .out) (covered κ d (at .m) 0x40 S (blocks (sizeOf suite) (drop (at .i) text))) _ (at .i) lo (covered-done κ pos d (at .m) 0x40 S text (at .i) end) (at .inv .2),
+      sym (walked-done κ pos d (at .m) 0x40 S text (at .i) end) ∙ at .inv .3,
     )
 
 pub crypt-all-spec : {M : Type 1} → statement M
@@ -220,22 +215,22 @@ crypt-all-spec =
     loop-holds
     sub-loop
     add-end
-    sub-crypt-block
-    part-crypt-block-start
-    part-crypt-block-end
-    sub-crypt-block-2
-    part-crypt-block-start-2
-    part-crypt-block-end-2
-    crypt-block-requires
+    sub-crypt-full
+    part-crypt-full-start
+    part-crypt-full-end
+    sub-crypt-full-2
+    part-crypt-full-start-2
+    part-crypt-full-end-2
+    crypt-full-requires
     loop-less
     loop-again
-    sub-crypt-last
-    part-crypt-last-start
-    part-crypt-last-end
-    sub-crypt-last-2
-    part-crypt-last-start-2
-    part-crypt-last-end-2
-    crypt-last-requires
+    sub-crypt-short
+    part-crypt-short-start
+    part-crypt-short-end
+    sub-crypt-short-2
+    part-crypt-short-start-2
+    part-crypt-short-end-2
+    crypt-short-requires
     same-length
     returns
     same-length-2

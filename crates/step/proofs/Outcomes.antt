@@ -1,0 +1,73 @@
+-- Every public function of `step` leaves one outcome: the two states and the zeros beside them tell the code's state.
+use mathlib.Core.Path.{_≡_, refl, sym, ap, ap₂, _∙_}
+use mathlib.Core.List.{List}
+use Prim.Native.Nat.{ℕ, _^_, _<_}
+use native.Mathlib.Omega.{arith}
+use Rattle.words.specs.Outcome.{OneOutcome}
+use Rattle.words.specs.declared.block.Block.{Block}
+use Rattle.words.specs.Blocks.{wide}
+use Rattle.words.proofs.Lists.{parts-told}
+use Rattle.words.proofs.Blocks.{wide-told}
+use Rattle.cipher.specs.Cipher.{sizeOf}
+use Rattle.mode.specs.Walk.{States}
+use Rattle.step.specs.declared.state.State.{State}
+use Rattle.step.specs.Two.{Holds}
+use Rattle.step.proofs.state.start.Kinds as start-kinds
+use Rattle.step.proofs.state.start.Reads as start-reads
+use Rattle.step.proofs.block.absorb_full.Kinds as absorb-full-kinds
+use Rattle.step.proofs.block.absorb_full.Reads as absorb-full-reads
+use Rattle.step.proofs.block.absorb_short.Kinds as absorb-short-kinds
+use Rattle.step.proofs.block.absorb_short.Reads as absorb-short-reads
+use Rattle.step.proofs.block.crypt_full.Kinds as crypt-full-kinds
+use Rattle.step.proofs.block.crypt_full.Reads as crypt-full-reads
+use Rattle.step.proofs.block.crypt_short.Kinds as crypt-short-kinds
+use Rattle.step.proofs.block.crypt_short.Reads as crypt-short-reads
+use Rattle.step.proofs.tag.tag_of.Kinds as tag-of-kinds
+use Rattle.step.proofs.tag.tag_of.Reads as tag-of-reads
+use Rattle.step.proofs.tag.same.Kinds as same-kinds
+use Rattle.step.proofs.tag.same.Reads as same-reads
+
+-- both blocks of a state are numbers of 64 bits
+record Small (s : State) : Type 0 where
+  ya : s .y .a < 2 ^ 64
+  yb : s .y .b < 2 ^ 64
+  za : s .z .a < 2 ^ 64
+  zb : s .z .b < 2 ^ 64
+
+held-told : (suite : ℕ) (r q : State) (t : States) → Small r → Small q → Holds suite r t → Holds suite q t → r ≡ q
+held-told suite r q t a b h k =
+    let e = h .two ∙ sym (k .two) in
+    ap₂ (λ (x y : Block). record { y = x; z = y })
+    (wide-told (r .y) (q .y) (a .ya) (a .yb) (b .ya) (b .yb) (parts-told (sizeOf suite) (wide (r .y)) (wide (q .y)) (ap (λ (w : States). w .Y) e) (h .clean ∙ sym (k .clean))))
+    (wide-told (r .z) (q .z) (a .za) (a .zb) (b .za) (b .zb) (ap (λ (w : States). w .Z) e))
+
+pub start : OneOutcome start-kinds.ps start-kinds.r start-reads.Pre start-reads.Post
+start κs a h x y = (held-told _ (x .result) (y .result) _ (omega arith) (omega arith) (x .ensures) (y .ensures), refl)
+
+pub absorb-full : OneOutcome absorb-full-kinds.ps absorb-full-kinds.r absorb-full-reads.Pre absorb-full-reads.Post
+absorb-full κs a h x y = (held-told _ (x .result) (y .result) _ (omega arith) (omega arith) (x .ensures) (y .ensures), refl)
+
+pub absorb-short : OneOutcome absorb-short-kinds.ps absorb-short-kinds.r absorb-short-reads.Pre absorb-short-reads.Post
+absorb-short κs a h x y = (held-told _ (x .result) (y .result) _ (omega arith) (omega arith) (x .ensures) (y .ensures), refl)
+
+pub crypt-full : OneOutcome crypt-full-kinds.ps crypt-full-kinds.r crypt-full-reads.Pre crypt-full-reads.Post
+crypt-full κs a h x y = (
+  held-told _ (x .result) (y .result) _ (omega arith) (omega arith) (x .ensures .1) (y .ensures .1),
+  ap (λ (l : List ℕ). (tt, (tt, (tt, (tt, (tt, (tt, (l, tt)))))))) (x .ensures .0 ∙ sym (y .ensures .0)),
+)
+
+pub crypt-short : OneOutcome crypt-short-kinds.ps crypt-short-kinds.r crypt-short-reads.Pre crypt-short-reads.Post
+crypt-short κs a h x y = (
+  held-told _ (x .result) (y .result) _ (omega arith) (omega arith) (x .ensures .1) (y .ensures .1),
+  ap (λ (l : List ℕ). (tt, (tt, (tt, (tt, (tt, (tt, (l, tt)))))))) (x .ensures .0 ∙ sym (y .ensures .0)),
+)
+
+pub tag-of : OneOutcome tag-of-kinds.ps tag-of-kinds.r tag-of-reads.Pre tag-of-reads.Post
+tag-of κs a h x y = (
+  wide-told (x .result) (y .result) (omega arith) (omega arith) (omega arith) (omega arith)
+      (parts-told (sizeOf (a .1 .0)) (wide (x .result)) (wide (y .result)) (x .ensures .0 ∙ sym (y .ensures .0)) (x .ensures .1 ∙ sym (y .ensures .1))),
+  refl,
+)
+
+pub same : OneOutcome same-kinds.ps same-kinds.r same-reads.Pre same-reads.Post
+same κs a h x y = (x .ensures ∙ sym (y .ensures), refl)

@@ -1,0 +1,216 @@
+-- The mode's work on bytes, done on two numbers of 64 bits: mark, doubling, shuffle, padding and mask.
+use mathlib.Core.Path.{_≡_, refl, sym, ap, ap₂, _∙_}
+use Prim.Native.Nat.{ℕ, zero, suc, _+_, _-_, _*_, _/_, _%_, _^_, _≤_, _<_}
+use native.Mathlib.Nat.{le-of-suc-le-suc, not-suc-le-zero, le-of-eq}
+use native.Mathlib.Omega.{arith}
+use native.Mathlib.Decide.{decLe}
+use borrow.Author.Tests.{le-leb, lt-leb}
+use mathlib.Core.List.{List, [], _∷_, _++_, append-assoc, append-nil}
+use lib.ListN.{length, set, take, drop, replicate, length-append, length-drop, take-append-drop}
+use lib.Seq.{take-at, take-all, take-append-add, drop-append-add, drop-at, set-at, length-take-le}
+use Rattle.words.specs.Words.{xor, rotr}
+use Rattle.words.specs.Bytes.{value, bytes, word}
+use Rattle.words.specs.Xors.{xors}
+use Rattle.words.proofs.Xor.{zero-r}
+use Rattle.words.proofs.Lists.{part-take}
+use Rattle.words.proofs.Bytes.{length-bytes, value-bytes, value-low, bytes-join, bytes-mod, bytes-split}
+use Rattle.words.proofs.Xors.{bytes-xor, take-xors, xors-take, xors-append}
+use Rattle.mode.specs.Words.{double, Four, four, fourOf, bytesOf, shuffleWords, shuffle, pad}
+use Rattle.mode.specs.Keys.{marked, doubled}
+use Rattle.mode.proofs.Words.{pad-short, pad-full}
+
+-- ---- Z as two numbers
+
+-- the mark in the top byte of the high half
+pub mark-high : (a b m : ℕ) → m < 256 → bytes 8 a ++ bytes 8 (xor b (m * 0x100_0000_0000_0000)) ≡ marked m (bytes 8 a ++ bytes 8 b)
+unfolding marked bytes
+mark-high a b m h =
+    let e : m * 0x100_0000_0000_0000 ≡ 0 + 256 ^ 7 * m = omega arith in
+    let r : m % 256 ≡ m = omega arith in
+    ap (λ (l : List ℕ). bytes 8 a ++ l)
+    (bytes-xor 8 b (m * 0x100_0000_0000_0000)
+    ∙ ap (λ (v : ℕ). xors (bytes 8 b) (bytes 8 v)) e
+    ∙ ap (xors (bytes 8 b)) (bytes-join 7 1 0 m (omega arith))
+    ∙ simp (zero-r, r))
+
+-- a doubling: 0x1b comes in as often as a bit drops out, once or not at all
+pub double-is : (x : ℕ) → x < 2 ^ 64 → xor (x * 2 % 2 ^ 64) (x / 2 ^ 63 * 0x1b) ≡ double x
+unfolding double
+double-is x h =
+    elim (decLe (2 ^ 63) x) [
+      | yes k ↦
+          let e : x / 2 ^ 63 ≡ 1 = omega arith in
+          ap (λ (b : ℕ). xor (x * 2 % 2 ^ 64) (b * 0x1b)) e ∙ sym (simp (le-leb (2 ^ 63) x k))
+      | no k ↦
+          let e : x / 2 ^ 63 ≡ 0 = omega arith in
+          ap (λ (b : ℕ). xor (x * 2 % 2 ^ 64) (b * 0x1b)) e ∙ zero-r (x * 2 % 2 ^ 64) ∙ sym (simp (lt-leb (2 ^ 63) x (omega arith)))
+    ]
+
+-- the low half doubled
+pub double-low : (a b : ℕ) → a < 2 ^ 64 → bytes 8 (double a) ++ bytes 8 b ≡ doubled (bytes 8 a ++ bytes 8 b)
+unfolding doubled
+double-low a b h =
+    let t : take 8 (bytes 8 a ++ bytes 8 b) ≡ bytes 8 a = take-at (bytes 8 a) (bytes 8 b) 8 (length-bytes 8 a) in
+    let d : drop 8 (bytes 8 a ++ bytes 8 b) ≡ bytes 8 b = drop-at (bytes 8 a) (bytes 8 b) 8 (length-bytes 8 a) in
+    sym (ap₂ (λ (x y : List ℕ). bytes 8 (double (value x)) ++ y) t d ∙ ap (λ (v : ℕ). bytes 8 (double v) ++ bytes 8 b) (value-bytes 8 a h))
+
+-- ---- the shuffle, over the number w of bytes in a word
+
+-- four words given by their bytes
+four-lists : (w : ℕ) (P Q R S : List ℕ) → length P ≡ w → length Q ≡ w → length R ≡ w → length S ≡ w
+    → fourOf w ((P ++ Q) ++ (R ++ S)) ≡ four (value S) (value R) (value Q) (value P)
+four-lists w P Q R S lp lq lr ls =
+    let x : List ℕ = (P ++ Q) ++ (R ++ S) in
+    let lpq : length (P ++ Q) ≡ w + w = length-append P Q ∙ omega arith in
+    let lrs : length (R ++ S) ≡ w + w = length-append R S ∙ omega arith in
+    let lx : length x ≡ w + w + (w + w) = length-append (P ++ Q) (R ++ S) ∙ omega arith in
+    let lpqr : length ((P ++ Q) ++ R) ≡ 3 * w = length-append (P ++ Q) R ∙ omega arith in
+    let e0 : word w x 0 ≡ value P = ap value (part-take w x 0 (omega arith) ∙ ap (take w) (append-assoc P Q (R ++ S)) ∙ take-at P (Q ++ (R ++ S)) w lp) in
+    let e1 : word w x w ≡ value Q = ap value (part-take w x w (omega arith) ∙ ap (take w) (ap (drop w) (append-assoc P Q (R ++ S)) ∙ drop-at P (Q ++ (R ++ S)) w lp) ∙ take-at Q (R ++ S) w lq) in
+    let e2 : word w x (2 * w) ≡ value R = ap value (part-take w x (2 * w) (omega arith) ∙ ap (take w) (drop-at (P ++ Q) (R ++ S) (2 * w) (lpq ∙ omega arith)) ∙ take-at R S w lr) in
+    let e3 : word w x (3 * w) ≡ value S = ap value (part-take w x (3 * w) (omega arith) ∙ ap (take w) (ap (drop (3 * w)) (sym (append-assoc (P ++ Q) R S)) ∙ drop-at ((P ++ Q) ++ R) S (3 * w) lpqr) ∙ take-all w S (le-of-eq ls)) in
+    λ i. four (e3 i) (e2 i) (e1 i) (e0 i)
+
+-- the low bytes of a number, as a number and back
+again : (w x : ℕ) → bytes w (value (bytes w x)) ≡ bytes w x
+again w x = ap (bytes w) (value-low w x) ∙ bytes-mod w x
+
+-- the upper of two words first, then the lower one rotated
+abbrev pub turnedHalf : ℕ → ℕ → ℕ
+turnedHalf w q = q / 256 ^ w + 256 ^ w * rotr (8 * w) 1 (q % 256 ^ w)
+
+-- of two numbers of two words each
+pub shuffle-halves : (w n p q : ℕ) → n / 4 ≡ w → q / 256 ^ w < 256 ^ w
+    → bytes (w + w) (turnedHalf w q) ++ bytes (w + w) p ≡ shuffle n (bytes (w + w) p ++ bytes (w + w) q)
+unfolding shuffle
+shuffle-halves w n p q e h =
+    let p1 = p / 256 ^ w in
+    let q1 = q / 256 ^ w in
+    let P : List ℕ = bytes w p in
+    let Q : List ℕ = bytes w p1 in
+    let R : List ℕ = bytes w q in
+    let S : List ℕ = bytes w q1 in
+    let out : Four → List ℕ = λ x. bytesOf w (shuffleWords (8 * w) x) in
+    ap₂ (λ (x y : List ℕ). x ++ y) (bytes-join w w q1 (rotr (8 * w) 1 (q % 256 ^ w)) h) (bytes-split w w p)
+    ∙ sym (λ i. (again w q1 i ++ bytes w (rotr (8 * w) 1 (value-low w q i))) ++ (again w p i ++ again w p1 i))
+    ∙ sym (ap out (ap₂ (λ (x y : List ℕ). fourOf w (x ++ y)) (bytes-split w w p) (bytes-split w w q)
+    ∙ four-lists w P Q R S (length-bytes w p) (length-bytes w p1) (length-bytes w q) (length-bytes w q1)))
+    ∙ ap (λ (k : ℕ). bytesOf k (shuffleWords (8 * k) (fourOf k (bytes (w + w) p ++ bytes (w + w) q)))) (sym e)
+
+pub shuffle-16 : (a b : ℕ) → b < 2 ^ 64 → bytes 8 (turnedHalf 4 b) ++ bytes 8 a ≡ shuffle 16 (bytes 8 a ++ bytes 8 b)
+shuffle-16 a b h = shuffle-halves 4 16 a b refl (omega arith)
+
+pub shuffle-8 : (a : ℕ) → a < 2 ^ 64 → bytes 8 (turnedHalf 2 (a / 0x1_0000_0000) + 0x1_0000_0000 * (a % 0x1_0000_0000)) ≡ shuffle 8 (bytes 8 a)
+shuffle-8 a k =
+    let h = a / 0x1_0000_0000 in
+    bytes-join 4 4 (turnedHalf 2 h) (a % 0x1_0000_0000) (omega arith)
+    ∙ ap (λ (l : List ℕ). bytes 4 (turnedHalf 2 h) ++ l) (bytes-mod 4 a)
+    ∙ shuffle-halves 2 8 a h refl (omega arith)
+    ∙ ap (shuffle 8) (sym (bytes-split 4 4 a))
+
+low-fits : (h t : ℕ) → h < 0x1_0000_0000 → t < 0x1_0000 → h / 0x1_0000 + 0x1_0000 * t < 0x1_0000_0000
+low-fits h t p q = omega arith
+
+high-fits : (x y : ℕ) → x < 0x1_0000_0000 → y < 0x1_0000_0000 → x + 0x1_0000_0000 * y < 2 ^ 64
+high-fits x y p q = omega arith
+
+pub half-fits : (b t : ℕ) → b < 2 ^ 64 → t < 0x1_0000_0000 → b / 0x1_0000_0000 + 0x1_0000_0000 * t < 2 ^ 64
+half-fits b t h k = high-fits (b / 0x1_0000_0000) t (omega arith) k
+
+pub quarter-fits : (a t : ℕ) → a < 2 ^ 64 → t < 0x1_0000 → a / 0x1_0000_0000 / 0x1_0000 + 0x1_0000 * t < 2 ^ 64
+quarter-fits a t h k =
+    let p : a / 0x1_0000_0000 / 0x1_0000 + 0x1_0000 * t < 0x1_0000_0000 = low-fits (a / 0x1_0000_0000) t (omega arith) k in
+    omega (arith, p)
+
+pub join-fits : (a t : ℕ) → a < 2 ^ 64 → t < 0x1_0000 → a / 0x1_0000_0000 / 0x1_0000 + 0x1_0000 * t + 0x1_0000_0000 * (a % 0x1_0000_0000) < 2 ^ 64
+join-fits a t h k =
+    let p : a / 0x1_0000_0000 / 0x1_0000 + 0x1_0000 * t < 0x1_0000_0000 = low-fits (a / 0x1_0000_0000) t (omega arith) k in
+    high-fits (a / 0x1_0000_0000 / 0x1_0000 + 0x1_0000 * t) (a % 0x1_0000_0000) p (omega arith)
+
+-- ---- padding
+
+take-replicate : (j n a : ℕ) → j ≤ n → take j (replicate n a) ≡ replicate j a
+take-replicate zero n a h = refl
+take-replicate (suc j) zero a h = absurd (not-suc-le-zero h)
+take-replicate (suc j) (suc n) a h = ap (λ (r : List ℕ). a ∷ r) (take-replicate j n a (le-of-suc-le-suc h))
+
+-- the first n of b, 01 and some zeros
+short-zeros : (n j : ℕ) (b : List ℕ) → length b < n → n ≤ length b + suc j → take n (b ++ (1 ∷ replicate j 0)) ≡ b ++ (1 ∷ replicate (n - suc (length b)) 0)
+short-zeros n j b h k =
+    let e : n ≡ length b + suc (n - suc (length b)) = omega arith in
+    ap (λ (x : ℕ). take x (b ++ (1 ∷ replicate j 0))) e
+    ∙ take-append-add b (1 ∷ replicate j 0) (suc (n - suc (length b)))
+    ∙ ap (λ (r : List ℕ). b ++ (1 ∷ r)) (take-replicate (n - suc (length b)) j 0 (omega arith))
+
+-- b with zeros behind it, and 1 stored behind b
+pub pad-stored : (b r : List ℕ) → length b < 16 → r ≡ b ++ replicate (16 - length b) 0 → set r (length b) 1 ≡ pad 16 b
+pad-stored b r h q =
+    let e : 16 - length b ≡ suc (16 - suc (length b)) = omega arith in
+    ap (λ (l : List ℕ). set l (length b) 1) (q ∙ ap (λ (j : ℕ). b ++ replicate j 0) e)
+    ∙ set-at b 0 (replicate (16 - suc (length b)) 0) 1 (length b) refl
+    ∙ sym (pad-short 16 b h)
+
+-- the padding to n is the front of the padding to 16
+pub pad-cut : (n : ℕ) (b : List ℕ) → length b < n → n ≤ 16 → take n (pad 16 b) ≡ pad n b
+pad-cut n b h k = ap (take n) (pad-short 16 b (omega arith)) ∙ short-zeros n (16 - suc (length b)) b h (omega arith) ∙ sym (pad-short n b h)
+
+pub pad-kept : (n : ℕ) (b r : List ℕ) → length b ≡ n → r ≡ b ++ replicate (16 - length b) 0 → take n r ≡ pad n b
+pad-kept n b r e q = ap (take n) q ∙ take-at b (replicate (16 - length b) 0) n e ∙ sym (pad-full n b e)
+
+-- ---- zeros behind a block
+
+zeros : ℕ → List ℕ
+zeros n = replicate n 0
+
+drop-zeros : (j n : ℕ) → drop j (zeros n) ≡ zeros (n - j)
+unfolding zeros
+drop-zeros zero n = let e : n ≡ n - 0 = omega arith in ap zeros e
+drop-zeros (suc j) zero = let e : 0 ≡ 0 - suc j = omega arith in ap zeros e
+drop-zeros (suc j) (suc n) = let e : n - j ≡ suc n - suc j = omega arith in drop-zeros j n ∙ ap zeros e
+
+pub zeros-kept : (n : ℕ) (b r : List ℕ) → length b ≡ n → r ≡ b ++ replicate (16 - length b) 0 → drop n r ≡ replicate (16 - n) 0
+zeros-kept n b r e q = ap (drop n) q ∙ drop-at b (replicate (16 - length b) 0) n e ∙ ap (λ (k : ℕ). replicate (16 - k) 0) e
+
+pub zeros-cut : (n : ℕ) (b : List ℕ) → length b < n → n ≤ 16 → drop n (pad 16 b) ≡ replicate (16 - n) 0
+unfolding zeros
+zeros-cut n b h k =
+    let j = n - suc (length b) in
+    let e : n ≡ length b + suc j = omega arith in
+    let z : 16 - suc (length b) - j ≡ 16 - n = omega arith in
+    ap₂ drop e (pad-short 16 b (omega arith))
+    ∙ drop-append-add b (1 ∷ replicate (16 - suc (length b)) 0) (suc j)
+    ∙ drop-zeros j (16 - suc (length b))
+    ∙ ap zeros z
+
+-- ---- a full or nearly full block, and zeros behind it
+
+pub filled-full : (b r : List ℕ) → length b ≡ 16 → r ≡ b ++ replicate (16 - length b) 0 → r ≡ b
+filled-full b r e q =
+    let z : 16 - length b ≡ 0 = omega arith in
+    q ∙ ap (λ (k : ℕ). b ++ replicate k 0) z ∙ append-nil b
+
+pub filled-one : (b r : List ℕ) → length b ≡ 15 → r ≡ b ++ replicate (16 - length b) 0 → r ≡ b ++ (0 ∷ [])
+filled-one b r e q =
+    let z : 16 - length b ≡ 1 = omega arith in
+    q ∙ ap (λ (k : ℕ). b ++ replicate k 0) z
+
+xors-zero : (l : List ℕ) → length l ≡ 1 → xors l (0 ∷ []) ≡ l
+xors-zero [] e = absurd (native.Mathlib.Nat.suc-ne-zero 0 (sym e))
+xors-zero (a ∷ []) e = ap (λ (x : ℕ). x ∷ []) (zero-r a)
+xors-zero (a ∷ (b ∷ l)) e = absurd (native.Mathlib.Nat.suc-ne-zero (length l) (native.Mathlib.Nat.suc-inj e))
+
+-- a nonce of fifteen bytes leaves the key's last byte
+pub nonce-on-key : (k v : List ℕ) → length k ≡ 16 → length v ≡ 15 → xors k (v ++ (0 ∷ [])) ≡ xors (take 15 k) v ++ drop 15 k
+nonce-on-key k v lk lv =
+    let lt : length (take 15 k) ≡ 15 = length-take-le 15 k (omega arith) in
+    ap (λ (l : List ℕ). xors l (v ++ (0 ∷ []))) (sym (take-append-drop 15 k))
+    ∙ xors-append (take 15 k) (drop 15 k) v (0 ∷ []) (lt ∙ sym lv)
+    ∙ ap (λ (l : List ℕ). xors (take 15 k) v ++ l) (xors-zero (drop 15 k) (length-drop 15 k ∙ omega arith))
+
+-- ---- the mask: zeros behind the block do not matter
+
+pub mask-is : (b z h : List ℕ) (k : ℕ) → k ≡ length b → take k (xors (b ++ z) h) ≡ xors b h
+mask-is b z h k e =
+    take-xors k (b ++ z) h
+    ∙ ap (λ (x : List ℕ). xors x (take k h)) (take-at b z k (sym e))
+    ∙ xors-take b h k (le-of-eq (sym e))

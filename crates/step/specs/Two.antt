@@ -1,0 +1,26 @@
+-- The two states that the code's state holds.
+use mathlib.Core.Path.{_≡_}
+use Prim.Native.Nat.{ℕ, _-_}
+use lib.ListN.{take, drop, replicate}
+use Rattle.words.specs.declared.block.Block.{Block}
+use Rattle.words.specs.Blocks.{wide}
+use Rattle.cipher.specs.Cipher.{sizeOf, cipherOf}
+use Rattle.mode.specs.Walk.{States, blockZ, imageOf}
+use Rattle.step.specs.declared.state.State.{State}
+
+-- Y in the first bytes of y, as many as the suite's block has, and Z
+abbrev pub twoOf : ℕ → State → States
+twoOf suite s = record { Y = take (sizeOf suite) (wide (s .y)); Z = wide (s .z) }
+
+-- the bytes of a block that the suite does not use are zero
+abbrev pub Clean : ℕ → Block → Type 0
+Clean suite x = drop (sizeOf suite) (wide x) ≡ replicate (16 - sizeOf suite) 0
+
+-- the code's state holds these two states, and nothing else
+pub record Holds (suite : ℕ) (r : State) (t : States) : Type 0 where
+  pub two : twoOf suite r ≡ t
+  pub clean : Clean suite (r .y)
+
+-- X in the place of Y, and the Z that is kept, for a block under the mark m
+abbrev pub imaged : ℕ → ℕ → States → States
+imaged suite m s = record { Y = imageOf (cipherOf suite) m s; Z = blockZ m (s .Z) }

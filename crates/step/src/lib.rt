@@ -1,0 +1,7 @@
+// The block step of COMET version 1: the two states Y and Z, a block put in, what goes out for it, and the tag.
+pub mod block;
+mod key;
+mod pad;
+mod shuffle;
+pub mod state;
+pub mod tag;

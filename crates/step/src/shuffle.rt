@@ -1,0 +1,45 @@
+// The shuffle of a block, on its words.
+use words::arx::rotl16;
+use words::arx::rotl32;
+use words::block::Block;
+ghost use mathlib.Core.Path.{_≡_};
+ghost use lib.ListN.{take};
+ghost use Rattle.words.specs.Bytes.{bytes};
+ghost use Rattle.words.specs.Blocks.{wide};
+ghost use Rattle.cipher.specs.Cipher.{sizeOf};
+ghost use Rattle.mode.specs.Words.{shuffle};
+ghost use Rattle.step.specs.Two.{Clean};
+
+// On four words of 32 bits.
+fn shuffled16(x: Block) -> Block
+    ensures { λ r. ⌜ wide r ≡ shuffle 16 (wide x) ⌝ }
+{
+    let t = rotl32((x.b % 0x1_0000_0000) as u32, 31) as u64;
+    Block {
+        a: x.b / 0x1_0000_0000 + 0x1_0000_0000 * t,
+        b: x.a,
+    }
+}
+
+// On four words of 16 bits.
+fn shuffled8(x: u64) -> u64
+    ensures { λ r. ⌜ bytes 8 r ≡ shuffle 8 (bytes 8 x) ⌝ }
+{
+    let h = x / 0x1_0000_0000;
+    let t = rotl16((h % 0x1_0000) as u16, 15) as u64;
+    h / 0x1_0000 + 0x1_0000 * t + 0x1_0000_0000 * (x % 0x1_0000_0000)
+}
+
+// Of a block of the suite's size, and zeros behind it.
+pub(crate) fn shuffled(suite: u8, x: Block) -> Block
+    ensures is { λ r. ⌜ take (sizeOf suite) (wide r) ≡ shuffle (sizeOf suite) (take (sizeOf suite) (wide x)) ⌝ }
+    ensures clean { λ r. ⌜ Clean suite r ⌝ }
+{
+    if cipher::size_of(suite) == 16 {
+        return shuffled16(x);
+    }
+    Block {
+        a: shuffled8(x.a),
+        b: 0,
+    }
+}

@@ -1,0 +1,58 @@
+// The two states Y and Z: their start, the cipher's call, and a block put in.
+use cipher::Lent;
+use words::block::Block;
+ghost use mathlib.Core.Path.{_≡_};
+ghost use lib.ListN.{length};
+ghost use Rattle.words.specs.Xors.{xors};
+ghost use Rattle.words.specs.Blocks.{wide};
+ghost use Rattle.cipher.specs.Cipher.{Ready, IsSuite, nonceOf, cipherOf};
+ghost use Rattle.mode.specs.Walk.{origin};
+ghost use Rattle.step.specs.Two.{twoOf, Holds, imaged};
+
+// Y in the first bytes of y, as many as the suite's block has, and Z.
+pub struct State {
+    pub y: Block,
+    pub z: Block,
+}
+
+// The state that key and nonce start.
+pub fn start(tb: &Lent, suite: u8, key: &[u8], nonce: &[u8]) -> State
+    requires { ⌜ Ready (now tb) × IsSuite suite × (length (now key) ≡ 16) × (length (now nonce) ≡ nonceOf suite) ⌝ }
+    ensures { λ r. ⌜ Holds suite r (origin (cipherOf suite) (now (key .entry)) (now (nonce .entry))) ⌝ }
+{
+    let k = words::block::filled(key);
+    let v = words::block::filled(nonce);
+    if cipher::size_of(suite) == 16 {
+        let z = cipher::encipher16(tb, suite, k, v);
+        return State { y: k, z: z };
+    }
+    let y = cipher::encipher8(suite, k.a, k.b, 0);
+    let z = words::block::xor(k, v);
+    State {
+        y: Block { a: y, b: 0 },
+        z: z,
+    }
+}
+
+// The next block key under the mark m, and X, the image of Y under it.
+pub(crate) fn turn(tb: &Lent, suite: u8, s: State, m: u8) -> State
+    requires { ⌜ Ready (now tb) × IsSuite suite ⌝ }
+    ensures { λ r. ⌜ Holds suite r (imaged suite m (twoOf suite s)) ⌝ }
+{
+    let y = s.y;
+    let z0 = s.z;
+    let z = crate::key::next_key(z0, m);
+    let x = cipher::encipher(tb, suite, z, y);
+    State { y: x, z: z }
+}
+
+// Y = X XOR the block.
+pub(crate) fn mix(s: State, p: Block) -> State
+    ensures y { λ r. ⌜ wide (r .y) ≡ xors (wide (s .y)) (wide p) ⌝ }
+    ensures z { λ r. ⌜ wide (r .z) ≡ wide (s .z) ⌝ }
+{
+    let y = s.y;
+    let z = s.z;
+    let w = words::block::xor(y, p);
+    State { y: w, z: z }
+}

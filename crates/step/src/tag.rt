@@ -1,0 +1,31 @@
+// The tag: made, and compared whole.
+use crate::state::State;
+use cipher::Lent;
+use words::block::Block;
+ghost use mathlib.Core.Path.{_≡_};
+ghost use mathlib.Core.Logic.{_⊎_};
+ghost use Prim.Native.Nat.{_-_};
+ghost use lib.ListN.{length, take, drop, replicate};
+ghost use Rattle.words.specs.Blocks.{wide};
+ghost use Rattle.words.specs.Bytes.{sameBytes};
+ghost use Rattle.cipher.specs.Cipher.{Ready, IsSuite, sizeOf, cipherOf};
+ghost use Rattle.mode.specs.Walk.{tagged};
+ghost use Rattle.step.specs.Two.{twoOf, Clean};
+
+// The tag of a state: the last call, under the last mark.
+pub fn tag_of(tb: &Lent, suite: u8, s: State) -> Block
+    requires { ⌜ Ready (now tb) × IsSuite suite ⌝ }
+    ensures tag { λ r. ⌜ take (sizeOf suite) (wide r) ≡ tagged (cipherOf suite) (twoOf suite s) ⌝ }
+    ensures clean { λ r. ⌜ Clean suite r ⌝ }
+{
+    let t = crate::state::turn(tb, suite, s, 0x80);
+    t.y
+}
+
+// Whether the first bytes of t are those of tag, where zeros follow: every difference counts before the one test.
+pub fn same(t: Block, tag: &[u8]) -> bool
+    requires { ⌜ ((length (now tag) ≡ 16) ⊎ (length (now tag) ≡ 8)) × (drop (length (now tag)) (wide t) ≡ replicate (16 - length (now tag)) 0) ⌝ }
+    ensures { λ r. ⌜ r ≡ sameBytes (take (length (now (tag .entry))) (wide t)) (now (tag .entry)) ⌝ }
+{
+    words::block::same(t, words::block::whole(tag))
+}

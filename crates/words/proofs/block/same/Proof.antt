@@ -1,0 +1,15 @@
+-- `words::block::same` meets its contract: no difference is left only where all bytes are the same.
+use native.Mathlib.Omega.{arith}
+use Rattle.words.specs.Words.{xor}
+use Rattle.words.proofs.Blocks.{same-gathered}
+use Rattle.words.proofs.block.same.Statement.{statement}
+use Rattle.words.proofs.block.same.Tie as tie
+
+returns : tie.Need-returns
+unfolding xor
+returns c =
+    let a = c .before .before .before .before .args in
+    same-gathered (a .x) (a .y) (omega arith) (omega arith) (omega arith) (omega arith)
+
+pub same-spec : {M : Type 1} → statement M
+same-spec = tie.close (tie.spec returns)
