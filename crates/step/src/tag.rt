@@ -27,5 +27,6 @@ pub fn same(t: Block, tag: &[u8]) -> bool
     requires { ⌜ ((length (now tag) ≡ 16) ⊎ (length (now tag) ≡ 8)) × (drop (length (now tag)) (wide t) ≡ replicate (16 - length (now tag)) 0) ⌝ }
     ensures { λ r. ⌜ r ≡ sameBytes (take (length (now (tag .entry))) (wide t)) (now (tag .entry)) ⌝ }
 {
-    words::block::same(t, words::block::whole(tag))
+    let given = words::block::whole(tag);
+    words::block::same(t, given)
 }
