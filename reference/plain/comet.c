@@ -1,4 +1,4 @@
-/* The yardstick: what one writes in C for speed with no more than the S-box as a table. */
+/* The yardstick: what one writes in C for speed; AES once with no more than the S-box as a table, once with four. */
 #include "comet.h"
 #include <string.h>
 
@@ -97,6 +97,36 @@ static block aes128(block key, block in) {
         constant = constant << 1 ^ (constant >> 7) * 0x11b;
         for (int c = 0; c < 4; c++)
             t[c] = mixed(substituted(s[c], s[(c + 1) % 4], s[(c + 2) % 4], s[(c + 3) % 4])) ^ k[c];
+        memcpy(s, t, sizeof s);
+    }
+    next_round_key(k, constant);
+    for (int c = 0; c < 4; c++) t[c] = substituted(s[c], s[(c + 1) % 4], s[(c + 2) % 4], s[(c + 3) % 4]) ^ k[c];
+    return (block){t[0] | (uint64_t)t[1] << 32, t[2] | (uint64_t)t[3] << 32};
+}
+
+/* ---- AES-128 by columns: a table for each row, the S-box and then the column's multiples ---- */
+
+static uint32_t tables[4][256];
+
+__attribute__((constructor)) static void make_tables(void) {
+    for (int x = 0; x < 256; x++) {
+        uint32_t once = sbox[x], twice = once << 1 ^ (once >> 7) * 0x11b;
+        uint32_t column = twice | once << 8 | once << 16 | (once ^ twice) << 24;
+        for (int row = 0; row < 4; row++, column = rotl32(column, 8)) tables[row][x] = column;
+    }
+}
+
+static block aes128_columns(block key, block in) {
+    uint32_t k[4] = {(uint32_t)key.lo, (uint32_t)(key.lo >> 32), (uint32_t)key.hi, (uint32_t)(key.hi >> 32)};
+    uint32_t s[4] = {(uint32_t)in.lo ^ k[0], (uint32_t)(in.lo >> 32) ^ k[1], (uint32_t)in.hi ^ k[2],
+                     (uint32_t)(in.hi >> 32) ^ k[3]};
+    uint32_t t[4], constant = 1;
+    for (int round = 1; round < 10; round++) {
+        next_round_key(k, constant);
+        constant = constant << 1 ^ (constant >> 7) * 0x11b;
+        for (int c = 0; c < 4; c++)
+            t[c] = tables[0][s[c] & 0xff] ^ tables[1][s[(c + 1) % 4] >> 8 & 0xff] ^
+                   tables[2][s[(c + 2) % 4] >> 16 & 0xff] ^ tables[3][s[(c + 3) % 4] >> 24] ^ k[c];
         memcpy(s, t, sizeof s);
     }
     next_round_key(k, constant);
@@ -284,11 +314,11 @@ INLINE void run64(cipher64 *encrypt, int opens, block key, const uint8_t *nonce,
     store64(tag, encrypt(z, y));
 }
 
-INLINE void run(uint8_t suite, int opens, const uint8_t *key, const uint8_t *nonce, const uint8_t *ad, size_t ad_len,
-                const uint8_t *text, size_t len, uint8_t *out, uint8_t *tag) {
+INLINE void run(cipher128 *aes, uint8_t suite, int opens, const uint8_t *key, const uint8_t *nonce, const uint8_t *ad,
+                size_t ad_len, const uint8_t *text, size_t len, uint8_t *out, uint8_t *tag) {
     block k = load128(key);
     switch (suite) {
-    case 1: run128(aes128, opens, k, nonce, ad, ad_len, text, len, out, tag); break;
+    case 1: run128(aes, opens, k, nonce, ad, ad_len, text, len, out, tag); break;
     case 2: run128(cham128, opens, k, nonce, ad, ad_len, text, len, out, tag); break;
     case 3: run64(speck64, opens, k, nonce, ad, ad_len, text, len, out, tag); break;
     default: run64(cham64, opens, k, nonce, ad, ad_len, text, len, out, tag); break;
@@ -308,25 +338,33 @@ static uint32_t refusal(uint8_t suite, size_t key_len, size_t nonce_len, size_t 
     return 0;
 }
 
-uint32_t plain_seal(uint8_t suite, const uint8_t *key, size_t key_len, const uint8_t *nonce, size_t nonce_len,
-                    const uint8_t *ad, size_t ad_len, const uint8_t *msg, size_t msg_len,
-                    uint8_t *out, size_t out_len, uint8_t *tag, size_t tag_len) {
-    uint32_t number = refusal(suite, key_len, nonce_len, ad_len, msg_len, out_len, tag_len);
-    if (number == 0) run(suite, 0, key, nonce, ad, ad_len, msg, msg_len, out, tag);
-    return number;
-}
+/* The sealer and the opener over an engine of AES. */
+#define SEALER(name, aes)                                                                                              \
+    uint32_t name(uint8_t suite, const uint8_t *key, size_t key_len, const uint8_t *nonce, size_t nonce_len,           \
+                  const uint8_t *ad, size_t ad_len, const uint8_t *msg, size_t msg_len,                                \
+                  uint8_t *out, size_t out_len, uint8_t *tag, size_t tag_len) {                                        \
+        uint32_t number = refusal(suite, key_len, nonce_len, ad_len, msg_len, out_len, tag_len);                       \
+        if (number == 0) run(aes, suite, 0, key, nonce, ad, ad_len, msg, msg_len, out, tag);                           \
+        return number;                                                                                                 \
+    }
 
-uint32_t plain_open(uint8_t suite, const uint8_t *key, size_t key_len, const uint8_t *nonce, size_t nonce_len,
-                    const uint8_t *ad, size_t ad_len, const uint8_t *text, size_t text_len,
-                    const uint8_t *tag, size_t tag_len, uint8_t *out, size_t out_len) {
-    uint8_t made[16];
-    uint32_t number = refusal(suite, key_len, nonce_len, ad_len, text_len, out_len, tag_len);
-    if (number != 0) return number;
-    run(suite, 1, key, nonce, ad, ad_len, text, text_len, out, made);
-    if (memcmp(made, tag, tag_len) == 0) return 0;
-    memset(out, 0, out_len);
-    return 8;
-}
+#define OPENER(name, aes)                                                                                              \
+    uint32_t name(uint8_t suite, const uint8_t *key, size_t key_len, const uint8_t *nonce, size_t nonce_len,           \
+                  const uint8_t *ad, size_t ad_len, const uint8_t *text, size_t text_len,                              \
+                  const uint8_t *tag, size_t tag_len, uint8_t *out, size_t out_len) {                                  \
+        uint8_t made[16];                                                                                              \
+        uint32_t number = refusal(suite, key_len, nonce_len, ad_len, text_len, out_len, tag_len);                      \
+        if (number != 0) return number;                                                                                \
+        run(aes, suite, 1, key, nonce, ad, ad_len, text, text_len, out, made);                                         \
+        if (memcmp(made, tag, tag_len) == 0) return 0;                                                                 \
+        memset(out, 0, out_len);                                                                                       \
+        return 8;                                                                                                      \
+    }
+
+SEALER(plain_seal, aes128)
+OPENER(plain_open, aes128)
+SEALER(columns_seal, aes128_columns)
+OPENER(columns_open, aes128_columns)
 
 /* ---- the shift file's check ---- */
 

@@ -15,6 +15,14 @@ uint32_t plain_open(uint8_t suite, const uint8_t *key, size_t key_len, const uin
                     const uint8_t *ad, size_t ad_len, const uint8_t *text, size_t text_len,
                     const uint8_t *tag, size_t tag_len, uint8_t *out, size_t out_len);
 
+/* Both with AES-128 by columns, from four tables. */
+uint32_t columns_seal(uint8_t suite, const uint8_t *key, size_t key_len, const uint8_t *nonce, size_t nonce_len,
+                      const uint8_t *ad, size_t ad_len, const uint8_t *msg, size_t msg_len,
+                      uint8_t *out, size_t out_len, uint8_t *tag, size_t tag_len);
+uint32_t columns_open(uint8_t suite, const uint8_t *key, size_t key_len, const uint8_t *nonce, size_t nonce_len,
+                      const uint8_t *ad, size_t ad_len, const uint8_t *text, size_t text_len,
+                      const uint8_t *tag, size_t tag_len, uint8_t *out, size_t out_len);
+
 /* 0, or 20 to 31; *row is the row of 25 to 30, else 0. */
 uint32_t plain_check(const uint8_t *file, size_t file_len, uint32_t *row);
 

@@ -53,6 +53,10 @@ mod plain {
     linked!(plain_seal, plain_open, plain_check);
 }
 
+mod columns {
+    linked!(columns_seal, columns_open, plain_check);
+}
+
 /// The proved library's archive links into programs for x86-64 alone.
 #[cfg(target_arch = "x86_64")]
 mod proved {
@@ -61,6 +65,9 @@ mod proved {
 
 /// The plain C has no lookup and opens no job: the reference stands in for those.
 pub const PLAIN: Library = Library { seal: plain::seal, open: plain::open, check: plain::check, ..REFERENCE };
+
+/// The plain C with AES by four tables.
+pub const COLUMNS: Library = Library { seal: columns::seal, open: columns::open, check: columns::check, ..REFERENCE };
 
 /// The proved library as `bench` measures it: with nothing between, where it can be linked.
 #[cfg(target_arch = "x86_64")]

@@ -5,18 +5,19 @@ use Prim.Native.Nat.{ℕ, zero, suc, _+_, _*_, _/_, _%_, _^_, _<_}
 use native.Mathlib.Omega.{arith}
 use lib.ListN.{getD}
 use Rattle.words.specs.Words.{xor}
-use Rattle.words.specs.Bytes.{value, bytes}
+use Rattle.words.specs.Bytes.{value, bytes, part}
 use Rattle.words.specs.Xors.{xors}
 use Rattle.words.proofs.Xor.{assoc}
 use Rattle.words.proofs.Lists.{all-nil, all-cons}
-use Rattle.words.proofs.Bytes.{bytes-value, length-bytes, bytes-mod, bytes-join, bytes-split}
+use Rattle.words.proofs.Bytes.{bytes-value, bytes-inj, length-bytes, bytes-mod, bytes-join, bytes-split}
 use Rattle.words.proofs.Xors.{bytes-xor}
 use Rattle.fips197.specs.Cipher.{mixed, subWord, rotWord}
 use Rattle.fips197.specs.Field.{xtime}
 use Rattle.fips197.proofs.Field.{xtime-sum, two-product, three-product}
 use Rattle.fips197.proofs.Steps.{from-same}
 use Rattle.fips197.proofs.Schedule.{next-key}
-use Rattle.aes.specs.Columns.{mixColumn, Follows}
+use Rattle.aes.specs.declared.Columns.{Columns}
+use Rattle.aes.specs.Columns.{told, mixColumn, Follows}
 
 -- row k is what is left when the rows below it are shifted out
 pub row-is : (k x : ℕ) → k < 4 → x / 2 ^ (8 * k) % 256 ≡ getD (bytes 4 x) k 0
@@ -56,21 +57,33 @@ pub four-xor : (a b c d e f g h : ℕ)
 unfolding bytes
 four-xor a b c d e f g h = four (bytes-xor 4 a e) (bytes-xor 4 b f) (bytes-xor 4 c g) (bytes-xor 4 d h)
 
--- ---- the round key after the columns a, b, c, d: d turned is t, and t through the S-box is s
+-- the columns are known one by one, and by their bytes
+pub same-columns : (x y : Columns) → x .a ≡ y .a → x .b ≡ y .b → x .c ≡ y .c → x .d ≡ y .d → x ≡ y
+same-columns x y p q r s =
+    ap₂ (λ (a b : ℕ). record { a = a; b = b; c = x .c; d = x .d }) p q ∙ ap₂ (λ (c d : ℕ). record { a = y .a; b = y .b; c = c; d = d }) r s
 
-pub key-turn : (a b c d t s rc : ℕ) → bytes 4 t ≡ rotWord (bytes 4 d) → bytes 4 s ≡ subWord (bytes 4 t)
-    → let a′ = xor a (xor s rc) in
-    let b′ = xor b a′ in
-    let c′ = xor c b′ in
-    Follows (bytes 4 a ++ bytes 4 b ++ bytes 4 c ++ bytes 4 d) (bytes 4 rc) (bytes 4 a′ ++ bytes 4 b′ ++ bytes 4 c′ ++ bytes 4 (xor d c′))
-key-turn a b c d t s rc f e key i p q =
-    let a′ = xor a (xor s rc) in
-    let b′ = xor b a′ in
-    let c′ = xor c b′ in
-    next-key key i (bytes 4 a) (bytes 4 b) (bytes 4 c) (bytes 4 d) (bytes 4 a′) (bytes 4 b′) (bytes 4 c′) (bytes 4 (xor d c′))
-    (length-bytes 4 a) (length-bytes 4 b) (length-bytes 4 c) p
-    (bytes-xor 4 a (xor s rc) ∙ ap (xors (bytes 4 a)) (bytes-xor 4 s rc ∙ ap₂ xors (e ∙ ap subWord f) q))
-    (bytes-xor 4 b a′) (bytes-xor 4 c b′) (bytes-xor 4 d c′)
+abbrev pub Fit : Columns → Type 0
+Fit x = (x .a < 2 ^ 32) × (x .b < 2 ^ 32) × (x .c < 2 ^ 32) × (x .d < 2 ^ 32)
+
+pub told-only : (x y : Columns) → Fit x → Fit y → told x ≡ told y → x ≡ y
+unfolding bytes
+told-only x y f g e =
+    same-columns x y
+    (bytes-inj 4 (f .0) (g .0) (ap (λ (l : List ℕ). part 4 l 0) e))
+    (bytes-inj 4 (f .1) (g .1) (ap (λ (l : List ℕ). part 4 l 4) e))
+    (bytes-inj 4 (f .2) (g .2) (ap (λ (l : List ℕ). part 4 l 8) e))
+    (bytes-inj 4 (f .3) (g .3) (ap (λ (l : List ℕ). part 4 l 12) e))
+
+-- ---- the round key after k: its last column turned is t, and t through the S-box is s
+
+pub key-turn : (k n : Columns) (t s rc : ℕ) → bytes 4 t ≡ rotWord (bytes 4 (k .d)) → bytes 4 s ≡ subWord (bytes 4 t)
+    → (n .a ≡ xor (k .a) (xor s rc)) × (n .b ≡ xor (k .b) (n .a)) × (n .c ≡ xor (k .c) (n .b)) × (n .d ≡ xor (k .d) (n .c))
+    → Follows (told k) (bytes 4 rc) (told n)
+key-turn k n t s rc f e h key i p q =
+    next-key key i (bytes 4 (k .a)) (bytes 4 (k .b)) (bytes 4 (k .c)) (bytes 4 (k .d)) (bytes 4 (n .a)) (bytes 4 (n .b)) (bytes 4 (n .c)) (bytes 4 (n .d))
+    (length-bytes 4 (k .a)) (length-bytes 4 (k .b)) (length-bytes 4 (k .c)) p
+    (ap (bytes 4) (h .0) ∙ bytes-xor 4 (k .a) (xor s rc) ∙ ap (xors (bytes 4 (k .a))) (bytes-xor 4 s rc ∙ ap₂ xors (e ∙ ap subWord f) q))
+    (ap (bytes 4) (h .1) ∙ bytes-xor 4 (k .b) (n .a)) (ap (bytes 4) (h .2) ∙ bytes-xor 4 (k .c) (n .b)) (ap (bytes 4) (h .3) ∙ bytes-xor 4 (k .d) (n .c))
 
 -- ---- a column turned and mixed
 

@@ -3,6 +3,7 @@ ghost use mathlib.Core.Path.{_≡_};
 ghost use mathlib.Core.List.{[], _∷_, map};
 ghost use Prim.Native.Nat.{_<_};
 ghost use mathlib.Core.Bool.{cond};
+ghost use Rattle.words.specs.Words.{xor};
 ghost use Rattle.words.specs.Bytes.{bytes};
 ghost use Rattle.fips197.specs.Field.{xtime};
 ghost use Rattle.fips197.specs.Sbox.{subByte, IsSbox};
@@ -15,11 +16,11 @@ use words::block::block_of;
 mod sbox;
 
 // The four columns of the state or of a round key; row 0 is the low byte.
-struct Columns {
-    a: u32,
-    b: u32,
-    c: u32,
-    d: u32,
+pub struct Columns {
+    pub a: u32,
+    pub b: u32,
+    pub c: u32,
+    pub d: u32,
 }
 
 // The S-box at the byte in row k of a column.
@@ -64,7 +65,7 @@ fn double(x: u32) -> u32
 }
 
 // The rows move up by one, row 0 to the end.
-fn rot_word(x: u32) -> u32
+pub fn rot_word(x: u32) -> u32
     ensures { λ r. ⌜ bytes 4 r ≡ rotWord (bytes 4 x) ⌝ }
 {
     (x >> 8) + (x << 24)
@@ -92,7 +93,7 @@ fn mix_columns(s: Columns) -> Columns
 }
 
 // AddRoundKey.
-fn add_round_key(s: Columns, k: Columns) -> Columns
+pub fn add_round_key(s: Columns, k: Columns) -> Columns
     ensures { λ r. ⌜ told r ≡ addRoundKey (told s) (told k) ⌝ }
 {
     Columns {
@@ -115,21 +116,28 @@ fn round(t: &[u8; 256], s: Columns, k: Columns, mixing: bool) -> Columns
     add_round_key(u, k)
 }
 
-// The round key after k; rc is its Rcon.
-fn next_key(t: &[u8; 256], k: Columns, rc: u32) -> Columns
-    requires { ⌜ IsSbox (now t) ⌝ }
-    ensures { λ n. ⌜ Follows (told k) (bytes 4 rc) (told n) ⌝ }
+// The columns of the key after k, each the sum of the column in its place and the one before it; x comes before the first.
+pub fn chained(k: Columns, x: u32) -> Columns
+    ensures { λ r. ⌜ (r .a ≡ xor (k .a) x) × (r .b ≡ xor (k .b) (r .a)) × (r .c ≡ xor (k .c) (r .b)) × (r .d ≡ xor (k .d) (r .c)) ⌝ }
 {
-    let w = rot_word(k.d);
-    let a = k.a ^ (shifted(t, w, w, w, w) ^ rc);
+    let a = k.a ^ x;
     let b = k.b ^ a;
     let c = k.c ^ b;
     let d = k.d ^ c;
     Columns { a, b, c, d }
 }
 
+// The round key after k; rc is its Rcon.
+fn next_key(t: &[u8; 256], k: Columns, rc: u32) -> Columns
+    requires { ⌜ IsSbox (now t) ⌝ }
+    ensures { λ n. ⌜ Follows (told k) (bytes 4 rc) (told n) ⌝ }
+{
+    let w = rot_word(k.d);
+    chained(k, shifted(t, w, w, w, w) ^ rc)
+}
+
 // The Rcon after rc, as a number: 0x11b is 0x1b and the bit that drops out.
-fn next_rcon(rc: u32) -> u32
+pub fn next_rcon(rc: u32) -> u32
     requires { ⌜ rc < 256 ⌝ }
     ensures { λ r. ⌜ r ≡ xtime rc ⌝ }
 {
@@ -137,7 +145,7 @@ fn next_rcon(rc: u32) -> u32
 }
 
 // Sixteen bytes as four columns.
-fn load(b: [u8; 16]) -> Columns
+pub fn load(b: [u8; 16]) -> Columns
     ensures { λ r. ⌜ told r ≡ b ⌝ }
 {
     let x = block_of(b);

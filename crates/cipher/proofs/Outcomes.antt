@@ -1,20 +1,24 @@
--- Every public function of `cipher` leaves one outcome: a number or a yes or no, the table told by its entries, a block told by its bytes.
+-- Every public function of `cipher` leaves one outcome: a number or a yes or no, the tables told by their rule, a block told by its bytes.
 use mathlib.Core.Path.{_≡_, refl, sym, _∙_}
-use mathlib.Core.List.{List}
-use Prim.Native.Nat.{ℕ}
+use mathlib.Core.List.{List, []}
+use Prim.Native.Nat.{ℕ, zero, suc, _<_}
 use native.Mathlib.Omega.{arith}
+use lib.ListN.{getD}
+use lib.Seq.{ext-getD}
 use Rattle.words.specs.Outcome.{OneOutcome}
 use Rattle.words.proofs.Bytes.{bytes-inj}
 use Rattle.words.proofs.Lists.{parts-told}
 use Rattle.words.proofs.Blocks.{wide-told}
-use Rattle.fips197.proofs.Sbox.{table-only}
-use Rattle.cipher.specs.Cipher.{sizeOf}
+use Rattle.columns.proofs.Table.{table-only}
+use Rattle.cipher.specs.Cipher.{Full, sizeOf}
 use Rattle.cipher.proofs.is_suite.Kinds as is-suite-kinds
 use Rattle.cipher.proofs.is_suite.Reads as is-suite-reads
 use Rattle.cipher.proofs.size_of.Kinds as size-of-kinds
 use Rattle.cipher.proofs.size_of.Reads as size-of-reads
 use Rattle.cipher.proofs.nonce_size.Kinds as nonce-size-kinds
 use Rattle.cipher.proofs.nonce_size.Reads as nonce-size-reads
+use Rattle.cipher.proofs.lends.Kinds as lends-kinds
+use Rattle.cipher.proofs.lends.Reads as lends-reads
 use Rattle.cipher.proofs.tables.Kinds as tables-kinds
 use Rattle.cipher.proofs.tables.Reads as tables-reads
 use Rattle.cipher.proofs.encipher16.Kinds as encipher16-kinds
@@ -23,6 +27,14 @@ use Rattle.cipher.proofs.encipher8.Kinds as encipher8-kinds
 use Rattle.cipher.proofs.encipher8.Reads as encipher8-reads
 use Rattle.cipher.proofs.encipher.Kinds as encipher-kinds
 use Rattle.cipher.proofs.encipher.Reads as encipher-reads
+
+-- what is full is one element, the tables
+same-lent : (s t : List (List (List ℕ))) → Full s → Full t → s ≡ t
+same-lent s t p q = ext-getD [] s t (p .0 ∙ sym (q .0)) (λ i h. first i (omega (arith, p .0)))
+  where
+    first : (i : ℕ) → i < 1 → getD s i [] ≡ getD t i []
+    first zero h = table-only (getD s 0 []) (getD t 0 []) (p .1) (q .1)
+    first (suc i) h = let no : ⊥ = omega arith in absurd no
 
 pub is-suite : OneOutcome is-suite-kinds.ps is-suite-kinds.r is-suite-reads.Pre is-suite-reads.Post
 is-suite κs a h x y = (x .ensures ∙ sym (y .ensures), refl)
@@ -33,8 +45,11 @@ size-of κs a h x y = (x .ensures .0 ∙ sym (y .ensures .0), refl)
 pub nonce-size : OneOutcome nonce-size-kinds.ps nonce-size-kinds.r nonce-size-reads.Pre nonce-size-reads.Post
 nonce-size κs a h x y = (x .ensures ∙ sym (y .ensures), refl)
 
+pub lends : OneOutcome lends-kinds.ps lends-kinds.r lends-reads.Pre lends-reads.Post
+lends κs a h x y = (x .ensures ∙ sym (y .ensures), refl)
+
 pub tables : OneOutcome tables-kinds.ps tables-kinds.r tables-reads.Pre tables-reads.Post
-tables κs a h x y = (table-only (x .result) (y .result) (x .ensures) (y .ensures), refl)
+tables κs a h x y = (same-lent (x .result) (y .result) (x .ensures .full h) (y .ensures .full h), refl)
 
 pub encipher16 : OneOutcome encipher16-kinds.ps encipher16-kinds.r encipher16-reads.Pre encipher16-reads.Post
 encipher16 κs a h x y = (wide-told (x .result) (y .result) (omega arith) (omega arith) (omega arith) (omega arith) (x .ensures ∙ sym (y .ensures)), refl)

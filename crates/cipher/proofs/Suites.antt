@@ -1,17 +1,17 @@
 -- The facts of a suite: what every line of the table has, and the line that a test leads to.
 use mathlib.Core.Path.{_≡_, refl, sym, ap, _∙_, subst}
 use mathlib.Core.Bool.{Bool, true, false, cond}
-use mathlib.Core.List.{List}
+use mathlib.Core.List.{List, []}
 use mathlib.Core.Logic.{_⊎_, inl, inr}
 use Prim.Native.Nat.{ℕ, _≤_, _<_}
 use native.Mathlib.Omega.{arith}
 use native.Mathlib.Decide.{decLe}
-use lib.Dec.{leb}
-use borrow.Author.Tests.{le-leb, lt-leb}
+use lib.Dec.{T, leb}
+use borrow.Author.Tests.{leb-true, leb-false, le-leb, lt-leb}
 use Rattle.fips197.specs.Cipher.{cipher}
 use Rattle.cham.specs.Cham.{cham}
 use Rattle.speck.specs.Speck.{speck}
-use Rattle.cipher.specs.Cipher.{Facts, facts, factsOf, sizeOf, nonceOf, engineOf}
+use Rattle.cipher.specs.Cipher.{Facts, facts, factsOf, sizeOf, nonceOf, engineOf, lends, Ready}
 
 abbrev pub Engine : Type 0
 Engine = List ℕ → List ℕ → List ℕ
@@ -143,15 +143,15 @@ size-8 s h =
       | no k ↦ ap (λ (f : Facts). f .block) (line-4 s (omega arith))
     ]
 
-pub engine-1 : (s : ℕ) → s ≤ 1 → engineOf s ≡ cipher
-unfolding engineOf
-engine-1 s h = ap (λ (f : Facts). f .E) (line-1 s h)
+pub engine-1 : (s : ℕ) → lends s ≡ true → engineOf s ≡ cipher
+unfolding lends engineOf
+engine-1 s h = ap (λ (f : Facts). f .E) (line-1 s (leb-true s 1 h))
 
-pub engine-2 : (s : ℕ) → 1 < s → sizeOf s ≡ 16 → engineOf s ≡ cham 32
-unfolding engineOf
+pub engine-2 : (s : ℕ) → lends s ≡ false → sizeOf s ≡ 16 → engineOf s ≡ cham 32
+unfolding lends engineOf
 engine-2 s g e =
     elim (decLe s 2) [
-      | yes h ↦ ap (λ (f : Facts). f .E) (line-2 s g h)
+      | yes h ↦ ap (λ (f : Facts). f .E) (line-2 s (leb-false s 1 g) h)
       | no h ↦ absurd (omega (arith, size-8 s (omega arith)))
     ]
 
@@ -166,3 +166,12 @@ engine-3 s e h =
 pub engine-4 : (s : ℕ) → 3 < s → engineOf s ≡ cham 16
 unfolding engineOf
 engine-4 s h = ap (λ (f : Facts). f .E) (line-4 s h)
+
+-- ---- what they are lent
+
+-- where a suite's engine is lent nothing, nothing is ready for it
+pub none-ready : (s : ℕ) → lends s ≡ false → Ready s []
+none-ready s h = record { full = λ e. absurd (true-not-false (sym e ∙ h)) }
+  where
+    true-not-false : true ≡ false → ⊥
+    true-not-false e = subst T e tt

@@ -1,14 +1,14 @@
 -- What a block cipher promises, and the cipher of each suite (document 01, "What we build").
 use mathlib.Core.Path.{_≡_}
-use mathlib.Core.List.{List}
+use mathlib.Core.List.{List, []}
 use mathlib.Core.Logic.{_⊎_}
 use Prim.Native.Nat.{ℕ}
 use lib.Dec.{leb}
-use lib.ListN.{length}
+use lib.ListN.{length, getD}
 use Rattle.words.specs.Bytes.{AllBytes}
 use mathlib.Core.Bool.{Bool, true, cond, _&&_}
-use Rattle.fips197.specs.Sbox.{IsSbox}
 use Rattle.fips197.specs.Cipher.{cipher}
+use Rattle.columns.specs.Tables.{IsTables}
 use Rattle.cham.specs.Cham.{cham}
 use Rattle.speck.specs.Speck.{speck}
 
@@ -66,6 +66,13 @@ engineOf s = factsOf s .E
 abbrev pub cipherOf : ℕ → Cipher
 cipherOf s = record { size = sizeOf s; E = engineOf s }
 
--- what the engines are lent is fit for them: the S-box of AES
-abbrev pub Ready : List ℕ → Type 0
-Ready t = IsSbox t
+-- the engine of AES is lent the tables of its columns, the others nothing
+unfoldable pub lends : ℕ → Bool
+lends s = leb s 1
+
+abbrev pub Full : List (List (List ℕ)) → Type 0
+Full t = (length t ≡ 1) × IsTables (getD t 0 [])
+
+-- what is lent is fit for the suite's engine
+pub record Ready (s : ℕ) (t : List (List (List ℕ))) : Type 0 where
+  pub full : lends s ≡ true → Full t

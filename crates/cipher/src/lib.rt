@@ -1,6 +1,7 @@
 // The block ciphers of the four suites, under one promise.
 use words::block::Block;
 ghost use mathlib.Core.Path.{_≡_};
+ghost use mathlib.Core.Bool.{true};
 ghost use mathlib.Core.List.{_++_};
 ghost use Prim.Native.Nat.{_-_, _≤_, _<_};
 ghost use lib.ListN.{take, drop, replicate};
@@ -9,7 +10,7 @@ ghost use Rattle.words.specs.Blocks.{wide};
 ghost use Rattle.fips197.specs.Cipher.{cipher};
 ghost use Rattle.cham.specs.Cham.{cham};
 ghost use Rattle.speck.specs.Speck.{speck};
-ghost use Rattle.cipher.specs.Cipher.{Ready, isSuite, IsSuite, sizeOf, nonceOf, cipherOf};
+ghost use Rattle.cipher.specs.Cipher.{lends, Full, Ready, isSuite, IsSuite, sizeOf, nonceOf, cipherOf};
 
 // Whether we have the suite.
 pub fn is_suite(suite: u8) -> bool
@@ -36,22 +37,30 @@ pub fn nonce_size(suite: u8) -> usize
     if size_of(suite) == 16 { 16 } else { 15 }
 }
 
-// What encipher is lent: made once a message.
-pub type Lent = [u8; 256];
+// What an engine is lent, made once a message: a slice of one, or of none where the suite's engine is lent nothing.
+pub type Lent = columns::Tables;
 
-pub fn tables() -> Lent
-    ensures { λ r. ⌜ Ready r ⌝ }
+// Whether the suite's engine is lent anything.
+pub fn lends(suite: u8) -> bool
+    ensures { λ r. ⌜ r ≡ lends suite ⌝ }
 {
-    aes::sbox_table()
+    suite <= 1
 }
 
-fn by_aes(t: &Lent, key: Block, block: Block) -> Block
-    requires { ⌜ Ready (now t) ⌝ }
+pub fn tables(suite: u8) -> [Lent; 1]
+    requires { ⌜ lends suite ≡ true ⌝ }
+    ensures { λ r. ⌜ Ready suite r ⌝ }
+{
+    [columns::tables()]
+}
+
+fn by_aes(t: &[Lent], key: Block, block: Block) -> Block
+    requires { ⌜ Full (now t) ⌝ }
     ensures { λ r. ⌜ wide r ≡ cipher (wide key) (wide block) ⌝ }
 {
     let k = words::block::bytes_of(key);
     let b = words::block::bytes_of(block);
-    words::block::block_of(aes::encrypt_with(t, k, b))
+    words::block::block_of(columns::encrypt_with(&t[0], k, b))
 }
 
 fn by_cham128(key: Block, block: Block) -> Block
@@ -79,11 +88,11 @@ fn by_cham64(ka: u64, kb: u64, x: u64) -> u64
 }
 
 // The image of a block of 16 bytes.
-pub fn encipher16(t: &Lent, suite: u8, key: Block, block: Block) -> Block
-    requires { ⌜ Ready (now t) × IsSuite suite × (sizeOf suite ≡ 16) ⌝ }
+pub fn encipher16(t: &[Lent], suite: u8, key: Block, block: Block) -> Block
+    requires { ⌜ Ready suite (now t) × IsSuite suite × (sizeOf suite ≡ 16) ⌝ }
     ensures { λ r. ⌜ wide r ≡ cipherOf suite .E (wide key) (wide block) ⌝ }
 {
-    if suite <= 1 {
+    if lends(suite) {
         return by_aes(t, key, block);
     }
     by_cham128(key, block)
@@ -101,8 +110,8 @@ pub fn encipher8(suite: u8, ka: u64, kb: u64, x: u64) -> u64
 }
 
 // The image of the block's first bytes, as many as the suite's block has, and zeros behind it.
-pub fn encipher(t: &Lent, suite: u8, key: Block, block: Block) -> Block
-    requires { ⌜ Ready (now t) × IsSuite suite ⌝ }
+pub fn encipher(t: &[Lent], suite: u8, key: Block, block: Block) -> Block
+    requires { ⌜ Ready suite (now t) × IsSuite suite ⌝ }
     ensures image { λ r. ⌜ take (sizeOf suite) (wide r) ≡ cipherOf suite .E (wide key) (take (sizeOf suite) (wide block)) ⌝ }
     ensures rest { λ r. ⌜ drop (sizeOf suite) (wide r) ≡ replicate (16 - sizeOf suite) 0 ⌝ }
 {

@@ -1,4 +1,5 @@
 // The sealer and the opener: COMET version 1 over the four ciphers.
+use cipher::Lent;
 use words::block::Block;
 
 mod text;
@@ -6,7 +7,7 @@ mod text;
 ghost use mathlib.Core.Path.{_≡_};
 ghost use lib.ListN.{length, take};
 ghost use Rattle.words.specs.Blocks.{wide};
-ghost use Rattle.cipher.specs.Cipher.{IsSuite, sizeOf, nonceOf, cipherOf};
+ghost use Rattle.cipher.specs.Cipher.{Ready, IsSuite, sizeOf, nonceOf, cipherOf};
 ghost use Rattle.mode.specs.Mode.{textOut, tagOut};
 ghost use Rattle.step.specs.Two.{Clean};
 ghost use Rattle.comet.specs.Answers.{numberOf, refusal, Sealed, sealing, Opened, opening};
@@ -81,8 +82,9 @@ fn refused(
     Answer::Done
 }
 
-// The text that goes out and the tag, once every length is right.
+// The text that goes out and the tag, once every length is right: the cipher is lent what it needs.
 fn crypt(
+    tb: &[Lent],
     opening: bool,
     suite: u8,
     key: &[u8],
@@ -91,19 +93,38 @@ fn crypt(
     text: &[u8],
     out: &mut [u8],
 ) -> Block
-    requires { ⌜ IsSuite suite × (length (now key) ≡ 16) × (length (now nonce) ≡ nonceOf suite) × (length (now out) ≡ length (now text)) ⌝ }
+    requires { ⌜ Ready suite (now tb) × IsSuite suite × (length (now key) ≡ 16) × (length (now nonce) ≡ nonceOf suite) × (length (now out) ≡ length (now text)) ⌝ }
     ensures text { λ _. ⌜ now (out .exit) ≡ textOut (cipherOf suite) opening (now (key .entry)) (now (nonce .entry)) (now (ad .entry)) (now (text .entry)) ⌝ }
     ensures tag { λ r. ⌜ take (sizeOf suite) (wide r) ≡ tagOut (cipherOf suite) opening (now (key .entry)) (now (nonce .entry)) (now (ad .entry)) (now (text .entry)) ⌝ }
     ensures clean { λ r. ⌜ Clean suite r ⌝ }
 {
-    let tb = cipher::tables();
-    let s = step::state::start(&tb, suite, key, nonce);
-    let d = text::absorb_all(&tb, suite, s, ad);
-    let t = text::crypt_all(&tb, opening, suite, d, text, out);
-    step::tag::tag_of(&tb, suite, t)
+    let s = step::state::start(tb, suite, key, nonce);
+    let d = text::absorb_all(tb, suite, s, ad);
+    let t = text::crypt_all(tb, opening, suite, d, text, out);
+    step::tag::tag_of(tb, suite, t)
 }
 
-// Seals msg into out, and its tag into tag.
+// Seals, once every length is right: the cipher is lent what it needs.
+fn seal_with(
+    tb: &[Lent],
+    suite: u8,
+    key: &[u8],
+    nonce: &[u8],
+    ad: &[u8],
+    msg: &[u8],
+    out: &mut [u8],
+    tag: &mut [u8],
+) -> Answer
+    requires { ⌜ Ready suite (now tb) × (refusal suite (length (now key)) (length (now nonce)) (length (now ad)) (length (now msg)) (length (now out)) (length (now tag)) ≡ 0) ⌝ }
+    ensures { λ r. ⌜ _≡_ {A = Sealed} (record { number = numberOf r; out = now (out .exit); tag = now (tag .exit) })
+        (sealing suite (now (key .entry)) (now (nonce .entry)) (now (ad .entry)) (now (msg .entry)) (now (out .entry)) (now (tag .entry))) ⌝ }
+{
+    let t = crypt(tb, false, suite, key, nonce, ad, msg, out);
+    words::block::put(t, tag);
+    Answer::Done
+}
+
+// Seals msg into out, and its tag into tag. Only a suite whose engine is lent tables pays for them.
 pub fn seal(
     suite: u8,
     key: &[u8],
@@ -128,9 +149,34 @@ pub fn seal(
     let Answer::Done = a else {
         return a;
     };
-    let t = crypt(false, suite, key, nonce, ad, msg, out);
-    words::block::put(t, tag);
-    Answer::Done
+    if cipher::lends(suite) {
+        let tb = cipher::tables(suite);
+        return seal_with(&tb, suite, key, nonce, ad, msg, out, tag);
+    }
+    seal_with(&[], suite, key, nonce, ad, msg, out, tag)
+}
+
+// Opens, once every length is right: the cipher is lent what it needs.
+fn unseal_with(
+    tb: &[Lent],
+    suite: u8,
+    key: &[u8],
+    nonce: &[u8],
+    ad: &[u8],
+    text: &[u8],
+    tag: &[u8],
+    out: &mut [u8],
+) -> Answer
+    requires { ⌜ Ready suite (now tb) × (refusal suite (length (now key)) (length (now nonce)) (length (now ad)) (length (now text)) (length (now out)) (length (now tag)) ≡ 0) ⌝ }
+    ensures { λ r. ⌜ _≡_ {A = Opened} (record { number = numberOf r; out = now (out .exit) })
+        (opening suite (now (key .entry)) (now (nonce .entry)) (now (ad .entry)) (now (text .entry)) (now (tag .entry)) (now (out .entry))) ⌝ }
+{
+    let t = crypt(tb, true, suite, key, nonce, ad, text, out);
+    if step::tag::same(t, tag) {
+        return Answer::Done;
+    }
+    words::zeros::wipe(out);
+    Answer::Forged
 }
 
 // Opens text into out, if its tag is right; else every byte of out is 0.
@@ -158,10 +204,9 @@ pub fn unseal(
     let Answer::Done = a else {
         return a;
     };
-    let t = crypt(true, suite, key, nonce, ad, text, out);
-    if step::tag::same(t, tag) {
-        return Answer::Done;
+    if cipher::lends(suite) {
+        let tb = cipher::tables(suite);
+        return unseal_with(&tb, suite, key, nonce, ad, text, tag, out);
     }
-    words::zeros::wipe(out);
-    Answer::Forged
+    unseal_with(&[], suite, key, nonce, ad, text, tag, out)
 }

@@ -14,8 +14,8 @@ ghost use Rattle.mode.specs.Walk.{walked, covered};
 ghost use Rattle.step.specs.Two.{twoOf};
 
 // All blocks of the associated data.
-pub(crate) fn absorb_all(tb: &Lent, suite: u8, s: State, ad: &[u8]) -> State
-    requires { ⌜ Ready (now tb) × IsSuite suite ⌝ }
+pub(crate) fn absorb_all(tb: &[Lent], suite: u8, s: State, ad: &[u8]) -> State
+    requires { ⌜ Ready suite (now tb) × IsSuite suite ⌝ }
     ensures { λ r. ⌜ twoOf suite r ≡ walked (cipherOf suite) false 0x08 0x10 (twoOf suite s) (blocks (sizeOf suite) (now (ad .entry))) ⌝ }
 {
     let n = cipher::size_of(suite);
@@ -36,14 +36,14 @@ pub(crate) fn absorb_all(tb: &Lent, suite: u8, s: State, ad: &[u8]) -> State
 
 // All blocks of a text.
 pub(crate) fn crypt_all(
-    tb: &Lent,
+    tb: &[Lent],
     opening: bool,
     suite: u8,
     s: State,
     text: &[u8],
     out: &mut [u8],
 ) -> State
-    requires { ⌜ Ready (now tb) × IsSuite suite × (length (now out) ≡ length (now text)) ⌝ }
+    requires { ⌜ Ready suite (now tb) × IsSuite suite × (length (now out) ≡ length (now text)) ⌝ }
     ensures text { λ _. ⌜ now (out .exit) ≡ covered (cipherOf suite) opening 0x20 0x40 (twoOf suite s) (blocks (sizeOf suite) (now (text .entry))) ⌝ }
     ensures state { λ r. ⌜ twoOf suite r ≡ walked (cipherOf suite) opening 0x20 0x40 (twoOf suite s) (blocks (sizeOf suite) (now (text .entry))) ⌝ }
 {

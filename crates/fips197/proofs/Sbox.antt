@@ -52,14 +52,14 @@ unsub-sub x h = ap inverse (unaffine-affine (inverse x) (inverse-is x h .byte)) 
 abbrev pub obeys : ℕ → ℕ → Bool
 obeys x s = both (inverts x (unaffine s)) (eqb s (affine (unaffine s)))
 
-entry-told : (x s : ℕ) → x < 256 → T (obeys x s) → s ≡ subByte x
+pub entry-told : (x s : ℕ) → x < 256 → T (obeys x s) → s ≡ subByte x
 unfolding subByte
 entry-told x s h t =
     eqb→eq s (affine (unaffine s)) (both-right (inverts x (unaffine s)) _ t)
     ∙ ap affine (inverse-only x (unaffine s) h (inverse-told x (unaffine s) (both-left (inverts x (unaffine s)) _ t)))
 
 pub table-rule : (t : List ℕ) → length t ≡ 256 → T (every obeys 0 t) → IsSbox t
-table-rule t l e = record { size = l; entry = λ x h. entry-told x (getD t x 0) h (at obeys t e x (subst (λ (n : ℕ). x < n) (sym l) h)) }
+table-rule t l e = record { size = l; entry = λ x h. entry-told x (getD t x 0) h (at 0 obeys t e x (subst (λ (n : ℕ). x < n) (sym l) h)) }
 
 -- the rule leaves one table
 pub table-only : (s t : List ℕ) → IsSbox s → IsSbox t → s ≡ t

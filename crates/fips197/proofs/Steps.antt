@@ -19,7 +19,7 @@ pub from-same : (f g : ℕ → ℕ) → ((i : ℕ) → f i ≡ g i) → (i n : �
 from-same f g e i zero = refl
 from-same f g e i (suc n) = ap₂ (λ (x : ℕ) (l : List ℕ). x ∷ l) (e i) (from-same f g e (suc i) n)
 
-all-from : (f : ℕ → ℕ) → ((j : ℕ) → f j < 256) → (i n : ℕ) → AllBytes (from i n f)
+pub all-from : (f : ℕ → ℕ) → ((j : ℕ) → f j < 256) → (i n : ℕ) → AllBytes (from i n f)
 all-from f h i zero = all-nil
 all-from f h i (suc n) = all-cons (f i) (from (suc i) n f) (h i) (all-from f h (suc i) n)
 

@@ -12,8 +12,8 @@ ghost use Rattle.mode.specs.Walk.{turned, hidden, messageOf};
 ghost use Rattle.step.specs.Two.{twoOf, Holds};
 
 // A full block of associated data, under the mark m.
-pub fn absorb_full(tb: &Lent, suite: u8, s: State, m: u8, b: &[u8]) -> State
-    requires { ⌜ Ready (now tb) × IsSuite suite × (length (now b) ≡ sizeOf suite) ⌝ }
+pub fn absorb_full(tb: &[Lent], suite: u8, s: State, m: u8, b: &[u8]) -> State
+    requires { ⌜ Ready suite (now tb) × IsSuite suite × (length (now b) ≡ sizeOf suite) ⌝ }
     ensures { λ r. ⌜ Holds suite r (turned (cipherOf suite) m (twoOf suite s) (now (b .entry))) ⌝ }
 {
     let t = crate::state::turn(tb, suite, s, m);
@@ -22,8 +22,8 @@ pub fn absorb_full(tb: &Lent, suite: u8, s: State, m: u8, b: &[u8]) -> State
 }
 
 // A short block of associated data.
-pub fn absorb_short(tb: &Lent, suite: u8, s: State, m: u8, b: &[u8]) -> State
-    requires { ⌜ Ready (now tb) × IsSuite suite × (length (now b) < sizeOf suite) ⌝ }
+pub fn absorb_short(tb: &[Lent], suite: u8, s: State, m: u8, b: &[u8]) -> State
+    requires { ⌜ Ready suite (now tb) × IsSuite suite × (length (now b) < sizeOf suite) ⌝ }
     ensures { λ r. ⌜ Holds suite r (turned (cipherOf suite) m (twoOf suite s) (now (b .entry))) ⌝ }
 {
     let t = crate::state::turn(tb, suite, s, m);
@@ -33,7 +33,7 @@ pub fn absorb_short(tb: &Lent, suite: u8, s: State, m: u8, b: &[u8]) -> State
 
 // A full block of text: what goes out, and the message's block goes in.
 pub fn crypt_full(
-    tb: &Lent,
+    tb: &[Lent],
     opening: bool,
     suite: u8,
     s: State,
@@ -41,7 +41,7 @@ pub fn crypt_full(
     b: &[u8],
     out: &mut [u8],
 ) -> State
-    requires { ⌜ Ready (now tb) × IsSuite suite × (length (now b) ≡ sizeOf suite) × (length (now out) ≡ length (now b)) ⌝ }
+    requires { ⌜ Ready suite (now tb) × IsSuite suite × (length (now b) ≡ sizeOf suite) × (length (now out) ≡ length (now b)) ⌝ }
     ensures text { λ _. ⌜ now (out .exit) ≡ hidden (cipherOf suite) m (twoOf suite s) (now (b .entry)) ⌝ }
     ensures state { λ r. ⌜ Holds suite r (turned (cipherOf suite) m (twoOf suite s) (messageOf (cipherOf suite) opening m (twoOf suite s) (now (b .entry)))) ⌝ }
 {
@@ -67,7 +67,7 @@ fn mask(b: &[u8], h: Block, out: &mut [u8])
 
 // A short block of text: what goes out, and the message's block goes in.
 pub fn crypt_short(
-    tb: &Lent,
+    tb: &[Lent],
     opening: bool,
     suite: u8,
     s: State,
@@ -75,7 +75,7 @@ pub fn crypt_short(
     b: &[u8],
     out: &mut [u8],
 ) -> State
-    requires { ⌜ Ready (now tb) × IsSuite suite × (length (now b) < sizeOf suite) × (length (now out) ≡ length (now b)) ⌝ }
+    requires { ⌜ Ready suite (now tb) × IsSuite suite × (length (now b) < sizeOf suite) × (length (now out) ≡ length (now b)) ⌝ }
     ensures text { λ _. ⌜ now (out .exit) ≡ hidden (cipherOf suite) m (twoOf suite s) (now (b .entry)) ⌝ }
     ensures state { λ r. ⌜ Holds suite r (turned (cipherOf suite) m (twoOf suite s) (messageOf (cipherOf suite) opening m (twoOf suite s) (now (b .entry)))) ⌝ }
 {

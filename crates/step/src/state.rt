@@ -16,8 +16,8 @@ pub struct State {
 }
 
 // The state that key and nonce start.
-pub fn start(tb: &Lent, suite: u8, key: &[u8], nonce: &[u8]) -> State
-    requires { ⌜ Ready (now tb) × IsSuite suite × (length (now key) ≡ 16) × (length (now nonce) ≡ nonceOf suite) ⌝ }
+pub fn start(tb: &[Lent], suite: u8, key: &[u8], nonce: &[u8]) -> State
+    requires { ⌜ Ready suite (now tb) × IsSuite suite × (length (now key) ≡ 16) × (length (now nonce) ≡ nonceOf suite) ⌝ }
     ensures { λ r. ⌜ Holds suite r (origin (cipherOf suite) (now (key .entry)) (now (nonce .entry))) ⌝ }
 {
     let k = words::block::filled(key);
@@ -35,8 +35,8 @@ pub fn start(tb: &Lent, suite: u8, key: &[u8], nonce: &[u8]) -> State
 }
 
 // The next block key under the mark m, and X, the image of Y under it.
-pub(crate) fn turn(tb: &Lent, suite: u8, s: State, m: u8) -> State
-    requires { ⌜ Ready (now tb) × IsSuite suite ⌝ }
+pub(crate) fn turn(tb: &[Lent], suite: u8, s: State, m: u8) -> State
+    requires { ⌜ Ready suite (now tb) × IsSuite suite ⌝ }
     ensures { λ r. ⌜ Holds suite r (imaged suite m (twoOf suite s)) ⌝ }
 {
     let y = s.y;

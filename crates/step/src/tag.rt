@@ -13,8 +13,8 @@ ghost use Rattle.mode.specs.Walk.{tagged};
 ghost use Rattle.step.specs.Two.{twoOf, Clean};
 
 // The tag of a state: the last call, under the last mark.
-pub fn tag_of(tb: &Lent, suite: u8, s: State) -> Block
-    requires { ⌜ Ready (now tb) × IsSuite suite ⌝ }
+pub fn tag_of(tb: &[Lent], suite: u8, s: State) -> Block
+    requires { ⌜ Ready suite (now tb) × IsSuite suite ⌝ }
     ensures tag { λ r. ⌜ take (sizeOf suite) (wide r) ≡ tagged (cipherOf suite) (twoOf suite s) ⌝ }
     ensures clean { λ r. ⌜ Clean suite r ⌝ }
 {

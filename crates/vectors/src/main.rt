@@ -1,4 +1,4 @@
-// Prints the image of each block on its input in hexadecimal, one to a line.
+// Prints the image of each block on its input in hexadecimal, one to a line: under suite 1 by both engines of AES.
 // A record is a suite (1 byte), a key (16) and a block (16 bytes for suites 1 and 2, 8 for 3 and 4).
 use libc::STDIN_FILENO;
 
@@ -21,7 +21,9 @@ fn print_line(b: &[u8]) {
 
 fn answer(suite: u8, key: [u8; 16]) {
     if suite == 1 {
-        print_line(&aes::encrypt(key, read16()));
+        let block = read16();
+        print_line(&aes::encrypt(key, block));
+        print_line(&columns::encrypt(key, block));
     }
     if suite == 2 {
         print_line(&cham::c128::encrypt(key, read16()));

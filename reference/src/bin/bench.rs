@@ -3,10 +3,10 @@
 //!
 //!     bench [REPETITIONS]
 
-use reference::calls::{Call, REFERENCE};
+use reference::calls::{Call, Library, REFERENCE};
 use reference::data::{cases, samples};
 use reference::draft::{Draft, Entry};
-use reference::linked::{PLAIN, PROVED};
+use reference::linked::{COLUMNS, PLAIN, PROVED};
 use reference::random::Random;
 use reference::shift;
 use std::hint::black_box;
@@ -14,7 +14,9 @@ use std::time::{Duration, Instant};
 
 const SIZES: [usize; 4] = [0, 64, 1_024, 65_536];
 const BATCH: Duration = Duration::from_micros(300);
-const LIBRARIES: [reference::calls::Library; 3] = [PROVED, REFERENCE, PLAIN];
+/// The proved library, the reference and the plain C; for suite 1 the plain C also with AES by four tables.
+const LIBRARIES: [Library; 3] = [PROVED, REFERENCE, PLAIN];
+const BY_TABLES: [Library; 3] = [PROVED, REFERENCE, COLUMNS];
 
 /// Nanoseconds of one turn, over a batch of them.
 fn time(turns: usize, turn: &mut dyn FnMut()) -> f64 {
@@ -61,11 +63,11 @@ fn measure(repetitions: usize, run: &mut dyn FnMut(usize)) -> Measured {
 }
 
 /// Sealing or opening one record with the shift file's shortest associated data.
-fn measure_record(repetitions: usize, call: &Call) -> Measured {
+fn measure_record(repetitions: usize, call: &Call, libraries: &[Library; 3]) -> Measured {
     let (mut out, mut tag) = (vec![0; call.out], call.tag.clone());
     let Call { suite, key, nonce, ad, text, .. } = call;
     measure(repetitions, &mut |which| {
-        let by = &LIBRARIES[which];
+        let by = &libraries[which];
         let number = if call.opens {
             (by.open)(*suite, key, nonce, ad, black_box(text), &call.tag, &mut out)
         } else {
@@ -115,18 +117,27 @@ fn line(suite: u8, what: &str, size: usize, m: Measured) {
     println!("| {suite} | {what} | {size} | {:.0} | {per_byte} | {:.2} | {:.2} |", m.ours, m.to_reference, m.to_plain);
 }
 
-/// The targets of the base for sealing and opening; gives what is missed.
-fn misses(suite: u8, what: &str, measured: &[Measured; 4], growth: f64) -> Vec<String> {
-    let mut missed = vec![];
-    for (i, target) in [(1, 0.9), (2, 1.0), (3, 1.0)] {
-        if measured[i].ratio() < target {
-            missed.push(format!("suite {suite}, {what} {} bytes: {:.2}, not {target}", SIZES[i], measured[i].ratio()));
-        }
-    }
-    if growth > 1.1 {
-        missed.push(format!("suite {suite}, {what}: a byte costs {growth:.2} times as much at 65536 as at 1024"));
-    }
-    missed
+/// The targets for sealing and opening; gives what is missed.
+fn misses(suite: u8, what: &str, measured: &[Measured; 4], targets: &[(usize, f64)]) -> Vec<String> {
+    let missed = targets.iter().filter(|(i, target)| measured[*i].ratio() < *target);
+    let miss = |(i, target): &(usize, f64)| {
+        format!("suite {suite}, {what} {} bytes: {:.2}, not {target}", SIZES[*i], measured[*i].ratio())
+    };
+    missed.map(miss).collect()
+}
+
+/// Sealing or opening at each size, with a line for each; gives the targets missed.
+fn measure_sizes(
+    repetitions: usize,
+    what: &str,
+    calls: &[Call; 4],
+    by: &[Library; 3],
+    targets: &[(usize, f64)],
+) -> Vec<String> {
+    let suite = calls[0].suite;
+    let measured = calls.each_ref().map(|call| measure_record(repetitions, call, by));
+    (0..4).for_each(|i| line(suite, what, SIZES[i], measured[i]));
+    misses(suite, what, &measured, targets)
 }
 
 fn main() {
@@ -142,11 +153,17 @@ fn main() {
     for suite in 1..=4 {
         let calls = SIZES.map(|size| cases::sealing(&mut random, suite, 5, size));
         for (what, calls) in [("seal", calls.clone()), ("open", calls.map(|call| call.reopened()))] {
-            let measured = calls.each_ref().map(|call| measure_record(repetitions, call));
+            missed.extend(measure_sizes(repetitions, what, &calls, &LIBRARIES, &[(1, 0.9), (2, 1.0), (3, 1.0)]));
+            if suite == 1 {
+                let what = format!("{what}, C by tables");
+                missed.extend(measure_sizes(repetitions, &what, &calls, &BY_TABLES, &[(2, 1.0), (3, 1.0)]));
+            }
             let growth = growth(repetitions, &calls[2], &calls[3]);
-            (0..4).for_each(|i| line(suite, what, SIZES[i], measured[i]));
             growths.push(format!("suite {suite}, {what}: {growth:.2}"));
-            missed.extend(misses(suite, what, &measured, growth));
+            if growth > 1.1 {
+                missed
+                    .push(format!("suite {suite}, {what}: a byte costs {growth:.2} times as much at 65536 as at 1024"));
+            }
         }
         for size in SIZES {
             let (rows, file) = file(&mut random, suite, size);

@@ -6,12 +6,13 @@
 use reference::bridge::PROVED;
 use reference::calls::{Call, FileCall, Library, REFERENCE};
 use reference::data::{cases, files};
-use reference::linked::PLAIN;
+use reference::linked::{COLUMNS, PLAIN};
 use reference::random::Random;
 use reference::show::hex;
 use reference::trials;
 
-const LIBRARIES: [(&str, Library); 2] = [("the proved library", PROVED), ("the plain C", PLAIN)];
+const LIBRARIES: [(&str, Library); 3] =
+    [("the proved library", PROVED), ("the plain C", PLAIN), ("the plain C by tables", COLUMNS)];
 
 const SHOWN_DIFFERENCES: usize = 10;
 

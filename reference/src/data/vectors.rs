@@ -64,7 +64,8 @@ pub fn parts() -> [Part; 2] {
         stdin.push(suite);
         stdin.extend(key);
         stdin.extend(block);
-        stdout += &format!("{}\n", hex(&image));
+        // suite 1 by both engines: the plain one and the one by columns
+        stdout += &format!("{}\n", hex(&image)).repeat(if suite == 1 { 2 } else { 1 });
     }
     [("stdin", stdin), ("stdout", stdout.into_bytes())]
 }

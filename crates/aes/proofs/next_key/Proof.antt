@@ -11,13 +11,16 @@ rot-word-requires c κs = search needs
 shifted-requires : tie.Need-shifted-requires
 shifted-requires c κs = search needs
 
+chained-requires : tie.Need-chained-requires
+chained-requires c κs = search needs
+
 returns : tie.Need-returns
 unfolding xor
 returns c =
-    let a = c .before .before .before .before .before .before .args in
-    let w = c .before .before .before .before .before .rot-word in
-    let s = c .before .before .before .before .shifted in
-    key-turn (a .k .a) (a .k .b) (a .k .c) (a .k .d) (w .result) (s .result) (a .rc) (w .ensures) (s .ensures)
+    let a = c .before .before .before .args in
+    let w = c .before .before .rot-word in
+    let s = c .before .shifted in
+    key-turn (a .k) (c .chained .result) (w .result) (s .result) (a .rc) (w .ensures) (s .ensures) (c .chained .ensures)
 
 pub next-key-spec : {M : Type 1} → statement M
-next-key-spec = tie.close (tie.spec rot-word-requires shifted-requires returns)
+next-key-spec = tie.close (tie.spec rot-word-requires shifted-requires chained-requires returns)

@@ -15,35 +15,24 @@ use Rattle.comet.specs.Answers.{opening}
 use Rattle.comet.proofs.crypt.Statement.{statement}
 use Rattle.comet.proofs.crypt.Tie as tie
 
-tables-requires : tie.Need-tables-requires
-tables-requires c κs = search needs
-
 start-requires : tie.Need-start-requires
-start-requires c κs =
-    let p = c .before .before .before .before .before .before .before .pre in
-    (c .before .tables .ensures, p .0, p .1, p .2)
+start-requires c κs = search needs
 
 absorb-all-requires : tie.Need-absorb-all-requires
-absorb-all-requires c κs =
-    let p = c .before .before .before .before .before .before .before .before .before .pre in
-    (c .before .before .before .tables .ensures, p .0)
+absorb-all-requires c κs = search needs
 
 crypt-all-requires : tie.Need-crypt-all-requires
-crypt-all-requires c κs =
-    let p = c .before .before .before .before .before .before .before .before .before .before .before .before .pre in
-    (c .before .before .before .before .before .before .tables .ensures, p .0, p .3)
+crypt-all-requires c κs = search needs
 
 tag-of-requires : tie.Need-tag-of-requires
-tag-of-requires c κs =
-    let p = c .before .before .before .before .before .before .before .before .before .before .before .before .before .before .before .before .pre in
-    (c .before .before .before .before .before .before .before .before .before .before .tables .ensures, p .0)
+tag-of-requires c κs = search needs
 
 same-length : tie.Need-same-length
 same-length c = search needs
 
 returns : tie.Need-returns
 returns c =
-    let st = c .before .before .before .before .before .before .before .before .before .before .before .before .before .before .before .before .before in
+    let st = c .before .before .before .before .before .before .before .before .before .before .before .before in
     let suite = st .args .suite in
     let κ = cipherOf suite in
     let d = st .args .opening in
@@ -51,9 +40,9 @@ returns c =
     let nonce = now (st .args .nonce) in
     let ad = now (st .args .ad) in
     let text = now (st .args .text) in
-    let begun = c .before .before .before .before .before .before .before .before .before .start in
-    let read = c .before .before .before .before .before .before .before .absorb-all in
-    let done = c .before .before .before .before .crypt-all in
+    let begun = c .before .before .before .before .before .before .start in
+    let read = c .before .before .before .before .before .absorb-all in
+    let done = c .before .before .before .crypt-all in
     let pos = some κ (lawful suite) in
     let e : twoOf suite (read .result) ≡ dataDone κ key nonce ad = read .ensures ∙ ap (λ (s : States). walked κ false 0x08 0x10 s (blocks (sizeOf suite) ad)) (begun .ensures .two) in (
       done .ensures .0 ∙ ap (λ (s : States). covered κ d 0x20 0x40 s (blocks (sizeOf suite) text)) e ∙ sym (text-walk κ pos key nonce ad text d),
@@ -67,7 +56,6 @@ pub crypt-spec : {M : Type 1} → statement M
 crypt-spec =
     tie.close
     (tie.spec
-    tables-requires
     start-requires
     absorb-all-requires
     crypt-all-requires

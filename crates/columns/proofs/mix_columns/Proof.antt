@@ -1,0 +1,27 @@
+-- `columns::mix_columns` meets its contract, column by column.
+use Rattle.words.specs.Bytes.{bytes}
+use Rattle.fips197.specs.Cipher.{subBytes, shiftRows, mixColumns}
+use Rattle.aes.proofs.Column.{four}
+use borrow.Author.Needs.{needs}
+use Rattle.columns.proofs.mix_columns.Statement.{statement}
+use Rattle.columns.proofs.mix_columns.Tie as tie
+
+mixed-requires : tie.Need-mixed-requires
+mixed-requires c κs = search needs
+
+mixed-requires-2 : tie.Need-mixed-requires-2
+mixed-requires-2 c κs = search needs
+
+mixed-requires-3 : tie.Need-mixed-requires-3
+mixed-requires-3 c κs = search needs
+
+mixed-requires-4 : tie.Need-mixed-requires-4
+mixed-requires-4 c κs = search needs
+
+returns : tie.Need-returns
+unfolding bytes mixColumns shiftRows subBytes
+returns c = four (c .before .before .before .mixed .ensures) (c .before .before .mixed2 .ensures) (c .before .mixed3 .ensures) (c .mixed4 .ensures)
+
+pub mix-columns-spec : {M : Type 1} → statement M
+mix-columns-spec =
+    tie.close (tie.spec mixed-requires mixed-requires-2 mixed-requires-3 mixed-requires-4 returns)

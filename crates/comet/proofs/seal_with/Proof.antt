@@ -1,0 +1,46 @@
+-- `comet::seal_with` meets its contract: text and tag are the definition's.
+use denote.Ref.{now}
+use lib.ListN.{length, take}
+use mathlib.Core.Path.{refl, sym, ap, _∙_}
+use native.Mathlib.Omega.{arith}
+use Prim.Native.Nat.{ℕ}
+use Rattle.words.specs.Blocks.{wide}
+use Rattle.cipher.proofs.Suites.{size-most}
+use Rattle.comet.proofs.Refuse.{Passed, passed, sealing-done}
+use borrow.Author.Needs.{needs}
+use Rattle.comet.proofs.seal_with.Statement.{statement}
+use Rattle.comet.proofs.seal_with.Tie as tie
+
+-- every length is right
+ok : (st : tie.Start) → Passed (st .args .suite) (length (now (st .args .key))) (length (now (st .args .nonce))) (length (now (st .args .ad)))
+    (length (now (st .args .msg))) (length (now (st .args .out))) (length (now (st .args .tag)))
+ok st = passed _ _ _ _ _ _ _ (st .pre .1)
+
+crypt-requires : tie.Need-crypt-requires
+crypt-requires c κs =
+    let st = c .before .before .before .before .before .before .before in
+    let p = ok st in
+    (st .pre .0, p .suite, p .key, p .nonce, p .room)
+
+put-requires : tie.Need-put-requires
+put-requires c κs =
+    let st = c .before .before .before .before .before .before .before .before .before .before .before in
+    omega (arith, ok st .tag, size-most (st .args .suite))
+
+same-length : tie.Need-same-length
+same-length c = search needs
+
+same-length-2 : tie.Need-same-length-2
+same-length-2 c = search needs
+
+returns : tie.Need-returns
+returns c =
+    let st = c .before .before .before .before .before .before .before .before .before .before .before .before .before .before in
+    let x = st .args in
+    let t = c .before .before .before .before .before .before .crypt in
+    sealing-done (x .suite) (now (x .key)) (now (x .nonce)) (now (x .ad)) (now (x .msg)) (now (x .out)) (now (x .tag)) 0 (sym (st .pre .1))
+    refl _ _ (t .ensures .0)
+    (c .before .before .put .ensures ∙ ap (λ (n : ℕ). take n (wide (t .result))) (ok st .tag) ∙ t .ensures .1 .0)
+
+pub seal-with-spec : {M : Type 1} → statement M
+seal-with-spec = tie.close (tie.spec crypt-requires put-requires same-length same-length-2 returns)

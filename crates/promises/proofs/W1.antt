@@ -1,0 +1,9 @@
+-- W1 by citation.
+use Rattle.columns.proofs.Engines.{same-block}
+use Rattle.promises.specs.W1.{BothEngines, TablesRule}
+
+pub both-engines : BothEngines
+both-engines = same-block
+
+pub tables-rule : TablesRule
+tables-rule κs a x = x .ensures
