@@ -8,6 +8,7 @@ use mathlib.Core.List.{List}
 use lib.ListN.{length, replicate}
 use Rattle.comet.specs.Answers.{refusal, Sealed, sealedAs, sealing, Opened, openedAs, opening}
 use Rattle.comet.proofs.Outcomes as comet
+use Rattle.session.proofs.Outcomes as session
 use Rattle.table.proofs.Outcomes as table
 use Rattle.shift.proofs.Outcomes as shift
 use Rattle.comet.proofs.Refuse.{refusal-most}
@@ -22,6 +23,10 @@ entry-points =
       lookup = record { asks-nothing = λ κs a. tt; one-outcome = shift.lookup };
       entry = record { asks-nothing = λ κs a. tt; one-outcome = shift.entry };
       open-job = record { asks-nothing = λ κs a. tt; one-outcome = shift.open-job };
+      session-start = record { asks-nothing = λ κs a. tt; one-outcome = session.start };
+      session-data = record { asks-nothing = λ κs a. tt; one-outcome = session.associated };
+      session-part = record { asks-nothing = λ κs a. tt; one-outcome = session.message };
+      session-end = record { asks-nothing = λ κs a. tt; one-outcome = session.finish };
       associated = shift.associated;
     }
 
