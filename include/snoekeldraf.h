@@ -175,6 +175,31 @@ uint32_t shift_open_job(const uint8_t *file, size_t file_len,
                         uint8_t *out, size_t out_len,
                         uint32_t *row);
 
+/* The writer. A draft is a shift file with edition 0, plaintext where the ciphertext goes, and zero tags. Numbers, in this
+ * order; out is as it was after every number but 0 and 8. *row is written always: the row after 25 to 30, 33 and 8, and 0
+ * after every other number, 0 too.
+ *  20 to 31   as above, of the draft or the file; 21 says that a draft's edition is not 0, or a file's is not 1
+ *  33   shift_seal_file alone: the row's tag has a byte that is not zero; the first such row
+ *   2   the ring is not 256 bytes long
+ *   6   out_len is not draft_len (file_len)
+ *   8   shift_unseal_file alone: the row's tag differs; the first such row. Every byte of out is 0
+ *   0   done: out is written whole
+ */
+
+/* Seals a draft: out is the sealed file. The edition is 1, ciphertext and tag stand in their places, and every other byte
+ * is the draft's.
+ */
+uint32_t shift_seal_file(const uint8_t *draft, size_t draft_len,
+                         const uint8_t *ring, size_t ring_len,
+                         uint8_t *out, size_t out_len,
+                         uint32_t *row);
+
+/* Gives the draft of a sealed file back: out is the draft. Sealing it with the same ring gives the file. */
+uint32_t shift_unseal_file(const uint8_t *file, size_t file_len,
+                           const uint8_t *ring, size_t ring_len,
+                           uint8_t *out, size_t out_len,
+                           uint32_t *row);
+
 #ifdef __cplusplus
 }
 #endif

@@ -11,6 +11,7 @@ use Rattle.comet.proofs.Outcomes as comet
 use Rattle.session.proofs.Outcomes as session
 use Rattle.table.proofs.Outcomes as table
 use Rattle.shift.proofs.Outcomes as shift
+use Rattle.writer.proofs.Outcomes as writer
 use Rattle.comet.proofs.Refuse.{refusal-most}
 use Rattle.promises.specs.Demand1.{EntryPoints, SealKeeps, OpenKeeps}
 
@@ -28,6 +29,8 @@ entry-points =
       session-part = record { asks-nothing = λ κs a. tt; one-outcome = session.message };
       session-end = record { asks-nothing = λ κs a. tt; one-outcome = session.finish };
       associated = shift.associated;
+      seal-file = record { asks-nothing = λ κs a. tt; one-outcome = writer.seal-file };
+      unseal-file = record { asks-nothing = λ κs a. tt; one-outcome = writer.unseal-file };
     }
 
 sealed-keeps : (n : ℕ) (x y o t : List ℕ) → n ≤ 7 → (sealedAs n x y o t .number ≤ 7) × (0 < sealedAs n x y o t .number → (sealedAs n x y o t .out ≡ o) × (sealedAs n x y o t .tag ≡ t))

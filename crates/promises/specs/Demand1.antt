@@ -30,6 +30,10 @@ use Rattle.shift.proofs.associated.Kinds as associated-kinds
 use Rattle.shift.proofs.associated.Reads as associated-reads
 use Rattle.shift.proofs.open_job.Kinds as open-job-kinds
 use Rattle.shift.proofs.open_job.Reads as open-job-reads
+use Rattle.writer.proofs.seal_file.Kinds as seal-file-kinds
+use Rattle.writer.proofs.seal_file.Reads as seal-file-reads
+use Rattle.writer.proofs.unseal_file.Kinds as unseal-file-kinds
+use Rattle.writer.proofs.unseal_file.Reads as unseal-file-reads
 
 -- of a routine's own signature and contract: it asks nothing of its arguments, and they leave one outcome
 pub record Answers {n : ℕ} (ps : List (PK n)) (r : RK n) (Pre : In n ps) (Post : Out n ps r) : Type 0 where
@@ -37,6 +41,7 @@ pub record Answers {n : ℕ} (ps : List (PK n)) (r : RK n) (Pre : In n ps) (Post
   pub one-outcome : OneOutcome ps r Pre Post
 
 -- every entry point
+-- every entry point of document 01, and those that document 02 adds
 pub record EntryPoints : Type 0 where
   pub seal : Answers seal-kinds.ps seal-kinds.r seal-reads.Pre seal-reads.Post
   pub unseal : Answers unseal-kinds.ps unseal-kinds.r unseal-reads.Pre unseal-reads.Post
@@ -52,6 +57,9 @@ pub record EntryPoints : Type 0 where
   -- the associated data is a part of the file: its bytes and its place are one; a reference's ghost name belongs to the proof and is no outcome
   pub associated : (κs : Lfts 1) (a : Dens κs associated-kinds.ps) (x y : Outcome associated-kinds.ps associated-kinds.r associated-reads.Post κs a)
       → (now (x .result) ≡ now (y .result)) × (x .result .ptr ≡ y .result .ptr)
+  -- W4
+  pub seal-file : Answers seal-file-kinds.ps seal-file-kinds.r seal-file-reads.Pre seal-file-reads.Post
+  pub unseal-file : Answers unseal-file-kinds.ps unseal-file-kinds.r unseal-file-reads.Pre unseal-file-reads.Post
 
 -- the sealer gives 0 to 7, and on any but 0 both buffers are as they were
 abbrev pub SealKeeps : Type 0

@@ -4,5 +4,6 @@ pub mod Finding
 pub mod Told
 pub mod Entries
 pub mod Jobs
+pub mod Changed
 pub mod Units
 pub mod Outcomes

@@ -32,5 +32,5 @@ lookup-told f job none = lookup-case (eqb (checkFile f .number) 0) none
     lookup-case : (b : Bool) → (cond b found (checkFile f) .number ≡ 0 → ⊥) → Told 32 (cond b found (checkFile f))
     lookup-case true n = found-told (rowSize edition) f (countOf f) job 0 n
     lookup-case false n =
-        let t = check-told f in
+        let t = check-told edition f in
         record { number = ⊎-elim (λ z. inl z) (λ r. inr (omega arith)) (t .number); row = t .row }

@@ -37,6 +37,11 @@ use Rattle.snoekeldraf.proofs.file.shift_entry.Kinds as entry-kinds
 use Rattle.snoekeldraf.proofs.file.shift_entry.Reads as entry-reads
 use Rattle.snoekeldraf.proofs.file.shift_open_job.Kinds as open-job-kinds
 use Rattle.snoekeldraf.proofs.file.shift_open_job.Reads as open-job-reads
+use Rattle.draft.specs.Answers.{FileWritten}
+use Rattle.snoekeldraf.proofs.drafts.shift_seal_file.Kinds as seal-file-kinds
+use Rattle.snoekeldraf.proofs.drafts.shift_seal_file.Reads as seal-file-reads
+use Rattle.snoekeldraf.proofs.drafts.shift_unseal_file.Kinds as unseal-file-kinds
+use Rattle.snoekeldraf.proofs.drafts.shift_unseal_file.Reads as unseal-file-reads
 
 pub comet-seal : OneOutcome seal-kinds.ps seal-kinds.r seal-reads.Pre seal-reads.Post
 comet-seal κs a h x y =
@@ -117,3 +122,13 @@ comet-session-end κs a h x y = (
   step-told (x .result) (y .result) _ _ _ _ (record { y0 = omega arith; y1 = omega arith; z0 = omega arith; z1 = omega arith }) (record { y0 = omega arith; y1 = omega arith; z0 = omega arith; z1 = omega arith }) (x .ensures ∙ sym (y .ensures)),
   ap (λ (g : Given). (tt, (g .out, (g .tag, tt)))) (x .ensures ∙ sym (y .ensures)),
 )
+
+pub shift-seal-file : OneOutcome seal-file-kinds.ps seal-file-kinds.r seal-file-reads.Pre seal-file-reads.Post
+shift-seal-file κs a h x y =
+    let e = x .ensures ∙ sym (y .ensures) in
+    (ap (λ (w : FileWritten). w .answer .number) e, ap (λ (w : FileWritten). (tt, (tt, (w .out, (w .answer .row, tt))))) e)
+
+pub shift-unseal-file : OneOutcome unseal-file-kinds.ps unseal-file-kinds.r unseal-file-reads.Pre unseal-file-reads.Post
+shift-unseal-file κs a h x y =
+    let e = x .ensures ∙ sym (y .ensures) in
+    (ap (λ (w : FileWritten). w .answer .number) e, ap (λ (w : FileWritten). (tt, (tt, (w .out, (w .answer .row, tt))))) e)

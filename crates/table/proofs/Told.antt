@@ -9,9 +9,9 @@ use lib.ListN.{length}
 use lib.Dec.{eqb, ltb, lit≤}
 use borrow.Author.Tests.{eqb-false, not-true, ne-eqb}
 use Rattle.table.specs.declared.answers.Answer.{Answer}
-use Rattle.table.specs.Format.{editionOf, countOf, totalOf, edition, rowSize, rowStart, rowAt}
+use Rattle.table.specs.Format.{editionOf, countOf, totalOf, rowSize, rowStart, rowAt}
 use Rattle.table.specs.Answers.{answer}
-use Rattle.table.specs.Check.{notAbove, badSuite, badLength, misplaced, nonceSeen, badData, bodyStart, rowNumber, bodyNumber, headNumber, endAnswer, rowsFrom, checkAs, checkFile}
+use Rattle.table.specs.Check.{notAbove, badSuite, badLength, misplaced, nonceSeen, badData, bodyStart, rowNumber, bodyNumber, headNumber, endAnswer, rowsFrom, checkAs}
 use Rattle.table.proofs.Searches.{first-says}
 
 -- 0, or from low to high
@@ -67,12 +67,12 @@ rows-told w f n i =
     (λ h. subst (Told 31) (h .gives) (end-told w f n))
     (first-says _ _ _ (n - i) i (rowsFrom w f n i) refl)
 
-pub check-told : (f : List ℕ) → Told 31 (checkFile f)
+pub check-told : (e : ℕ) (f : List ℕ) → Told 31 (checkAs e f)
 unfolding checkAs
-check-told f =
+check-told e f =
     ⊎-elim
-    (λ (z : headNumber edition f ≡ 0). simp z (rows-told (rowSize edition) f (countOf f) 0))
-    (λ (r : (20 ≤ headNumber edition f) × (headNumber edition f ≤ 24)).
-    let n : headNumber edition f ≡ 0 → ⊥ = λ z. omega arith in
+    (λ (z : headNumber e f ≡ 0). simp z (rows-told (rowSize e) f (countOf f) 0))
+    (λ (r : (20 ≤ headNumber e f) × (headNumber e f ≤ 24)).
+    let n : headNumber e f ≡ 0 → ⊥ = λ z. omega arith in
     simp (ne-eqb _ _ n) (record { number = inr (r .0, omega arith); row = inl refl }))
-    (head-among edition f)
+    (head-among e f)

@@ -3,8 +3,8 @@ use native.Mathlib.Omega.{arith}
 use Rattle.table.specs.Format.{nonceAt}
 use Rattle.cipher.proofs.Suites.{nonce-most}
 use borrow.Author.Needs.{needs}
-use Rattle.shift.proofs.opening.nonce_read.Statement.{statement}
-use Rattle.shift.proofs.opening.nonce_read.Tie as tie
+use Rattle.shift.proofs.lend.nonce_read.Statement.{statement}
+use Rattle.shift.proofs.lend.nonce_read.Tie as tie
 
 row-size-requires : tie.Need-row-size-requires
 row-size-requires c κs = search needs

@@ -1,7 +1,7 @@
 -- The table's row at the edition's row size.
 use borrow.Author.Needs.{needs}
-use Rattle.shift.proofs.opening.row_of.Statement.{statement}
-use Rattle.shift.proofs.opening.row_of.Tie as tie
+use Rattle.shift.proofs.lend.row_of.Statement.{statement}
+use Rattle.shift.proofs.lend.row_of.Tie as tie
 
 row-size-requires : tie.Need-row-size-requires
 row-size-requires c κs = search needs
