@@ -5,4 +5,5 @@ pub mod Told
 pub mod Entries
 pub mod Jobs
 pub mod Units
+pub mod Nonces
 pub mod Outcomes

@@ -3,6 +3,7 @@ pub mod Numbers
 pub mod Rows
 pub mod Sound
 pub mod Passed
+pub mod Nonces
 pub mod Told
 pub mod Alike
 pub mod Bodies
