@@ -3,11 +3,14 @@
  * A call is the number of a function of the table below (1 byte) and the function's arguments in the order of
  * snoekeldraf.h: a number is 8 bytes; bytes, and whatever is lent for writing, are a length (4 bytes) and that many
  * bytes. The answer is what the function gives (4 bytes), then all that was lent for writing, in the same order.
+ * A session is the bytes of its struct. Of a step the number is what the function gives; for the next session and the
+ * count there is something lent for writing, last of all.
  * Numbers are little-endian. The program ends where its input does.
  */
 #include "snoekeldraf.h"
 #include <stdio.h>
 #include <stdlib.h>
+#include <string.h>
 
 /* ---- what a call brings; it lies in one room, that the next call takes anew ---- */
 
@@ -97,7 +100,50 @@ static uint32_t entry(void) {
     return shift_entry(SLICE(file), job, row, ad_at, ad_len, text_at, text_len);
 }
 
-static uint32_t (*const functions[])(void) = {seal, open_record, check, lookup, associated, open_job, entry};
+static comet_session session(void) {
+    comet_session s;
+    bytes b = given();
+    if (b.len != sizeof s) exit(2);
+    memcpy(&s, b.at, sizeof s);
+    return s;
+}
+
+static uint32_t stepped(comet_step step) {
+    bytes next = lent();
+    if (next.len != sizeof step.next) exit(2);
+    memcpy(next.at, &step.next, next.len);
+    *lent_number() = (uint32_t)step.count;
+    return step.number;
+}
+
+static uint32_t session_start(void) {
+    uint8_t suite = (uint8_t)number();
+    bytes key = given(), nonce = given();
+    return stepped(comet_session_start(suite, SLICE(key), SLICE(nonce)));
+}
+
+static uint32_t session_data(void) {
+    comet_session s = session();
+    bytes ad = given();
+    return stepped(comet_session_data(s, SLICE(ad)));
+}
+
+static uint32_t session_part(void) {
+    comet_session s = session();
+    bytes msg = given(), out = lent();
+    return stepped(comet_session_part(s, SLICE(msg), SLICE(out)));
+}
+
+static uint32_t session_end(void) {
+    comet_session s = session();
+    bytes out = lent(), tag = lent();
+    return stepped(comet_session_end(s, SLICE(out), SLICE(tag)));
+}
+
+static uint32_t (*const functions[])(void) = {
+    seal, open_record, check, lookup, associated, open_job, entry,
+    session_start, session_data, session_part, session_end,
+};
 
 int main(void) {
     for (int function; (function = getchar()) != EOF; fflush(stdout)) {

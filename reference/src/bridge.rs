@@ -4,6 +4,7 @@
 //! and runs under the emulator of the kit that proves the library.
 
 use crate::calls::Library;
+use crate::session::{Session, Step};
 use crate::shift::{Answer, Places};
 use std::env;
 use std::io::{BufReader, BufWriter, Read, Write};
@@ -136,4 +137,52 @@ fn entry(file: &[u8], job: u32) -> (Answer, Places) {
     ((number, row), places.map(|place| place as usize))
 }
 
-pub const PROVED: Library = Library { seal, open, check, lookup, associated, entry, open_job };
+/// A session as the struct comet_session lies in memory: suite and seven bytes of nothing, Y, Z, held bytes, totals.
+fn flat(s: &Session) -> Vec<u8> {
+    let (suite, data, text) = ((s.suite as u64).to_le_bytes(), s.data.to_le_bytes(), s.text.to_le_bytes());
+    [&suite[..], &s.y, &s.z, &s.held, &data, &text].concat()
+}
+
+fn raised(flat: &[u8; 72]) -> Session {
+    let block = |at: usize| flat[at..at + 16].try_into().unwrap();
+    let total = |at: usize| usize::from_le_bytes(flat[at..at + 8].try_into().unwrap());
+    Session { suite: flat[0], y: block(8), z: block(24), held: block(40), data: total(56), text: total(64) }
+}
+
+fn step(function: u8, given: Vec<Argument>) -> Step {
+    let mut next = [0xa5; 72];
+    let mut arguments = given;
+    arguments.push(Lent(&mut next));
+    let (number, [count]) = ask(function, arguments);
+    Step { next: raised(&next), number, count: count as usize }
+}
+
+fn session_start(suite: u8, key: &[u8], nonce: &[u8]) -> Step {
+    step(7, vec![Number(suite.into()), Given(key), Given(nonce)])
+}
+
+fn session_data(session: Session, ad: &[u8]) -> Step {
+    step(8, vec![Given(&flat(&session)), Given(ad)])
+}
+
+fn session_part(session: Session, msg: &[u8], out: &mut [u8]) -> Step {
+    step(9, vec![Given(&flat(&session)), Given(msg), Lent(out)])
+}
+
+fn session_end(session: Session, out: &mut [u8], tag: &mut [u8]) -> Step {
+    step(10, vec![Given(&flat(&session)), Lent(out), Lent(tag)])
+}
+
+pub const PROVED: Library = Library {
+    seal,
+    open,
+    check,
+    lookup,
+    associated,
+    entry,
+    open_job,
+    session_start,
+    session_data,
+    session_part,
+    session_end,
+};

@@ -1,7 +1,8 @@
-//! Calls of the sealer, the opener and the shift file, and what an implementation answers to them.
+//! What is put to an implementation, and what it answers: calls of the sealer, the opener and the shift file.
 
+use crate::session::{Session, Step};
 use crate::show::{fold, shown};
-use crate::{comet, shift};
+use crate::{comet, session, shift};
 
 /// What lent buffers hold before a call.
 pub const FILLER: u8 = 0xa5;
@@ -19,6 +20,10 @@ pub struct Library {
     pub associated: fn(&[u8], u32) -> (u32, usize, usize),
     pub entry: fn(&[u8], u32) -> (shift::Answer, shift::Places),
     pub open_job: fn(&[u8], &[u8], u32, &mut [u8]) -> shift::Answer,
+    pub session_start: fn(u8, &[u8], &[u8]) -> Step,
+    pub session_data: fn(Session, &[u8]) -> Step,
+    pub session_part: fn(Session, &[u8], &mut [u8]) -> Step,
+    pub session_end: fn(Session, &mut [u8], &mut [u8]) -> Step,
 }
 
 pub const REFERENCE: Library = Library {
@@ -32,7 +37,25 @@ pub const REFERENCE: Library = Library {
     },
     entry: shift::entry,
     open_job: shift::open_job,
+    session_start: session::start,
+    session_data: session::data,
+    session_part: session::part,
+    session_end: session::end,
 };
+
+/// A call, or a run of calls.
+pub trait Case {
+    type Outcome: PartialEq;
+
+    /// What the implementation gives, and every byte of what was lent for writing.
+    fn answer(&self, by: &Library) -> Self::Outcome;
+
+    /// The case as its test program reads it.
+    fn record(&self) -> Vec<u8>;
+
+    /// The answer as its test program writes it.
+    fn lines(&self, by: &Library) -> String;
+}
 
 /// A call of the sealer or the opener. The sealer's `tag` is what its buffer holds before.
 #[derive(Clone)]
@@ -56,7 +79,18 @@ pub struct Outcome {
 }
 
 impl Call {
-    pub fn answer(&self, by: &Library) -> Outcome {
+    /// The call that opens what this one seals.
+    pub fn reopened(&self) -> Call {
+        let sealed = self.answer(&REFERENCE);
+        assert!(!self.opens && sealed.number == 0);
+        Call { opens: true, text: sealed.out, tag: sealed.tag, ..self.clone() }
+    }
+}
+
+impl Case for Call {
+    type Outcome = Outcome;
+
+    fn answer(&self, by: &Library) -> Outcome {
         let mut out = vec![FILLER; self.out];
         let mut tag = self.tag.clone();
         let number = if self.opens {
@@ -67,15 +101,7 @@ impl Call {
         Outcome { number, out, tag }
     }
 
-    /// The call that opens what this one seals.
-    pub fn reopened(&self) -> Call {
-        let sealed = self.answer(&REFERENCE);
-        assert!(!self.opens && sealed.number == 0);
-        Call { opens: true, text: sealed.out, tag: sealed.tag, ..self.clone() }
-    }
-
-    /// The call as the program `cases` reads it.
-    pub fn record(&self) -> Vec<u8> {
+    fn record(&self) -> Vec<u8> {
         let mut bytes = vec![self.opens as u8, self.suite];
         let lengths = [&self.key, &self.nonce, &self.ad, &self.text].map(|part| part.len());
         for length in lengths.into_iter().chain([self.out, self.tag.len()]) {
@@ -90,8 +116,7 @@ impl Call {
         bytes
     }
 
-    /// The answer as the program `cases` writes it.
-    pub fn line(&self, by: &Library) -> String {
+    fn lines(&self, by: &Library) -> String {
         let Outcome { number, out, tag } = self.answer(by);
         if self.opens {
             format!("{number} {}\n", shown(&out))
@@ -121,20 +146,8 @@ pub struct FileOutcome {
 }
 
 impl FileCall {
-    pub fn answer(&self, by: &Library) -> FileOutcome {
-        let mut out = vec![FILLER; self.out];
-        FileOutcome {
-            check: (by.check)(&self.file),
-            lookup: (by.lookup)(&self.file, self.job),
-            associated: (by.associated)(&self.file, self.job),
-            entry: (by.entry)(&self.file, self.job),
-            open: (by.open_job)(&self.file, &self.ring, self.job, &mut out),
-            out,
-        }
-    }
-
     /// The call as the program `files` reads it; op 0 is one answer, op 1 every single-byte damage.
-    pub fn record(&self, op: u8) -> Vec<u8> {
+    pub fn record_as(&self, op: u8) -> Vec<u8> {
         let mut bytes = vec![op];
         let lengths = [self.file.len(), self.ring.len(), self.out];
         for number in [self.job].into_iter().chain(lengths.map(|length| length as u32)) {
@@ -143,14 +156,6 @@ impl FileCall {
         bytes.extend(&self.file);
         bytes.extend(&self.ring);
         bytes
-    }
-
-    /// The answer as the program `files` writes it under op 0.
-    pub fn line(&self, by: &Library) -> String {
-        let FileOutcome { check, lookup, associated: (_, at, length), open, out, .. } = self.answer(by);
-        let (ad, out) = (shown(&self.file[at..at + length]), shown(&out));
-        let numbers = [check.0, check.1, lookup.0, lookup.1].map(|number| number.to_string()).join(" ");
-        format!("{numbers} {at} {length} {ad} {} {} {out}\n", open.0, open.1)
     }
 
     /// The lines of op 1: for each place of the file, the fold of the answers to its 255 damages: the numbers and
@@ -170,5 +175,32 @@ impl FileCall {
             lines += &format!("{}\n", fold(&answers));
         }
         lines
+    }
+}
+
+impl Case for FileCall {
+    type Outcome = FileOutcome;
+
+    fn answer(&self, by: &Library) -> FileOutcome {
+        let mut out = vec![FILLER; self.out];
+        FileOutcome {
+            check: (by.check)(&self.file),
+            lookup: (by.lookup)(&self.file, self.job),
+            associated: (by.associated)(&self.file, self.job),
+            entry: (by.entry)(&self.file, self.job),
+            open: (by.open_job)(&self.file, &self.ring, self.job, &mut out),
+            out,
+        }
+    }
+
+    fn record(&self) -> Vec<u8> {
+        self.record_as(0)
+    }
+
+    fn lines(&self, by: &Library) -> String {
+        let FileOutcome { check, lookup, associated: (_, at, length), open, out, .. } = self.answer(by);
+        let (ad, out) = (shown(&self.file[at..at + length]), shown(&out));
+        let numbers = [check.0, check.1, lookup.0, lookup.1].map(|number| number.to_string()).join(" ");
+        format!("{numbers} {at} {length} {ad} {} {} {out}\n", open.0, open.1)
     }
 }

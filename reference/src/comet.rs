@@ -1,7 +1,5 @@
 //! COMET version 1 over the four ciphers: the sealer and the opener, with document 01's numbers.
 
-use crate::{aes, cham, speck};
-
 /// The longest associated data, message and ciphertext.
 pub const LIMIT: usize = 65_536;
 
@@ -55,43 +53,55 @@ fn xor<const N: usize>(a: [u8; N], b: [u8; N]) -> [u8; N] {
     std::array::from_fn(|i| a[i] ^ b[i])
 }
 
-/// The mark of block `place` of a text: one for the first block, one for a short last block.
-fn mark(place: usize, is_short: bool, first: u8, short: u8) -> u8 {
-    (if place == 0 { first } else { 0 }) ^ (if is_short { short } else { 0 })
-}
-
 /// Whose text is worked on: the sealer's message, or the opener's ciphertext.
 #[derive(Clone, Copy, PartialEq)]
-enum Text {
+pub(crate) enum Text {
     Message,
     Ciphertext,
 }
 
-/// Y, Z and the cipher, over blocks of N bytes.
-struct State<const N: usize, E> {
-    y: [u8; N],
-    z: [u8; 16],
-    encrypt: E,
+/// A block cipher over blocks of N bytes, encryption only.
+pub(crate) trait Cipher<const N: usize>: Fn(&[u8; 16], &[u8; N]) -> [u8; N] {}
+
+impl<const N: usize, E: Fn(&[u8; 16], &[u8; N]) -> [u8; N]> Cipher<N> for E {}
+
+/// A function on the suite's cipher and what else is given.
+macro_rules! by_suite {
+    ($suite:expr, $function:ident($($argument:expr),*)) => {
+        match $suite {
+            1 => $function($crate::aes::encrypt, $($argument),*),
+            2 => $function($crate::cham::cham128::encrypt, $($argument),*),
+            3 => $function($crate::speck::encrypt, $($argument),*),
+            4 => $function($crate::cham::cham64::encrypt, $($argument),*),
+            suite => panic!("no suite {suite}"),
+        }
+    };
 }
 
-impl<E: Fn(&[u8; 16], &[u8; 16]) -> [u8; 16]> State<16, E> {
-    fn start(encrypt: E, key: &[u8; 16], nonce: &[u8]) -> Self {
-        let z = encrypt(key, nonce.try_into().unwrap());
-        State { y: *key, z, encrypt }
-    }
+pub(crate) use by_suite;
+
+/// Y, Z and the cipher.
+pub(crate) struct State<const N: usize, E> {
+    pub y: [u8; N],
+    pub z: [u8; 16],
+    pub encrypt: E,
 }
 
-impl<E: Fn(&[u8; 16], &[u8; 8]) -> [u8; 8]> State<8, E> {
-    fn start(encrypt: E, key: &[u8; 16], nonce: &[u8]) -> Self {
-        let mut z = *key;
+impl<const N: usize, E: Cipher<N>> State<N, E> {
+    /// COMET-128: Y is the key and Z the nonce's image. COMET-64: Y is the image of zeros and Z the key XOR the nonce.
+    pub fn start(encrypt: E, key: &[u8], nonce: &[u8]) -> Self {
+        let mut z: [u8; 16] = key.try_into().unwrap();
+        if N == 16 {
+            let image = encrypt(&z, nonce.try_into().unwrap());
+            return State { y: key.try_into().unwrap(), z: image[..].try_into().unwrap(), encrypt };
+        }
+        let y = encrypt(&z, &[0; N]);
         for (byte, n) in z.iter_mut().zip(nonce) {
             *byte ^= n;
         }
-        State { y: encrypt(key, &[0; 8]), z, encrypt }
+        State { y, z, encrypt }
     }
-}
 
-impl<const N: usize, E: Fn(&[u8; 16], &[u8; N]) -> [u8; N]> State<N, E> {
     /// One cipher call: the mark into byte 15 of Z, the low half of Z doubled and kept, then E(Z, Y).
     fn call(&mut self, mark: u8) -> [u8; N] {
         self.z[15] ^= mark;
@@ -100,17 +110,22 @@ impl<const N: usize, E: Fn(&[u8; 16], &[u8; N]) -> [u8; N]> State<N, E> {
         (self.encrypt)(&self.z, &self.y)
     }
 
-    fn absorb(&mut self, ad: &[u8]) {
+    /// Blocks of associated data; `begins` where the first of them is the first of all.
+    pub fn absorb(&mut self, begins: bool, ad: &[u8]) {
         for (place, piece) in ad.chunks(N).enumerate() {
-            let x = self.call(mark(place, piece.len() < N, 0x08, 0x10));
+            let first = if begins && place == 0 { 0x08 } else { 0 };
+            let short = if piece.len() < N { 0x10 } else { 0 };
+            let x = self.call(first ^ short);
             self.y = xor(x, pad(piece));
         }
     }
 
-    /// Y takes in the message in either direction.
-    fn crypt(&mut self, kind: Text, text: &[u8], out: &mut [u8]) {
+    /// Blocks of text in the same way. Y takes in the message in either direction.
+    pub fn crypt(&mut self, kind: Text, begins: bool, text: &[u8], out: &mut [u8]) {
         for (place, (piece, to)) in text.chunks(N).zip(out.chunks_mut(N)).enumerate() {
-            let x = self.call(mark(place, piece.len() < N, 0x20, 0x40));
+            let first = if begins && place == 0 { 0x20 } else { 0 };
+            let short = if piece.len() < N { 0x40 } else { 0 };
+            let x = self.call(first ^ short);
             let stream = shuffle(&x);
             for i in 0..piece.len() {
                 to[i] = piece[i] ^ stream[i];
@@ -120,42 +135,25 @@ impl<const N: usize, E: Fn(&[u8; 16], &[u8; N]) -> [u8; N]> State<N, E> {
         }
     }
 
-    /// The first block changed in one bit, and the second so that Y is the same after it.
-    fn made_up(mut self, ad: &[u8]) -> Vec<u8> {
-        let first: [u8; N] = ad[..N].try_into().unwrap();
-        let mut other = first;
-        other[0] ^= 1;
-        let x = self.call(0x08);
-        let z = self.z;
-        let seconds = [first, other].map(|block| {
-            (self.y, self.z) = (xor(x, block), z);
-            self.call(0)
-        });
-        let second = xor(ad[N..].try_into().unwrap(), xor(seconds[0], seconds[1]));
-        [other, second].concat()
-    }
-
-    /// The whole of a record; gives its tag.
-    fn run(mut self, kind: Text, ad: &[u8], text: &[u8], out: &mut [u8]) -> [u8; N] {
-        self.absorb(ad);
-        self.crypt(kind, text, out);
+    pub fn tag(mut self) -> [u8; N] {
         self.call(0x80)
     }
 }
 
-/// Works on a record whose lengths were checked; gives the tag in the first bytes.
-fn run(suite: u8, kind: Text, key: &[u8], nonce: &[u8], ad: &[u8], text: &[u8], out: &mut [u8]) -> [u8; 16] {
-    let key: &[u8; 16] = key.try_into().unwrap();
-    let mut tag = [0; 16];
-    match suite {
-        1 => tag = State::<16, _>::start(aes::encrypt, key, nonce).run(kind, ad, text, out),
-        2 => tag = State::<16, _>::start(cham::cham128::encrypt, key, nonce).run(kind, ad, text, out),
-        3 => tag[..8].copy_from_slice(&State::<8, _>::start(speck::encrypt, key, nonce).run(kind, ad, text, out)),
-        _ => {
-            tag[..8].copy_from_slice(&State::<8, _>::start(cham::cham64::encrypt, key, nonce).run(kind, ad, text, out))
-        }
-    }
-    tag
+/// The whole of a record; gives its tag.
+#[rustfmt::skip]
+fn record<const N: usize>(
+    encrypt: impl Cipher<N>, kind: Text, key: &[u8], nonce: &[u8], ad: &[u8], text: &[u8], out: &mut [u8],
+) -> Vec<u8> {
+    let mut state = State::start(encrypt, key, nonce);
+    state.absorb(true, ad);
+    state.crypt(kind, true, text, out);
+    state.tag().to_vec()
+}
+
+/// Works on a record whose lengths were checked; gives the tag.
+fn run(suite: u8, kind: Text, key: &[u8], nonce: &[u8], ad: &[u8], text: &[u8], out: &mut [u8]) -> Vec<u8> {
+    by_suite!(suite, record(kind, key, nonce, ad, text, out))
 }
 
 /// The lengths of a call, as the table of numbers looks at them.
@@ -168,9 +166,14 @@ struct Lengths {
     tag: usize,
 }
 
-/// Numbers 1 to 7: the first that applies, and 0 where none does.
+/// The first number that applies, and 0 where none does.
+pub fn first(table: &[(u32, bool)]) -> u32 {
+    table.iter().find(|(_, applies)| *applies).map_or(0, |(number, _)| *number)
+}
+
+/// Numbers 1 to 7.
 fn refusal(suite: u8, l: Lengths) -> u32 {
-    let table = [
+    first(&[
         (1, block_size(suite) == 0),
         (2, l.key != 16),
         (3, l.nonce != nonce_size(suite)),
@@ -178,8 +181,7 @@ fn refusal(suite: u8, l: Lengths) -> u32 {
         (5, l.text > LIMIT),
         (6, l.out != l.text),
         (7, l.tag != block_size(suite)),
-    ];
-    table.iter().find(|(_, applies)| *applies).map_or(0, |(number, _)| *number)
+    ])
 }
 
 /// Seals a message: the ciphertext into `out`, the tag into `tag`. On a refusal both are unchanged.
@@ -189,8 +191,7 @@ pub fn seal(suite: u8, key: &[u8], nonce: &[u8], ad: &[u8], msg: &[u8], out: &mu
         Lengths { key: key.len(), nonce: nonce.len(), ad: ad.len(), text: msg.len(), out: out.len(), tag: tag.len() },
     );
     if number == 0 {
-        let made = run(suite, Text::Message, key, nonce, ad, msg, out);
-        tag.copy_from_slice(&made[..tag.len()]);
+        tag.copy_from_slice(&run(suite, Text::Message, key, nonce, ad, msg, out));
     }
     number
 }
@@ -204,8 +205,7 @@ pub fn open(suite: u8, key: &[u8], nonce: &[u8], ad: &[u8], text: &[u8], tag: &[
     if number != 0 {
         return number;
     }
-    let made = run(suite, Text::Ciphertext, key, nonce, ad, text, out);
-    if made[..tag.len()] != *tag {
+    if run(suite, Text::Ciphertext, key, nonce, ad, text, out) != tag {
         out.fill(0);
         return 8;
     }
@@ -214,34 +214,38 @@ pub fn open(suite: u8, key: &[u8], nonce: &[u8], ad: &[u8], text: &[u8], tag: &[
 
 /// The tag that fits a ciphertext, whatever the message behind it. Every length is right.
 pub fn fitting_tag(suite: u8, key: &[u8], nonce: &[u8], ad: &[u8], text: &[u8]) -> Vec<u8> {
-    let mut out = vec![0; text.len()];
-    let tag = run(suite, Text::Ciphertext, key, nonce, ad, text, &mut out);
-    tag[..block_size(suite)].to_vec()
+    run(suite, Text::Ciphertext, key, nonce, ad, text, &mut vec![0; text.len()])
 }
 
 /// Associated data of two full blocks with another first block and one tag: the second block makes up for
 /// the change. Who knows the key can do this, so nothing is promised of changes in two blocks.
 pub fn made_up(suite: u8, key: &[u8], nonce: &[u8], ad: &[u8]) -> Vec<u8> {
-    let key: &[u8; 16] = key.try_into().unwrap();
-    match suite {
-        1 => State::<16, _>::start(aes::encrypt, key, nonce).made_up(ad),
-        2 => State::<16, _>::start(cham::cham128::encrypt, key, nonce).made_up(ad),
-        3 => State::<8, _>::start(speck::encrypt, key, nonce).made_up(ad),
-        _ => State::<8, _>::start(cham::cham64::encrypt, key, nonce).made_up(ad),
-    }
+    by_suite!(suite, made_up_with(key, nonce, ad))
+}
+
+/// The first block changed in one bit, and the second so that Y is the same after it.
+fn made_up_with<const N: usize>(encrypt: impl Cipher<N>, key: &[u8], nonce: &[u8], ad: &[u8]) -> Vec<u8> {
+    let first: [u8; N] = ad[..N].try_into().unwrap();
+    let mut other = first;
+    other[0] ^= 1;
+    let mut state = State::start(encrypt, key, nonce);
+    let x = state.call(0x08);
+    let z = state.z;
+    let seconds = [first, other].map(|block| {
+        (state.y, state.z) = (xor(x, block), z);
+        state.call(0)
+    });
+    let second = xor(ad[N..].try_into().unwrap(), xor(seconds[0], seconds[1]));
+    [other, second].concat()
+}
+
+fn image<const N: usize>(encrypt: impl Cipher<N>, key: &[u8; 16], block: &[u8]) -> Vec<u8> {
+    encrypt(key, block.try_into().unwrap()).to_vec()
 }
 
 /// The suite's cipher on one block.
 pub fn encipher(suite: u8, key: &[u8; 16], block: &[u8]) -> Vec<u8> {
-    let wide = || block.try_into().unwrap();
-    let narrow = || block.try_into().unwrap();
-    match suite {
-        1 => aes::encrypt(key, wide()).to_vec(),
-        2 => cham::cham128::encrypt(key, wide()).to_vec(),
-        3 => speck::encrypt(key, narrow()).to_vec(),
-        4 => cham::cham64::encrypt(key, narrow()).to_vec(),
-        _ => panic!("no suite {suite}"),
-    }
+    by_suite!(suite, image(key, block))
 }
 
 #[cfg(test)]
@@ -257,8 +261,10 @@ mod tests {
             seen.borrow_mut().push(before ^ z[15]);
             [0; N]
         };
-        let state = State { y: [0; N], z: [0; 16], encrypt };
-        state.run(Text::Message, &vec![0; ad], &vec![0; message], &mut vec![0; message]);
+        let mut state = State { y: [0; N], z: [0; 16], encrypt };
+        state.absorb(true, &vec![0; ad]);
+        state.crypt(Text::Message, true, &vec![0; message], &mut vec![0; message]);
+        state.tag();
         seen.into_inner()
     }
 

@@ -1,15 +1,16 @@
 //! A second implementation of the four block ciphers, COMET version 1 and the plant's shift file.
 //!
-//! It is written from the papers and document 01 alone and shares nothing with the proved crates:
+//! It is written from the papers and documents 01 and 02 alone and shares nothing with the proved crates:
 //! what both say is said twice, by two hands.
 //!
-//! `aes`, `cham`, `speck`, `comet` and `shift` are the implementation. The rest makes inputs of it:
+//! `aes`, `cham`, `speck`, `comet`, `session` and `shift` are the implementation. The rest makes inputs of it:
 //! `random`, `draft` and `calls` say what a call is, `data` holds the calls that the test programs run and
-//! compare with, and `trials` those of the comparison with the proved library.
+//! compare with, and `trials` and `data` those of the comparison with the proved library.
 
 pub mod aes;
 pub mod cham;
 pub mod comet;
+pub mod session;
 pub mod shift;
 pub mod speck;
 

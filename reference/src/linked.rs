@@ -60,7 +60,62 @@ mod columns {
 /// The proved library's archive links into programs for x86-64 alone.
 #[cfg(target_arch = "x86_64")]
 mod proved {
+    use crate::session::{Session, Step};
+
     linked!(comet_seal, comet_open, shift_check);
+
+    /// The suite is the first byte of the first eight.
+    #[repr(C)]
+    struct CSession {
+        suite: u64,
+        y: [u8; 16],
+        z: [u8; 16],
+        held: [u8; 16],
+        data: usize,
+        text: usize,
+    }
+
+    #[repr(C)]
+    struct CStep {
+        next: CSession,
+        number: u32,
+        count: usize,
+    }
+
+    #[rustfmt::skip]
+    extern "C" {
+        fn comet_session_start(suite: u8, key: *const u8, key_len: usize, nonce: *const u8, nonce_len: usize) -> CStep;
+        fn comet_session_data(session: CSession, ad: *const u8, ad_len: usize) -> CStep;
+        fn comet_session_part(session: CSession, msg: *const u8, msg_len: usize, out: *mut u8, out_len: usize) -> CStep;
+        fn comet_session_end(session: CSession, out: *mut u8, out_len: usize, tag: *mut u8, tag_len: usize) -> CStep;
+    }
+
+    fn given(s: Session) -> CSession {
+        CSession { suite: s.suite as u64, y: s.y, z: s.z, held: s.held, data: s.data, text: s.text }
+    }
+
+    fn stepped(CStep { next: s, number, count }: CStep) -> Step {
+        let next = Session { suite: s.suite as u8, y: s.y, z: s.z, held: s.held, data: s.data, text: s.text };
+        Step { next, number, count }
+    }
+
+    pub fn session_start(suite: u8, key: &[u8], nonce: &[u8]) -> Step {
+        stepped(unsafe { comet_session_start(suite, key.as_ptr(), key.len(), nonce.as_ptr(), nonce.len()) })
+    }
+
+    pub fn session_data(session: Session, ad: &[u8]) -> Step {
+        stepped(unsafe { comet_session_data(given(session), ad.as_ptr(), ad.len()) })
+    }
+
+    pub fn session_part(session: Session, msg: &[u8], out: &mut [u8]) -> Step {
+        let (out_at, out_length) = (out.as_mut_ptr(), out.len());
+        stepped(unsafe { comet_session_part(given(session), msg.as_ptr(), msg.len(), out_at, out_length) })
+    }
+
+    pub fn session_end(session: Session, out: &mut [u8], tag: &mut [u8]) -> Step {
+        let (out_at, out_length) = (out.as_mut_ptr(), out.len());
+        stepped(unsafe { comet_session_end(given(session), out_at, out_length, tag.as_mut_ptr(), tag.len()) })
+    }
 }
 
 /// The plain C has no lookup and opens no job: the reference stands in for those.
@@ -71,6 +126,15 @@ pub const COLUMNS: Library = Library { seal: columns::seal, open: columns::open,
 
 /// The proved library as `bench` measures it: with nothing between, where it can be linked.
 #[cfg(target_arch = "x86_64")]
-pub const PROVED: Library = Library { seal: proved::seal, open: proved::open, check: proved::check, ..bridge::PROVED };
+pub const PROVED: Library = Library {
+    seal: proved::seal,
+    open: proved::open,
+    check: proved::check,
+    session_start: proved::session_start,
+    session_data: proved::session_data,
+    session_part: proved::session_part,
+    session_end: proved::session_end,
+    ..bridge::PROVED
+};
 #[cfg(not(target_arch = "x86_64"))]
 pub const PROVED: Library = bridge::PROVED;

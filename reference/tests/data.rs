@@ -1,7 +1,7 @@
 //! The data of the test programs: it provokes every number, and the repository's files are what is generated.
 
-use reference::calls::REFERENCE;
-use reference::data::{cases, files, parts, FOLDERS};
+use reference::calls::{Case, REFERENCE};
+use reference::data::{cases, files, parts, sessions, FOLDERS};
 use std::collections::BTreeSet;
 use std::path::Path;
 
@@ -22,6 +22,13 @@ fn files_provoke_every_number() {
     let opens: BTreeSet<u32> = answers.iter().map(|answer| answer.open.0).collect();
     assert_eq!(checks, [0].into_iter().chain(20..=31).collect());
     assert_eq!(opens, [0, 2, 6, 8].into_iter().chain(20..=32).collect());
+}
+
+#[test]
+fn sessions_provoke_every_number() {
+    let numbers: BTreeSet<u32> =
+        sessions::runs().iter().flat_map(|run| run.answer(&REFERENCE)).map(|step| step.number).collect();
+    assert_eq!(numbers, [9].into_iter().chain(0..=7).collect());
 }
 
 /// Holds for each folder that is there.

@@ -111,6 +111,32 @@ fn measure_check(repetitions: usize, file: &[u8]) -> Measured {
     measure(repetitions, &mut |which| assert_eq!((LIBRARIES[which].check)(black_box(file)).0, 0))
 }
 
+/// A record sealed by a session, its message in parts of one length.
+fn seal_in_parts(call: &Call, length: usize, out: &mut [u8], tag: &mut [u8]) {
+    let step = (PROVED.session_start)(call.suite, &call.key, &call.nonce);
+    let mut step = (PROVED.session_data)(step.next, &call.ad);
+    let mut at = 0;
+    for part in black_box(&call.text).chunks(length) {
+        step = (PROVED.session_part)(step.next, part, &mut out[at..]);
+        at += step.count;
+    }
+    assert_eq!((PROVED.session_end)(step.next, &mut out[at..], tag).number, 0);
+}
+
+/// Throughput of a session with parts of one length over that of the one-call sealer, both in turns.
+fn session_ratio(repetitions: usize, call: &Call, length: usize) -> f64 {
+    let (mut out, mut tag) = (vec![0; call.out + 32], call.tag.clone());
+    let ratios = (0..repetitions).map(|_| {
+        let parts = time(1, &mut || seal_in_parts(call, length, &mut out, &mut tag));
+        let Call { suite, key, nonce, ad, text, .. } = call;
+        let whole = &mut out[..call.out];
+        let one =
+            time(1, &mut || assert_eq!((PROVED.seal)(*suite, key, nonce, ad, black_box(text), whole, &mut tag), 0));
+        one / parts
+    });
+    median(ratios.collect())
+}
+
 fn line(suite: u8, what: &str, size: usize, m: Measured) {
     let has_bytes = size > 0 && !what.starts_with("check");
     let per_byte = if has_bytes { format!("{:.3}", m.ours / size as f64) } else { "-".to_string() };
@@ -171,6 +197,15 @@ fn main() {
         }
     }
     println!("\nA byte at 65536 over a byte at 1024: {}", growths.join("; "));
+    println!("\nA session over the one-call sealer, 65536 bytes in parts of 64, 1024 and 4099:");
+    for suite in 1..=4 {
+        let call = cases::sealing(&mut random, suite, 5, 65_536);
+        let ratios = [64, 1_024, 4_099].map(|length| session_ratio(repetitions, &call, length));
+        println!("suite {suite}: {:.2} {:.2} {:.2}", ratios[0], ratios[1], ratios[2]);
+        if ratios[1] < 0.9 {
+            missed.push(format!("suite {suite}, a session in parts of 1024 bytes: {:.2}, not 0.9", ratios[1]));
+        }
+    }
     println!("\n{} targets missed", missed.len());
     missed.iter().for_each(|miss| println!("- {miss}"));
 }

@@ -4,8 +4,8 @@
 //!     compare [SEED]
 
 use reference::bridge::PROVED;
-use reference::calls::{Call, FileCall, Library, REFERENCE};
-use reference::data::{cases, files};
+use reference::calls::{Case, Library, REFERENCE};
+use reference::data::{cases, files, sessions};
 use reference::linked::{COLUMNS, PLAIN};
 use reference::random::Random;
 use reference::show::hex;
@@ -32,22 +32,22 @@ impl Tally {
         }
     }
 
-    fn call(&mut self, call: &Call) {
-        self.cases += 1;
-        let expected = call.answer(&REFERENCE);
-        for (by, library) in LIBRARIES {
-            if call.answer(&library) != expected {
-                self.differs(by, &call.record(), call.line(&library), call.line(&REFERENCE));
-            }
-        }
+    /// A case that the plain C knows too.
+    fn all<C: Case>(&mut self, case: &C) {
+        self.put(case, &LIBRARIES);
     }
 
-    fn file(&mut self, call: &FileCall) {
+    /// A case that the proved library alone knows.
+    fn proved<C: Case>(&mut self, case: &C) {
+        self.put(case, &LIBRARIES[..1]);
+    }
+
+    fn put<C: Case>(&mut self, case: &C, libraries: &[(&str, Library)]) {
         self.cases += 1;
-        let expected = call.answer(&REFERENCE);
-        for (by, library) in LIBRARIES {
-            if call.answer(&library) != expected {
-                self.differs(by, &call.record(0), call.line(&library), call.line(&REFERENCE));
+        let expected = case.answer(&REFERENCE);
+        for (by, library) in libraries {
+            if case.answer(library) != expected {
+                self.differs(by, &case.record(), case.lines(library), case.lines(&REFERENCE));
             }
         }
     }
@@ -60,27 +60,38 @@ impl Tally {
 }
 
 fn compare_records(tally: &mut Tally, random: &mut Random) {
-    cases::calls().iter().for_each(|call| tally.call(call));
+    cases::calls().iter().for_each(|call| tally.all(call));
     tally.report("the calls of the program cases");
-    trials::lengths(random, |call| tally.call(call));
+    trials::lengths(random, |call| tally.all(call));
     tally.report("all lengths up to 3 blocks + 1, good and damaged");
-    trials::faults(random, |call| tally.call(call));
+    trials::faults(random, |call| tally.all(call));
     tally.report("refusals, alone and in pairs");
-    trials::limits(random, |call| tally.call(call));
+    trials::limits(random, |call| tally.all(call));
     tally.report("lengths around 65,536");
-    trials::records(random, 30_000, |call| tally.call(call));
+    trials::records(random, 30_000, |call| tally.all(call));
     tally.report("random records, good, damaged and faulty");
 }
 
 fn compare_files(tally: &mut Tally, random: &mut Random) {
-    files::calls().iter().for_each(|call| tally.file(call));
+    files::calls().iter().for_each(|call| tally.all(call));
     tally.report("the calls of the program files");
-    trials::single_bytes(|call| tally.file(call));
+    trials::single_bytes(|call| tally.all(call));
     tally.report("every single-byte damage of two small files");
-    trials::shift_files(random, 60_000, |call| tally.file(call));
+    trials::shift_files(random, 60_000, |call| tally.all(call));
     tally.report("random shift files, good and edited");
-    trials::long_files(random, |call| tally.file(call));
+    trials::long_files(random, |call| tally.all(call));
     tally.report("long shift files");
+}
+
+fn compare_sessions(tally: &mut Tally, random: &mut Random) {
+    sessions::runs().iter().for_each(|run| tally.proved(run));
+    tally.report("the runs of the program sessions");
+    sessions::all_cuttings(random, |run| tally.proved(run));
+    tally.report("every cutting into three parts of up to three blocks");
+    sessions::long_runs(random, 5_000, |run| tally.proved(run));
+    tally.report("long sessions, refused calls among theirs");
+    sessions::forged_values(random, 20_000, |forged| tally.proved(forged));
+    tally.report("sessions of any value");
 }
 
 fn main() {
@@ -89,6 +100,7 @@ fn main() {
     let mut random = Random::new(seed);
     compare_records(&mut tally, &mut random);
     compare_files(&mut tally, &mut random);
+    compare_sessions(&mut tally, &mut random);
     println!("{} cases, {} differences", tally.cases, tally.differences);
     if tally.differences > 0 {
         std::process::exit(1);

@@ -1,7 +1,7 @@
 //! The program `cases`: calls of the sealer and the opener.
 
-use super::Part;
-use crate::calls::{Call, FILLER, REFERENCE};
+use super::{parts_of, Part};
+use crate::calls::{Call, Case, FILLER, REFERENCE};
 use crate::comet::{block_size, fitting_tag, made_up, nonce_size, LIMIT};
 use crate::random::Random;
 
@@ -219,8 +219,5 @@ pub fn calls() -> Vec<Call> {
 }
 
 pub fn parts() -> [Part; 2] {
-    let calls = calls();
-    let stdin = calls.iter().flat_map(Call::record).collect();
-    let stdout: String = calls.iter().map(|call| call.line(&REFERENCE)).collect();
-    [("stdin", stdin), ("stdout", stdout.into_bytes())]
+    parts_of(&calls())
 }

@@ -1,7 +1,7 @@
 //! The program `files`: calls of the shift file's routines.
 
-use super::{samples, Part};
-use crate::calls::{FileCall, REFERENCE};
+use super::{parts_of, samples, Part};
+use crate::calls::{Case, FileCall, REFERENCE};
 use crate::comet::{block_size, fitting_tag, nonce_size, LIMIT};
 use crate::draft::{row_at, Draft, Entry};
 use crate::random::Random;
@@ -334,11 +334,10 @@ const ROOM: usize = 524_288;
 pub fn parts() -> [Part; 2] {
     let (mut calls, damaged) = (calls(), damaged_calls());
     calls.retain(|call| call.file.len() <= ROOM);
-    let mut stdin: Vec<u8> = calls.iter().flat_map(|call| call.record(0)).collect();
-    let mut stdout: String = calls.iter().map(|call| call.line(&REFERENCE)).collect();
+    let [mut stdin, mut stdout] = parts_of(&calls);
     for call in damaged {
-        stdin.extend(call.record(1));
-        stdout += &call.damage_lines();
+        stdin.1.extend(call.record_as(1));
+        stdout.1.extend(call.damage_lines().into_bytes());
     }
-    [("stdin", stdin), ("stdout", stdout.into_bytes())]
+    [stdin, stdout]
 }

@@ -3,13 +3,24 @@
 pub mod cases;
 pub mod files;
 pub mod samples;
+pub mod sessions;
 pub mod vectors;
+
+use crate::calls::{Case, REFERENCE};
 
 /// A file: its name in its folder and its bytes.
 pub type Part = (&'static str, Vec<u8>);
 
 /// The folders of the repository that are written.
-pub const FOLDERS: [&str; 5] = ["samples", "crates/vectors", "crates/cases", "crates/files", "crates/job"];
+pub const FOLDERS: [&str; 6] =
+    ["samples", "crates/vectors", "crates/cases", "crates/files", "crates/job", "crates/sessions"];
+
+/// What a test program reads and writes.
+pub fn parts_of<C: Case>(cases: &[C]) -> [Part; 2] {
+    let stdin = cases.iter().flat_map(C::record).collect();
+    let stdout: String = cases.iter().map(|case| case.lines(&REFERENCE)).collect();
+    [("stdin", stdin), ("stdout", stdout.into_bytes())]
+}
 
 /// What stands in a folder.
 pub fn parts(folder: &str) -> Vec<Part> {
@@ -19,6 +30,7 @@ pub fn parts(folder: &str) -> Vec<Part> {
         "crates/cases" => cases::parts().to_vec(),
         "crates/files" => files::parts().to_vec(),
         "crates/job" => samples::job_parts().to_vec(),
+        "crates/sessions" => sessions::parts().to_vec(),
         _ => unreachable!("no data for {folder}"),
     }
 }

@@ -1,0 +1,149 @@
+//! Sealing while measuring (document 02, W2): start, associated data in parts, message in parts, end.
+
+use crate::comet::{block_size, by_suite, first, nonce_size, Cipher, State, Text, LIMIT};
+
+/// Y and Z (Y in the first bytes), the bytes that are in no whole block yet, and how many bytes of associated data
+/// and of message have come. The message has begun once a byte of it has come.
+#[derive(Clone, Copy, PartialEq, Debug)]
+pub struct Session {
+    pub suite: u8,
+    pub y: [u8; 16],
+    pub z: [u8; 16],
+    pub held: [u8; 16],
+    pub data: usize,
+    pub text: usize,
+}
+
+/// A session that was refused or has ended: it answers 9 to every call.
+pub const OVER: Session = Session { suite: 0, y: [0; 16], z: [0; 16], held: [0; 16], data: 0, text: 0 };
+
+/// What a call gives: the next session, the number, and how many bytes stand at the output's start.
+#[derive(Clone, Copy)]
+pub struct Step {
+    pub next: Session,
+    pub number: u32,
+    pub count: usize,
+}
+
+/// Bytes, and zeros behind them.
+fn filled(bytes: &[u8]) -> [u8; 16] {
+    let mut all = [0; 16];
+    all[..bytes.len()].copy_from_slice(bytes);
+    all
+}
+
+impl Session {
+    /// Any value may arrive. One that names no suite or totals over the limits is over; any other is taken at its word.
+    fn is_over(&self) -> bool {
+        block_size(self.suite) == 0 || self.data > LIMIT || self.text > LIMIT
+    }
+
+    /// The bytes held back: of the associated data until the message begins, then of the message.
+    pub fn held(&self) -> &[u8] {
+        let total = if self.text == 0 { self.data } else { self.text };
+        &self.held[..total % block_size(self.suite)]
+    }
+
+    fn state<const N: usize, E: Cipher<N>>(&self, encrypt: E) -> State<N, E> {
+        State { y: self.y[..N].try_into().unwrap(), z: self.z, encrypt }
+    }
+
+    fn with<const N: usize, E: Cipher<N>>(self, state: State<N, E>, held: &[u8]) -> Session {
+        Session { y: filled(&state.y), z: state.z, held: filled(held), ..self }
+    }
+
+    fn refused(self, number: u32) -> Step {
+        Step { next: self, number, count: 0 }
+    }
+}
+
+/// How many of these bytes stand in whole blocks.
+fn whole<const N: usize>(bytes: &[u8]) -> usize {
+    bytes.len() / N * N
+}
+
+fn fresh<const N: usize>(encrypt: impl Cipher<N>, suite: u8, key: &[u8], nonce: &[u8]) -> Session {
+    Session { suite, ..OVER }.with(State::start(encrypt, key, nonce), &[])
+}
+
+fn take_data<const N: usize>(encrypt: impl Cipher<N>, session: Session, ad: &[u8]) -> Session {
+    let mut state = session.state(encrypt);
+    let bytes = [session.held(), ad].concat();
+    let (blocks, rest) = bytes.split_at(whole::<N>(&bytes));
+    state.absorb(session.data < N, blocks);
+    Session { data: session.data + ad.len(), ..session.with(state, rest) }
+}
+
+/// The state with all associated data in, its short last block too, and the bytes held back of the message.
+fn begun<const N: usize, E: Cipher<N>>(encrypt: E, session: &Session) -> (State<N, E>, &[u8]) {
+    let mut state = session.state(encrypt);
+    if session.text > 0 {
+        return (state, session.held());
+    }
+    state.absorb(session.data < N, session.held());
+    (state, &[])
+}
+
+/// Takes in a part of the message that is not empty; gives the next session and how many bytes went out.
+fn take_text<const N: usize>(
+    encrypt: impl Cipher<N>,
+    session: Session,
+    msg: &[u8],
+    out: &mut [u8],
+) -> (Session, usize) {
+    let (mut state, held) = begun(encrypt, &session);
+    let bytes = [held, msg].concat();
+    let (blocks, rest) = bytes.split_at(whole::<N>(&bytes));
+    state.crypt(Text::Message, session.text < N, blocks, &mut out[..blocks.len()]);
+    (Session { text: session.text + msg.len(), ..session.with(state, rest) }, blocks.len())
+}
+
+/// The rest of the ciphertext and the tag; gives how many bytes went out.
+fn finish<const N: usize>(encrypt: impl Cipher<N>, session: Session, out: &mut [u8], tag: &mut [u8]) -> usize {
+    let (mut state, held) = begun(encrypt, &session);
+    state.crypt(Text::Message, session.text < N, held, &mut out[..held.len()]);
+    tag.copy_from_slice(&state.tag());
+    held.len()
+}
+
+pub fn start(suite: u8, key: &[u8], nonce: &[u8]) -> Step {
+    let table = [(1, block_size(suite) == 0), (2, key.len() != 16), (3, nonce.len() != nonce_size(suite))];
+    let number = first(&table);
+    if number != 0 {
+        return OVER.refused(number);
+    }
+    Step { next: by_suite!(suite, fresh(suite, key, nonce)), number: 0, count: 0 }
+}
+
+/// A part of the associated data. 9 also where the message has begun, even for an empty part.
+pub fn data(session: Session, ad: &[u8]) -> Step {
+    let room = LIMIT.saturating_sub(session.data);
+    let number = first(&[(9, session.is_over() || session.text > 0), (4, ad.len() > room)]);
+    if number != 0 {
+        return session.refused(number);
+    }
+    Step { next: by_suite!(session.suite, take_data(session, ad)), number: 0, count: 0 }
+}
+
+/// A part of the message. The ciphertext of the blocks that it completes goes to the output's start; an empty part
+/// changes nothing.
+pub fn part(session: Session, msg: &[u8], out: &mut [u8]) -> Step {
+    let room = LIMIT.saturating_sub(session.text);
+    let is_narrow = out.len() + 1 < msg.len() + block_size(session.suite);
+    let number = first(&[(9, session.is_over()), (5, msg.len() > room), (6, is_narrow)]);
+    if number != 0 || msg.is_empty() {
+        return session.refused(number);
+    }
+    let (next, count) = by_suite!(session.suite, take_text(session, msg, out));
+    Step { next, number: 0, count }
+}
+
+/// The end: the ciphertext that is still to come, at the output's start, and the tag.
+pub fn end(session: Session, out: &mut [u8], tag: &mut [u8]) -> Step {
+    let block = block_size(session.suite);
+    let number = first(&[(9, session.is_over()), (6, out.len() < block), (7, tag.len() != block)]);
+    if number != 0 {
+        return session.refused(number);
+    }
+    Step { next: OVER, number: 0, count: by_suite!(session.suite, finish(session, out, tag)) }
+}

@@ -1,0 +1,67 @@
+//! What document 02 says of each request, at its edges.
+
+use reference::comet::seal;
+use reference::session::{data, end, part, start, OVER};
+
+mod w2 {
+    use super::*;
+
+    /// A block's ciphertext comes with the part that completes it; the end gives the rest.
+    #[test]
+    fn counts() {
+        let (mut out, mut tag) = ([0; 64], [0; 16]);
+        let mut session = start(1, &[1; 16], &[2; 16]).next;
+        let mut joined = vec![];
+        for (length, count) in [(15, 0), (1, 16), (0, 0), (33, 32), (3, 0)] {
+            let step = part(session, &vec![3; length], &mut out[..length + 15]);
+            assert_eq!((step.number, step.count), (0, count));
+            joined.extend(&out[..count]);
+            session = step.next;
+        }
+        let step = end(session, &mut out[..16], &mut tag);
+        assert_eq!((step.number, step.count, step.next), (0, 4, OVER));
+        joined.extend(&out[..4]);
+        let (mut whole, mut whole_tag) = ([0; 52], [0; 16]);
+        assert_eq!(seal(1, &[1; 16], &[2; 16], &[], &[3; 52], &mut whole, &mut whole_tag), 0);
+        assert_eq!((joined, tag), (whole.to_vec(), whole_tag));
+    }
+
+    #[test]
+    fn a_refused_session_answers_9() {
+        for (suite, key, nonce, number) in [(0, 15, 14, 1), (3, 15, 14, 2), (3, 16, 16, 3)] {
+            let step = start(suite, &vec![0; key], &vec![0; nonce]);
+            assert_eq!((step.number, step.next), (number, OVER));
+            assert_eq!(data(step.next, &[0; 65_537]).number, 9);
+            assert_eq!(part(step.next, &[0; 65_537], &mut []).number, 9);
+            assert_eq!(end(step.next, &mut [], &mut []).number, 9);
+        }
+    }
+
+    /// The order in each call, and that a refusal leaves session and buffers as they were.
+    #[test]
+    fn refusals() {
+        let fresh = start(3, &[1; 16], &[2; 15]).next;
+        let (mut out, mut tag) = ([7; 8], [7; 8]);
+        let step = data(fresh, &[0; 65_537]);
+        assert_eq!((step.number, step.next), (4, fresh));
+        for (length, room, number) in [(65_537, 0, 5), (1, 7, 6), (0, 6, 6)] {
+            let step = part(fresh, &vec![0; length], &mut out[..room]);
+            assert_eq!((step.number, step.count, step.next, out), (number, 0, fresh, [7; 8]));
+        }
+        for (room, length, number) in [(7, 7, 6), (8, 7, 7)] {
+            let step = end(fresh, &mut out[..room], &mut tag[..length]);
+            assert_eq!((step.number, step.count, step.next, out, tag), (number, 0, fresh, [7; 8], [7; 8]));
+        }
+    }
+
+    /// An empty part does not begin the message; a byte does, and associated data then is 9, even an empty part.
+    #[test]
+    fn beginning_the_message() {
+        let fresh = start(3, &[1; 16], &[2; 15]).next;
+        let step = part(fresh, &[], &mut [0; 7]);
+        assert_eq!((step.number, step.next), (0, fresh));
+        assert_eq!(data(step.next, b"ad").number, 0);
+        let begun = part(fresh, &[1], &mut [0; 8]).next;
+        assert_eq!(data(begun, &[]).number, 9);
+    }
+}
