@@ -140,9 +140,20 @@ static uint32_t session_end(void) {
     return stepped(comet_session_end(s, SLICE(out), SLICE(tag)));
 }
 
+static uint32_t seal_file(void) {
+    bytes draft = given(), ring = given(), out = lent();
+    return shift_seal_file(SLICE(draft), SLICE(ring), SLICE(out), lent_number());
+}
+
+static uint32_t unseal_file(void) {
+    bytes file = given(), ring = given(), out = lent();
+    return shift_unseal_file(SLICE(file), SLICE(ring), SLICE(out), lent_number());
+}
+
 static uint32_t (*const functions[])(void) = {
     seal, open_record, check, lookup, associated, open_job, entry,
     session_start, session_data, session_part, session_end,
+    seal_file, unseal_file,
 };
 
 int main(void) {

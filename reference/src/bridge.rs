@@ -173,6 +173,16 @@ fn session_end(session: Session, out: &mut [u8], tag: &mut [u8]) -> Step {
     step(10, vec![Given(&flat(&session)), Lent(out), Lent(tag)])
 }
 
+fn seal_file(draft: &[u8], ring: &[u8], out: &mut [u8]) -> Answer {
+    let (number, [row]) = ask(11, vec![Given(draft), Given(ring), Lent(out)]);
+    (number, row)
+}
+
+fn unseal_file(file: &[u8], ring: &[u8], out: &mut [u8]) -> Answer {
+    let (number, [row]) = ask(12, vec![Given(file), Given(ring), Lent(out)]);
+    (number, row)
+}
+
 pub const PROVED: Library = Library {
     seal,
     open,
@@ -185,4 +195,6 @@ pub const PROVED: Library = Library {
     session_data,
     session_part,
     session_end,
+    seal_file,
+    unseal_file,
 };

@@ -2,13 +2,16 @@
 
 use crate::session::{Session, Step};
 use crate::show::{fold, shown};
-use crate::{comet, session, shift};
+use crate::{comet, session, shift, writer};
 
 /// What lent buffers hold before a call.
 pub const FILLER: u8 = 0xa5;
 
 pub type Seal = fn(u8, &[u8], &[u8], &[u8], &[u8], &mut [u8], &mut [u8]) -> u32;
 pub type Open = fn(u8, &[u8], &[u8], &[u8], &[u8], &[u8], &mut [u8]) -> u32;
+
+/// Takes a file and a ring, and writes a file.
+pub type Rewrite = fn(&[u8], &[u8], &mut [u8]) -> shift::Answer;
 
 /// An implementation. `associated` gives the lookup's number, and place and length in the file.
 #[derive(Clone, Copy)]
@@ -24,6 +27,8 @@ pub struct Library {
     pub session_data: fn(Session, &[u8]) -> Step,
     pub session_part: fn(Session, &[u8], &mut [u8]) -> Step,
     pub session_end: fn(Session, &mut [u8], &mut [u8]) -> Step,
+    pub seal_file: Rewrite,
+    pub unseal_file: Rewrite,
 }
 
 pub const REFERENCE: Library = Library {
@@ -41,6 +46,8 @@ pub const REFERENCE: Library = Library {
     session_data: session::data,
     session_part: session::part,
     session_end: session::end,
+    seal_file: writer::seal_file,
+    unseal_file: writer::unseal_file,
 };
 
 /// A call, or a run of calls.

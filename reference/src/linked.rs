@@ -61,6 +61,7 @@ mod columns {
 #[cfg(target_arch = "x86_64")]
 mod proved {
     use crate::session::{Session, Step};
+    use crate::shift::Answer;
 
     linked!(comet_seal, comet_open, shift_check);
 
@@ -88,6 +89,10 @@ mod proved {
         fn comet_session_data(session: CSession, ad: *const u8, ad_len: usize) -> CStep;
         fn comet_session_part(session: CSession, msg: *const u8, msg_len: usize, out: *mut u8, out_len: usize) -> CStep;
         fn comet_session_end(session: CSession, out: *mut u8, out_len: usize, tag: *mut u8, tag_len: usize) -> CStep;
+        fn shift_seal_file(
+            draft: *const u8, draft_len: usize, ring: *const u8, ring_len: usize, out: *mut u8, out_len: usize,
+            row: *mut u32,
+        ) -> u32;
     }
 
     fn given(s: Session) -> CSession {
@@ -116,6 +121,14 @@ mod proved {
         let (out_at, out_length) = (out.as_mut_ptr(), out.len());
         stepped(unsafe { comet_session_end(given(session), out_at, out_length, tag.as_mut_ptr(), tag.len()) })
     }
+
+    pub fn seal_file(draft: &[u8], ring: &[u8], out: &mut [u8]) -> Answer {
+        let mut row = super::UNWRITTEN;
+        let (draft_at, ring_at, out_at) = (draft.as_ptr(), ring.as_ptr(), out.as_mut_ptr());
+        let number =
+            unsafe { shift_seal_file(draft_at, draft.len(), ring_at, ring.len(), out_at, out.len(), &mut row) };
+        (number, row)
+    }
 }
 
 /// The plain C has no lookup and opens no job: the reference stands in for those.
@@ -134,6 +147,7 @@ pub const PROVED: Library = Library {
     session_data: proved::session_data,
     session_part: proved::session_part,
     session_end: proved::session_end,
+    seal_file: proved::seal_file,
     ..bridge::PROVED
 };
 #[cfg(not(target_arch = "x86_64"))]

@@ -1,6 +1,7 @@
 //! The plant's shift file: check, lookup, associated data, and opening one job.
 
 use crate::comet;
+use std::ops::Range;
 
 pub const HEADER: usize = 8;
 pub const ROW: usize = 32;
@@ -20,14 +21,14 @@ fn u32_at(file: &[u8], at: usize) -> u32 {
 }
 
 /// A row of the table of contents.
-struct Row {
-    job: u32,
-    suite: u8,
-    key: u8,
-    ad: usize,
-    offset: usize,
-    message: usize,
-    nonce: [u8; 16],
+pub struct Row {
+    pub job: u32,
+    pub suite: u8,
+    pub key: u8,
+    pub ad: usize,
+    pub offset: usize,
+    pub message: usize,
+    pub nonce: [u8; 16],
 }
 
 fn nonce(file: &[u8], i: usize) -> [u8; 16] {
@@ -52,17 +53,50 @@ impl Row {
     fn end(&self) -> usize {
         self.offset + self.ad + self.message + comet::block_size(self.suite)
     }
+
+    pub fn associated(&self) -> Range<usize> {
+        self.offset..self.offset + self.ad
+    }
+
+    pub fn text(&self) -> Range<usize> {
+        self.offset + self.ad..self.offset + self.ad + self.message
+    }
+
+    pub fn tag(&self) -> Range<usize> {
+        self.text().end..self.end()
+    }
+
+    /// The nonce bytes that the suite reads.
+    pub fn nonce(&self) -> &[u8] {
+        &self.nonce[..comet::nonce_size(self.suite)]
+    }
+
+    /// The key of a ring.
+    pub fn key<'a>(&self, ring: &'a [u8]) -> &'a [u8] {
+        &ring[16 * self.key as usize..][..16]
+    }
+
+    /// The opener on the entry of a file that has passed the check: 0, 6 or 8.
+    pub fn open(&self, file: &[u8], ring: &[u8], out: &mut [u8]) -> u32 {
+        let [ad, text, tag] = [self.associated(), self.text(), self.tag()].map(|place| &file[place]);
+        comet::open(self.suite, self.key(ring), self.nonce(), ad, text, tag, out)
+    }
 }
 
 fn count(file: &[u8]) -> usize {
     u16_at(file, 2)
 }
 
+/// The rows of a file whose table of contents lies inside it.
+pub fn rows(file: &[u8]) -> Vec<Row> {
+    (0..count(file)).map(|i| row(file, i)).collect()
+}
+
 /// Numbers 20 to 24, and 0 where none applies.
-fn check_header(file: &[u8]) -> u32 {
+fn check_header(file: &[u8], editions: &[usize]) -> u32 {
     if file.len() < HEADER || file.len() > LONGEST {
         20
-    } else if u16_at(file, 0) != 1 {
+    } else if !editions.contains(&u16_at(file, 0)) {
         21
     } else if count(file) > MOST_ROWS {
         22
@@ -98,7 +132,12 @@ fn check_row(file: &[u8], i: usize) -> u32 {
 
 /// The full check.
 pub fn check(file: &[u8]) -> Answer {
-    let number = check_header(file);
+    check_as(file, &[1])
+}
+
+/// The full check of a file that may be of these editions.
+pub fn check_as(file: &[u8], editions: &[usize]) -> Answer {
+    let number = check_header(file, editions);
     if number != 0 {
         return (number, 0);
     }
@@ -119,7 +158,7 @@ pub fn lookup(file: &[u8], job: u32) -> Answer {
     if number != 0 {
         return (number, at);
     }
-    match (0..count(file)).find(|i| row(file, *i).job == job) {
+    match rows(file).iter().position(|row| row.job == job) {
         Some(i) => (0, i as u32),
         None => (32, 0),
     }
@@ -165,10 +204,5 @@ pub fn open_job(file: &[u8], ring: &[u8], job: u32, out: &mut [u8]) -> Answer {
     if ring.len() != RING {
         return (2, 0);
     }
-    let found = row(file, i as usize);
-    let key = &ring[16 * found.key as usize..][..16];
-    let nonce = &found.nonce[..comet::nonce_size(found.suite)];
-    let (ad, rest) = file[found.offset..found.end()].split_at(found.ad);
-    let (text, tag) = rest.split_at(found.message);
-    (comet::open(found.suite, key, nonce, ad, text, tag, out), 0)
+    (row(file, i as usize).open(file, ring, out), 0)
 }

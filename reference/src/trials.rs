@@ -3,7 +3,7 @@
 use crate::calls::{Call, FileCall, FILLER};
 use crate::comet::{block_size, LIMIT};
 use crate::data::{cases, files, samples};
-use crate::draft::row_at;
+use crate::plan::row_at;
 use crate::random::Random;
 use crate::shift;
 
@@ -115,10 +115,10 @@ pub fn single_bytes(mut each: impl FnMut(&FileCall)) {
 pub fn shift_files(random: &mut Random, count: usize, mut each: impl FnMut(&FileCall)) {
     for _ in 0..count {
         let (rows, longest) = (random.below(9), [0, 20, 100][random.below(3)]);
-        let draft = files::random_draft(random, rows, longest);
-        let mut call = FileCall { file: draft.file(&samples::ring()), ring: samples::ring(), job: 5, out: 0 };
+        let plan = files::random_plan(random, rows, longest);
+        let mut call = FileCall { file: plan.file(&samples::ring()), ring: samples::ring(), job: 5, out: 0 };
         if rows > 0 {
-            let entry = &draft.entries[random.below(rows)];
+            let entry = &plan.entries[random.below(rows)];
             (call.job, call.out) = (entry.job, entry.message.len());
         }
         for _ in 0..random.below(4) {
@@ -131,16 +131,23 @@ pub fn shift_files(random: &mut Random, count: usize, mut each: impl FnMut(&File
 
 /// One call in eight gets another job, ring or output.
 fn misuse(random: &mut Random, call: &mut FileCall) {
+    if random.below(24) == 0 {
+        call.job = call.job.wrapping_add(random.below(3) as u32).wrapping_sub(1);
+    }
+    misuse_ring(random, &mut call.ring, &mut call.out);
+}
+
+/// One call in twelve gets another ring or output.
+pub fn misuse_ring(random: &mut Random, ring: &mut Vec<u8>, out: &mut usize) {
     match random.below(24) {
-        0 => call.job = call.job.wrapping_add(random.below(3) as u32).wrapping_sub(1),
-        1 => call.ring.resize([0, 255, 257, 16][random.below(4)], FILLER),
-        2 => call.out = [call.out + 1, call.out.max(1) - 1, 0, 300][random.below(4)],
+        0 => ring.resize([0, 255, 257, 16][random.below(4)], FILLER),
+        1 => *out = [*out + 1, (*out).max(1) - 1, 0, 300][random.below(4)],
         _ => {}
     }
 }
 
 /// One edit of a file: in the header, of a row, of any byte, or of its length.
-fn edit(random: &mut Random, file: &mut Vec<u8>, rows: usize) {
+pub fn edit(random: &mut Random, file: &mut Vec<u8>, rows: usize) {
     match random.below(8) {
         0 => edit_header(random, file),
         1 | 2 if !file.is_empty() => {

@@ -1,7 +1,7 @@
 //! The data of the test programs: it provokes every number, and the repository's files are what is generated.
 
 use reference::calls::{Case, REFERENCE};
-use reference::data::{cases, files, parts, sessions, FOLDERS};
+use reference::data::{cases, files, parts, sessions, writing, FOLDERS};
 use std::collections::BTreeSet;
 use std::path::Path;
 
@@ -29,6 +29,16 @@ fn sessions_provoke_every_number() {
     let numbers: BTreeSet<u32> =
         sessions::runs().iter().flat_map(|run| run.answer(&REFERENCE)).map(|step| step.number).collect();
     assert_eq!(numbers, [9].into_iter().chain(0..=7).collect());
+}
+
+#[test]
+fn writing_provokes_every_number() {
+    let numbers = |pass: writing::Pass| -> BTreeSet<u32> {
+        let calls = writing::calls().into_iter().filter(|call| call.pass == pass);
+        calls.map(|call| call.answer(&REFERENCE).answer.0).collect()
+    };
+    assert_eq!(numbers(writing::Pass::Seal), [0, 2, 6, 33].into_iter().chain(20..=31).collect());
+    assert_eq!(numbers(writing::Pass::Unseal), [0, 2, 6, 8].into_iter().chain(20..=31).collect());
 }
 
 /// Holds for each folder that is there.

@@ -1,7 +1,10 @@
 //! What document 02 says of each request, at its edges.
 
 use reference::comet::seal;
+use reference::data::{files, samples};
 use reference::session::{data, end, part, start, OVER};
+use reference::shift::{check, rows};
+use reference::writer::{seal_file, unseal_file};
 
 mod w2 {
     use super::*;
@@ -63,5 +66,47 @@ mod w2 {
         assert_eq!(data(step.next, b"ad").number, 0);
         let begun = part(fresh, &[1], &mut [0; 8]).next;
         assert_eq!(data(begun, &[]).number, 9);
+    }
+}
+
+mod w4 {
+    use super::*;
+
+    /// The empty draft, and the smallest with a row.
+    #[test]
+    fn smallest() {
+        let (draft, file) = ([0, 0, 0, 0, 8, 0, 0, 0], [1, 0, 0, 0, 8, 0, 0, 0]);
+        let mut out = [7; 8];
+        assert_eq!((seal_file(&draft, &samples::ring(), &mut out), out), ((0, 0), file));
+        assert_eq!((unseal_file(&file, &samples::ring(), &mut out), out), ((0, 0), draft));
+        assert_eq!(seal_file(&draft, &[0; 255], &mut []), (2, 0));
+        let file = files::smallest();
+        let mut draft = file.clone();
+        draft[0] = 0;
+        draft[45..].fill(0);
+        let mut out = [7; 53];
+        assert_eq!((seal_file(&draft, &samples::ring(), &mut out), &out[..]), ((0, 0), &file[..]));
+        assert_eq!((unseal_file(&file, &samples::ring(), &mut out), &out[..]), ((0, 0), &draft[..]));
+    }
+
+    /// 8 leaves nothing, not even what earlier rows gave; 33 stands before 2 and 6, these before 8.
+    #[test]
+    fn refusals() {
+        let ring = samples::ring();
+        let (draft, file) = (files::three_rows().draft(), files::three_rows().file(&ring));
+        assert_eq!((check(&file), check(&draft)), ((0, 0), (21, 0)));
+        let mut out = vec![7; file.len()];
+        assert_eq!(seal_file(&file, &ring, &mut out), (21, 0));
+        assert_eq!(unseal_file(&draft, &ring, &mut out), (21, 0));
+        let tag = rows(&file)[1].tag();
+        let (mut dirty, mut wrong) = (draft, file);
+        dirty[tag.end - 1] = 1;
+        wrong[tag.start] ^= 1;
+        assert_eq!(seal_file(&dirty, &[], &mut []), (33, 1));
+        assert_eq!(unseal_file(&wrong, &[], &mut out), (2, 0));
+        assert_eq!(unseal_file(&wrong, &ring, &mut out[1..]), (6, 0));
+        assert!(out.iter().all(|byte| *byte == 7));
+        assert_eq!(unseal_file(&wrong, &ring, &mut out), (8, 1));
+        assert!(out.iter().all(|byte| *byte == 0));
     }
 }

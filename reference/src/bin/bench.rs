@@ -5,8 +5,8 @@
 
 use reference::calls::{Call, Library, REFERENCE};
 use reference::data::{cases, samples};
-use reference::draft::{Draft, Entry};
 use reference::linked::{COLUMNS, PLAIN, PROVED};
+use reference::plan::{Entry, Plan};
 use reference::random::Random;
 use reference::shift;
 use std::hint::black_box;
@@ -100,11 +100,29 @@ fn growth(repetitions: usize, shorter: &Call, longer: &Call) -> f64 {
     median(ratios.collect())
 }
 
-/// A file of one suite with as many messages of a size as it has room for, at most 512.
-fn file(random: &mut Random, suite: u8, size: usize) -> (usize, Vec<u8>) {
+/// As many messages of a size under one suite as a file has room for, at most 512.
+fn plan(random: &mut Random, suite: u8, size: usize) -> Plan {
     let rows = ((shift::LONGEST - shift::HEADER) / (shift::ROW + 5 + size + 16)).min(shift::MOST_ROWS);
     let entry = |job| Entry::new(job as u32, suite, 0, 1, random.array(), &vec![0; size]);
-    (rows, Draft::new((0..rows).map(entry).collect()).file(&samples::ring()))
+    Plan::new((0..rows).map(entry).collect())
+}
+
+/// Throughput of the writer on a draft over that of the sealer on its bodies alone, both in turns.
+fn writer_ratio(repetitions: usize, draft: &[u8]) -> f64 {
+    let (ring, mut out) = (samples::ring(), draft.to_vec());
+    let rows = shift::rows(draft);
+    let ratios = (0..repetitions).map(|_| {
+        let writer = time(1, &mut || assert_eq!((PROVED.seal_file)(black_box(draft), &ring, &mut out), (0, 0)));
+        let bodies = time(1, &mut || {
+            for row in &rows {
+                let (text, tag) = out[row.text().start..row.tag().end].split_at_mut(row.message);
+                let [ad, message] = [row.associated(), row.text()].map(|place| &black_box(draft)[place]);
+                assert_eq!((PROVED.seal)(row.suite, row.key(&ring), row.nonce(), ad, message, text, tag), 0);
+            }
+        });
+        bodies / writer
+    });
+    median(ratios.collect())
 }
 
 fn measure_check(repetitions: usize, file: &[u8]) -> Measured {
@@ -192,7 +210,8 @@ fn main() {
             }
         }
         for size in SIZES {
-            let (rows, file) = file(&mut random, suite, size);
+            let plan = plan(&mut random, suite, size);
+            let (rows, file) = (plan.entries.len(), plan.file(&samples::ring()));
             line(suite, &format!("check, {rows} rows"), size, measure_check(repetitions, &file));
         }
     }
@@ -204,6 +223,14 @@ fn main() {
         println!("suite {suite}: {:.2} {:.2} {:.2}", ratios[0], ratios[1], ratios[2]);
         if ratios[1] < 0.9 {
             missed.push(format!("suite {suite}, a session in parts of 1024 bytes: {:.2}, not 0.9", ratios[1]));
+        }
+    }
+    println!("\nThe writer over the sealer on the bodies alone, messages of 1024 and of 65536 bytes:");
+    for suite in 1..=4 {
+        let ratios = [1_024, 65_536].map(|size| writer_ratio(repetitions, &plan(&mut random, suite, size).draft()));
+        println!("suite {suite}: {:.2} {:.2}", ratios[0], ratios[1]);
+        if ratios[0].min(ratios[1]) < 0.9 {
+            missed.push(format!("suite {suite}, the writer: {:.2} and {:.2}, not 0.9", ratios[0], ratios[1]));
         }
     }
     println!("\n{} targets missed", missed.len());

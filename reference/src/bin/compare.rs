@@ -5,7 +5,7 @@
 
 use reference::bridge::PROVED;
 use reference::calls::{Case, Library, REFERENCE};
-use reference::data::{cases, files, sessions};
+use reference::data::{cases, files, sessions, writing};
 use reference::linked::{COLUMNS, PLAIN};
 use reference::random::Random;
 use reference::show::hex;
@@ -94,6 +94,15 @@ fn compare_sessions(tally: &mut Tally, random: &mut Random) {
     tally.report("sessions of any value");
 }
 
+fn compare_writer(tally: &mut Tally, random: &mut Random) {
+    writing::calls().iter().for_each(|call| tally.proved(call));
+    tally.report("the calls of the program writing");
+    writing::single_bytes(|call| tally.proved(call));
+    tally.report("single-byte changes of a draft and of a file");
+    writing::trials(random, 20_000, |call| tally.proved(call));
+    tally.report("random drafts and files, good and edited");
+}
+
 fn main() {
     let seed = std::env::args().nth(1).map_or(2026, |seed| seed.parse().expect("SEED is a number"));
     let mut tally = Tally::default();
@@ -101,6 +110,7 @@ fn main() {
     compare_records(&mut tally, &mut random);
     compare_files(&mut tally, &mut random);
     compare_sessions(&mut tally, &mut random);
+    compare_writer(&mut tally, &mut random);
     println!("{} cases, {} differences", tally.cases, tally.differences);
     if tally.differences > 0 {
         std::process::exit(1);

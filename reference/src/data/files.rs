@@ -3,7 +3,7 @@
 use super::{parts_of, samples, Part};
 use crate::calls::{Case, FileCall, REFERENCE};
 use crate::comet::{block_size, fitting_tag, nonce_size, LIMIT};
-use crate::draft::{row_at, Draft, Entry};
+use crate::plan::{row_at, Entry, Plan};
 use crate::random::Random;
 use crate::shift;
 
@@ -21,13 +21,13 @@ fn expected(file: Vec<u8>, number: u32, row: usize) -> FileCall {
 
 /// Document 01's smallest file with a row: job 7, suite 3, key 0, unit 1, no message, zero nonce.
 pub fn smallest() -> Vec<u8> {
-    Draft::new(vec![Entry::new(7, 3, 0, 1, [0; 16], b"")]).file(&samples::ring())
+    Plan::new(vec![Entry::new(7, 3, 0, 1, [0; 16], b"")]).file(&samples::ring())
 }
 
 /// A small good file of three rows under suites 3, 1 and 4: jobs 10, 20 and 30.
-pub fn three_rows() -> Draft {
+pub fn three_rows() -> Plan {
     let mut random = Random::new(6);
-    Draft::new(vec![
+    Plan::new(vec![
         Entry::new(10, 3, 1, 1, random.array(), b"ten"),
         Entry::new(20, 1, 2, 2, random.array(), b"20 "),
         Entry::new(30, 4, 15, 1, random.array(), b"thirty jobs"),
@@ -36,7 +36,7 @@ pub fn three_rows() -> Draft {
 
 /// The worked values, and the lengths 0 to 8 of a file.
 fn worked(_: &mut Random) -> Vec<FileCall> {
-    let empty = Draft::new(vec![]).file(&[]);
+    let empty = Plan::new(vec![]).file(&[]);
     assert_eq!(empty, [1, 0, 0, 0, 8, 0, 0, 0]);
     let mut calls: Vec<FileCall> = (0..=8).map(|length| call(empty[..length].to_vec(), 7, 0)).collect();
     for job in [7, 0, 6, 8] {
@@ -48,14 +48,18 @@ fn worked(_: &mut Random) -> Vec<FileCall> {
     calls
 }
 
-/// A file of many rows without messages, job 10 i in row i.
-pub fn many_rows(rows: usize) -> Vec<u8> {
+/// Many rows without messages, job 10 i in row i.
+pub fn many_rows_plan(rows: usize) -> Plan {
     let entry = |i: usize| {
         let mut nonce = [0; 16];
         nonce[..2].copy_from_slice(&(i as u16).to_le_bytes());
         Entry::new(10 * i as u32, 3 + (i % 2) as u8, (i % 16) as u8, 1, nonce, b"")
     };
-    Draft::new((0..rows).map(entry).collect()).file(&samples::ring())
+    Plan::new((0..rows).map(entry).collect())
+}
+
+pub fn many_rows(rows: usize) -> Vec<u8> {
+    many_rows_plan(rows).file(&samples::ring())
 }
 
 /// 512 rows pass and 513 do not; a nonce is compared with that of every earlier row.
@@ -102,26 +106,26 @@ fn longest_files(_: &mut Random) -> Vec<FileCall> {
     vec![good, expected(longer, 20, 0)]
 }
 
-/// Puts the fault of one number into a draft, in the row where the number has one.
-pub fn fault(draft: &mut Draft, number: u32, row: usize) {
-    let previous = draft.entries[row.max(1) - 1].job;
-    let nonce = draft.entries[0].nonce;
-    let entry = &mut draft.entries[row];
+/// Puts the fault of one number into a plan, in the row where the number has one.
+pub fn fault(plan: &mut Plan, number: u32, row: usize) {
+    let previous = plan.entries[row.max(1) - 1].job;
+    let nonce = plan.entries[0].nonce;
+    let entry = &mut plan.entries[row];
     match number {
-        21 => draft.edition = 2,
-        22 => draft.count = Some(513),
-        23 => draft.longer = 1,
-        24 => draft.count = draft.count.or(Some(512)),
+        21 => plan.edition = Some(2),
+        22 => plan.count = Some(513),
+        23 => plan.longer = 1,
+        24 => plan.count = plan.count.or(Some(512)),
         25 => {
             entry.job = previous;
             entry.ad[..4].copy_from_slice(&previous.to_le_bytes());
         }
-        26 => draft.patches.push((row_at(row) + 5, 16)),
+        26 => plan.patches.push((row_at(row) + 5, 16)),
         27 => entry.ad.truncate(4),
-        28 => draft.gaps.push(row),
+        28 => plan.gaps.push(row),
         29 => entry.nonce = nonce,
         30 => entry.ad[3] ^= 1,
-        31 => draft.tail = 1,
+        31 => plan.tail = 1,
         _ => unreachable!("no fault {number}"),
     }
 }
@@ -136,11 +140,11 @@ fn refused(_: &mut Random) -> Vec<FileCall> {
     let ring = samples::ring();
     let mut calls = vec![];
     let mut add = |faults: &[(u32, usize)], number: u32, row: usize| {
-        let mut draft = three_rows();
+        let mut plan = three_rows();
         for (number, row) in faults {
-            fault(&mut draft, *number, *row);
+            fault(&mut plan, *number, *row);
         }
-        calls.push(expected(draft.file(&ring), number, if number < 31 { row } else { 0 }));
+        calls.push(expected(plan.file(&ring), number, if number < 31 { row } else { 0 }));
     };
     for number in [21, 23, 31] {
         add(&[(number, 0)], number, 0);
@@ -247,7 +251,7 @@ fn just_good(_: &mut Random) -> Vec<FileCall> {
         nonce[15] += 1;
     }
     entries[3].ad.resize(1024, 0);
-    let file = Draft::new(entries).file(&samples::ring());
+    let file = Plan::new(entries).file(&samples::ring());
     [0, 1, 2, 0x8000_0000, 0xffff_ffff].into_iter().map(|job| call(file.clone(), job, 4)).collect()
 }
 
@@ -284,7 +288,7 @@ fn openings(_: &mut Random) -> Vec<FileCall> {
 }
 
 /// A good file of random entries.
-pub fn random_draft(random: &mut Random, rows: usize, longest: usize) -> Draft {
+pub fn random_plan(random: &mut Random, rows: usize, longest: usize) -> Plan {
     let mut job = random.below(100) as u32;
     let mut entries = vec![];
     for _ in 0..rows {
@@ -297,16 +301,16 @@ pub fn random_draft(random: &mut Random, rows: usize, longest: usize) -> Draft {
         entries.push(entry);
         job += 1 + random.below(1000) as u32;
     }
-    Draft::new(entries)
+    Plan::new(entries)
 }
 
 /// Files of several rows, each job opened.
 fn good_files(random: &mut Random) -> Vec<FileCall> {
     let mut calls = vec![];
     for rows in 1..=8 {
-        let draft = random_draft(random, rows, 150);
-        let file = draft.file(&samples::ring());
-        for entry in &draft.entries {
+        let plan = random_plan(random, rows, 150);
+        let file = plan.file(&samples::ring());
+        for entry in &plan.entries {
             let call = call(file.clone(), entry.job, entry.message.len());
             assert_eq!(call.answer(&REFERENCE).out, entry.message);
             calls.push(call);

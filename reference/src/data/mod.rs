@@ -5,6 +5,7 @@ pub mod files;
 pub mod samples;
 pub mod sessions;
 pub mod vectors;
+pub mod writing;
 
 use crate::calls::{Case, REFERENCE};
 
@@ -12,8 +13,16 @@ use crate::calls::{Case, REFERENCE};
 pub type Part = (&'static str, Vec<u8>);
 
 /// The folders of the repository that are written.
-pub const FOLDERS: [&str; 6] =
-    ["samples", "crates/vectors", "crates/cases", "crates/files", "crates/job", "crates/sessions"];
+pub const FOLDERS: [&str; 8] = [
+    "samples",
+    "crates/vectors",
+    "crates/cases",
+    "crates/files",
+    "crates/job",
+    "crates/sessions",
+    "crates/writing",
+    "crates/write",
+];
 
 /// What a test program reads and writes.
 pub fn parts_of<C: Case>(cases: &[C]) -> [Part; 2] {
@@ -31,6 +40,8 @@ pub fn parts(folder: &str) -> Vec<Part> {
         "crates/files" => files::parts().to_vec(),
         "crates/job" => samples::job_parts().to_vec(),
         "crates/sessions" => sessions::parts().to_vec(),
+        "crates/writing" => writing::parts().to_vec(),
+        "crates/write" => writing::write_parts().to_vec(),
         _ => unreachable!("no data for {folder}"),
     }
 }

@@ -1,7 +1,7 @@
 //! A day's file and a ring to try, and the run of the program `job` on them.
 
 use super::Part;
-use crate::draft::{Draft, Entry};
+use crate::plan::{Entry, Plan};
 use crate::random::Random;
 use crate::shift;
 use crate::show::hex;
@@ -45,11 +45,16 @@ fn entries() -> Vec<Entry> {
 }
 
 pub fn day() -> Vec<u8> {
-    Draft::new(entries()).file(&ring())
+    Plan::new(entries()).file(&ring())
 }
 
-pub fn parts() -> [Part; 2] {
-    [("day.shift", day()), ("ring.keys", ring())]
+/// The day before it was sealed, but for the job of suite 4.
+pub fn draft() -> Vec<u8> {
+    Plan::new(entries().into_iter().filter(|entry| entry.suite != 4).collect()).draft()
+}
+
+pub fn parts() -> [Part; 3] {
+    [("day.shift", day()), ("day.draft", draft()), ("ring.keys", ring())]
 }
 
 /// What `job FILE RING JOB` writes: the opening's number and row and, on 0, unit, associated data and message.

@@ -20,6 +20,11 @@ impl Entry {
         Entry { job, suite, key, nonce, ad, message: message.to_vec() }
     }
 
+    /// The body of a draft: associated data, message, a tag of zeros.
+    fn plain_body(&self) -> Vec<u8> {
+        [&self.ad[..], &self.message, &vec![0; comet::block_size(self.suite)]].concat()
+    }
+
     /// The body: associated data, ciphertext, tag.
     fn body(&self, ring: &[u8]) -> Vec<u8> {
         let key = &ring[16 * self.key as usize..][..16];
@@ -32,12 +37,12 @@ impl Entry {
     }
 }
 
-/// A file in the making. `count` replaces the row count, `longer` is added to the total length that the
+/// A file in the making. `edition` and `count` replace the edition and the row count, `longer` is added to the total length that the
 /// header gives, a byte stands before the body of each row that `gaps` names, `tail` bytes after the last
 /// body, and each patch is a place in the file with its byte.
 #[derive(Clone)]
-pub struct Draft {
-    pub edition: u16,
+pub struct Plan {
+    pub edition: Option<u16>,
     pub count: Option<u16>,
     pub longer: u32,
     pub entries: Vec<Entry>,
@@ -51,12 +56,22 @@ pub fn row_at(row: usize) -> usize {
     shift::HEADER + shift::ROW * row
 }
 
-impl Draft {
-    pub fn new(entries: Vec<Entry>) -> Draft {
-        Draft { edition: 1, count: None, longer: 0, entries, gaps: vec![], tail: 0, patches: vec![] }
+impl Plan {
+    pub fn new(entries: Vec<Entry>) -> Plan {
+        Plan { edition: None, count: None, longer: 0, entries, gaps: vec![], tail: 0, patches: vec![] }
     }
 
+    /// The sealed file.
     pub fn file(&self, ring: &[u8]) -> Vec<u8> {
+        self.lay(1, |entry| entry.body(ring))
+    }
+
+    /// The draft of the same (document 02, W4).
+    pub fn draft(&self) -> Vec<u8> {
+        self.lay(0, Entry::plain_body)
+    }
+
+    fn lay(&self, edition: u16, body: impl Fn(&Entry) -> Vec<u8>) -> Vec<u8> {
         let mut table = vec![];
         let mut bodies = vec![];
         let start = row_at(self.entries.len());
@@ -70,17 +85,17 @@ impl Draft {
             table.extend(((start + bodies.len()) as u32).to_le_bytes());
             table.extend((entry.message.len() as u32).to_le_bytes());
             table.extend(entry.nonce);
-            bodies.extend(entry.body(ring));
+            bodies.extend(body(entry));
         }
         bodies.resize(bodies.len() + self.tail, 0);
-        self.finish([table, bodies].concat())
+        self.finish(edition, [table, bodies].concat())
     }
 
     /// The header before the rest, then the patches.
-    fn finish(&self, rest: Vec<u8>) -> Vec<u8> {
+    fn finish(&self, edition: u16, rest: Vec<u8>) -> Vec<u8> {
         let count = self.count.unwrap_or(self.entries.len() as u16);
         let total = ((shift::HEADER + rest.len()) as u32).wrapping_add(self.longer);
-        let mut file = self.edition.to_le_bytes().to_vec();
+        let mut file = self.edition.unwrap_or(edition).to_le_bytes().to_vec();
         file.extend(count.to_le_bytes());
         file.extend(total.to_le_bytes());
         file.extend(rest);

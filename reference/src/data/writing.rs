@@ -1,0 +1,241 @@
+//! The program `writing`: drafts sealed, and files unsealed.
+
+use super::{files, parts_of, samples, Part};
+use crate::calls::{Case, Library, FILLER, REFERENCE};
+use crate::plan::{row_at, Entry, Plan};
+use crate::random::Random;
+use crate::shift::{self, rows};
+use crate::show::shown;
+use crate::trials::{edit, misuse_ring};
+
+/// What takes a file and a ring and writes a file.
+#[derive(Clone, Copy, PartialEq)]
+pub enum Pass {
+    Seal,
+    Unseal,
+}
+
+#[derive(Clone)]
+pub struct RewriteCall {
+    pub pass: Pass,
+    pub file: Vec<u8>,
+    pub ring: Vec<u8>,
+    pub out: usize,
+}
+
+#[derive(PartialEq)]
+pub struct RewriteOutcome {
+    pub answer: shift::Answer,
+    pub out: Vec<u8>,
+}
+
+impl Case for RewriteCall {
+    type Outcome = RewriteOutcome;
+
+    fn answer(&self, by: &Library) -> RewriteOutcome {
+        let mut out = vec![FILLER; self.out];
+        let rewrite = match self.pass {
+            Pass::Seal => by.seal_file,
+            Pass::Unseal => by.unseal_file,
+        };
+        RewriteOutcome { answer: rewrite(&self.file, &self.ring, &mut out), out }
+    }
+
+    fn record(&self) -> Vec<u8> {
+        let lengths = [self.file.len(), self.ring.len(), self.out].map(|length| (length as u32).to_le_bytes());
+        [&[self.pass as u8], &lengths.concat()[..], &self.file, &self.ring].concat()
+    }
+
+    fn lines(&self, by: &Library) -> String {
+        let RewriteOutcome { answer: (number, row), out } = self.answer(by);
+        format!("{number} {row} {}\n", shown(&out))
+    }
+}
+
+/// A call with the samples' ring and an output of the file's length.
+pub fn call(pass: Pass, file: Vec<u8>) -> RewriteCall {
+    RewriteCall { pass, out: file.len(), file, ring: samples::ring() }
+}
+
+/// The call, once it is seen to give the number and the row that it was made for.
+pub fn expected(call: RewriteCall, number: u32, row: usize) -> RewriteCall {
+    assert_eq!(call.answer(&REFERENCE).answer, (number, row as u32));
+    call
+}
+
+/// A draft sealed and its file unsealed; the one gives the other.
+fn both_ways(plan: &Plan) -> [RewriteCall; 2] {
+    let (draft, file) = (plan.draft(), plan.file(&samples::ring()));
+    let (seal, unseal) = (call(Pass::Seal, draft.clone()), call(Pass::Unseal, file.clone()));
+    assert!(seal.answer(&REFERENCE) == RewriteOutcome { answer: (0, 0), out: file });
+    assert!(unseal.answer(&REFERENCE) == RewriteOutcome { answer: (0, 0), out: draft });
+    [seal, unseal]
+}
+
+/// Four rows, one of each suite, with longer messages.
+fn four_rows() -> Plan {
+    let mut random = Random::new(9);
+    let entry = |i: u32| {
+        let length = [0, 5, 16, 40][i as usize];
+        Entry::new(i, 1 + i as u8, 3 * i as u8, 1, random.array(), &random.bytes(length))
+    };
+    Plan::new((0..4).map(entry).collect())
+}
+
+/// No rows, one, three, four, as many as there can be; and random ones.
+fn good(random: &mut Random) -> Vec<RewriteCall> {
+    let smallest = Plan::new(vec![Entry::new(7, 3, 0, 1, [0; 16], b"")]);
+    let mut plans = vec![Plan::new(vec![]), smallest, files::three_rows(), four_rows(), files::many_rows_plan(512)];
+    plans.extend((0..10).map(|rows| files::random_plan(random, rows, 100)));
+    plans.iter().flat_map(both_ways).collect()
+}
+
+/// A plan's input of either pass.
+fn input(pass: Pass, plan: &Plan) -> Vec<u8> {
+    if pass == Pass::Seal {
+        plan.draft()
+    } else {
+        plan.file(&samples::ring())
+    }
+}
+
+/// Each number of the check, alone and beside all that comes after the check.
+fn refused_checks(_: &mut Random) -> Vec<RewriteCall> {
+    let mut calls = vec![];
+    for pass in [Pass::Seal, Pass::Unseal] {
+        for number in 20..=31 {
+            let (mut plan, row) = (files::three_rows(), if (25..31).contains(&number) { 1 } else { 0 });
+            if number > 20 {
+                files::fault(&mut plan, number, 1);
+            }
+            let mut file = input(pass, &plan);
+            if number == 20 {
+                file.truncate(7);
+            }
+            calls.push(expected(call(pass, file.clone()), number, row));
+            if number >= 25 {
+                *file.last_mut().unwrap() ^= 1;
+            }
+            calls.push(expected(RewriteCall { pass, file, ring: vec![0; 255], out: 3 }, number, row));
+        }
+        let other = if pass == Pass::Seal { files::three_rows().file(&samples::ring()) } else { four_rows().draft() };
+        calls.push(expected(call(pass, other), 21, 0));
+    }
+    calls
+}
+
+/// 33, 2 and 6 of sealing, and 2, 6 and 8 of unsealing: each alone and in pairs, in all their kinds.
+fn refused(_: &mut Random) -> Vec<RewriteCall> {
+    let mut calls = vec![];
+    for pass in [Pass::Seal, Pass::Unseal] {
+        let good = call(pass, input(pass, &four_rows()));
+        let length = good.file.len();
+        let with = |ring: usize, out: usize| {
+            let mut call = RewriteCall { out, ..good.clone() };
+            call.ring.resize(ring, FILLER);
+            call
+        };
+        for ring in [0, 16, 255, 257] {
+            calls.extend([expected(with(ring, length), 2, 0), expected(with(ring, length + 1), 2, 0)]);
+        }
+        for out in [0, length - 1, length + 1, 2 * length] {
+            calls.push(expected(with(256, out), 6, 0));
+        }
+        let number = if pass == Pass::Seal { 33 } else { 8 };
+        for (i, row) in rows(&good.file).iter().enumerate() {
+            for place in [row.tag().start, row.tag().end - 1] {
+                let mut damaged = good.clone();
+                damaged.file[place] ^= 0x80;
+                calls.push(expected(damaged.clone(), number, i));
+                let others =
+                    [RewriteCall { ring: vec![], out: 0, ..damaged.clone() }, RewriteCall { out: 0, ..damaged }];
+                let [ring, out] = if pass == Pass::Seal { [(33, i), (33, i)] } else { [(2, 0), (6, 0)] };
+                let [other_ring, other_out] = others;
+                calls.extend([expected(other_ring, ring.0, ring.1), expected(other_out, out.0, out.1)]);
+            }
+        }
+        let mut two = good.clone();
+        for row in &rows(&good.file)[2..] {
+            two.file[row.tag().start] ^= 1;
+        }
+        calls.push(expected(two, number, 2));
+    }
+    calls
+}
+
+/// Files with a byte altered that a tag covers: in the associated data, the text, the nonce, the key number, and in
+/// the ring. In a draft the same bytes are no fault.
+fn altered(_: &mut Random) -> Vec<RewriteCall> {
+    let mut calls = vec![];
+    for i in 1..4 {
+        let file = four_rows().file(&samples::ring());
+        let row = &rows(&file)[i];
+        let at = row_at(i);
+        let places =
+            [(row.offset + 4, 3), (row.text().start, 1), (row.text().end - 1, 0x80), (at + 16, 1), (at + 5, 1)];
+        for (place, x) in places {
+            let mut altered = call(Pass::Unseal, file.clone());
+            altered.file[place] ^= x;
+            calls.push(expected(altered, 8, i));
+        }
+        let mut other_ring = call(Pass::Unseal, file.clone());
+        other_ring.ring[16 * row.key as usize] ^= 1;
+        calls.push(expected(other_ring, 8, i));
+        let mut draft = call(Pass::Seal, four_rows().draft());
+        draft.file[row.offset + 4] ^= 3;
+        draft.file[row.text().start] ^= 1;
+        calls.push(expected(draft, 0, 0));
+    }
+    calls
+}
+
+/// All calls of the program.
+pub fn calls() -> Vec<RewriteCall> {
+    let mut random = Random::new(8);
+    let groups = [good, refused_checks, refused, altered];
+    groups.into_iter().flat_map(|group| group(&mut random)).collect()
+}
+
+pub fn parts() -> [Part; 2] {
+    parts_of(&calls())
+}
+
+/// Random drafts and files, good and edited, with now and then a wrong ring or output.
+pub fn trials(random: &mut Random, count: usize, mut each: impl FnMut(&RewriteCall)) {
+    for _ in 0..count {
+        let pass = [Pass::Seal, Pass::Unseal][random.below(2)];
+        let (row_count, longest) = (random.below(9), [0, 20, 100][random.below(3)]);
+        let plan = files::random_plan(random, row_count, longest);
+        let mut call = call(pass, input(pass, &plan));
+        for _ in 0..random.below(3) {
+            edit(random, &mut call.file, row_count);
+        }
+        call.out = call.file.len();
+        misuse_ring(random, &mut call.ring, &mut call.out);
+        each(&call);
+    }
+}
+
+/// Whether each byte of a file's table and of its tags matters as it should: every single-byte change of a draft and
+/// of a file.
+pub fn single_bytes(mut each: impl FnMut(&RewriteCall)) {
+    for call in both_ways(&files::three_rows()) {
+        for (place, x) in (0..call.file.len()).flat_map(|place| [1, 2, 4, 0x80, 0xff].map(|x| (place, x))) {
+            let mut changed = call.clone();
+            changed.file[place] ^= x;
+            each(&changed);
+        }
+    }
+}
+
+/// The folder of the program `write`: it seals the sample's draft.
+pub fn write_parts() -> [Part; 4] {
+    let draft = samples::draft();
+    let (number, row) = call(Pass::Seal, draft.clone()).answer(&REFERENCE).answer;
+    [
+        ("args", b"day.draft\nring.keys\nday.shift\n".to_vec()),
+        ("data/day.draft", draft),
+        ("data/ring.keys", samples::ring()),
+        ("stdout", format!("{number} {row}\n").into_bytes()),
+    ]
+}
