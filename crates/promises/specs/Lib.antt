@@ -5,3 +5,4 @@ pub mod Demand3
 pub mod ShiftFile
 pub mod Values
 pub mod W1
+pub mod Nonces

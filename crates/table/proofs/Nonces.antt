@@ -62,7 +62,7 @@ module _ (w : ℕ) (f : List ℕ) (i j : ℕ) (hi : RowIn w f i) (hj : RowIn w f
   reads-same : rowAt w f i .suite ≡ rowAt w f j .suite → sameBytes (nonceReadAt w f i) (nonceReadAt w f j) ≡ sameBytes (nonceAt w f i) (nonceAt w f j)
   reads-same s =
       let l : length (nonceReadAt w f i) ≡ length (nonceReadAt w f j) =
-          read-length w f i (rowAt w f i .suite) hi ∙ ap nonceOf s ∙ sym (read-length w f j (rowAt w f j .suite) hj) in
+      read-length w f i (rowAt w f i .suite) hi ∙ ap nonceOf s ∙ sym (read-length w f j (rowAt w f j .suite) hj) in
       sym (padded-same (nonceReadAt w f i) (nonceReadAt w f j) l) ∙ sym (ap₂ sameBytes (spare-nonce w f i si) (spare-nonce w f j sj))
 
   clash-whole : clash w f i j ≡ (keys (rowAt w f i) (rowAt w f j) && sameBytes (nonceAt w f i) (nonceAt w f j))
@@ -106,6 +106,6 @@ pub earlier : (w : ℕ) (f : List ℕ) (n : ℕ) → Walked w f n → (i j : ℕ
 unfolding nonceSeen clash
 earlier w f n h i j l m s k q =
     let c : clash w f i j ≡ true =
-        ap₂ (λ (a b : Bool). a && (b && sameBytes (nonceReadAt w f i) (nonceReadAt w f j))) (eq-eqb _ _ s) (eq-eqb _ _ k)
-        ∙ ap (λ (t : List ℕ). sameBytes t (nonceReadAt w f j)) q ∙ same-refl (nonceReadAt w f j) in
+    ap₂ (λ (a b : Bool). a && (b && sameBytes (nonceReadAt w f i) (nonceReadAt w f j))) (eq-eqb _ _ s) (eq-eqb _ _ k)
+    ∙ ap (λ (t : List ℕ). sameBytes t (nonceReadAt w f j)) q ∙ same-refl (nonceReadAt w f j) in
     true≢false (sym (any-hit (clash w f i) j i m c) ∙ h .rows i l .fresh)

@@ -50,8 +50,7 @@ loop-again c =
     let p = c .before .before in
     let a = p .before .before .before .before .args in
     let z = ap rowNumberOf (sym (c .enum-told .given .1)) ∙ p .check-row .ensures in
-    let h = p .before .before .loop .inv .1 in
-    (
+    let h = p .before .before .loop .inv .1 in (
       omega arith,
       (
         h .0 ∙ rows-sound (a .w) (now (a .f)) (a .n) _ (p .before .loop-test .taken) z,
