@@ -123,6 +123,8 @@ comet_step comet_session_end(comet_session session,
                              uint8_t *tag, size_t tag_len);
 
 /* Numbers of the shift file: 20 to 24 first, then 25 to 30 in order for each row from row 0, then 31.
+/* Numbers of the shift file: 20 to 24 first, then for each row from row 0 the numbers 25, 26, 27, 28, 34, 29
+ * and 30 in this order, then 31.
  *   0   done
  *  20   the file is shorter than 8 bytes or longer than 1,048,576
  *  21   its edition is not 1
@@ -133,7 +135,8 @@ comet_step comet_session_end(comet_session session,
  *  26   the row's suite is not 1 to 4, or its key number is over 15
  *  27   the row's associated data is not 5 to 1,024 bytes long, or its message is over 65,536
  *  28   the row's body does not start where the one before ends (row 0: after the table), or runs past the file
- *  29   the row's sixteen nonce bytes are an earlier row's
+ *  34   the row's suite has a nonce of 15 bytes, and its 16th nonce byte is not 0
+ *  29   an earlier row has the row's suite, its key number and the nonce bytes that the suite reads
  *  30   the row's associated data has another job number, or its unit is not 1 (newton-metres) or 2 (inch-pounds)
  *  31   the last body does not end where the file ends
  *  32   no row has the job (not given by shift_check)
@@ -142,11 +145,11 @@ comet_step comet_session_end(comet_session session,
  *   8   shift_open_job alone: the tag differs
  */
 
-/* The full check. *row is written always: the row, counted from 0, after 25 to 30, and 0 after every other number. */
+/* The full check. *row is written always: the row, counted from 0, after 25 to 30 and 34, and 0 after every other number. */
 uint32_t shift_check(const uint8_t *file, size_t file_len, uint32_t *row);
 
 /* The full check, and then the row that has the job.
- * *row is written always: the row found after 0, the row at fault after 25 to 30, and 0 after every other number.
+ * *row is written always: the row found after 0, the row at fault after 25 to 30 and 34, and 0 after every other number.
  */
 uint32_t shift_lookup(const uint8_t *file, size_t file_len, uint32_t job, uint32_t *row);
 
@@ -167,7 +170,7 @@ uint32_t shift_entry(const uint8_t *file, size_t file_len, uint32_t job, uint32_
 /* Opens one job: the lookup, then 2, 6 and 8 in this order. The ring is 16 keys; key k is its bytes 16k to 16k + 15.
  * The message's length, which out_len has to be, is shift_entry's *text_len.
  * After 0, out is the message, written whole; after 8, every byte of out is 0; after every other number, out is as it was.
- * *row is written always: the row at fault after 25 to 30, and 0 after every other number, 0 too.
+ * *row is written always: the row at fault after 25 to 30 and 34, and 0 after every other number, 0 too.
  */
 uint32_t shift_open_job(const uint8_t *file, size_t file_len,
                         const uint8_t *ring, size_t ring_len,

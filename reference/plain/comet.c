@@ -372,15 +372,15 @@ INLINE uint32_t load16(const uint8_t *p) {
     return p[0] | (uint32_t)p[1] << 8;
 }
 
-/* Whether an earlier row has this row's sixteen nonce bytes. */
+/* Whether an earlier row has this row's suite, key number and nonce; a nonce byte that is not read is 0 in both. */
 static int clashes(const uint8_t *rows, uint32_t i) {
-    const uint8_t *nonce = rows + 32 * (size_t)i + 16;
-    for (uint32_t j = 0; j < i; j++)
-        if (memcmp(rows + 32 * (size_t)j + 16, nonce, 16) == 0) return 1;
+    const uint8_t *row = rows + 32 * (size_t)i;
+    for (const uint8_t *other = rows; other < row; other += 32)
+        if (memcmp(other + 16, row + 16, 16) == 0 && memcmp(other + 4, row + 4, 2) == 0) return 1;
     return 0;
 }
 
-/* Numbers 25 to 30 of row i; the body starts at *end, which moves to where it ends. */
+/* Numbers 25 to 28, 34, 29 and 30 of row i; the body starts at *end, which moves to where it ends. */
 static uint32_t check_row(const uint8_t *file, size_t len, uint32_t i, uint64_t *end) {
     const uint8_t *rows = file + 8, *row = rows + 32 * (size_t)i;
     uint32_t job = load32(row), ad = load16(row + 6), offset = load32(row + 8), message = load32(row + 12);
@@ -390,6 +390,7 @@ static uint32_t check_row(const uint8_t *file, size_t len, uint32_t i, uint64_t 
     if (offset != *end) return 28;
     *end += ad + message + (row[4] < 3 ? 16 : 8);
     if (*end > len) return 28;
+    if (row[4] > 2 && row[31] != 0) return 34;
     if (clashes(rows, i)) return 29;
     if (load32(file + offset) != job || file[offset + 4] < 1 || file[offset + 4] > 2) return 30;
     return 0;

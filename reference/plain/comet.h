@@ -23,7 +23,7 @@ uint32_t columns_open(uint8_t suite, const uint8_t *key, size_t key_len, const u
                       const uint8_t *ad, size_t ad_len, const uint8_t *text, size_t text_len,
                       const uint8_t *tag, size_t tag_len, uint8_t *out, size_t out_len);
 
-/* 0, or 20 to 31; *row is the row of 25 to 30, else 0. */
+/* 0, or 20 to 31 and 34; *row is the row of 25 to 30 and 34, else 0. */
 uint32_t plain_check(const uint8_t *file, size_t file_len, uint32_t *row);
 
 #endif

@@ -14,7 +14,9 @@ pub struct Entry {
 }
 
 impl Entry {
-    pub fn new(job: u32, suite: u8, key: u8, unit: u8, nonce: [u8; 16], message: &[u8]) -> Entry {
+    /// A nonce byte that the suite does not read becomes 0.
+    pub fn new(job: u32, suite: u8, key: u8, unit: u8, mut nonce: [u8; 16], message: &[u8]) -> Entry {
+        nonce[comet::nonce_size(suite)..].fill(0);
         let mut ad = job.to_le_bytes().to_vec();
         ad.push(unit);
         Entry { job, suite, key, nonce, ad, message: message.to_vec() }

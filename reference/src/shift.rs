@@ -31,10 +31,6 @@ pub struct Row {
     pub nonce: [u8; 16],
 }
 
-fn nonce(file: &[u8], i: usize) -> [u8; 16] {
-    file[HEADER + ROW * i + 16..HEADER + ROW * (i + 1)].try_into().unwrap()
-}
-
 fn row(file: &[u8], i: usize) -> Row {
     let at = HEADER + ROW * i;
     Row {
@@ -44,7 +40,7 @@ fn row(file: &[u8], i: usize) -> Row {
         ad: u16_at(file, at + 6),
         offset: u32_at(file, at + 8) as usize,
         message: u32_at(file, at + 12) as usize,
-        nonce: nonce(file, i),
+        nonce: file[at + 16..at + 32].try_into().unwrap(),
     }
 }
 
@@ -69,6 +65,11 @@ impl Row {
     /// The nonce bytes that the suite reads.
     pub fn nonce(&self) -> &[u8] {
         &self.nonce[..comet::nonce_size(self.suite)]
+    }
+
+    /// Two rows clash if suite, key number and the nonce bytes that the suite reads are all equal.
+    fn clashes(&self, other: &Row) -> bool {
+        (self.suite, self.key, self.nonce()) == (other.suite, other.key, other.nonce())
     }
 
     /// The key of a ring.
@@ -109,7 +110,7 @@ fn check_header(file: &[u8], editions: &[usize]) -> u32 {
     }
 }
 
-/// Numbers 25 to 30 of row i, and 0 where none applies. The rows before it have passed.
+/// Numbers 25 to 28, 34, 29 and 30 of row i, and 0 where none applies. The rows before it have passed.
 fn check_row(file: &[u8], i: usize) -> u32 {
     let this = row(file, i);
     let start = if i == 0 { HEADER + ROW * count(file) } else { row(file, i - 1).end() };
@@ -121,7 +122,9 @@ fn check_row(file: &[u8], i: usize) -> u32 {
         27
     } else if this.offset != start || this.end() > file.len() {
         28
-    } else if (0..i).any(|earlier| nonce(file, earlier) == this.nonce) {
+    } else if this.nonce[this.nonce().len()..].iter().any(|byte| *byte != 0) {
+        34
+    } else if (0..i).any(|earlier| row(file, earlier).clashes(&this)) {
         29
     } else if u32_at(file, this.offset) != this.job || ![1, 2].contains(&file[this.offset + 4]) {
         30

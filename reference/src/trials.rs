@@ -195,7 +195,7 @@ fn near(random: &mut Random, file: &[u8], at: usize, edges: &[u32]) -> [u8; 4] {
 /// An edit of a field of a row, or of the job number and unit at the start of its body.
 fn edit_row(random: &mut Random, file: &mut [u8], rows: usize) {
     let (row, other) = (row_at(random.below(rows)), row_at(random.below(rows)));
-    let (at, bytes) = match random.below(8) {
+    let (at, bytes) = match random.below(10) {
         0 => (row, near(random, file, other, &[0, u32::MAX]).to_vec()),
         1 => (row + 4, vec![random.below(7) as u8]),
         2 => (row + 5, vec![13 + random.below(5) as u8]),
@@ -203,6 +203,12 @@ fn edit_row(random: &mut Random, file: &mut [u8], rows: usize) {
         4 => (row + 8, near(random, file, row + 8, &[0, 8, 40, u32::MAX]).to_vec()),
         5 => (row + 12, near(random, file, row + 12, &[0, 65_536, 65_537, u32::MAX]).to_vec()),
         6 => (row + 16, file.get(other + 16..other + 32).unwrap_or_default().to_vec()),
+        7 => {
+            let bytes = file.get(other + 16..other + 32).unwrap_or_default().to_vec();
+            put(file, row + 16, &bytes);
+            (row + 4, file.get(other + 4..other + 6).unwrap_or_default().to_vec())
+        }
+        8 => (row + 31, vec![random.below(3) as u8]),
         _ => (u32_at(file, row + 8) as usize + random.below(5), vec![random.below(4) as u8]),
     };
     put(file, at, &bytes);

@@ -2,6 +2,8 @@
 
 use reference::calls::{Case, REFERENCE};
 use reference::data::{cases, files, parts, sessions, writing, FOLDERS};
+use reference::random::Random;
+use reference::trials;
 use std::collections::BTreeSet;
 use std::path::Path;
 
@@ -20,8 +22,8 @@ fn files_provoke_every_number() {
     let answers: Vec<_> = files::calls().iter().map(|call| call.answer(&REFERENCE)).collect();
     let checks: BTreeSet<u32> = answers.iter().map(|answer| answer.check.0).collect();
     let opens: BTreeSet<u32> = answers.iter().map(|answer| answer.open.0).collect();
-    assert_eq!(checks, [0].into_iter().chain(20..=31).collect());
-    assert_eq!(opens, [0, 2, 6, 8].into_iter().chain(20..=32).collect());
+    assert_eq!(checks, [0, 34].into_iter().chain(20..=31).collect());
+    assert_eq!(opens, [0, 2, 6, 8, 34].into_iter().chain(20..=32).collect());
 }
 
 #[test]
@@ -37,8 +39,18 @@ fn writing_provokes_every_number() {
         let calls = writing::calls().into_iter().filter(|call| call.pass == pass);
         calls.map(|call| call.answer(&REFERENCE).answer.0).collect()
     };
-    assert_eq!(numbers(writing::Pass::Seal), [0, 2, 6, 33].into_iter().chain(20..=31).collect());
-    assert_eq!(numbers(writing::Pass::Unseal), [0, 2, 6, 8].into_iter().chain(20..=31).collect());
+    assert_eq!(numbers(writing::Pass::Seal), [0, 2, 6, 33, 34].into_iter().chain(20..=31).collect());
+    assert_eq!(numbers(writing::Pass::Unseal), [0, 2, 6, 8, 34].into_iter().chain(20..=31).collect());
+}
+
+/// The random files of the comparison are of all kinds too.
+#[test]
+fn random_files_provoke_every_number() {
+    let mut numbers = BTreeSet::new();
+    trials::shift_files(&mut Random::new(1), 20_000, |call| {
+        numbers.insert(call.answer(&REFERENCE).open.0);
+    });
+    assert_eq!(numbers, [0, 2, 6, 8, 34].into_iter().chain(20..=32).collect());
 }
 
 /// Holds for each folder that is there.

@@ -2,6 +2,7 @@
 
 use reference::comet::seal;
 use reference::data::{files, samples};
+use reference::plan::{Entry, Plan};
 use reference::session::{data, end, part, start, OVER};
 use reference::shift::{check, rows};
 use reference::writer::{seal_file, unseal_file};
@@ -108,5 +109,39 @@ mod w4 {
         assert!(out.iter().all(|byte| *byte == 7));
         assert_eq!(unseal_file(&wrong, &ring, &mut out), (8, 1));
         assert!(out.iter().all(|byte| *byte == 0));
+    }
+}
+
+mod w5 {
+    use super::*;
+
+    /// The check's answer on two rows of one nonce but for the sixteenth byte; each is suite, key number, that byte.
+    fn checked(rows: [(u8, u8, u8); 2]) -> (u32, u32) {
+        let entry = |(job, (suite, key, last)): (usize, (u8, u8, u8))| {
+            let mut entry = Entry::new(job as u32, suite, key, 1, [9; 16], b"");
+            entry.nonce[15] = last;
+            entry
+        };
+        check(&Plan::new(rows.into_iter().enumerate().map(entry).collect()).file(&samples::ring()))
+    }
+
+    #[test]
+    fn the_auditors_file_and_its_neighbours() {
+        assert_eq!(checked([(3, 0, 0), (3, 0, 1)]), (34, 1));
+        assert_eq!(checked([(3, 0, 1), (3, 0, 0)]), (34, 0));
+        assert_eq!(checked([(3, 0, 0), (3, 0, 0)]), (29, 1));
+        assert_eq!(checked([(3, 0, 0), (3, 1, 0)]), (0, 0));
+        assert_eq!(checked([(3, 0, 0), (4, 0, 0)]), (0, 0));
+        assert_eq!(checked([(1, 0, 0), (1, 0, 1)]), (0, 0));
+        assert_eq!(checked([(1, 0, 1), (1, 0, 1)]), (29, 1));
+    }
+
+    /// The draft's check has the same rule.
+    #[test]
+    fn drafts_too() {
+        let mut draft = files::three_rows().draft();
+        draft[8 + 31] = 1;
+        let mut out = vec![0; draft.len()];
+        assert_eq!(seal_file(&draft, &samples::ring(), &mut out), (34, 0));
     }
 }

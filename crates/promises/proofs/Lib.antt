@@ -7,3 +7,4 @@ pub mod Values
 pub mod W1
 pub mod Sessions
 pub mod W4
+pub mod Nonces

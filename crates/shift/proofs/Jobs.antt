@@ -53,6 +53,6 @@ answered f ring job out₀ = lookup-case (eqb (lookupJob f job .number) 0) refl
         simp e (record {
           number = ⊎-elim (λ z. absurd (eqb-false (lookupJob f job .number) 0 e z)) (λ r. inr (inr (inr (inr r)))) (t .number);
           row = t .row;
-          wiped = λ m. absurd (⊎-elim (λ z. omega arith) (λ r. omega arith) (t .number));
+          wiped = λ m. absurd (⊎-elim (λ z. omega arith) (λ r. ⊎-elim (λ s. omega arith) (λ s. omega arith) r) (t .number));
           kept = λ z y. refl;
         })

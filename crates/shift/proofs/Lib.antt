@@ -6,4 +6,5 @@ pub mod Entries
 pub mod Jobs
 pub mod Changed
 pub mod Units
+pub mod Nonces
 pub mod Outcomes

@@ -44,7 +44,7 @@ foundOf x = cond (eqb (x .number) 0) (found.At (x .row)) (cond (eqb (x .number) 
 found-back : (x : Found) → foundOf (foundAnswer x) ≡ x
 found-back (found.At i) = refl
 found-back found.Missing = refl
-found-back (found.Refused x) = simp (ne-eqb _ _ (refusal-some x), unlike x 32 (inr (lit< tt))) (ap found.Refused (refusal-back x))
+found-back (found.Refused x) = simp (ne-eqb _ _ (refusal-some x), unlike x 32 (inr (lit< tt)) refl) (ap found.Refused (refusal-back x))
 
 abbrev openedOf : Answer → Opened
 openedOf x =
@@ -59,7 +59,7 @@ opened-back : (x : Opened) → openedOf (openedAnswer x) ≡ x
 opened-back opened.Done = refl
 opened-back opened.Missing = refl
 opened-back (opened.Refused x) =
-    simp (ne-eqb _ _ (refusal-some x), unlike x 2 (inl (lit< tt)), unlike x 6 (inl (lit< tt)), unlike x 8 (inl (lit< tt)), unlike x 32 (inr (lit< tt)))
+    simp (ne-eqb _ _ (refusal-some x), unlike x 2 (inl (lit< tt)) refl, unlike x 6 (inl (lit< tt)) refl, unlike x 8 (inl (lit< tt)) refl, unlike x 32 (inr (lit< tt)) refl)
     (ap opened.Refused (refusal-back x))
 opened-back opened.Ring = refl
 opened-back opened.Room = refl

@@ -1,4 +1,4 @@
--- What number and row a lookup that refuses can give: 20 to 32, and a row only with 25 to 30.
+-- What number and row a lookup that refuses can give: 20 to 32 or 34, and a row only with 25 to 30 and 34.
 use Prim.Native.Nat.{ℕ, _-_}
 use native.Mathlib.Omega.{arith}
 use mathlib.Core.Path.{_≡_, refl, sym, ap, subst}
@@ -18,7 +18,7 @@ unfolding findFrom
 found-told w f n job i none =
     ⊎-elim
     (λ h. absurd (none (sym (ap (λ (x : Answer). x .number) (h .gives)))))
-    (λ h. subst (Told 32) (h .gives) (record { number = inr (lit≤ tt, lit≤ tt); row = inl refl }))
+    (λ h. subst (Told 32) (h .gives) (record { number = inr (inl (lit≤ tt, lit≤ tt)); row = inl refl }))
     (first-says _ _ _ (n - i) i (findFrom w f n job i) refl)
 
 -- a lookup that refuses
@@ -33,4 +33,4 @@ lookup-told f job none = lookup-case (eqb (checkFile f .number) 0) none
     lookup-case true n = found-told (rowSize edition) f (countOf f) job 0 n
     lookup-case false n =
         let t = check-told edition f in
-        record { number = ⊎-elim (λ z. inl z) (λ r. inr (omega arith)) (t .number); row = t .row }
+        record { number = ⊎-elim inl (λ r. inr (⊎-elim (λ s. inl (omega arith)) inr r)) (t .number); row = t .row }

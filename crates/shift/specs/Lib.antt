@@ -2,5 +2,6 @@ pub mod Answers
 pub mod Lookup
 pub mod Entry
 pub mod Opening
+pub mod Nonces
 pub mod Inside
 pub mod Promised

@@ -2,13 +2,12 @@
 use Prim.Native.Nat.{ℕ, _*_}
 use mathlib.Core.Bool.{not, cond}
 use mathlib.Core.List.{List}
-use lib.ListN.{length, take}
+use lib.ListN.{length}
 use lib.Dec.{eqb}
-use Rattle.cipher.specs.Cipher.{nonceOf}
 use Rattle.comet.specs.Answers as comet
 use Rattle.table.specs.declared.answers.Answer.{Answer}
 use Rattle.table.specs.Part.{stretch}
-use Rattle.table.specs.Format.{edition, rowSize, nonceAt, rowOf, dataOf, textOf, tagOf}
+use Rattle.table.specs.Format.{edition, rowSize, nonceReadAt, rowOf, dataOf, textOf, tagOf}
 use Rattle.table.specs.Answers.{answer}
 use Rattle.shift.specs.Lookup.{lookupJob}
 
@@ -16,9 +15,9 @@ use Rattle.shift.specs.Lookup.{lookupJob}
 abbrev pub ringKey : List ℕ → ℕ → List ℕ
 ringKey ring k = stretch ring (16 * k) 16
 
--- suites 3 and 4 use the first 15 nonce bytes; the 16th is not read
+-- the nonce bytes that the suite of row i reads
 abbrev pub nonceRead : List ℕ → ℕ → List ℕ
-nonceRead f i = take (nonceOf (rowOf f i .suite)) (nonceAt (rowSize edition) f i)
+nonceRead f i = nonceReadAt (rowSize edition) f i
 
 -- what the sealer and the opener give and leave on the entry's own stretch of the file, and its key
 unfoldable pub entrySealing : List ℕ → List ℕ → ℕ → List ℕ → List ℕ → comet.Sealed

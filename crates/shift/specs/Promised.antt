@@ -1,5 +1,5 @@
 -- What holds of every shift file: a job is found exactly if a row has it, opening a job is the opener on the entry's own bytes, and an altered unit is refused.
-use Prim.Native.Nat.{ℕ, _+_, _≤_, _<_}
+use Prim.Native.Nat.{ℕ, _+_, _<_}
 use mathlib.Core.Path.{_≡_}
 use mathlib.Core.Bool.{cond}
 use mathlib.Core.List.{List, []}
@@ -7,7 +7,7 @@ use mathlib.Core.Logic.{_⊎_, _↔_}
 use lib.ListN.{length, replicate, set}
 use Rattle.words.specs.Bytes.{AllBytes}
 use Rattle.table.specs.Format.{countOf, rowOf, unitOf, isUnit}
-use Rattle.table.specs.Answers.{answer}
+use Rattle.table.specs.Answers.{answer, Ranged}
 use Rattle.table.specs.Check.{checkFile}
 use Rattle.shift.specs.Lookup.{lookupJob}
 use Rattle.shift.specs.Opening.{entryOpening, JobOpened, left, jobOpening}
@@ -38,8 +38,9 @@ OpensEntry =
 -- what opening can answer, and what it leaves in an output that held out₀
 pub record Answered (out₀ : List ℕ) (r : JobOpened) : Type 0 where
   -- never 1, 3, 4, 5 or 7
-  pub number : (r .answer .number ≡ 0) ⊎ (r .answer .number ≡ 2) ⊎ (r .answer .number ≡ 6) ⊎ (r .answer .number ≡ 8) ⊎ ((20 ≤ r .answer .number) × (r .answer .number ≤ 32))
-  pub row : (r .answer .row ≡ 0) ⊎ ((25 ≤ r .answer .number) × (r .answer .number ≤ 30))
+  pub number : (r .answer .number ≡ 0) ⊎ (r .answer .number ≡ 2) ⊎ (r .answer .number ≡ 6) ⊎ (r .answer .number ≡ 8) ⊎ Ranged 20 32 (r .answer .number)
+  -- a row only with 25 to 30 and 34
+  pub row : (r .answer .row ≡ 0) ⊎ Ranged 25 30 (r .answer .number)
   pub wiped : r .answer .number ≡ 8 → r .out ≡ replicate (length out₀) 0
   pub kept : (r .answer .number ≡ 0 → ⊥) → (r .answer .number ≡ 8 → ⊥) → r .out ≡ out₀
 

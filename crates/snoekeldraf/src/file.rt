@@ -19,7 +19,7 @@ pub(crate) fn told(a: Answer, row: &mut u32) -> u32
     a.number as u32
 }
 
-// The full check: numbers 20 to 31, and the row.
+// The full check: numbers 20 to 31 and 34, and the row.
 #[no_mangle]
 pub extern "C" fn shift_check(file: &[u8], row: &mut u32) -> u32
     ensures { λ r. ⌜ answer r (now (row .exit)) ≡ checkFile (now (file .entry)) ⌝ }

@@ -6,14 +6,15 @@ use mathlib.Core.Bool.{Bool, true, false, _||_, _&&_, not, cond}
 use lib.Dec.{eqb, leb}
 use borrow.Author.Tests.{eq-eqb}
 use mathlib.Core.List.{List, _∷_}
-use lib.ListN.{length, getD, drop, length-take, length-drop}
+use lib.ListN.{length, getD, take, drop, length-take, length-drop}
 use lib.Seq.{ext-getD, getD-take, getD-drop}
 use Rattle.words.specs.Bytes.{value, part, word, sameBytes}
+use Rattle.cipher.specs.Cipher.{nonceOf}
 use Rattle.table.specs.declared.row.Row.{Row}
 use Rattle.table.specs.Search.{anyBelow}
 use Rattle.table.specs.Part.{stretch}
-use Rattle.table.specs.Format.{editionOf, countOf, totalOf, rowSize, rowStart, restStart, rowAt, nonceStart, nonceAt, bodyEnd}
-use Rattle.table.specs.Check.{notAbove, badSuite, badLength, bodyStart, misplaced, clash, nonceSeen, badData, bodyNumber, rowNumber, headNumber}
+use Rattle.table.specs.Format.{editionOf, countOf, totalOf, rowSize, rowStart, restStart, rowAt, nonceStart, nonceAt, nonceReadAt, padded, bodyEnd}
+use Rattle.table.specs.Check.{notAbove, badSuite, badLength, bodyStart, misplaced, unreadSet, clash, nonceSeen, badData, bodyNumber, rowNumber, headNumber}
 use Rattle.table.proofs.Rows.{row-below, row-late}
 
 any-same : (p q : ℕ → Bool) (n : ℕ) → ((k : ℕ) → k < n → p k ≡ q k) → anyBelow p n ≡ anyBelow q n
@@ -21,16 +22,17 @@ unfolding anyBelow
 any-same p q zero h = refl
 any-same p q (suc n) h = ap₂ (λ (a b : Bool). a || b) (h n (omega arith)) (any-same p q n (λ k l. h k (omega arith)))
 
-abbrev ladder : Bool → Bool → Bool → Bool → Bool → Bool → ℕ
-ladder a b c d e x = cond a 25 (cond b 26 (cond c 27 (cond d 28 (cond e 29 (cond x 30 0)))))
+abbrev ladder : Bool → Bool → Bool → Bool → Bool → Bool → Bool → ℕ
+ladder a b c d s e x = cond a 25 (cond b 26 (cond c 27 (cond d 28 (cond s 34 (cond e 29 (cond x 30 0))))))
 
-ladder-last : (a b c d e x y : Bool) → ladder a b c d e y ≡ 0 → ladder a b c d e x ≡ cond x 30 0
-ladder-last true b c d e x y z = absurd (omega arith)
-ladder-last false true c d e x y z = absurd (omega arith)
-ladder-last false false true d e x y z = absurd (omega arith)
-ladder-last false false false true e x y z = absurd (omega arith)
-ladder-last false false false false true x y z = absurd (omega arith)
-ladder-last false false false false false x y z = refl
+ladder-last : (a b c d s e x y : Bool) → ladder a b c d s e y ≡ 0 → ladder a b c d s e x ≡ cond x 30 0
+ladder-last true b c d s e x y z = absurd (omega arith)
+ladder-last false true c d s e x y z = absurd (omega arith)
+ladder-last false false true d s e x y z = absurd (omega arith)
+ladder-last false false false true s e x y z = absurd (omega arith)
+ladder-last false false false false true e x y z = absurd (omega arith)
+ladder-last false false false false false true x y z = absurd (omega arith)
+ladder-last false false false false false false x y z = refl
 
 module _ (f g : List ℕ) where
   -- the bytes from `at` on, n of them, are the same
@@ -81,6 +83,13 @@ module _ (f g : List ℕ) where
       unfolding nonceAt nonceStart restStart
       nonce-same i h = stretch-same (nonceStart w i) 16 (agree (nonceStart w i) 16 (omega (arith, row-late w i)) (omega (arith, row-below w i n h)))
 
+      read-same : (i : ℕ) → i < n → nonceReadAt w f i ≡ nonceReadAt w g i
+      read-same i h = ap₂ (λ (r : Row) (s : List ℕ). take (nonceOf (r .suite)) s) (row-same i h) (nonce-same i h)
+
+      unread-same : (i : ℕ) → i < n → unreadSet w f i ≡ unreadSet w g i
+      unfolding unreadSet
+      unread-same i h = ap₂ (λ (s t : List ℕ). not (sameBytes s (padded t))) (nonce-same i h) (read-same i h)
+
       pub start-same : (i : ℕ) → i ≤ n → bodyStart w f n i ≡ bodyStart w g n i
       unfolding bodyStart
       start-same zero h = refl
@@ -96,14 +105,19 @@ module _ (f g : List ℕ) where
 
       seen-same : (i : ℕ) → i < n → nonceSeen w f i ≡ nonceSeen w g i
       unfolding nonceSeen clash
-      seen-same i h = any-same (clash w f i) (clash w g i) i (λ k l. ap₂ sameBytes (nonce-same i h) (nonce-same k (omega arith)))
+      seen-same i h = any-same (clash w f i) (clash w g i) i (λ k l. clash-same k (omega arith))
+        where
+          clash-same : (k : ℕ) → k < n → clash w f i k ≡ clash w g i k
+          clash-same k l =
+              ap₂ (λ (r q : Row). eqb (r .suite) (q .suite) && (eqb (r .key) (q .key) && sameBytes (nonceReadAt w f i) (nonceReadAt w f k))) (row-same i h) (row-same k l)
+              ∙ ap₂ (λ (s t : List ℕ). eqb (rowAt w g i .suite) (rowAt w g k .suite) && (eqb (rowAt w g i .key) (rowAt w g k .key) && sameBytes s t)) (read-same i h) (read-same k l)
 
       -- of a row that passes in g, only 30 is left in f
       pub row-number-last : (i : ℕ) → i < n → rowNumber w g n i ≡ 0 → rowNumber w f n i ≡ cond (badData f (rowAt w g i)) 30 0
       unfolding rowNumber bodyNumber
       row-number-last i h z =
-          simp (above-same i h, row-same i h, misplaced-same i h, seen-same i h)
-          (ladder-last (notAbove w g i) (badSuite (rowAt w g i)) (badLength (rowAt w g i)) (misplaced w g n i) (nonceSeen w g i) (badData f (rowAt w g i)) (badData g (rowAt w g i)) z)
+          simp (above-same i h, row-same i h, misplaced-same i h, unread-same i h, seen-same i h)
+          (ladder-last (notAbove w g i) (badSuite (rowAt w g i)) (badLength (rowAt w g i)) (misplaced w g n i) (unreadSet w g i) (nonceSeen w g i) (badData f (rowAt w g i)) (badData g (rowAt w g i)) z)
 
       pub count-same : countOf f ≡ countOf g
       unfolding rowStart

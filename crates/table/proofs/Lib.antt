@@ -4,6 +4,7 @@ pub mod Rows
 pub mod Parts
 pub mod Sound
 pub mod Passed
+pub mod Nonces
 pub mod Told
 pub mod Alike
 pub mod Kept

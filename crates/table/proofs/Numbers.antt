@@ -1,33 +1,35 @@
--- The numbers of the refusals: 20 to 31, of them 25 to 30 the rows'.
-use Prim.Native.Nat.{_≤_}
+-- The numbers of the refusals: 20 to 31 and 34, of them 25 to 30 and 34 the rows'.
+use Prim.Native.Nat.{ℕ}
 use native.Mathlib.Omega.{arith}
-use mathlib.Core.Path.{_≡_}
+use mathlib.Core.Path.{_≡_, refl}
+use mathlib.Core.Logic.{inl, inr, ⊎-elim}
 use lib.Dec.{lit≤}
 use Rattle.table.specs.declared.answers.Fault.{Fault}
-use Rattle.table.specs.declared.answers.Fault.the-variants.{Order, Suite, Length, Place, Nonce, Data}
+use Rattle.table.specs.declared.answers.Fault.the-variants.{Order, Suite, Length, Place, Unread, Nonce, Data}
 use Rattle.table.specs.declared.answers.Refusal.{Refusal}
 use Rattle.table.specs.declared.answers.Refusal.the-variants.{Size, Edition, Count, Total, Table, InRow, End}
-use Rattle.table.specs.Answers.{faultNumber, refusalAnswer}
+use Rattle.table.specs.Answers.{Ranged, faultNumber, refusalAnswer}
 
-fault-range : (x : Fault) → (25 ≤ faultNumber x) × (faultNumber x ≤ 30)
-fault-range Order = (lit≤ tt, lit≤ tt)
-fault-range Suite = (lit≤ tt, lit≤ tt)
-fault-range Length = (lit≤ tt, lit≤ tt)
-fault-range Place = (lit≤ tt, lit≤ tt)
-fault-range Nonce = (lit≤ tt, lit≤ tt)
-fault-range Data = (lit≤ tt, lit≤ tt)
+fault-range : (x : Fault) → Ranged 25 30 (faultNumber x)
+fault-range Order = inl (lit≤ tt, lit≤ tt)
+fault-range Suite = inl (lit≤ tt, lit≤ tt)
+fault-range Length = inl (lit≤ tt, lit≤ tt)
+fault-range Place = inl (lit≤ tt, lit≤ tt)
+fault-range Unread = inr refl
+fault-range Nonce = inl (lit≤ tt, lit≤ tt)
+fault-range Data = inl (lit≤ tt, lit≤ tt)
 
-pub refusal-range : (x : Refusal) → (20 ≤ refusalAnswer x .number) × (refusalAnswer x .number ≤ 31)
-refusal-range Size = (lit≤ tt, lit≤ tt)
-refusal-range Edition = (lit≤ tt, lit≤ tt)
-refusal-range Count = (lit≤ tt, lit≤ tt)
-refusal-range Total = (lit≤ tt, lit≤ tt)
-refusal-range Table = (lit≤ tt, lit≤ tt)
-refusal-range (InRow x i) = omega (arith, fault-range x)
-refusal-range End = (lit≤ tt, lit≤ tt)
+pub refusal-range : (x : Refusal) → Ranged 20 31 (refusalAnswer x .number)
+refusal-range Size = inl (lit≤ tt, lit≤ tt)
+refusal-range Edition = inl (lit≤ tt, lit≤ tt)
+refusal-range Count = inl (lit≤ tt, lit≤ tt)
+refusal-range Total = inl (lit≤ tt, lit≤ tt)
+refusal-range Table = inl (lit≤ tt, lit≤ tt)
+refusal-range (InRow x i) = ⊎-elim (λ r. inl (omega arith)) inr (fault-range x)
+refusal-range End = inl (lit≤ tt, lit≤ tt)
 
 pub fault-some : (x : Fault) → faultNumber x ≡ 0 → ⊥
-fault-some x q = omega (arith, fault-range x)
+fault-some x q = ⊎-elim (λ r. omega arith) (λ r. omega arith) (fault-range x)
 
 pub refusal-some : (x : Refusal) → refusalAnswer x .number ≡ 0 → ⊥
-refusal-some x q = omega (arith, refusal-range x)
+refusal-some x q = ⊎-elim (λ r. omega arith) (λ r. omega arith) (refusal-range x)

@@ -6,13 +6,13 @@ use mathlib.Core.Bool.{false, cond}
 use mathlib.Core.List.{List}
 use mathlib.Core.Logic.{_⊎_, ⊎-elim}
 use lib.Dec.{eqb}
-use borrow.Author.Tests.{ne-eqb}
+use borrow.Author.Tests.{ne-eqb, eqb-false}
 use denote.Ref.{RefT, now}
 use contract.Lifetimes.{Lfts}
 use borrow.Fn.Kinds.{Dens}
 use Rattle.words.specs.Outcome.{Outcome, OneOutcome}
 use Rattle.table.specs.declared.answers.Answer.{Answer}
-use Rattle.table.specs.declared.answers.Fault.the-variants.{Order, Suite, Length, Place, Nonce, Data}
+use Rattle.table.specs.declared.answers.Fault.the-variants.{Order, Suite, Length, Place, Unread, Nonce, Data}
 use Rattle.table.specs.declared.answers.Refusal.{Refusal}
 use Rattle.table.specs.declared.answers.Refusal.the-variants.{Size, Edition, Count, Total, Table, InRow, End}
 use Rattle.table.specs.declared.answers.Checked.{Checked}
@@ -67,7 +67,8 @@ refusalOf x =
     (cond (eqb (x .number) 28) (InRow Place (x .row))
     (cond (eqb (x .number) 29) (InRow Nonce (x .row))
     (cond (eqb (x .number) 30) (InRow Data (x .row))
-    End))))))))))
+    (cond (eqb (x .number) 34) (InRow Unread (x .row))
+    End)))))))))))
 
 pub refusal-back : (x : Refusal) → refusalOf (refusalAnswer x) ≡ x
 refusal-back Size = refl
@@ -79,13 +80,16 @@ refusal-back (InRow Order i) = refl
 refusal-back (InRow Suite i) = refl
 refusal-back (InRow Length i) = refl
 refusal-back (InRow Place i) = refl
+refusal-back (InRow Unread i) = refl
 refusal-back (InRow Nonce i) = refl
 refusal-back (InRow Data i) = refl
 refusal-back End = refl
 
--- a refusal's number is none below 20 or above 31
-pub unlike : (x : Refusal) (m : ℕ) → (m < 20) ⊎ (31 < m) → eqb (refusalAnswer x .number) m ≡ false
-unlike x m h = ne-eqb (refusalAnswer x .number) m (λ q. ⊎-elim (λ l. omega (arith, refusal-range x)) (λ l. omega (arith, refusal-range x)) h)
+-- a refusal's number is none below 20 or above 31 but 34
+pub unlike : (x : Refusal) (m : ℕ) → (m < 20) ⊎ (31 < m) → eqb m 34 ≡ false → eqb (refusalAnswer x .number) m ≡ false
+unlike x m h k =
+    ne-eqb (refusalAnswer x .number) m
+    (λ q. ⊎-elim (λ r. ⊎-elim (λ l. omega arith) (λ l. omega arith) h) (λ r. eqb-false m 34 k (sym q ∙ r)) (refusal-range x))
 
 abbrev checkedOf : Answer → Checked
 checkedOf x = cond (eqb (x .number) 0) checked.Passed (checked.Refused (refusalOf x))

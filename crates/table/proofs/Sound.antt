@@ -1,4 +1,4 @@
--- What number 0 says: of a row that each of 25 to 30 lets it pass, of a header that each of 20 to 24 does.
+-- What number 0 says: of a row that each of 25 to 30 and 34 lets it pass, of a header that each of 20 to 24 does.
 use Prim.Native.Nat.{ℕ, _+_, _≤_, _<_}
 use native.Mathlib.Omega.{arith}
 use mathlib.Core.Path.{_≡_, refl}
@@ -10,7 +10,7 @@ use borrow.Author.Tests.{ltb-false, eqb-true, not-false}
 use Rattle.cipher.specs.Cipher.{isSuite, IsSuite}
 use Rattle.table.specs.declared.row.Row.{Row}
 use Rattle.table.specs.Format.{editionOf, countOf, totalOf, rowSize, rowStart, rowAt, bodyEnd}
-use Rattle.table.specs.Check.{notAbove, outside, badSuite, badLength, bodyStart, misplaced, nonceSeen, badData, bodyNumber, rowNumber, headNumber}
+use Rattle.table.specs.Check.{notAbove, outside, badSuite, badLength, bodyStart, misplaced, unreadSet, nonceSeen, badData, bodyNumber, rowNumber, headNumber}
 use Rattle.table.specs.Inside.{TableIn}
 use Rattle.table.proofs.Searches.{or-false}
 use Rattle.table.proofs.Rows.{row-broad}
@@ -67,6 +67,7 @@ pub record Sound (w : ℕ) (f : List ℕ) (n i : ℕ) : Type 0 where
   pub suit : Suited (rowAt w f i)
   pub size : Sized (rowAt w f i)
   pub place : Placed w f n i
+  pub spare : unreadSet w f i ≡ false
   pub fresh : nonceSeen w f i ≡ false
   pub held : badData f (rowAt w f i) ≡ false
 
@@ -77,13 +78,15 @@ sound w f n i z =
     let p26 = cond-zero (badSuite (rowAt w f i)) 26 _ (lit< tt) (p25 .1) in
     let p27 = cond-zero (badLength (rowAt w f i)) 27 _ (lit< tt) (p26 .1) in
     let p28 = cond-zero (misplaced w f n i) 28 _ (lit< tt) (p27 .1) in
-    let p29 = cond-zero (nonceSeen w f i) 29 _ (lit< tt) (p28 .1) in
+    let p34 = cond-zero (unreadSet w f i) 34 _ (lit< tt) (p28 .1) in
+    let p29 = cond-zero (nonceSeen w f i) 29 _ (lit< tt) (p34 .1) in
     let p30 = cond-zero (badData f (rowAt w f i)) 30 _ (lit< tt) (p29 .1) in
     record {
       order = p25 .0;
       suit = suited (rowAt w f i) (p26 .0);
       size = sized (rowAt w f i) (p27 .0);
       place = placed w f n i (p28 .0);
+      spare = p34 .0;
       fresh = p29 .0;
       held = p30 .0;
     }

@@ -1,5 +1,5 @@
--- What number and row the check can give: 0 or 20 to 31, and a row only with 25 to 30.
-use Prim.Native.Nat.{ℕ, _-_, _≤_}
+-- What number and row the check can give: 0, 20 to 31 or 34, and a row only with 25 to 30 and 34.
+use Prim.Native.Nat.{ℕ, _-_}
 use native.Mathlib.Omega.{arith}
 use mathlib.Core.Path.{_≡_, refl, subst}
 use mathlib.Core.Bool.{Bool, true, false, _||_, not, cond}
@@ -10,42 +10,43 @@ use lib.Dec.{eqb, ltb, lit≤}
 use borrow.Author.Tests.{eqb-false, not-true, ne-eqb}
 use Rattle.table.specs.declared.answers.Answer.{Answer}
 use Rattle.table.specs.Format.{editionOf, countOf, totalOf, rowSize, rowStart, rowAt}
-use Rattle.table.specs.Answers.{answer}
-use Rattle.table.specs.Check.{notAbove, badSuite, badLength, misplaced, nonceSeen, badData, bodyStart, rowNumber, bodyNumber, headNumber, endAnswer, rowsFrom, checkAs}
+use Rattle.table.specs.Answers.{answer, Ranged}
+use Rattle.table.specs.Check.{notAbove, badSuite, badLength, misplaced, unreadSet, nonceSeen, badData, bodyStart, rowNumber, bodyNumber, headNumber, endAnswer, rowsFrom, checkAs}
 use Rattle.table.proofs.Searches.{first-says}
 
--- 0, or from low to high
+-- 0, or from low to high, or 34
 abbrev pub Among : ℕ → ℕ → ℕ → Type 0
-Among low high m = (m ≡ 0) ⊎ ((low ≤ m) × (m ≤ high))
+Among low high m = (m ≡ 0) ⊎ Ranged low high m
 
 -- a rung of a ladder of numbers
-rung : (low high k rest : ℕ) (b : Bool) → low ≤ k → k ≤ high → Among low high rest → Among low high (cond b k rest)
-rung low high k rest true l h r = inr (l, h)
-rung low high k rest false l h r = r
+rung : (low high k rest : ℕ) (b : Bool) → Ranged low high k → Among low high rest → Among low high (cond b k rest)
+rung low high k rest true h r = inr h
+rung low high k rest false h r = r
 
 row-among : (w : ℕ) (f : List ℕ) (n i : ℕ) → Among 25 30 (rowNumber w f n i)
 unfolding rowNumber bodyNumber
 row-among w f n i =
-    rung 25 30 25 _ (notAbove w f i) (lit≤ tt) (lit≤ tt)
-    (rung 25 30 26 _ (badSuite (rowAt w f i)) (lit≤ tt) (lit≤ tt)
-    (rung 25 30 27 _ (badLength (rowAt w f i)) (lit≤ tt) (lit≤ tt)
-    (rung 25 30 28 _ (misplaced w f n i) (lit≤ tt) (lit≤ tt)
-    (rung 25 30 29 _ (nonceSeen w f i) (lit≤ tt) (lit≤ tt)
-    (rung 25 30 30 0 (badData f (rowAt w f i)) (lit≤ tt) (lit≤ tt) (inl refl))))))
+    rung 25 30 25 _ (notAbove w f i) (inl (lit≤ tt, lit≤ tt))
+    (rung 25 30 26 _ (badSuite (rowAt w f i)) (inl (lit≤ tt, lit≤ tt))
+    (rung 25 30 27 _ (badLength (rowAt w f i)) (inl (lit≤ tt, lit≤ tt))
+    (rung 25 30 28 _ (misplaced w f n i) (inl (lit≤ tt, lit≤ tt))
+    (rung 25 30 34 _ (unreadSet w f i) (inr refl)
+    (rung 25 30 29 _ (nonceSeen w f i) (inl (lit≤ tt, lit≤ tt))
+    (rung 25 30 30 0 (badData f (rowAt w f i)) (inl (lit≤ tt, lit≤ tt)) (inl refl)))))))
 
 head-among : (e : ℕ) (f : List ℕ) → Among 20 24 (headNumber e f)
 unfolding headNumber
 head-among e f =
-    rung 20 24 20 _ (ltb (length f) 8 || ltb 1048576 (length f)) (lit≤ tt) (lit≤ tt)
-    (rung 20 24 21 _ (not (eqb (editionOf f) e)) (lit≤ tt) (lit≤ tt)
-    (rung 20 24 22 _ (ltb 512 (countOf f)) (lit≤ tt) (lit≤ tt)
-    (rung 20 24 23 _ (not (eqb (totalOf f) (length f))) (lit≤ tt) (lit≤ tt)
-    (rung 20 24 24 0 (ltb (length f) (rowStart (rowSize e) (countOf f))) (lit≤ tt) (lit≤ tt) (inl refl)))))
+    rung 20 24 20 _ (ltb (length f) 8 || ltb 1048576 (length f)) (inl (lit≤ tt, lit≤ tt))
+    (rung 20 24 21 _ (not (eqb (editionOf f) e)) (inl (lit≤ tt, lit≤ tt))
+    (rung 20 24 22 _ (ltb 512 (countOf f)) (inl (lit≤ tt, lit≤ tt))
+    (rung 20 24 23 _ (not (eqb (totalOf f) (length f))) (inl (lit≤ tt, lit≤ tt))
+    (rung 20 24 24 0 (ltb (length f) (rowStart (rowSize e) (countOf f))) (inl (lit≤ tt, lit≤ tt)) (inl refl)))))
 
--- an answer of 0 or 20 to `most`, with a row only where that is 25 to 30
+-- an answer of 0, 20 to `most` or 34, with a row only where that is 25 to 30 or 34
 pub record Told (most : ℕ) (x : Answer) : Type 0 where
   pub number : Among 20 most (x .number)
-  pub row : (x .row ≡ 0) ⊎ ((25 ≤ x .number) × (x .number ≤ 30))
+  pub row : (x .row ≡ 0) ⊎ Ranged 25 30 (x .number)
 
 end-told : (w : ℕ) (f : List ℕ) (n : ℕ) → Told 31 (endAnswer w f n)
 unfolding endAnswer
@@ -53,7 +54,7 @@ end-told w f n = end-case (eqb (bodyStart w f n n) (length f))
   where
     end-case : (b : Bool) → Told 31 (cond b (answer 0 0) (answer 31 0))
     end-case true = record { number = inl refl; row = inl refl }
-    end-case false = record { number = inr (lit≤ tt, lit≤ tt); row = inl refl }
+    end-case false = record { number = inr (inl (lit≤ tt, lit≤ tt)); row = inl refl }
 
 rows-told : (w : ℕ) (f : List ℕ) (n i : ℕ) → Told 31 (rowsFrom w f n i)
 unfolding rowsFrom
@@ -62,7 +63,7 @@ rows-told w f n i =
     (λ h. subst (Told 31) (h .gives)
     (⊎-elim
     (λ z. absurd (eqb-false _ _ (not-true _ (h .hits)) z))
-    (λ r. record { number = inr (omega arith); row = inr r })
+    (λ r. record { number = inr (⊎-elim (λ s. inl (omega arith)) inr r); row = inr r })
     (row-among w f n (h .at))))
     (λ h. subst (Told 31) (h .gives) (end-told w f n))
     (first-says _ _ _ (n - i) i (rowsFrom w f n i) refl)
@@ -72,7 +73,7 @@ unfolding checkAs
 check-told e f =
     ⊎-elim
     (λ (z : headNumber e f ≡ 0). simp z (rows-told (rowSize e) f (countOf f) 0))
-    (λ (r : (20 ≤ headNumber e f) × (headNumber e f ≤ 24)).
-    let n : headNumber e f ≡ 0 → ⊥ = λ z. omega arith in
-    simp (ne-eqb _ _ n) (record { number = inr (r .0, omega arith); row = inl refl }))
+    (λ (r : Ranged 20 24 (headNumber e f)).
+    let n : headNumber e f ≡ 0 → ⊥ = λ z. ⊎-elim (λ s. omega arith) (λ s. omega arith) r in
+    simp (ne-eqb _ _ n) (record { number = inr (⊎-elim (λ s. inl (s .0, omega arith)) inr r); row = inl refl }))
     (head-among e f)

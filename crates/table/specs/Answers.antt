@@ -1,8 +1,10 @@
--- Document 01's number and row for each case of the check's answers: 25 to 30 carry the row, every other number 0.
-use Prim.Native.Nat.{ℕ}
+-- Document 01's number and row for each case of the check's answers: 25 to 30 and 34 carry the row, every other number 0.
+use Prim.Native.Nat.{ℕ, _≤_}
+use mathlib.Core.Path.{_≡_}
+use mathlib.Core.Logic.{_⊎_}
 use Rattle.table.specs.declared.answers.Answer.{Answer}
 use Rattle.table.specs.declared.answers.Fault.{Fault}
-use Rattle.table.specs.declared.answers.Fault.the-variants.{Order, Suite, Length, Place, Nonce, Data}
+use Rattle.table.specs.declared.answers.Fault.the-variants.{Order, Suite, Length, Place, Unread, Nonce, Data}
 use Rattle.table.specs.declared.answers.RowCheck.{RowCheck}
 use Rattle.table.specs.declared.answers.RowCheck.the-variants.{Sound, Bad}
 use Rattle.table.specs.declared.answers.Refusal.{Refusal}
@@ -14,12 +16,17 @@ use Rattle.table.specs.declared.answers.Checked.the-variants.{Passed, Re
 abbrev pub answer : ℕ → ℕ → Answer
 answer m i = record { number = m; row = i }
 
+-- from low to high, or 34
+abbrev pub Ranged : ℕ → ℕ → ℕ → Type 0
+Ranged low high m = ((low ≤ m) × (m ≤ high)) ⊎ (m ≡ 34)
+
 -- what is wrong with a row
 abbrev pub faultNumber : Fault → ℕ
 faultNumber Order = 25
 faultNumber Suite = 26
 faultNumber Length = 27
 faultNumber Place = 28
+faultNumber Unread = 34
 faultNumber Nonce = 29
 faultNumber Data = 30
 

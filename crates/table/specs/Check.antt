@@ -1,4 +1,4 @@
--- The full check (document 01, "The shift file", numbers 20 to 31). Rows are w bytes long.
+-- The full check (document 01, "The shift file", numbers 20 to 31; document 02, W5: 29 and 34). Rows are w bytes long.
 use Prim.Native.Nat.{ℕ, _-_}
 use mathlib.Core.List.{List}
 use mathlib.Core.Bool.{Bool, _||_, _&&_, not, cond}
@@ -9,7 +9,7 @@ use Rattle.cipher.specs.Cipher.{isSuite}
 use Rattle.table.specs.declared.row.Row.{Row}
 use Rattle.table.specs.declared.answers.Answer.{Answer}
 use Rattle.table.specs.Search.{anyBelow, firstOf}
-use Rattle.table.specs.Format.{editionOf, countOf, totalOf, edition, rowSize, rowStart, rowAt, nonceAt, bodyEnd, dataJob, unitOf, isUnit}
+use Rattle.table.specs.Format.{editionOf, countOf, totalOf, edition, rowSize, rowStart, rowAt, nonceAt, nonceReadAt, padded, bodyEnd, dataJob, unitOf, isUnit}
 use Rattle.table.specs.Answers.{answer}
 
 -- 25: job number not above the row before (row 0: any)
@@ -36,9 +36,15 @@ bodyStart w f n i = cond (eqb i 0) (rowStart w n) (bodyEnd (rowAt w f (i - 1)))
 unfoldable pub misplaced : ℕ → List ℕ → ℕ → ℕ → Bool
 misplaced w f n i = not (eqb (rowAt w f i .at) (bodyStart w f n i)) || ltb (length f) (bodyEnd (rowAt w f i))
 
--- two rows clash: the sixteen nonce bytes are equal
+-- 34: a nonce byte that the suite leaves unread is not 0: the nonce is not the bytes that are read, and zeros behind them
+unfoldable pub unreadSet : ℕ → List ℕ → ℕ → Bool
+unreadSet w f i = not (sameBytes (nonceAt w f i) (padded (nonceReadAt w f i)))
+
+-- two rows clash: suite, key number and the nonce bytes that the suite reads are all equal
 unfoldable pub clash : ℕ → List ℕ → ℕ → ℕ → Bool
-clash w f i j = sameBytes (nonceAt w f i) (nonceAt w f j)
+clash w f i j =
+    eqb (rowAt w f i .suite) (rowAt w f j .suite)
+    && (eqb (rowAt w f i .key) (rowAt w f j .key) && sameBytes (nonceReadAt w f i) (nonceReadAt w f j))
 
 -- 29: the row clashes with an earlier one
 unfoldable pub nonceSeen : ℕ → List ℕ → ℕ → Bool
@@ -48,15 +54,16 @@ nonceSeen w f i = anyBelow (clash w f i) i
 unfoldable pub badData : List ℕ → Row → Bool
 badData f r = not (eqb (dataJob f r) (r .job)) || not (isUnit (unitOf f r))
 
--- the first of 28 to 30 that applies to row i of n, else 0
+-- the first of 28, 34, 29, 30 that applies to row i of n, else 0
 unfoldable pub bodyNumber : ℕ → List ℕ → ℕ → ℕ → ℕ
 bodyNumber w f n i =
     cond (misplaced w f n i) 28
+    (cond (unreadSet w f i) 34
     (cond (nonceSeen w f i) 29
     (cond (badData f (rowAt w f i)) 30
-    0))
+    0)))
 
--- the first of 25 to 30 that applies to row i of n, else 0
+-- the first of 25, 26, 27, 28, 34, 29, 30 that applies to row i of n, else 0
 unfoldable pub rowNumber : ℕ → List ℕ → ℕ → ℕ → ℕ
 rowNumber w f n i =
     cond (notAbove w f i) 25
@@ -87,7 +94,7 @@ headNumber e f =
 abbrev pub andThen : Answer → Answer → Answer
 andThen x next = cond (eqb (x .number) 0) next x
 
--- 20 to 24 first, then each row from row 0 with 25 to 30 in order, then 31
+-- 20 to 24 first, then each row from row 0 with its numbers in order, then 31
 unfoldable pub checkAs : ℕ → List ℕ → Answer
 checkAs e f = andThen (answer (headNumber e f) 0) (rowsFrom (rowSize e) f (countOf f) 0)
 

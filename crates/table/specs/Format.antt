@@ -1,11 +1,11 @@
 -- The shift file's format (document 01, "The shift file"): header, table of contents, bodies. Numbers are little-endian.
 use Prim.Native.Nat.{ℕ, _+_, _-_, _*_}
 use mathlib.Core.Bool.{Bool, _||_}
-use mathlib.Core.List.{List}
+use mathlib.Core.List.{List, _++_}
 use lib.Dec.{eqb}
-use lib.ListN.{getD}
+use lib.ListN.{length, getD, take, replicate}
 use Rattle.words.specs.Bytes.{word}
-use Rattle.cipher.specs.Cipher.{sizeOf}
+use Rattle.cipher.specs.Cipher.{sizeOf, nonceOf}
 use Rattle.table.specs.declared.row.Row.{Row}
 use Rattle.table.specs.Part.{stretch}
 
@@ -54,6 +54,14 @@ nonceStart w i = restStart w i + 12
 
 unfoldable pub nonceAt : ℕ → List ℕ → ℕ → List ℕ
 nonceAt w f i = stretch f (nonceStart w i) 16
+
+-- of these the suite reads as many as its nonce has
+abbrev pub nonceReadAt : ℕ → List ℕ → ℕ → List ℕ
+nonceReadAt w f i = take (nonceOf (rowAt w f i .suite)) (nonceAt w f i)
+
+-- bytes, and zero bytes behind them up to sixteen
+abbrev pub padded : List ℕ → List ℕ
+padded s = s ++ replicate (16 - length s) 0
 
 -- row i of a shift file
 abbrev pub rowOf : List ℕ → ℕ → Row

@@ -1,9 +1,12 @@
 -- What functions that read a row ask of their callers; no entry point's contract cites it.
-use Prim.Native.Nat.{ℕ, _+_, _≤_}
+use Prim.Native.Nat.{ℕ, _+_, _≤_, _<_}
+use mathlib.Core.Path.{_≡_}
+use mathlib.Core.Bool.{false}
 use mathlib.Core.List.{List}
 use lib.ListN.{length}
 use Rattle.cipher.specs.Cipher.{IsSuite}
 use Rattle.table.specs.Format.{rowStart, rowAt, bodyEnd}
+use Rattle.table.specs.Check.{unreadSet}
 
 -- row i lies in the file
 pub record RowIn (w : ℕ) (f : List ℕ) (i : ℕ) : Type 0 where
@@ -14,6 +17,10 @@ pub record RowIn (w : ℕ) (f : List ℕ) (i : ℕ) : Type 0 where
 pub record TableIn (w : ℕ) (f : List ℕ) (n : ℕ) : Type 0 where
   pub broad : 32 ≤ w
   pub fits : rowStart w n ≤ length f
+
+-- no row before row n has a nonce byte set that its suite leaves unread
+pub record Spared (w : ℕ) (f : List ℕ) (n : ℕ) : Type 0 where
+  pub spare : (j : ℕ) → j < n → unreadSet w f j ≡ false
 
 -- row i of a file that passes, as far as reading and opening its body goes by that
 pub record EntryIn (w : ℕ) (f : List ℕ) (i : ℕ) : Type 0 where

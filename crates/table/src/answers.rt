@@ -14,6 +14,7 @@ pub enum Fault {
     Suite,
     Length,
     Place,
+    Unread,
     Nonce,
     Data,
 }
@@ -27,6 +28,7 @@ impl Fault {
             Fault::Suite => 26,
             Fault::Length => 27,
             Fault::Place => 28,
+            Fault::Unread => 34,
             Fault::Nonce => 29,
             Fault::Data => 30,
         }

@@ -46,7 +46,7 @@ pub fn check_head(e: u16, f: &[u8]) -> Checked
     Checked::Passed
 }
 
-// The n rows, each with 25 to 30, and then 31.
+// The n rows, each with 25 to 30 and 34, and then 31.
 fn check_rows(w: usize, f: &[u8], n: usize) -> Checked
     requires { ⌜ TableIn w (now f) n ⌝ }
     ensures { λ r. ⌜ checkedAnswer r ≡ rowsFrom w (now (f .entry)) n 0 ⌝ }
@@ -78,7 +78,7 @@ pub fn check_as(e: u16, f: &[u8]) -> Checked
     check_rows(row_size(e), f, count(f))
 }
 
-// The full check of a shift file: numbers 20 to 31.
+// The full check of a shift file: numbers 20 to 31, and 34.
 pub fn check(file: &[u8]) -> Checked
     ensures { λ r. ⌜ checkedAnswer r ≡ checkFile (now (file .entry)) ⌝ }
 {

@@ -2,11 +2,12 @@
 use words::block::Block;
 ghost use mathlib.Core.Path.{_≡_};
 ghost use Prim.Native.Nat.{_+_, _≤_, _<_};
-ghost use lib.ListN.{length};
+ghost use lib.ListN.{length, take};
 ghost use Rattle.words.specs.Bytes.{word};
 ghost use Rattle.words.specs.Blocks.{wide};
+ghost use Rattle.cipher.specs.Cipher.{nonceOf};
 ghost use Rattle.table.specs.Part.{PartOf};
-ghost use Rattle.table.specs.Format.{countOf, rowSize, rowStart, restStart, rowAt, nonceStart, nonceAt, bodyEnd};
+ghost use Rattle.table.specs.Format.{countOf, rowSize, rowStart, restStart, rowAt, nonceStart, nonceAt, padded, bodyEnd};
 ghost use Rattle.table.specs.Inside.{RowIn};
 
 // A row without its nonce: ad, at and len are associated data length, body offset and message length.
@@ -108,6 +109,14 @@ pub(crate) fn nonce_block(w: usize, f: &[u8], i: usize) -> Block
     ensures { λ r. ⌜ wide r ≡ nonceAt w (now (f .entry)) i ⌝ }
 {
     words::block::filled(nonce_at(w, f, i))
+}
+
+// The nonce bytes of row i that its suite reads as a block, zeros behind them.
+pub(crate) fn read_block(w: usize, f: &[u8], i: usize, suite: u8) -> Block
+    requires { ⌜ RowIn w (now f) i ⌝ }
+    ensures { λ r. ⌜ wide r ≡ padded (take (nonceOf suite) (nonceAt w (now (f .entry)) i)) ⌝ }
+{
+    words::block::filled(stretch(f, rest_start(w, i) + 12, cipher::nonce_size(suite)))
 }
 
 // Where a row's body ends.

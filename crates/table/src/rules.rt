@@ -1,20 +1,22 @@
-// The rules of one row: numbers 25 to 30.
+// The rules of one row: numbers 25 to 30, and 34.
 use crate::answers::Fault;
 use crate::answers::RowCheck;
 use crate::row::Row;
 use crate::row::body_end;
 use crate::row::get32;
 use crate::row::nonce_block;
+use crate::row::read_block;
 use crate::row::row_at;
 use crate::row::row_start;
 ghost use mathlib.Core.Path.{_≡_};
-ghost use mathlib.Core.Bool.{false};
+ghost use mathlib.Core.Bool.{false, _&&_};
+ghost use lib.Dec.{eqb};
 ghost use Prim.Native.Nat.{_+_, _≤_, _<_};
 ghost use lib.ListN.{length};
 ghost use Rattle.table.specs.Format.{rowAt};
 ghost use Rattle.table.specs.Answers.{rowNumberOf};
-ghost use Rattle.table.specs.Check.{notAbove, outside, badSuite, badLength, bodyStart, misplaced, clash, nonceSeen, badData, bodyNumber, rowNumber};
-ghost use Rattle.table.specs.Inside.{TableIn};
+ghost use Rattle.table.specs.Check.{notAbove, outside, badSuite, badLength, bodyStart, misplaced, unreadSet, clash, nonceSeen, badData, bodyNumber, rowNumber};
+ghost use Rattle.table.specs.Inside.{RowIn, TableIn, Spared};
 
 // 25: the job number is not above the row before's.
 fn not_above(w: usize, f: &[u8], n: usize, i: usize) -> bool
@@ -84,17 +86,38 @@ fn out_of_place(w: usize, f: &[u8], n: usize, i: usize) -> bool
     f.len() < body_end(row)
 }
 
-// Rows i and j clash.
+// 34: a nonce byte that the suite leaves unread is not 0.
+fn unread_set(w: usize, f: &[u8], i: usize, row: Row) -> bool
+    requires { ⌜ RowIn w (now f) i × (row ≡ rowAt w (now f) i) ⌝ }
+    ensures { λ r. ⌜ r ≡ unreadSet w (now (f .entry)) i ⌝ }
+{
+    !words::block::same(nonce_block(w, f, i), read_block(w, f, i, row.suite))
+}
+
+// Two rows have the same suite and the same key number.
+fn same_key(a: Row, b: Row) -> bool
+    ensures { λ r. ⌜ r ≡ (eqb (a .suite) (b .suite) && eqb (a .key) (b .key)) ⌝ }
+{
+    if a.suite != b.suite {
+        return false;
+    }
+    a.key == b.key
+}
+
+// Rows i and j clash. Zeros stand where a suite does not read (34), so all sixteen bytes tell what it reads.
 fn clashes(w: usize, f: &[u8], n: usize, i: usize, j: usize) -> bool
-    requires { ⌜ TableIn w (now f) n × ((i < n) × (j < n)) ⌝ }
+    requires { ⌜ TableIn w (now f) n × ((i < n) × ((j < n) × ((unreadSet w (now f) i ≡ false) × (unreadSet w (now f) j ≡ false)))) ⌝ }
     ensures { λ r. ⌜ r ≡ clash w (now (f .entry)) i j ⌝ }
 {
-    words::block::same(nonce_block(w, f, i), nonce_block(w, f, j))
+    if words::block::same(nonce_block(w, f, i), nonce_block(w, f, j)) {
+        return same_key(row_at(w, f, i), row_at(w, f, j));
+    }
+    false
 }
 
 // 29: the row clashes with an earlier one.
 fn nonce_seen(w: usize, f: &[u8], n: usize, i: usize) -> bool
-    requires { ⌜ TableIn w (now f) n × (i < n) ⌝ }
+    requires { ⌜ TableIn w (now f) n × ((i < n) × Spared w (now f) (i + 1)) ⌝ }
     ensures { λ r. ⌜ r ≡ nonceSeen w (now (f .entry)) i ⌝ }
 {
     let mut j: usize = 0;
@@ -124,13 +147,16 @@ fn bad_data(f: &[u8], row: Row) -> bool
     unit != 2
 }
 
-// 28 to 30, of row i of n.
+// 28, 34, 29 and 30, of row i of n.
 fn check_body(w: usize, f: &[u8], n: usize, i: usize, row: Row) -> RowCheck
-    requires { ⌜ TableIn w (now f) n × ((i < n) × ((row ≡ rowAt w (now f) i) × (badLength row ≡ false))) ⌝ }
+    requires { ⌜ TableIn w (now f) n × ((i < n) × ((row ≡ rowAt w (now f) i) × ((badLength row ≡ false) × Spared w (now f) i))) ⌝ }
     ensures { λ r. ⌜ rowNumberOf r ≡ bodyNumber w (now (f .entry)) n i ⌝ }
 {
     if out_of_place(w, f, n, i) {
         return RowCheck::Bad(Fault::Place);
+    }
+    if unread_set(w, f, i, row) {
+        return RowCheck::Bad(Fault::Unread);
     }
     if nonce_seen(w, f, n, i) {
         return RowCheck::Bad(Fault::Nonce);
@@ -141,9 +167,9 @@ fn check_body(w: usize, f: &[u8], n: usize, i: usize, row: Row) -> RowCheck
     RowCheck::Sound
 }
 
-// 25 to 30, of row i of n.
+// 25 to 28, 34, 29 and 30, of row i of n.
 pub(crate) fn check_row(w: usize, f: &[u8], n: usize, i: usize) -> RowCheck
-    requires { ⌜ TableIn w (now f) n × (i < n) ⌝ }
+    requires { ⌜ TableIn w (now f) n × ((i < n) × Spared w (now f) i) ⌝ }
     ensures { λ r. ⌜ rowNumberOf r ≡ rowNumber w (now (f .entry)) n i ⌝ }
 {
     let row = row_at(w, f, i);

@@ -62,11 +62,11 @@ pub fn many_rows(rows: usize) -> Vec<u8> {
     many_rows_plan(rows).file(&samples::ring())
 }
 
-/// 512 rows pass and 513 do not; a nonce is compared with that of every earlier row.
+/// 512 rows pass and 513 do not; a row is compared with every earlier one.
 fn full_tables(_: &mut Random) -> Vec<FileCall> {
     let mut clash = many_rows(40);
-    clash.copy_within(row_at(1) + 16..row_at(1) + 32, row_at(39) + 16);
-    vec![call(many_rows(512), 5110, 0), expected(many_rows(513), 22, 0), expected(clash, 29, 39)]
+    clash.copy_within(row_at(1) + 16..row_at(1) + 32, row_at(33) + 16);
+    vec![call(many_rows(512), 5110, 0), expected(many_rows(513), 22, 0), expected(clash, 29, 33)]
 }
 
 /// A good file of exactly the longest length, job i + 1 in row i, whose ciphertexts are zeros.
@@ -77,11 +77,10 @@ pub fn longest() -> Vec<u8> {
     let mut bodies: Vec<u8> = vec![];
     for i in 0..rows {
         let (job, suite, key) = (i as u32 + 1, 1 + (i % 4) as u8, i as u8);
-        let Entry { ad, .. } = Entry::new(job, suite, key, 2, [0; 16], b"");
+        let Entry { ad, nonce, .. } = Entry::new(job, suite, key, 2, [key; 16], b"");
         let offset = row_at(rows) + bodies.len();
         let room = shift::LONGEST - offset - ad.len() - block_size(suite);
         let text = vec![0; if i + 1 < rows { LIMIT } else { room }];
-        let nonce = [key; 16];
         table.extend(job.to_le_bytes());
         table.extend([suite, key, ad.len() as u8, 0]);
         table.extend((offset as u32).to_le_bytes());
@@ -106,10 +105,16 @@ fn longest_files(_: &mut Random) -> Vec<FileCall> {
     vec![good, expected(longer, 20, 0)]
 }
 
+/// The check's numbers, but for 20, in their order.
+pub const ORDER: [u32; 12] = [21, 22, 23, 24, 25, 26, 27, 28, 34, 29, 30, 31];
+
+/// Those that carry a row.
+pub const OF_ROWS: [u32; 7] = [25, 26, 27, 28, 34, 29, 30];
+
 /// Puts the fault of one number into a plan, in the row where the number has one.
 pub fn fault(plan: &mut Plan, number: u32, row: usize) {
     let previous = plan.entries[row.max(1) - 1].job;
-    let nonce = plan.entries[0].nonce;
+    let Entry { suite, key, nonce, .. } = plan.entries[0];
     let entry = &mut plan.entries[row];
     match number {
         21 => plan.edition = Some(2),
@@ -123,9 +128,16 @@ pub fn fault(plan: &mut Plan, number: u32, row: usize) {
         26 => plan.patches.push((row_at(row) + 5, 16)),
         27 => entry.ad.truncate(4),
         28 => plan.gaps.push(row),
-        29 => entry.nonce = nonce,
+        29 => {
+            if entry.suite != suite {
+                entry.nonce[15] = 0;
+            }
+            (entry.suite, entry.key) = (suite, key);
+            entry.nonce[..15].copy_from_slice(&nonce[..15]);
+        }
         30 => entry.ad[3] ^= 1,
         31 => plan.tail = 1,
+        34 => (entry.suite, entry.nonce[15]) = (3, 1),
         _ => unreachable!("no fault {number}"),
     }
 }
@@ -144,24 +156,23 @@ fn refused(_: &mut Random) -> Vec<FileCall> {
         for (number, row) in faults {
             fault(&mut plan, *number, *row);
         }
-        calls.push(expected(plan.file(&ring), number, if number < 31 { row } else { 0 }));
+        calls.push(expected(plan.file(&ring), number, if OF_ROWS.contains(&number) { row } else { 0 }));
     };
     for number in [21, 23, 31] {
         add(&[(number, 0)], number, 0);
     }
-    for number in 25..=30 {
+    for number in OF_ROWS {
         for row in (0..3).filter(|row| fits(number, *row)) {
             add(&[(number, row)], number, row);
         }
     }
-    for number in 21..=30 {
-        let row = if number < 25 { 0 } else { 1 };
-        for later in number + 1..=31 {
-            add(&[(number, 1), (later, 1)], number, row);
+    for (place, number) in ORDER.into_iter().enumerate() {
+        for later in &ORDER[place + 1..] {
+            add(&[(number, 1), (*later, 1)], number, 1);
         }
     }
-    for number in (25..=30).filter(|number| fits(*number, 0)) {
-        for other in 25..=30 {
+    for number in OF_ROWS.into_iter().filter(|number| fits(*number, 0)) {
+        for other in OF_ROWS {
             add(&[(number, 0), (other, 1)], number, 0);
         }
     }
@@ -241,18 +252,54 @@ fn ends(_: &mut Random) -> Vec<FileCall> {
     calls
 }
 
-/// What just passes: job numbers 0 and 2^32 - 1 and one above 2^31, associated data of 1,024 bytes, nonces
-/// of suite 3 that differ in the sixteenth byte alone.
+/// What just passes: job numbers 0 and 2^32 - 1 and one above 2^31, associated data of 1,024 bytes, one nonce under
+/// different suites.
 fn just_good(_: &mut Random) -> Vec<FileCall> {
-    let mut nonce = [9; 16];
     let mut entries = vec![];
-    for (job, suite) in [(0, 3), (1, 3), (0x8000_0000, 4), (0xffff_ffff, 2)] {
-        entries.push(Entry::new(job, suite, 15, 2, nonce, b"edge"));
-        nonce[15] += 1;
+    for (job, suite) in [(0, 3), (1, 1), (0x8000_0000, 4), (0xffff_ffff, 2)] {
+        entries.push(Entry::new(job, suite, 15, 2, [9; 16], b"edge"));
     }
     entries[3].ad.resize(1024, 0);
     let file = Plan::new(entries).file(&samples::ring());
     [0, 1, 2, 0x8000_0000, 0xffff_ffff].into_iter().map(|job| call(file.clone(), job, 4)).collect()
+}
+
+/// Two rows, each of suite, key number, sixteenth nonce byte, with fifteen equal nonce bytes before it, and what the
+/// check gives (document 02, W5). The first is the auditor's file.
+const PAIRS: [([(u8, u8, u8); 2], u32, usize); 14] = [
+    ([(3, 0, 0), (3, 0, 1)], 34, 1),
+    ([(3, 0, 1), (3, 0, 0)], 34, 0),
+    ([(3, 0, 1), (3, 0, 2)], 34, 0),
+    ([(4, 0, 0), (4, 0, 0x80)], 34, 1),
+    ([(3, 0, 0), (3, 0, 0)], 29, 1),
+    ([(4, 0, 0), (4, 0, 0)], 29, 1),
+    ([(3, 0, 0), (3, 1, 0)], 0, 0),
+    ([(3, 0, 0), (4, 0, 0)], 0, 0),
+    ([(1, 0, 0), (1, 0, 1)], 0, 0),
+    ([(1, 0, 7), (1, 0, 7)], 29, 1),
+    ([(2, 5, 7), (2, 5, 7)], 29, 1),
+    ([(1, 0, 7), (1, 15, 7)], 0, 0),
+    ([(1, 0, 7), (2, 0, 7)], 0, 0),
+    ([(1, 0, 0), (3, 0, 0)], 0, 0),
+];
+
+/// The nonce rule on pairs of rows, and with a row between them.
+fn nonces(_: &mut Random) -> Vec<FileCall> {
+    let mut calls = vec![];
+    for (rows, number, row) in PAIRS {
+        let entry = |job: u32, (suite, key, last): (u8, u8, u8)| {
+            let mut entry = Entry::new(job, suite, key, 1, [9; 16], b"nonce");
+            entry.nonce[15] = last;
+            entry
+        };
+        let (one, two) = (entry(10, rows[0]), entry(20, rows[1]));
+        let between = Entry::new(15, 3, 0, 1, [8; 16], b"between");
+        let apart = [one.clone(), between, two.clone()];
+        calls.push(expected(Plan::new(vec![one, two]).file(&samples::ring()), number, row));
+        calls.push(expected(Plan::new(apart.to_vec()).file(&samples::ring()), number, 2 * row));
+        calls.push(call(calls[calls.len() - 2].file.clone(), 20, 5));
+    }
+    calls
 }
 
 /// Opening: 32, 2, 6 and 8 in all their pairs, the earlier wins; and each thing that a tag covers.
@@ -322,8 +369,10 @@ fn good_files(random: &mut Random) -> Vec<FileCall> {
 /// All calls of the program that are one answer each.
 pub fn calls() -> Vec<FileCall> {
     let mut random = Random::new(3);
-    let groups =
-        [worked, full_tables, longest_files, refused, header_kinds, row_kinds, ends, just_good, openings, good_files];
+    #[rustfmt::skip]
+    let groups = [
+        worked, full_tables, longest_files, refused, header_kinds, row_kinds, ends, just_good, nonces, openings, good_files,
+    ];
     groups.into_iter().flat_map(|group| group(&mut random)).collect()
 }
 

@@ -103,8 +103,8 @@ fn input(pass: Pass, plan: &Plan) -> Vec<u8> {
 fn refused_checks(_: &mut Random) -> Vec<RewriteCall> {
     let mut calls = vec![];
     for pass in [Pass::Seal, Pass::Unseal] {
-        for number in 20..=31 {
-            let (mut plan, row) = (files::three_rows(), if (25..31).contains(&number) { 1 } else { 0 });
+        for number in [20].into_iter().chain(files::ORDER) {
+            let (mut plan, row) = (files::three_rows(), files::OF_ROWS.contains(&number) as usize);
             if number > 20 {
                 files::fault(&mut plan, number, 1);
             }

@@ -38,7 +38,7 @@ returns-3 c =
 check-body-requires : tie.Need-check-body-requires
 check-body-requires c κs =
     let row = c .before .before .before .before .before .before in
-    (row .before .before .pre .0, (row .before .before .pre .1, (row .row-at .ensures, sym (c .before .bad-length .ensures) ∙ c .if3 .left)))
+    (row .before .before .pre .0, (row .before .before .pre .1 .0, (row .row-at .ensures, (sym (c .before .bad-length .ensures) ∙ c .if3 .left, row .before .before .pre .1 .1))))
 
 returns-4 : tie.Need-returns-4
 unfolding rowNumber

@@ -22,7 +22,10 @@ unfolding anyBelow
 loop-holds c = search needs
 
 clashes-requires : tie.Need-clashes-requires Inv-loop μ-loop
-clashes-requires c κs = search needs
+clashes-requires c κs =
+    let s = c .before .before .before in
+    let l = c .loop-test .taken in
+    (s .pre .0, (s .pre .1 .0, (omega (arith, l, s .pre .1 .0), (s .pre .1 .1 .spare (s .args .i) (omega arith), s .pre .1 .1 .spare (c .before .loop .j) (omega (arith, l))))))
 
 returns : tie.Need-returns Inv-loop μ-loop
 unfolding nonceSeen
