@@ -122,7 +122,6 @@ comet_step comet_session_end(comet_session session,
                              uint8_t *out, size_t out_len,
                              uint8_t *tag, size_t tag_len);
 
-/* Numbers of the shift file: 20 to 24 first, then 25 to 30 in order for each row from row 0, then 31.
 /* Numbers of the shift file: 20 to 24 first, then for each row from row 0 the numbers 25, 26, 27, 28, 34, 29
  * and 30 in this order, then 31.
  *   0   done
