@@ -178,9 +178,9 @@ uint32_t shift_open_job(const uint8_t *file, size_t file_len,
                         uint32_t *row);
 
 /* The writer. A draft is a shift file with edition 0, plaintext where the ciphertext goes, and zero tags. Numbers, in this
- * order; out is as it was after every number but 0 and 8. *row is written always: the row after 25 to 30, 33 and 8, and 0
- * after every other number, 0 too.
- *  20 to 31   as above, of the draft or the file; 21 says that a draft's edition is not 0, or a file's is not 1
+ * order; out is as it was after every number but 0 and 8. *row is written always: the row after 25 to 30, 34, 33 and 8, and
+ * 0 after every other number, 0 too.
+ *  20 to 31, 34   as above, of the draft or the file; 21 says that a draft's edition is not 0, or a file's is not 1
  *  33   shift_seal_file alone: the row's tag has a byte that is not zero; the first such row
  *   2   the ring is not 256 bytes long
  *   6   out_len is not draft_len (file_len)
