@@ -116,6 +116,15 @@ uint32_t shift_open_job(const uint8_t *file, size_t file_len,
                         uint8_t *out, size_t out_len,
                         uint32_t *row);
 
+/* Finds a job without walking the file: 20 to 24 alone, and then the table is halved. From c rows at row s it looks at
+ * row s + c/2, stops if that has the job, and keeps the rows after it if its job is lower, else those before; 32 when
+ * no row is left. No body is read, and 25 to 31 and 34 are not asked: on a file that passes shift_check the number and
+ * *row are shift_lookup's; on others they are what the halving gives.
+ * Both are written always: *row is the row found after 0, and 0 after every other number; *looked is how many rows were
+ * looked at, at most 10, and 0 after 20 to 24.
+ */
+uint32_t shift_search(const uint8_t *file, size_t file_len, uint32_t job, uint32_t *row, uint32_t *looked);
+
 #ifdef __cplusplus
 }
 #endif

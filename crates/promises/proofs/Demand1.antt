@@ -10,6 +10,7 @@ use Rattle.comet.specs.Answers.{refusal, Sealed, sealedAs, sealing, Opened, ope
 use Rattle.comet.proofs.Outcomes as comet
 use Rattle.table.proofs.Outcomes as table
 use Rattle.shift.proofs.Outcomes as shift
+use Rattle.search.proofs.Outcomes as halving
 use Rattle.comet.proofs.Refuse.{refusal-most}
 use Rattle.promises.specs.Demand1.{EntryPoints, SealKeeps, OpenKeeps}
 
@@ -22,6 +23,7 @@ entry-points =
       lookup = record { asks-nothing = λ κs a. tt; one-outcome = shift.lookup };
       entry = record { asks-nothing = λ κs a. tt; one-outcome = shift.entry };
       open-job = record { asks-nothing = λ κs a. tt; one-outcome = shift.open-job };
+      search = record { asks-nothing = λ κs a. tt; one-outcome = halving.search };
       associated = shift.associated;
     }
 

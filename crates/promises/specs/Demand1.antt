@@ -22,13 +22,15 @@ use Rattle.shift.proofs.associated.Kinds as associated-kinds
 use Rattle.shift.proofs.associated.Reads as associated-reads
 use Rattle.shift.proofs.open_job.Kinds as open-job-kinds
 use Rattle.shift.proofs.open_job.Reads as open-job-reads
+use Rattle.search.proofs.search.Kinds as search-kinds
+use Rattle.search.proofs.search.Reads as search-reads
 
 -- of a routine's own signature and contract: it asks nothing of its arguments, and they leave one outcome
 pub record Answers {n : ℕ} (ps : List (PK n)) (r : RK n) (Pre : In n ps) (Post : Out n ps r) : Type 0 where
   pub asks-nothing : (κs : Lfts n) (a : Dens κs ps) → Pre κs a
   pub one-outcome : OneOutcome ps r Pre Post
 
--- every entry point of document 01
+-- every entry point of documents 01 and 02
 pub record EntryPoints : Type 0 where
   pub seal : Answers seal-kinds.ps seal-kinds.r seal-reads.Pre seal-reads.Post
   pub unseal : Answers unseal-kinds.ps unseal-kinds.r unseal-reads.Pre unseal-reads.Post
@@ -36,6 +38,8 @@ pub record EntryPoints : Type 0 where
   pub lookup : Answers lookup-kinds.ps lookup-kinds.r lookup-reads.Pre lookup-reads.Post
   pub entry : Answers entry-kinds.ps entry-kinds.r entry-reads.Pre entry-reads.Post
   pub open-job : Answers open-job-kinds.ps open-job-kinds.r open-job-reads.Pre open-job-reads.Post
+  -- document 02, W6
+  pub search : Answers search-kinds.ps search-kinds.r search-reads.Pre search-reads.Post
   -- the associated data is a part of the file: its bytes and its place are one; a reference's ghost name belongs to the proof and is no outcome
   pub associated : (κs : Lfts 1) (a : Dens κs associated-kinds.ps) (x y : Outcome associated-kinds.ps associated-kinds.r associated-reads.Post κs a)
       → (now (x .result) ≡ now (y .result)) × (x .result .ptr ≡ y .result .ptr)

@@ -6,3 +6,4 @@ pub mod ShiftFile
 pub mod Values
 pub mod W1
 pub mod Nonces
+pub mod Search

@@ -1,5 +1,6 @@
 -- One outcome for each input: a contract says what the number and every lent output equal, so any two outcomes that it allows are equal.
-use mathlib.Core.Path.{sym, ap, _∙_}
+use Prim.Native.Nat.{ℕ}
+use mathlib.Core.Path.{sym, ap, ap₂, _∙_}
 use Rattle.words.specs.Outcome.{OneOutcome}
 use Rattle.comet.specs.Answers.{Sealed, Opened}
 use Rattle.table.specs.declared.answers.Answer.{Answer}
@@ -20,6 +21,8 @@ use Rattle.snoekeldraf.proofs.file.shift_entry.Kinds as entry-kinds
 use Rattle.snoekeldraf.proofs.file.shift_entry.Reads as entry-reads
 use Rattle.snoekeldraf.proofs.file.shift_open_job.Kinds as open-job-kinds
 use Rattle.snoekeldraf.proofs.file.shift_open_job.Reads as open-job-reads
+use Rattle.snoekeldraf.proofs.halving.shift_search.Kinds as search-kinds
+use Rattle.snoekeldraf.proofs.halving.shift_search.Reads as search-reads
 
 pub comet-seal : OneOutcome seal-kinds.ps seal-kinds.r seal-reads.Pre seal-reads.Post
 comet-seal κs a h x y =
@@ -55,3 +58,8 @@ pub shift-open-job : OneOutcome open-job-kinds.ps open-job-kinds.r open-job-read
 shift-open-job κs a h x y =
     let e = x .ensures ∙ sym (y .ensures) in
     (ap (λ (w : JobOpened). w .answer .number) e, ap (λ (w : JobOpened). (tt, (tt, (tt, (w .out, (w .answer .row, tt)))))) e)
+
+pub shift-search : OneOutcome search-kinds.ps search-kinds.r search-reads.Pre search-reads.Post
+shift-search κs a h x y =
+    let e = x .ensures .0 ∙ sym (y .ensures .0) in
+    (ap (λ (w : Answer). w .number) e, ap₂ (λ (w : Answer) (l : ℕ). (tt, (tt, (w .row, (l, tt))))) e (x .ensures .1 ∙ sym (y .ensures .1)))

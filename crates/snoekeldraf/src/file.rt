@@ -11,7 +11,7 @@ ghost use Rattle.shift.specs.Opening.{JobOpened, jobOpening};
 ghost use Rattle.snoekeldraf.specs.Located.{Located, locating};
 
 // Writes the row that an answer carries, and gives its number.
-fn told(a: Answer, row: &mut u32) -> u32
+pub(crate) fn told(a: Answer, row: &mut u32) -> u32
     requires { ⌜ a .row ≤ 512 ⌝ }
     ensures { λ r. ⌜ answer r (now (row .exit)) ≡ a ⌝ }
 {

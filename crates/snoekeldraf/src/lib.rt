@@ -1,3 +1,4 @@
 // The C interface: every function that programs in other languages call. A slice passes as a pointer and a length.
 pub mod file;
+pub mod halving;
 pub mod record;
