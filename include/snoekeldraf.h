@@ -1,4 +1,4 @@
-/* Snoekeldraf: the sealer, the opener and the shift file, for C and C++.
+/* Snoekeldraf: the sealer, the opener, sessions and the shift file, for C and C++.
  *
  * Every function is proved to give, for any bytes and any lengths, the number and the output that are described here.
  * What the caller owes, since nothing in C checks it:
@@ -61,6 +61,68 @@ uint32_t comet_open(uint8_t suite,
                     const uint8_t *tag, size_t tag_len,
                     uint8_t *out, size_t out_len);
 
+/* Sealing in parts: a session seals a record while its message is still being measured, and comet_open opens it.
+ *
+ * A session is a plain struct that goes in and comes back by value: each call hands back a step, and its session `next`
+ * takes the place of the one that was given. The fields are for the functions alone, and hold what the key makes: keep
+ * them as secret as the key. Any value may arrive: one whose suite is not 1 to 4 or whose totals are over 65,536 (as a
+ * session that was refused at the start, or has ended) is answered by 9; any other is taken as what it says. Going on
+ * from one session value twice, with different messages, is sealing two records with one key and one nonce.
+ */
+typedef struct {
+    uint8_t suite;
+    uint64_t y0, y1, z0, z1;
+    uint8_t held[16]; /* bytes that are in no whole block yet */
+    size_t came;      /* bytes of associated data so far */
+    size_t text;      /* bytes of message so far */
+} comet_session;
+
+typedef struct {
+    comet_session next;
+    uint32_t number;
+    size_t count; /* how many bytes were written, at out's start */
+} comet_step;
+
+/* Numbers of a session: the first that applies, in the order that stands with each function.
+ *   0  done
+ *   1  suite is not 1 to 4
+ *   2  key_len is not 16
+ *   3  nonce_len is not the suite's
+ *   4  more than 65,536 bytes of associated data in all
+ *   5  more than 65,536 bytes of message in all
+ *   6  out_len is too small
+ *   7  tag_len is not the suite's
+ *   9  the session was refused or has ended; for comet_session_data also: a byte of the message has come
+ * After any number but 0, next is the session that was given (after a refused start: one that answers 9 to every call),
+ * count is 0, and out and tag are as they were: the call may be made again.
+ */
+
+/* Starts a session: 1, 2, 3. */
+comet_step comet_session_start(uint8_t suite,
+                               const uint8_t *key, size_t key_len,
+                               const uint8_t *nonce, size_t nonce_len);
+
+/* Brings a part of the associated data, of any length, as long as no byte of the message has come: 9, 4. */
+comet_step comet_session_data(comet_session session, const uint8_t *ad, size_t ad_len);
+
+/* Brings a part of the message, of any length: 9, 5, 6. out needs room for the part and one block less a byte
+ * (msg_len + 15 or msg_len + 7). After 0 the ciphertext of the blocks that the part completes stands at out's start,
+ * count bytes of it; the bytes behind it are as they were. An empty part changes nothing and does not begin the message.
+ */
+comet_step comet_session_part(comet_session session,
+                              const uint8_t *msg, size_t msg_len,
+                              uint8_t *out, size_t out_len);
+
+/* Ends: 9, 6, 7. out needs room for one block (16 or 8 bytes). After 0 the rest of the ciphertext stands at out's start,
+ * count bytes of it, less than a block; the bytes behind it are as they were; tag is the tag, written whole; next answers
+ * 9 to every call. The counted bytes of all calls, joined, are the ciphertext that comet_seal gives for the joined
+ * associated data and message, and the tag is its tag.
+ */
+comet_step comet_session_end(comet_session session,
+                             uint8_t *out, size_t out_len,
+                             uint8_t *tag, size_t tag_len);
+
+/* Numbers of the shift file: 20 to 24 first, then 25 to 30 in order for each row from row 0, then 31.
 /* Numbers of the shift file: 20 to 24 first, then for each row from row 0 the numbers 25, 26, 27, 28, 34, 29
  * and 30 in this order, then 31.
  *   0   done
@@ -115,6 +177,31 @@ uint32_t shift_open_job(const uint8_t *file, size_t file_len,
                         uint32_t job,
                         uint8_t *out, size_t out_len,
                         uint32_t *row);
+
+/* The writer. A draft is a shift file with edition 0, plaintext where the ciphertext goes, and zero tags. Numbers, in this
+ * order; out is as it was after every number but 0 and 8. *row is written always: the row after 25 to 30, 34, 33 and
+ * 8, and 0 after every other number, 0 too.
+ *  20 to 31, 34   as above, of the draft or the file; 21 says that a draft's edition is not 0, or a file's is not 1
+ *  33   shift_seal_file alone: the row's tag has a byte that is not zero; the first such row
+ *   2   the ring is not 256 bytes long
+ *   6   out_len is not draft_len (file_len)
+ *   8   shift_unseal_file alone: the row's tag differs; the first such row. Every byte of out is 0
+ *   0   done: out is written whole
+ */
+
+/* Seals a draft: out is the sealed file. The edition is 1, ciphertext and tag stand in their places, and every other byte
+ * is the draft's.
+ */
+uint32_t shift_seal_file(const uint8_t *draft, size_t draft_len,
+                         const uint8_t *ring, size_t ring_len,
+                         uint8_t *out, size_t out_len,
+                         uint32_t *row);
+
+/* Gives the draft of a sealed file back: out is the draft. Sealing it with the same ring gives the file. */
+uint32_t shift_unseal_file(const uint8_t *file, size_t file_len,
+                           const uint8_t *ring, size_t ring_len,
+                           uint8_t *out, size_t out_len,
+                           uint32_t *row);
 
 /* Finds a job without walking the file: 20 to 24 alone, and then the table is halved. From c rows at row s it looks at
  * row s + c/2, stops if that has the job, and keeps the rows after it if its job is lower, else those before; 32 when

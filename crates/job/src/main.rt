@@ -6,19 +6,6 @@
 use libc::STDOUT_FILENO;
 ghost use Prim.Native.Nat.{_≤_};
 
-// Reads the file that argument i names into buf, as far as it goes.
-fn load(i: usize, buf: &mut [u8]) -> &[u8] {
-    let mut path = io::buffer();
-    let n = os::arg(i, &mut path);
-    let fd = os::open_read(&path[..n]);
-    let mut got: usize = 0;
-    if 0 <= fd {
-        got = io::read_full(fd, buf);
-        libc::close(fd);
-    }
-    lines::read::front(&buf[..], got)
-}
-
 fn print_unit(unit: u8) {
     lines::show::number(unit as u64);
     lines::show::end();
@@ -49,7 +36,7 @@ fn open_into(file: &[u8], ring: &[u8], job: u32, out: &mut [u8]) {
 fn run(file: &[u8], job: u32) {
     let mut r = [0u8; 257];
     let mut out = [0u8; 65536];
-    let ring = load(2, &mut r);
+    let ring = named::load(2, &mut r);
     let n = shift::entry(file, job).text_len as usize;
     if n <= 65536 {
         open_into(file, ring, job, &mut out[0..n]);
@@ -89,7 +76,7 @@ fn main() {
         return;
     }
     let mut f = lines::read::file_room();
-    let file = load(1, &mut f);
+    let file = named::load(1, &mut f);
     if 524288 < file.len() {
         io::write_all(STDOUT_FILENO, b"20 0\n");
         return;

@@ -75,13 +75,13 @@ suite-nonce s = two (suites.sizes-two s)
     two (inr e) = nonce-narrow (cipherOf s) e ∙ sym (suites.nonce-narrow s e)
 
 module _ (κ : Cipher) (L : Lawful κ) (key nonce : List ℕ) (hk : Block 16 key) (hv : AllBytes nonce) (lv : length nonce ≡ nonceSize κ) where
-  y-block : (κ .size ≡ 16) ⊎ (κ .size ≡ 8) → Block (κ .size) (startY κ key)
+  pub y-block : (κ .size ≡ 16) ⊎ (κ .size ≡ 8) → Block (κ .size) (startY κ key)
   y-block (inl e) = subst (Block (κ .size)) (sym (startY-wide κ key e)) (subst (λ (n : ℕ). Block n key) (sym e) hk)
   y-block (inr e) =
       subst (Block (κ .size)) (sym (startY-narrow κ key e))
       (L .image key (replicate 8 0) hk (record { long = sym e; bytes = all-replicate 8 0 (omega arith) }))
 
-  z-block : (κ .size ≡ 16) ⊎ (κ .size ≡ 8) → Block 16 (startZ κ key nonce)
+  pub z-block : (κ .size ≡ 16) ⊎ (κ .size ≡ 8) → Block 16 (startZ κ key nonce)
   z-block (inl e) =
       let bv : Block (κ .size) nonce = record { long = lv ∙ nonce-wide κ e ∙ sym e; bytes = hv } in
       subst (Block 16) (sym (startZ-wide κ key nonce e)) (subst (λ (n : ℕ). Block n (κ .E key nonce)) e (L .image key nonce hk bv))

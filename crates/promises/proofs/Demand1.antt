@@ -8,8 +8,10 @@ use mathlib.Core.List.{List}
 use lib.ListN.{length, replicate}
 use Rattle.comet.specs.Answers.{refusal, Sealed, sealedAs, sealing, Opened, openedAs, opening}
 use Rattle.comet.proofs.Outcomes as comet
+use Rattle.session.proofs.Outcomes as session
 use Rattle.table.proofs.Outcomes as table
 use Rattle.shift.proofs.Outcomes as shift
+use Rattle.writer.proofs.Outcomes as writer
 use Rattle.search.proofs.Outcomes as halving
 use Rattle.comet.proofs.Refuse.{refusal-most}
 use Rattle.promises.specs.Demand1.{EntryPoints, SealKeeps, OpenKeeps}
@@ -23,8 +25,14 @@ entry-points =
       lookup = record { asks-nothing = λ κs a. tt; one-outcome = shift.lookup };
       entry = record { asks-nothing = λ κs a. tt; one-outcome = shift.entry };
       open-job = record { asks-nothing = λ κs a. tt; one-outcome = shift.open-job };
+      session-start = record { asks-nothing = λ κs a. tt; one-outcome = session.start };
+      session-data = record { asks-nothing = λ κs a. tt; one-outcome = session.associated };
+      session-part = record { asks-nothing = λ κs a. tt; one-outcome = session.message };
+      session-end = record { asks-nothing = λ κs a. tt; one-outcome = session.finish };
       search = record { asks-nothing = λ κs a. tt; one-outcome = halving.search };
       associated = shift.associated;
+      seal-file = record { asks-nothing = λ κs a. tt; one-outcome = writer.seal-file };
+      unseal-file = record { asks-nothing = λ κs a. tt; one-outcome = writer.unseal-file };
     }
 
 sealed-keeps : (n : ℕ) (x y o t : List ℕ) → n ≤ 7 → (sealedAs n x y o t .number ≤ 7) × (0 < sealedAs n x y o t .number → (sealedAs n x y o t .out ≡ o) × (sealedAs n x y o t .tag ≡ t))

@@ -12,6 +12,14 @@ use Rattle.comet.proofs.seal.Kinds as seal-kinds
 use Rattle.comet.proofs.seal.Reads as seal-reads
 use Rattle.comet.proofs.unseal.Kinds as unseal-kinds
 use Rattle.comet.proofs.unseal.Reads as unseal-reads
+use Rattle.session.proofs.Session.start.Kinds as session-start-kinds
+use Rattle.session.proofs.Session.start.Reads as session-start-reads
+use Rattle.session.proofs.Session.associated.Kinds as session-data-kinds
+use Rattle.session.proofs.Session.associated.Reads as session-data-reads
+use Rattle.session.proofs.Session.message.Kinds as session-part-kinds
+use Rattle.session.proofs.Session.message.Reads as session-part-reads
+use Rattle.session.proofs.Session.finish.Kinds as session-end-kinds
+use Rattle.session.proofs.Session.finish.Reads as session-end-reads
 use Rattle.table.proofs.check.Kinds as check-kinds
 use Rattle.table.proofs.check.Reads as check-reads
 use Rattle.shift.proofs.lookup.Kinds as lookup-kinds
@@ -22,6 +30,10 @@ use Rattle.shift.proofs.associated.Kinds as associated-kinds
 use Rattle.shift.proofs.associated.Reads as associated-reads
 use Rattle.shift.proofs.open_job.Kinds as open-job-kinds
 use Rattle.shift.proofs.open_job.Reads as open-job-reads
+use Rattle.writer.proofs.seal_file.Kinds as seal-file-kinds
+use Rattle.writer.proofs.seal_file.Reads as seal-file-reads
+use Rattle.writer.proofs.unseal_file.Kinds as unseal-file-kinds
+use Rattle.writer.proofs.unseal_file.Reads as unseal-file-reads
 use Rattle.search.proofs.search.Kinds as search-kinds
 use Rattle.search.proofs.search.Reads as search-reads
 
@@ -30,7 +42,7 @@ pub record Answers {n : ℕ} (ps : List (PK n)) (r : RK n) (Pre : In n ps) (Post
   pub asks-nothing : (κs : Lfts n) (a : Dens κs ps) → Pre κs a
   pub one-outcome : OneOutcome ps r Pre Post
 
--- every entry point of documents 01 and 02
+-- every entry point of document 01, and those that document 02 adds
 pub record EntryPoints : Type 0 where
   pub seal : Answers seal-kinds.ps seal-kinds.r seal-reads.Pre seal-reads.Post
   pub unseal : Answers unseal-kinds.ps unseal-kinds.r unseal-reads.Pre unseal-reads.Post
@@ -38,11 +50,19 @@ pub record EntryPoints : Type 0 where
   pub lookup : Answers lookup-kinds.ps lookup-kinds.r lookup-reads.Pre lookup-reads.Post
   pub entry : Answers entry-kinds.ps entry-kinds.r entry-reads.Pre entry-reads.Post
   pub open-job : Answers open-job-kinds.ps open-job-kinds.r open-job-reads.Pre open-job-reads.Post
+  -- of document 02, W2: a session's four calls
+  pub session-start : Answers session-start-kinds.ps session-start-kinds.r session-start-reads.Pre session-start-reads.Post
+  pub session-data : Answers session-data-kinds.ps session-data-kinds.r session-data-reads.Pre session-data-reads.Post
+  pub session-part : Answers session-part-kinds.ps session-part-kinds.r session-part-reads.Pre session-part-reads.Post
+  pub session-end : Answers session-end-kinds.ps session-end-kinds.r session-end-reads.Pre session-end-reads.Post
   -- document 02, W6
   pub search : Answers search-kinds.ps search-kinds.r search-reads.Pre search-reads.Post
   -- the associated data is a part of the file: its bytes and its place are one; a reference's ghost name belongs to the proof and is no outcome
   pub associated : (κs : Lfts 1) (a : Dens κs associated-kinds.ps) (x y : Outcome associated-kinds.ps associated-kinds.r associated-reads.Post κs a)
       → (now (x .result) ≡ now (y .result)) × (x .result .ptr ≡ y .result .ptr)
+  -- W4
+  pub seal-file : Answers seal-file-kinds.ps seal-file-kinds.r seal-file-reads.Pre seal-file-reads.Post
+  pub unseal-file : Answers unseal-file-kinds.ps unseal-file-kinds.r unseal-file-reads.Pre unseal-file-reads.Post
 
 -- the sealer gives 0 to 7, and on any but 0 both buffers are as they were
 abbrev pub SealKeeps : Type 0

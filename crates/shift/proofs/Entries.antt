@@ -11,13 +11,13 @@ use Rattle.words.specs.Bytes.{sameBytes}
 use Rattle.cipher.specs.Cipher.{sizeOf, nonceOf, cipherOf}
 use Rattle.cipher.proofs.Suites.{nonce-most}
 use Rattle.mode.specs.Mode.{textOut, tagOut}
-use Rattle.comet.specs.Answers.{refusal, Opened, openedAs, opening}
+use Rattle.comet.specs.Answers.{refusal, Sealed, sealing, Opened, openedAs, opening}
 use Rattle.table.specs.declared.row.Row.{Row}
 use Rattle.table.specs.Format.{edition, rowSize, nonceAt, rowOf, dataOf, textOf, tagOf, bodyEnd}
 use Rattle.table.specs.Answers.{answer}
 use Rattle.table.specs.Inside.{EntryIn}
 use Rattle.table.proofs.Rows.{stretch-length, nonce-length}
-use Rattle.shift.specs.Opening.{ringKey, nonceRead, entryOpening, left, rowOpening}
+use Rattle.shift.specs.Opening.{ringKey, nonceRead, entrySealing, entryOpening, left, rowOpening}
 use Rattle.shift.specs.Inside.{Lendable}
 
 -- lent the entry's own bytes, the opener gives and leaves what the definition says
@@ -26,6 +26,13 @@ pub lent : (f ring : List ℕ) (i : ℕ) (r : Row) (x : Opened) (key nonce ad te
     → ad ≡ dataOf f r → text ≡ textOf f r → tag ≡ tagOf f r → x ≡ entryOpening f ring i out
 unfolding entryOpening
 lent f ring i r x key nonce ad text tag out e q ek en ea et eg = e ∙ simp (ek, en, ea, et, eg, q)
+
+-- and so does the sealer
+pub lent-sealer : (f ring : List ℕ) (i : ℕ) (r : Row) (x : Sealed) (key nonce ad text out tag : List ℕ) → x ≡ sealing (r .suite) key nonce ad text out tag → r ≡ rowOf f i
+    → key ≡ ringKey ring (r .key) → nonce ≡ take (nonceOf (r .suite)) (nonceAt (rowSize edition) f i)
+    → ad ≡ dataOf f r → text ≡ textOf f r → x ≡ entrySealing f ring i out tag
+unfolding entrySealing
+lent-sealer f ring i r x key nonce ad text out tag e q ek en ea et = e ∙ simp (ek, en, ea, et, q)
 
 -- what the opener compares and recovers on the own bytes of row i
 abbrev pub entryRight : List ℕ → List ℕ → ℕ → Bool

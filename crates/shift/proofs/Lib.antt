@@ -4,6 +4,7 @@ pub mod Finding
 pub mod Told
 pub mod Entries
 pub mod Jobs
+pub mod Changed
 pub mod Units
 pub mod Nonces
 pub mod Outcomes

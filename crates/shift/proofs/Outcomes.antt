@@ -8,6 +8,8 @@ use denote.Ref.{now}
 use contract.Lifetimes.{Lfts}
 use borrow.Fn.Kinds.{Dens}
 use Rattle.words.specs.Outcome.{Outcome, OneOutcome}
+use Rattle.comet.specs.Answers as comet
+use Rattle.comet.proofs.Outcomes.{number-tells}
 use Rattle.table.specs.declared.answers.Answer.{Answer}
 use Rattle.table.proofs.Numbers.{refusal-some}
 use Rattle.table.proofs.Outcomes.{refusalOf, refusal-back, unlike, answer-one, part-one}
@@ -25,6 +27,12 @@ use Rattle.shift.proofs.associated.Kinds as associated-kinds
 use Rattle.shift.proofs.associated.Reads as associated-reads
 use Rattle.shift.proofs.open_job.Kinds as open-job-kinds
 use Rattle.shift.proofs.open_job.Reads as open-job-reads
+use Rattle.shift.proofs.lend.row_of.Kinds as row-of-kinds
+use Rattle.shift.proofs.lend.row_of.Reads as row-of-reads
+use Rattle.shift.proofs.lend.seal_row.Kinds as seal-row-kinds
+use Rattle.shift.proofs.lend.seal_row.Reads as seal-row-reads
+use Rattle.shift.proofs.lend.open_row.Kinds as open-row-kinds
+use Rattle.shift.proofs.lend.open_row.Reads as open-row-reads
 use Rattle.shift.proofs.answers.Found.answer.Kinds as found-kinds
 use Rattle.shift.proofs.answers.Found.answer.Reads as found-reads
 use Rattle.shift.proofs.answers.Opened.answer.Kinds as opened-kinds
@@ -85,3 +93,16 @@ found-answer κs a h x y = (answer-one (x .ensures) (y .ensures), refl)
 
 pub opened-answer : OneOutcome opened-kinds.ps opened-kinds.r opened-reads.Pre opened-reads.Post
 opened-answer κs a h x y = (answer-one (x .ensures) (y .ensures), refl)
+
+pub row-of : OneOutcome row-of-kinds.ps row-of-kinds.r row-of-reads.Pre row-of-reads.Post
+row-of κs a h x y = (x .ensures ∙ sym (y .ensures), refl)
+
+pub seal-row : OneOutcome seal-row-kinds.ps seal-row-kinds.r seal-row-reads.Pre seal-row-reads.Post
+seal-row κs a h x y =
+    let e = x .ensures ∙ sym (y .ensures) in
+    (number-tells _ _ (ap (λ (z : comet.Sealed). z .number) e), ap (λ (z : comet.Sealed). (tt, (tt, (tt, (tt, (z .out, (z .tag, tt))))))) e)
+
+pub open-row : OneOutcome open-row-kinds.ps open-row-kinds.r open-row-reads.Pre open-row-reads.Post
+open-row κs a h x y =
+    let e = x .ensures ∙ sym (y .ensures) in
+    (number-tells _ _ (ap (λ (z : comet.Opened). z .number) e), ap (λ (z : comet.Opened). (tt, (tt, (tt, (tt, (z .out, tt)))))) e)

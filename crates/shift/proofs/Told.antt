@@ -32,5 +32,5 @@ lookup-told f job none = lookup-case (eqb (checkFile f .number) 0) none
     lookup-case : (b : Bool) → (cond b found (checkFile f) .number ≡ 0 → ⊥) → Told 32 (cond b found (checkFile f))
     lookup-case true n = found-told (rowSize edition) f (countOf f) job 0 n
     lookup-case false n =
-        let t = check-told f in
+        let t = check-told edition f in
         record { number = ⊎-elim inl (λ r. inr (⊎-elim (λ s. inl (omega arith)) inr r)) (t .number); row = t .row }

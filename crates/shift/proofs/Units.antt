@@ -1,52 +1,38 @@
 -- The unit of an entry with an empty message cannot be altered: the check still passes if the new byte is a unit, and then the tag is another (demand 3).
 use Prim.Native.Nat.{ℕ, _+_, _*_, _≤_, _<_}
-use native.Mathlib.Decide.{decLt}
 use native.Mathlib.Omega.{arith}
-use mathlib.Core.Path.{_≡_, refl, sym, ap, ap₂, _∙_}
+use mathlib.Core.Path.{_≡_, refl, sym, ap, _∙_}
 use mathlib.Core.Bool.{Bool, true, false, not, cond}
 use mathlib.Core.List.{List, []}
-use mathlib.Core.Logic.{⊎-elim}
-use lib.ListN.{length, getD, set, take, drop, length-set, List·getD-eq-default}
-use lib.Seq.{getD-set-same, getD-set-other, getD-take, getD-drop}
+use mathlib.Core.Logic.{_⊎_, ⊎-elim}
+use lib.ListN.{length, getD, set}
+use lib.Seq.{getD-set-same, getD-set-other}
 use lib.Dec.{eqb}
 use borrow.Author.Tests.{eq-eqb, eqb-true}
-use Rattle.words.specs.Bytes.{AllBytes, sameBytes}
-use Rattle.cipher.specs.Cipher.{Cipher, cipherOf, sizeOf, nonceOf}
-use Rattle.mode.specs.Blocks.{blocks, chop}
-use Rattle.mode.specs.Mode.{after, tagOut}
-use Rattle.comet.specs.Answers.{Opened, openedAs}
-use Rattle.words.proofs.Same.{same-true}
-use Rattle.words.proofs.Lists.{all-nil, all-take, all-drop, all-set}
+use Rattle.words.specs.Bytes.{AllBytes}
+use Rattle.words.proofs.Lists.{all-set}
+use Rattle.cipher.specs.Cipher.{sizeOf}
 use Rattle.cipher.proofs.Suites.{sizes-two}
-use Rattle.cipher.proofs.Lawful.{lawful}
-use Rattle.mode.proofs.Start.{suite-nonce}
-use Rattle.mode.proofs.Demand3.{same-before, same-behind, data-told}
+use Rattle.comet.specs.Answers.{Opened, openedAs}
 use Rattle.table.specs.declared.row.Row.{Row}
 use Rattle.table.specs.declared.answers.Answer.{Answer}
-use Rattle.table.specs.Part.{stretch}
-use Rattle.table.specs.Format.{countOf, edition, rowSize, rowStart, nonceStart, nonceAt, rowOf, dataOf, textOf, tagOf, bodyEnd, unitOf, isUnit}
+use Rattle.table.specs.Format.{countOf, edition, rowSize, nonceAt, rowOf, dataOf, tagOf, bodyEnd, unitOf, isUnit}
 use Rattle.table.specs.Answers.{answer}
-use Rattle.table.specs.Check.{headNumber, checkAs, checkFile}
+use Rattle.table.specs.Check.{checkFile}
 use Rattle.table.specs.Inside.{EntryIn}
-use Rattle.table.proofs.Passed.{Walked}
-use Rattle.table.proofs.Rows.{row-broad, stretch-length}
-use Rattle.table.proofs.Alike.{Agree, stretch-same, row-same, nonce-same, count-same, head-same}
-use Rattle.table.proofs.Units.{table-kept, rows-are}
+use Rattle.table.proofs.Passed.{Passes}
+use Rattle.table.proofs.Rows.{row-broad}
+use Rattle.table.proofs.Alike.{AgreeTable, stretch-same, row-same, nonce-same, count-same}
+use Rattle.table.proofs.Kept.{body-table}
+use Rattle.table.proofs.Units.{unit-long, unit-outside, unit-check}
 use Rattle.shift.specs.Lookup.{lookupAs, lookupJob}
-use Rattle.shift.specs.Opening.{ringKey, nonceRead, JobOpened, left, rowOpening, jobOpening, entryOpening}
+use Rattle.shift.specs.Opening.{JobOpened, left, rowOpening, jobOpening, entryOpening}
 use Rattle.shift.specs.Promised.{UnitRefused}
 use Rattle.shift.proofs.Lookups.{holding, found-in}
 use Rattle.shift.proofs.Finding.{finds}
-use Rattle.shift.proofs.Entries.{entryRight, entryText, entry-opened, key-long, nonce-long}
+use Rattle.shift.proofs.Entries.{entryRight, entryText, entry-opened}
+use Rattle.shift.proofs.Changed.{stretch-at, data-wrong}
 use Rattle.shift.proofs.Jobs.{opens}
-
-all-stretch : (f : List ℕ) (at n : ℕ) → AllBytes f → AllBytes (stretch f at n)
-all-stretch f at n h = all-take n (drop at f) (all-drop at f h)
-
--- of an empty text both directions make the same tag
-empty-tag : (κ : Cipher) (key nonce ad : List ℕ) → tagOut κ true key nonce ad [] ≡ tagOut κ false key nonce ad []
-unfolding tagOut after blocks chop
-empty-tag κ key nonce ad = refl
 
 module _ (f ring : List ℕ) (job i v : ℕ) (found : lookupJob f job ≡ answer 0 i) where
   -- the file with v for the unit of the entry that was found
@@ -56,14 +42,14 @@ module _ (f ring : List ℕ) (job i v : ℕ) (found : lookupJob f job ≡ answer
   within : i < countOf f
   within = holding edition f job i found .within
 
-  walk : Walked (rowSize edition) f (countOf f)
-  walk = holding edition f job i found .file .walk
+  passed : Passes edition f
+  passed = holding edition f job i found .file
 
   same-long : length otherUnit ≡ length f
-  same-long = length-set f (rowOf f i .at + 4) v
+  same-long = unit-long edition f passed i v within
 
-  same-table : Agree otherUnit f 0 (rowStart (rowSize edition) (countOf f))
-  same-table = table-kept (rowSize edition) f (countOf f) i v (row-broad edition) walk within
+  same-table : AgreeTable otherUnit f same-long (rowSize edition) (countOf f)
+  same-table = body-table f otherUnit same-long edition passed i within (unit-outside edition f passed i v within)
 
   row-is : rowOf otherUnit i ≡ rowOf f i
   row-is = row-same otherUnit f same-long (rowSize edition) (countOf f) (row-broad edition) same-table i within
@@ -72,13 +58,8 @@ module _ (f ring : List ℕ) (job i v : ℕ) (found : lookupJob f job ≡ answer
   nonce-is = nonce-same otherUnit f same-long (rowSize edition) (countOf f) (row-broad edition) same-table i within
 
   -- the check passes where the new byte is a unit, and else refuses the row with 30
-  check-is : (b : Bool) → isUnit v ≡ b → checkFile otherUnit ≡ cond b (answer 0 0) (answer 30 i)
-  unfolding checkAs
-  check-is b e =
-      let w = rowSize edition in
-      let n = countOf f in
-      let z : headNumber edition otherUnit ≡ 0 = head-same otherUnit f same-long w n (row-broad edition) same-table edition ∙ holding edition f job i found .file .zero in
-      simp (z, count-same otherUnit f same-long w n (row-broad edition) same-table) (rows-are w f n i v (row-broad edition) walk within b e)
+  check-is : (b : Bool) → isUnit v ≡ b → checkFile otherUnit ≡ cond (not b) (answer 30 i) (answer 0 0)
+  check-is b e = rw e at (unit-check edition f passed i v within)
 
   lookup-is : (b : Bool) → isUnit v ≡ b → lookupJob otherUnit job ≡ cond b (answer 0 i) (answer 30 i)
   unfolding lookupAs
@@ -94,92 +75,25 @@ module _ (f ring : List ℕ) (job i v : ℕ) (found : lookupJob f job ≡ answer
   tag-is : tagOf otherUnit (rowOf f i) ≡ tagOf f (rowOf f i)
   tag-is =
       let r = rowOf f i in
-      let a = walk .rows i within .size .ad-low in
+      let a = passed .walk .rows i within .size .ad-low in
       stretch-same otherUnit f same-long (r .at + r .ad + r .len) (sizeOf (r .suite)) (λ k l m. getD-set-other f (r .at + 4) k v 0 (λ q. omega arith))
-
-  -- associated data that differs at most in its byte 4
-  data-at : (x : List ℕ) (k : ℕ) → k < rowOf f i .ad → getD (dataOf x (rowOf f i)) k 0 ≡ getD x (rowOf f i .at + k) 0
-  data-at x k l = getD-take (rowOf f i .ad) (drop (rowOf f i .at) x) k 0 l ∙ getD-drop (rowOf f i .at) x k 0
-
-  data-long : (x : List ℕ) → length x ≡ length f → length (dataOf x (rowOf f i)) ≡ rowOf f i .ad
-  unfolding bodyEnd
-  data-long x q = stretch-length x (rowOf f i .at) (rowOf f i .ad) (omega (arith, walk .rows i within .place .ends))
-
-  data-other-at : (k : ℕ) → (k ≡ 4 → ⊥) → getD (dataOf f (rowOf f i)) k 0 ≡ getD (dataOf otherUnit (rowOf f i)) k 0
-  data-other-at k ne =
-      let r = rowOf f i in
-      elim (decLt k (r .ad)) [
-        | yes l ↦ data-at f k l ∙ sym (data-at otherUnit k l ∙ getD-set-other f (r .at + 4) (r .at + k) v 0 (λ q. ne (omega arith)))
-        | no l ↦
-            List·getD-eq-default (dataOf f r) 0 {n = k} (omega (arith, data-long f refl))
-            ∙ sym (List·getD-eq-default (dataOf otherUnit r) 0 {n = k} (omega (arith, data-long otherUnit same-long)))
-      ]
-
-  -- associated data that differs, inside its first block, makes another tag
-  differ-inside : (k : ℕ) → (getD (dataOf f (rowOf f i)) k 0 ≡ getD (dataOf otherUnit (rowOf f i)) k 0 → ⊥) → (0 * sizeOf (rowOf f i .suite) ≤ k) × (k < 0 * sizeOf (rowOf f i .suite) + sizeOf (rowOf f i .suite))
-  differ-inside k ne =
-      let big : 8 ≤ sizeOf (rowOf f i .suite) = ⊎-elim (λ q. omega arith) (λ q. omega arith) (sizes-two (rowOf f i .suite)) in
-      elim (decLt k 8) [
-        | yes l ↦ omega arith
-        | no l ↦ absurd (ne (data-other-at k (λ q. omega arith)))
-      ]
 
   module _ (hf : AllBytes f) (hr : AllBytes ring) (hv : v < 256) (other : unitOf f (rowOf f i) ≡ v → ⊥) (g : length ring ≡ 256) (empty : rowOf f i .len ≡ 0) where
     data-differs : dataOf f (rowOf f i) ≡ dataOf otherUnit (rowOf f i) → ⊥
     unfolding bodyEnd
     data-differs q =
         let r = rowOf f i in
-        let s = walk .rows i within in
+        let s = passed .walk .rows i within in
         let l : 4 < r .ad = omega (arith, s .size .ad-low) in
-        other (sym (data-at f 4 l) ∙ ap (λ (x : List ℕ). getD x 4 0) q ∙ data-at otherUnit 4 l ∙ getD-set-same f (r .at + 4) v 0 (omega (arith, s .place .ends)))
+        other (sym (stretch-at f (r .at) (r .ad) 4 l) ∙ ap (λ (x : List ℕ). getD x 4 0) q ∙ stretch-at otherUnit (r .at) (r .ad) 4 l ∙ getD-set-same f (r .at + 4) v 0 (omega (arith, s .place .ends)))
 
-    nonce-bytes : AllBytes (nonceRead f i)
-    unfolding nonceAt
-    nonce-bytes = all-take (nonceOf (rowOf f i .suite)) (nonceAt (rowSize edition) f i) (all-stretch f (nonceStart (rowSize edition) i) 16 hf)
-
-    -- the tag over x as associated data, an empty message, and all else the entry's
-    abbrev tagOver : List ℕ → List ℕ
-    tagOver x = tagOut (cipherOf (rowOf f i .suite)) true (ringKey ring (rowOf f i .key)) (nonceRead f i) x []
-
-    tags-differ : tagOver (dataOf f (rowOf f i)) ≡ tagOver (dataOf otherUnit (rowOf f i)) → ⊥
-    tags-differ e =
-        let r = rowOf f i in
-        let κ = cipherOf (r .suite) in
-        let key = ringKey ring (r .key) in
-        let nonce = nonceRead f i in
-        let d = dataOf f r in
-        let d′ = dataOf otherUnit r in
-        let n = sizeOf (r .suite) in
-        let h = found-in f job i found in
-        let l : length d ≡ length d′ = data-long f refl ∙ sym (data-long otherUnit same-long) in
-        data-differs
-        (data-told κ (lawful (r .suite)) 0 d d′ (all-stretch f (r .at) (r .ad) hf) (all-stretch otherUnit (r .at) (r .ad) (all-set f (r .at + 4) v hf hv)) l
-        (same-before n 0 d d′ l differ-inside) (same-behind n 0 d d′ l differ-inside) key nonce []
-        (record { long = key-long f ring i h g; bytes = all-stretch ring (16 * r .key) 16 hr })
-        nonce-bytes (nonce-long f ring i h g ∙ sym (suite-nonce (r .suite))) all-nil
-        (sym (empty-tag κ key nonce d) ∙ e ∙ empty-tag κ key nonce d′))
-
-    -- what the opener compares
-    abbrev rightOf : Row → List ℕ → List ℕ → List ℕ → List ℕ → Bool
-    rightOf r nonce ad text tag = sameBytes (tagOut (cipherOf (r .suite)) true (ringKey ring (r .key)) nonce ad text) tag
-
-    no-text : (x : List ℕ) → textOf x (rowOf f i) ≡ []
-    no-text x = ap (stretch x (rowOf f i .at + rowOf f i .ad)) empty
-
-    right-is : entryRight f ring i ≡ sameBytes (tagOver (dataOf f (rowOf f i))) (tagOf f (rowOf f i))
-    right-is = ap (λ (t : List ℕ). rightOf (rowOf f i) (nonceRead f i) (dataOf f (rowOf f i)) t (tagOf f (rowOf f i))) (no-text f)
-
-    other-is : entryRight otherUnit ring i ≡ sameBytes (tagOver (dataOf otherUnit (rowOf f i))) (tagOf f (rowOf f i))
-    other-is =
-        (λ t. rightOf (row-is t) (take (nonceOf (row-is t .suite)) (nonce-is t)) (dataOf otherUnit (row-is t)) (textOf otherUnit (row-is t)) (tagOf otherUnit (row-is t)))
-        ∙ ap₂ (λ (t u : List ℕ). rightOf (rowOf f i) (nonceRead f i) (dataOf otherUnit (rowOf f i)) t u) (no-text otherUnit) tag-is
-
+    -- the unit lies in the first block
     other-wrong : entryRight f ring i ≡ true → entryRight otherUnit ring i ≡ false
-    other-wrong e = wrong (entryRight otherUnit ring i) refl
-      where
-        wrong : (b : Bool) → entryRight otherUnit ring i ≡ b → b ≡ false
-        wrong true q = absurd (tags-differ (same-true _ _ (sym right-is ∙ e) ∙ sym (same-true _ _ (sym other-is ∙ q))))
-        wrong false q = refl
+    other-wrong e =
+        let r = rowOf f i in
+        let big : 8 ≤ sizeOf (r .suite) = ⊎-elim (λ q. omega arith) (λ q. omega arith) (sizes-two (r .suite)) in
+        data-wrong f otherUnit ring i (found-in f job i found) g hf (all-set f (r .at + 4) v hf hv) hr same-long row-is nonce-is tag-is e 0 empty data-differs
+        (λ k o. getD-set-other f (r .at + 4) k v 0 (λ q. ⊎-elim (λ a. omega arith) (λ a. omega arith) o))
 
     -- the opener's answer, where the output has no byte
     opened-is : (x : List ℕ) → rowOf x i .len ≡ 0 → EntryIn (rowSize edition) x i → entryOpening x ring i [] ≡ openedAs 0 (entryRight x ring i) (entryText x ring i) []

@@ -19,7 +19,12 @@ ringKey ring k = stretch ring (16 * k) 16
 abbrev pub nonceRead : List ℕ → ℕ → List ℕ
 nonceRead f i = nonceReadAt (rowSize edition) f i
 
--- what the opener gives and leaves on the entry's own stretch of the file, and its key
+-- what the sealer and the opener give and leave on the entry's own stretch of the file, and its key
+unfoldable pub entrySealing : List ℕ → List ℕ → ℕ → List ℕ → List ℕ → comet.Sealed
+entrySealing f ring i out₀ tag₀ =
+    let r = rowOf f i in
+    comet.sealing (r .suite) (ringKey ring (r .key)) (nonceRead f i) (dataOf f r) (textOf f r) out₀ tag₀
+
 unfoldable pub entryOpening : List ℕ → List ℕ → ℕ → List ℕ → comet.Opened
 entryOpening f ring i out₀ =
     let r = rowOf f i in

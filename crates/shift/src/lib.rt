@@ -1,12 +1,13 @@
 // The jobs of the plant's shift file: the lookup of a job, its entry, its associated data, and its opening.
 pub mod answers;
 mod find;
+pub mod lend;
 mod opening;
 
 use answers::Entry;
 use answers::Found;
 use answers::Opened;
-use opening::row_of;
+use lend::row_of;
 use table::row::EDITION;
 use table::row::stretch;
 ghost use mathlib.Core.Path.{_≡_};

@@ -1,57 +1,14 @@
 // Opening one entry.
 use crate::answers::Found;
 use crate::answers::Opened;
+use crate::lend::open_row;
+use crate::lend::row_of;
 use comet::Answer;
-use table::row::EDITION;
-use table::row::Row;
-use table::row::nonce_at;
-use table::row::row_at;
-use table::row::row_size;
-use table::row::stretch;
 ghost use mathlib.Core.Path.{_≡_};
-ghost use lib.ListN.{take};
-ghost use Rattle.cipher.specs.Cipher.{nonceOf};
-ghost use Rattle.comet.specs.Answers.{numberOf};
-ghost use Rattle.comet.specs.Answers as comet;
-ghost use Rattle.table.specs.Format.{edition, rowSize, rowOf, nonceAt};
-ghost use Rattle.table.specs.Inside.{RowIn, EntryIn};
+ghost use Rattle.table.specs.Format.{edition, rowSize};
+ghost use Rattle.table.specs.Inside.{EntryIn};
 ghost use Rattle.shift.specs.Answers.{foundAnswer, openedAnswer};
-ghost use Rattle.shift.specs.Opening.{entryOpening, JobOpened, rowOpening};
-ghost use Rattle.shift.specs.Inside.{Lendable};
-
-// Row i of a shift file.
-pub(crate) fn row_of(f: &[u8], i: usize) -> Row
-    requires { ⌜ RowIn (rowSize edition) (now f) i ⌝ }
-    ensures { λ r. ⌜ r ≡ rowOf (now (f .entry)) i ⌝ }
-{
-    row_at(row_size(EDITION), f, i)
-}
-
-// The nonce bytes of row i that its suite reads.
-fn nonce_read(f: &[u8], i: usize, suite: u8) -> &[u8]
-    requires { ⌜ RowIn (rowSize edition) (now f) i ⌝ }
-    ensures { λ r. ⌜ now r ≡ take (nonceOf suite) (nonceAt (rowSize edition) (now (f .entry)) i) ⌝ }
-{
-    let nonce = nonce_at(row_size(EDITION), f, i);
-    stretch(nonce, 0, cipher::nonce_size(suite))
-}
-
-// Lends row i to the opener: the entry's own stretch of the file, and its key.
-fn open_row(f: &[u8], ring: &[u8], i: usize, row: Row, out: &mut [u8]) -> Answer
-    requires { ⌜ Lendable (now f) (now ring) i row ⌝ }
-    ensures { λ r. ⌜ _≡_ {A = comet.Opened} (record { number = numberOf r; out = now (out .exit) }) (entryOpening (now (f .entry)) (now (ring .entry)) i (now (out .entry))) ⌝ }
-{
-    let at = row.at as usize;
-    let ad = row.ad as usize;
-    let len = row.len as usize;
-    let k = row.key as usize;
-    let key = stretch(ring, 16 * k, 16);
-    let nonce = nonce_read(f, i, row.suite);
-    let data = stretch(f, at, ad);
-    let text = stretch(f, at + ad, len);
-    let tag = stretch(f, at + ad + len, cipher::size_of(row.suite));
-    comet::unseal(row.suite, key, nonce, data, text, tag, out)
-}
+ghost use Rattle.shift.specs.Opening.{JobOpened, rowOpening};
 
 // Opens row i: 2, 6, 8.
 pub(crate) fn open_entry(f: &[u8], ring: &[u8], i: usize, out: &mut [u8]) -> Opened

@@ -4,6 +4,7 @@ use native.Mathlib.Omega.{arith}
 use mathlib.Core.Path.{_≡_, refl, sym, ap, ap₂, _∙_}
 use mathlib.Core.Bool.{Bool, true, false, _||_, _&&_, not, cond}
 use lib.Dec.{eqb, leb}
+use borrow.Author.Tests.{eq-eqb}
 use mathlib.Core.List.{List, _∷_}
 use lib.ListN.{length, getD, take, drop, length-take, length-drop}
 use lib.Seq.{ext-getD, getD-take, getD-drop}
@@ -12,9 +13,9 @@ use Rattle.cipher.specs.Cipher.{nonceOf}
 use Rattle.table.specs.declared.row.Row.{Row}
 use Rattle.table.specs.Search.{anyBelow}
 use Rattle.table.specs.Part.{stretch}
-use Rattle.table.specs.Format.{countOf, rowStart, restStart, rowAt, nonceStart, nonceAt, nonceReadAt, padded, bodyEnd}
+use Rattle.table.specs.Format.{editionOf, countOf, totalOf, rowSize, rowStart, restStart, rowAt, nonceStart, nonceAt, nonceReadAt, padded, bodyEnd}
 use Rattle.table.specs.Check.{notAbove, badSuite, badLength, bodyStart, misplaced, unreadSet, clash, nonceSeen, badData, bodyNumber, rowNumber, headNumber}
-use Rattle.table.proofs.Rows.{row-below}
+use Rattle.table.proofs.Rows.{row-below, row-late}
 
 any-same : (p q : ℕ → Bool) (n : ℕ) → ((k : ℕ) → k < n → p k ≡ q k) → anyBelow p n ≡ anyBelow q n
 unfolding anyBelow
@@ -55,27 +56,32 @@ module _ (f g : List ℕ) where
         getD-take n (drop at f) k 0 m ∙ getD-drop at f k 0 ∙ h (at + k) (omega arith) (omega arith)
         ∙ sym (getD-take n (drop at g) k 0 m ∙ getD-drop at g k 0))
 
-    -- the header and the table of n rows are the same
-    module _ (w n : ℕ) (broad : 32 ≤ w) (table : Agree 0 (rowStart w n)) where
-      agree : (at m : ℕ) → at + m ≤ rowStart w n → Agree at m
-      agree at m h k l u = table k (omega arith) (omega arith)
+    -- the header from its row count on, and the table of n rows
+    abbrev pub AgreeTable : ℕ → ℕ → Type 0
+    AgreeTable w n = (k : ℕ) → 2 ≤ k → k < rowStart w n → getD f k 0 ≡ getD g k 0
+
+    -- they are the same; the editions may differ
+    module _ (w n : ℕ) (broad : 32 ≤ w) (table : AgreeTable w n) where
+      agree : (at m : ℕ) → 2 ≤ at → at + m ≤ rowStart w n → Agree at m
+      agree at m b h k l u = table k (omega arith) (omega arith)
 
       pub row-same : (i : ℕ) → i < n → rowAt w f i ≡ rowAt w g i
       unfolding rowAt restStart
       row-same i h =
           let b = row-below w i n h in
+          let z = row-late w i in
           let q = restStart w i in
-          let job = word-same 4 (rowStart w i) (agree (rowStart w i) 4 (omega arith)) in
-          let suite = agree q 1 (omega arith) q (omega arith) (omega arith) in
-          let key = agree (q + 1) 1 (omega arith) (q + 1) (omega arith) (omega arith) in
-          let ad = word-same 2 (q + 2) (agree (q + 2) 2 (omega arith)) in
-          let at = word-same 4 (q + 4) (agree (q + 4) 4 (omega arith)) in
-          let len = word-same 4 (q + 8) (agree (q + 8) 4 (omega arith)) in
+          let job = word-same 4 (rowStart w i) (agree (rowStart w i) 4 (omega arith) (omega arith)) in
+          let suite = agree q 1 (omega arith) (omega arith) q (omega arith) (omega arith) in
+          let key = agree (q + 1) 1 (omega arith) (omega arith) (q + 1) (omega arith) (omega arith) in
+          let ad = word-same 2 (q + 2) (agree (q + 2) 2 (omega arith) (omega arith)) in
+          let at = word-same 4 (q + 4) (agree (q + 4) 4 (omega arith) (omega arith)) in
+          let len = word-same 4 (q + 8) (agree (q + 8) 4 (omega arith) (omega arith)) in
           λ t. record { job = job t; suite = suite t; key = key t; ad = ad t; at = at t; len = len t }
 
       pub nonce-same : (i : ℕ) → i < n → nonceAt w f i ≡ nonceAt w g i
       unfolding nonceAt nonceStart restStart
-      nonce-same i h = stretch-same (nonceStart w i) 16 (agree (nonceStart w i) 16 (omega (arith, row-below w i n h)))
+      nonce-same i h = stretch-same (nonceStart w i) 16 (agree (nonceStart w i) 16 (omega (arith, row-late w i)) (omega (arith, row-below w i n h)))
 
       read-same : (i : ℕ) → i < n → nonceReadAt w f i ≡ nonceReadAt w g i
       read-same i h = ap₂ (λ (r : Row) (s : List ℕ). take (nonceOf (r .suite)) s) (row-same i h) (nonce-same i h)
@@ -115,8 +121,13 @@ module _ (f g : List ℕ) where
 
       pub count-same : countOf f ≡ countOf g
       unfolding rowStart
-      count-same = word-same 2 2 (agree 2 2 (omega arith))
+      count-same = word-same 2 2 (agree 2 2 (omega arith) (omega arith))
 
-      pub head-same : (e : ℕ) → headNumber e f ≡ headNumber e g
-      unfolding headNumber rowStart
-      head-same e = simp (long, word-same 2 0 (agree 0 2 (omega arith)), count-same, word-same 4 4 (agree 4 4 (omega arith)))
+      pub total-same : totalOf f ≡ totalOf g
+      unfolding rowStart
+      total-same = word-same 4 4 (agree 4 4 (omega arith) (omega arith))
+
+      -- each passes 20 to 24 where its own edition is wanted, if the other does
+      pub head-same : (e d : ℕ) → rowSize e ≡ rowSize d → editionOf f ≡ e → editionOf g ≡ d → headNumber e f ≡ headNumber d g
+      unfolding headNumber
+      head-same e d q a b = simp (long, a, b, eq-eqb e e refl, eq-eqb d d refl, count-same, total-same, q)

@@ -1,11 +1,13 @@
 pub mod Searches
 pub mod Numbers
 pub mod Rows
+pub mod Parts
 pub mod Sound
 pub mod Passed
 pub mod Nonces
 pub mod Told
 pub mod Alike
+pub mod Kept
 pub mod Bodies
 pub mod Rising
 pub mod Units

@@ -38,6 +38,14 @@ use Rattle.table.proofs.row.nonce_at.Kinds as nonce-at-kinds
 use Rattle.table.proofs.row.nonce_at.Reads as nonce-at-reads
 use Rattle.table.proofs.row.body_end.Kinds as body-end-kinds
 use Rattle.table.proofs.row.body_end.Reads as body-end-reads
+use Rattle.table.proofs.body.text_start.Kinds as text-start-kinds
+use Rattle.table.proofs.body.text_start.Reads as text-start-reads
+use Rattle.table.proofs.body.data_of.Kinds as data-of-kinds
+use Rattle.table.proofs.body.data_of.Reads as data-of-reads
+use Rattle.table.proofs.body.text_of.Kinds as text-of-kinds
+use Rattle.table.proofs.body.text_of.Reads as text-of-reads
+use Rattle.table.proofs.body.tag_of.Kinds as tag-of-kinds
+use Rattle.table.proofs.body.tag_of.Reads as tag-of-reads
 use Rattle.table.proofs.answers.Fault.number.Kinds as fault-kinds
 use Rattle.table.proofs.answers.Fault.number.Reads as fault-reads
 use Rattle.table.proofs.answers.Refusal.answer.Kinds as refusal-kinds
@@ -130,6 +138,21 @@ nonce-at κs a x y = part-one (x .ensures .0) (y .ensures .0)
 
 pub body-end : OneOutcome body-end-kinds.ps body-end-kinds.r body-end-reads.Pre body-end-reads.Post
 body-end κs a h x y = (x .ensures ∙ sym (y .ensures), refl)
+
+pub text-start : OneOutcome text-start-kinds.ps text-start-kinds.r text-start-reads.Pre text-start-reads.Post
+text-start κs a h x y = (x .ensures ∙ sym (y .ensures), refl)
+
+pub data-of : (κs : Lfts 1) (a : Dens κs data-of-kinds.ps) (x y : Outcome data-of-kinds.ps data-of-kinds.r data-of-reads.Post κs a)
+    → (now (x .result) ≡ now (y .result)) × (x .result .ptr ≡ y .result .ptr)
+data-of κs a x y = part-one (x .ensures) (y .ensures)
+
+pub text-of : (κs : Lfts 1) (a : Dens κs text-of-kinds.ps) (x y : Outcome text-of-kinds.ps text-of-kinds.r text-of-reads.Post κs a)
+    → (now (x .result) ≡ now (y .result)) × (x .result .ptr ≡ y .result .ptr)
+text-of κs a x y = part-one (x .ensures) (y .ensures)
+
+pub tag-of : (κs : Lfts 1) (a : Dens κs tag-of-kinds.ps) (x y : Outcome tag-of-kinds.ps tag-of-kinds.r tag-of-reads.Post κs a)
+    → (now (x .result) ≡ now (y .result)) × (x .result .ptr ≡ y .result .ptr)
+tag-of κs a x y = part-one (x .ensures) (y .ensures)
 
 pub fault-number : OneOutcome fault-kinds.ps fault-kinds.r fault-reads.Pre fault-reads.Post
 fault-number κs a h x y = (x .ensures ∙ sym (y .ensures), refl)

@@ -18,6 +18,11 @@ pub row-below : (w i j : ℕ) → i < j → rowStart w i + w ≤ rowStart w j
 unfolding rowStart
 row-below w i j h = omega (arith, mul-suc w i, mul-le-mul-left w h)
 
+-- the header is in front of every row
+pub row-late : (w i : ℕ) → 8 ≤ rowStart w i
+unfolding rowStart
+row-late w i = omega arith
+
 pub row-in : (w : ℕ) (f : List ℕ) (n i : ℕ) → TableIn w f n → i < n → RowIn w f i
 row-in w f n i t h = record { broad = t .broad; fits = omega (arith, row-below w i n h, t .fits) }
 

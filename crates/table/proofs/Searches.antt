@@ -3,9 +3,11 @@ use Prim.Native.Nat.{ℕ, zero, suc, _+_, _-_, _≤_, _<_}
 use native.Mathlib.Nat.{not-suc-le-zero, le-of-suc-le-suc, eq-or-lt-of-le}
 use native.Mathlib.Numerals.{add-one}
 use native.Mathlib.Omega.{arith}
-use mathlib.Core.Path.{_≡_, refl}
-use mathlib.Core.Bool.{Bool, true, false, _||_, or-true, true≢false}
+use mathlib.Core.Path.{_≡_, refl, sym, ap, _∙_}
+use mathlib.Core.Bool.{Bool, true, false, _||_, cond, or-true, true≢false}
 use mathlib.Core.Logic.{_⊎_, inl, inr, ⊎-elim}
+use lib.Dec.{eqb}
+use borrow.Author.Tests.{eqb-true, eqb-false}
 use Rattle.table.specs.Search.{anyBelow, firstOf}
 
 -- ---- tests
@@ -13,6 +15,14 @@ use Rattle.table.specs.Search.{anyBelow, firstOf}
 pub or-false : (a b : Bool) → a || b ≡ false → (a ≡ false) × (b ≡ false)
 or-false true b e = absurd (true≢false e)
 or-false false b e = (refl, e)
+
+-- numbers that cannot differ are equal
+pub same-number : (i j : ℕ) → ((i ≡ j → ⊥) → ⊥) → i ≡ j
+same-number i j d = number-case (eqb i j) refl
+  where
+    number-case : (b : Bool) → eqb i j ≡ b → i ≡ j
+    number-case true e = eqb-true i j e
+    number-case false e = absurd (d (eqb-false i j e))
 
 -- ---- some number below n
 
@@ -76,3 +86,45 @@ module _ {A : Type 0} (hit : ℕ → Bool) (what : ℕ → A) (rest : A) where
             gives = n .gives;
           }))
           (later (simp e at q))
+
+  -- i is the first of the numbers below n that passes
+  first-past : (n i : ℕ) → i ≤ n → ((j : ℕ) → j < i → hit j ≡ false) → firstOf hit what rest 0 (n - 0) ≡ firstOf hit what rest i (n - i)
+  first-past n zero l z = refl
+  first-past n (suc i) l z = first-past n i (omega arith) (λ j b. z j (omega arith)) ∙ rw add-one at (first-skip n i l (z i (omega arith)))
+
+  pub first-at : (n i : ℕ) → i < n → hit i ≡ true → ((j : ℕ) → j < i → hit j ≡ false) → firstOf hit what rest 0 (n - 0) ≡ what i
+  first-at n i l e z = first-past n i (omega arith) z ∙ first-hit n i l e
+
+  -- none of the numbers below n passes
+  pub first-none : (n : ℕ) → ((j : ℕ) → j < n → hit j ≡ false) → firstOf hit what rest 0 (n - 0) ≡ rest
+  first-none n z =
+      ⊎-elim
+      (λ h. absurd (true≢false (sym (h .hits) ∙ z (h .at) (omega (arith, h .below)))))
+      (λ h. sym (h .gives))
+      (first-says (n - 0) 0 (firstOf hit what rest 0 (n - 0)) refl)
+
+  -- of the numbers below n no other than i passes
+  pub first-only : (n i : ℕ) → i < n → ((j : ℕ) → j < n → (j ≡ i → ⊥) → hit j ≡ false) → firstOf hit what rest 0 (n - 0) ≡ cond (hit i) (what i) rest
+  first-only n i l z =
+      ⊎-elim
+      (λ h.
+      let q : h .at ≡ i = same-number (h .at) i (λ d. true≢false (sym (h .hits) ∙ z (h .at) (omega (arith, h .below)) d)) in
+      let here : hit i ≡ true = ap hit (sym q) ∙ h .hits in
+      simp here (sym (h .gives) ∙ ap what q))
+      (λ h.
+      let here : hit i ≡ false = h .none i (omega arith) (omega arith) in
+      simp here (sym (h .gives)))
+      (first-says (n - 0) 0 (firstOf hit what rest 0 (n - 0)) refl)
+
+-- two searches whose tests say the same, and which give the same where they hit and where they do not
+pub first-same : {A : Type 0} (hit hit′ : ℕ → Bool) (what what′ : ℕ → A) (rest rest′ : A) (k i : ℕ) → ((j : ℕ) → j < i + k → hit j ≡ hit′ j)
+    → ((j : ℕ) → j < i + k → hit j ≡ true → what j ≡ what′ j) → rest ≡ rest′ → firstOf hit what rest i k ≡ firstOf hit′ what′ rest′ i k
+unfolding firstOf
+first-same hit hit′ what what′ rest rest′ zero i h w r = r
+first-same hit hit′ what what′ rest rest′ (suc k) i h w r =
+    first-case (hit i) refl (first-same hit hit′ what what′ rest rest′ k (suc i) (λ j l. h j (omega arith)) (λ j l. w j (omega arith)) r)
+  where
+    first-case : (b : Bool) → hit i ≡ b → firstOf hit what rest (suc i) k ≡ firstOf hit′ what′ rest′ (suc i) k
+        → cond b (what i) (firstOf hit what rest (suc i) k) ≡ cond (hit′ i) (what′ i) (firstOf hit′ what′ rest′ (suc i) k)
+    first-case true e q = let same : hit′ i ≡ true = sym (h i (omega arith)) ∙ e in simp same (w i (omega arith) e)
+    first-case false e q = let same : hit′ i ≡ false = sym (h i (omega arith)) ∙ e in simp same q

@@ -1,5 +1,6 @@
 // The table of contents of the plant's shift file: its rows, and the full check.
 pub mod answers;
+pub mod body;
 pub mod row;
 mod rules;
 

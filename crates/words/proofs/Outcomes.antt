@@ -48,6 +48,10 @@ use Rattle.words.proofs.block.put.Kinds as put-kinds
 use Rattle.words.proofs.block.put.Reads as put-reads
 use Rattle.words.proofs.zeros.wipe.Kinds as wipe-kinds
 use Rattle.words.proofs.zeros.wipe.Reads as wipe-reads
+use Rattle.words.proofs.runs.copy.Kinds as copy-kinds
+use Rattle.words.proofs.runs.copy.Reads as copy-reads
+use Rattle.words.proofs.runs.all_zero.Kinds as all-zero-kinds
+use Rattle.words.proofs.runs.all_zero.Reads as all-zero-reads
 
 pub add16 : OneOutcome add16-kinds.ps add16-kinds.r add16-reads.Pre add16-reads.Post
 add16 κs a h x y = (x .ensures ∙ sym (y .ensures), refl)
@@ -111,3 +115,9 @@ put κs a h x y = (refl, ap (λ (l : List ℕ). (tt, (l, tt))) (x .ensures ∙ s
 
 pub wipe : OneOutcome wipe-kinds.ps wipe-kinds.r wipe-reads.Pre wipe-reads.Post
 wipe κs a h x y = (refl, ap (λ (l : List ℕ). (l, tt)) (x .ensures ∙ sym (y .ensures)))
+
+pub copy : OneOutcome copy-kinds.ps copy-kinds.r copy-reads.Pre copy-reads.Post
+copy κs a h x y = (refl, ap (λ (l : List ℕ). (tt, (l, tt))) (x .ensures ∙ sym (y .ensures)))
+
+pub all-zero : OneOutcome all-zero-kinds.ps all-zero-kinds.r all-zero-reads.Pre all-zero-reads.Post
+all-zero κs a h x y = (x .ensures ∙ sym (y .ensures), refl)

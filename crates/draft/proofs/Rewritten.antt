@@ -1,0 +1,263 @@
+-- A file that passes, with another edition and other bytes for text and tag of each row: it has the same rows and associated data, so it passes at that edition.
+use Prim.Native.Nat.{ℕ, zero, suc, _+_, _-_, _*_, _/_, _%_, _≤_, _<_}
+use native.Mathlib.Decide.{decLt}
+use native.Mathlib.Omega.{arith}
+use mathlib.Core.Path.{_≡_, refl, sym, ap, ap₂, _∙_, subst}
+use mathlib.Core.Bool.{Bool, true, false, not}
+use mathlib.Core.List.{List, [], _∷_, _++_}
+use mathlib.Core.Logic.{_⊎_, inl, inr, ⊎-elim}
+use lib.ListN.{length, getD, take, drop}
+use lib.Seq.{getD-take, getD-drop, ext-getD, take-add, drop-drop}
+use lib.Dec.{eqb}
+use borrow.Author.Tests.{eqb-false, not-true, eq-eqb}
+use Rattle.words.specs.Bytes.{AllBytes, value, bytes, word}
+use Rattle.words.proofs.Lists.{append-inj}
+use Rattle.cipher.specs.Cipher.{sizeOf}
+use Rattle.table.specs.declared.row.Row.{Row}
+use Rattle.table.specs.declared.answers.Answer.{Answer}
+use Rattle.table.specs.Part.{stretch}
+use Rattle.table.specs.Format.{editionOf, countOf, edition, rowSize, rowStart, nonceAt, rowOf, dataOf, textOf, tagOf, bodyEnd}
+use Rattle.table.specs.Answers.{answer}
+use Rattle.table.specs.Check.{checkAs}
+use Rattle.table.specs.Inside.{EntryIn}
+use Rattle.table.proofs.Rows.{row-broad, row-late, stretch-length}
+use Rattle.table.proofs.Searches.{first-none}
+use Rattle.table.proofs.Sound.{Sound, Headed}
+use Rattle.table.proofs.Passed.{Walked, Passes, passes, entry-in}
+use Rattle.table.proofs.Bodies.{apart, after-table}
+use Rattle.table.proofs.Alike.{AgreeTable, stretch-same, row-same, nonce-same, count-same}
+use Rattle.table.proofs.Kept.{data-held, check-kept}
+use Rattle.draft.specs.Put.{put, putAll}
+use Rattle.draft.specs.Files.{inEdition, pieceStart, pieceSize, rewritten}
+use Rattle.draft.proofs.Puts.{Beside, Apart, Inside, Outside, where-is, put-length, put-in, put-beside, all-length, all-outside, all-inside, piece-stretch}
+
+-- ---- the edition
+
+module _ (e : ℕ) (f : List ℕ) (h : 8 ≤ length f) where
+  pub edition-length : length (inEdition e f) ≡ length f
+  unfolding inEdition bytes
+  edition-length = put-length f 0 (bytes 2 e) (omega arith)
+
+  pub edition-other : (k : ℕ) → 2 ≤ k → getD (inEdition e f) k 0 ≡ getD f k 0
+  unfolding inEdition bytes
+  edition-other k b = put-beside f 0 (bytes 2 e) (omega arith) k (inr (omega arith))
+
+  pub edition-low : getD (inEdition e f) 0 0 ≡ e % 256
+  unfolding inEdition bytes
+  edition-low = put-in f 0 (bytes 2 e) (omega arith) 0 (omega arith)
+
+  pub edition-high : getD (inEdition e f) 1 0 ≡ e / 256 % 256
+  unfolding inEdition bytes
+  edition-high = put-in f 0 (bytes 2 e) (omega arith) 1 (omega arith)
+
+-- a file that has the edition already
+pub edition-same : (e : ℕ) (f : List ℕ) → 8 ≤ length f → getD f 0 0 ≡ e % 256 → getD f 1 0 ≡ e / 256 % 256 → inEdition e f ≡ f
+edition-same e f h a b =
+    ext-getD 0 (inEdition e f) f (edition-length e f h)
+    (λ k l. elim (decLt k 2) [
+      | no m ↦ edition-other e f h k (omega arith)
+      | yes m ↦ elim (decLt k 1) [
+        | yes c ↦ let q : k ≡ 0 = omega arith in rw q (edition-low e f h ∙ sym a)
+        | no c ↦ let q : k ≡ 1 = omega arith in rw q (edition-high e f h ∙ sym b)
+      ]
+    ])
+
+-- two bytes that make a number
+pair-is : (l : List ℕ) (e : ℕ) → e < 256 → getD l 0 0 ≡ e % 256 → getD l 1 0 ≡ e / 256 % 256 → editionOf l ≡ e
+unfolding value
+pair-is l e s p q = omega arith
+
+pub pair-low : (l : List ℕ) (e : ℕ) → AllBytes l → e < 256 → editionOf l ≡ e → getD l 0 0 ≡ e % 256
+unfolding value
+pair-low l e b s q = omega (arith, b 0, b 1)
+
+pub pair-high : (l : List ℕ) (e : ℕ) → AllBytes l → e < 256 → editionOf l ≡ e → getD l 1 0 ≡ e / 256 % 256
+unfolding value
+pair-high l e b s q = omega (arith, b 0, b 1)
+
+-- ---- a stretch in two parts
+
+pub two-parts : (g : List ℕ) (s n m : ℕ) → stretch g s (n + m) ≡ stretch g s n ++ stretch g (s + n) m
+two-parts g s n m = take-add n m (drop s g) ∙ ap (λ (x : List ℕ). stretch g s n ++ take m x) (drop-drop n s g)
+
+-- rows of edition e are as long as those of edition 1
+abbrev pub Plain : ℕ → Type 0
+Plain e = (rowSize e ≡ rowSize edition) × (e < 256)
+
+module _ (e₀ : ℕ) (f : List ℕ) (p₀ : Plain e₀) (z : checkAs e₀ f .number ≡ 0) where
+  pub head : Headed e₀ f
+  head = passes e₀ f z .head
+
+  pub walk : Walked (rowSize edition) f (countOf f)
+  walk = subst (λ (w : ℕ). Walked w f (countOf f)) (p₀ .0) (passes e₀ f z .walk)
+
+  pub row-sound : (i : ℕ) → i < countOf f → Sound (rowSize edition) f (countOf f) i
+  row-sound i l = walk .rows i l
+
+  -- the body starts behind the table
+  pub body-late : (i : ℕ) → i < countOf f → rowStart (rowSize edition) (countOf f) ≤ rowOf f i .at
+  body-late i l = omega (arith, after-table (rowSize edition) f (countOf f) walk i (omega arith), row-sound i l .place .starts)
+
+  -- text and tag end where the body does
+  pub piece-end : (i : ℕ) → pieceStart f i + pieceSize f i ≡ bodyEnd (rowOf f i)
+  unfolding pieceStart bodyEnd
+  piece-end i = omega arith
+
+  pub start-is : (i : ℕ) → pieceStart f i ≡ rowOf f i .at + rowOf f i .ad
+  unfolding pieceStart
+  start-is i = refl
+
+  pub bodies-apart : (i j : ℕ) → i < j → j < countOf f → bodyEnd (rowOf f i) ≤ rowOf f j .at
+  bodies-apart = apart (rowSize edition) f (countOf f) walk
+
+  pub piece-in : (i : ℕ) → i < countOf f → pieceStart f i + pieceSize f i ≤ length f
+  piece-in i l = omega (arith, piece-end i, row-sound i l .place .ends)
+
+  module _ (e : ℕ) (p : Plain e) (piece : ℕ → List ℕ) (long : (i : ℕ) → i < countOf f → length (piece i) ≡ pieceSize f i) where
+    abbrev g : List ℕ
+    g = rewritten e piece f
+
+    base-length : length (inEdition e f) ≡ length f
+    base-length = edition-length e f (head .long)
+
+    pub pieces-apart : Apart (pieceStart f) piece (countOf f) (inEdition e f)
+    pieces-apart = record {
+      fits = λ i l. omega (arith, long i l, piece-in i l, base-length);
+      after = λ i j l m. omega (arith, long i (omega arith), piece-end i, bodies-apart i j l m, start-is j);
+    }
+
+    pub same-length : length g ≡ length f
+    same-length = all-length (pieceStart f) piece (countOf f) (inEdition e f) pieces-apart (countOf f) (omega arith) ∙ base-length
+
+    -- outside of every piece the file is kept, but for the edition
+    kept : (k : ℕ) → 2 ≤ k → Outside (pieceStart f) piece (countOf f) k → getD g k 0 ≡ getD f k 0
+    kept k b o = all-outside (pieceStart f) piece (countOf f) (inEdition e f) pieces-apart (countOf f) (omega arith) k o ∙ edition-other e f (head .long) k b
+
+    head-outside : (k : ℕ) → k < rowStart (rowSize edition) (countOf f) → Outside (pieceStart f) piece (countOf f) k
+    head-outside k b i l = inl (omega (arith, body-late i l, start-is i))
+
+    pub same-table : AgreeTable g f same-length (rowSize edition) (countOf f)
+    same-table k a b = kept k a (head-outside k b)
+
+    data-outside : (j : ℕ) → j < countOf f → (k : ℕ) → rowOf f j .at ≤ k → k < pieceStart f j → Outside (pieceStart f) piece (countOf f) k
+    data-outside j m k a b i l =
+        elim (decLt i j) [
+          | yes c ↦ inr (omega (arith, long i l, piece-end i, bodies-apart i j c m))
+          | no c ↦ elim (decLt j i) [
+            | yes d ↦ inl (omega (arith, piece-end j, bodies-apart j i d l, start-is i))
+            | no d ↦ let q : i ≡ j = omega arith in inl (rw q b)
+          ]
+        ]
+
+    -- associated data is kept
+    data-kept : (j : ℕ) → j < countOf f → (k : ℕ) → rowOf f j .at ≤ k → k < pieceStart f j → getD g k 0 ≡ getD f k 0
+    data-kept j m k a b = kept k (omega (arith, body-late j m, row-late (rowSize edition) (countOf f))) (data-outside j m k a b)
+
+    pub same-data : (j : ℕ) → j < countOf f → dataOf g (rowOf f j) ≡ dataOf f (rowOf f j)
+    same-data j m = stretch-same g f same-length (rowOf f j .at) (rowOf f j .ad) (λ k a b. data-kept j m k a (omega (arith, start-is j)))
+
+    pub same-row : (i : ℕ) → i < countOf f → rowOf g i ≡ rowOf f i
+    same-row = row-same g f same-length (rowSize edition) (countOf f) (row-broad edition) same-table
+
+    pub same-nonce : (i : ℕ) → i < countOf f → nonceAt (rowSize edition) g i ≡ nonceAt (rowSize edition) f i
+    same-nonce = nonce-same g f same-length (rowSize edition) (countOf f) (row-broad edition) same-table
+
+    pub same-count : countOf g ≡ countOf f
+    same-count = count-same g f same-length (rowSize edition) (countOf f) (row-broad edition) same-table
+
+    pub same-start : (i : ℕ) → i < countOf f → pieceStart g i ≡ pieceStart f i
+    unfolding pieceStart
+    same-start i l = ap (λ (r : Row). r .at + r .ad) (same-row i l)
+
+    pub same-size : (i : ℕ) → i < countOf f → pieceSize g i ≡ pieceSize f i
+    same-size i l = ap (λ (r : Row). r .len + sizeOf (r .suite)) (same-row i l)
+
+    -- text and tag are what was put
+    pub piece-is : (i : ℕ) → i < countOf f → stretch g (pieceStart f i) (pieceSize f i) ≡ piece i
+    piece-is i l = ap (stretch g (pieceStart f i)) (sym (long i l)) ∙ piece-stretch (pieceStart f) piece (countOf f) (inEdition e f) pieces-apart i l
+
+    pub parts-are : (i : ℕ) → i < countOf f → (x y : List ℕ) → piece i ≡ x ++ y → length x ≡ rowOf f i .len → (textOf g (rowOf f i) ≡ x) × (tagOf g (rowOf f i) ≡ y)
+    unfolding pieceStart
+    parts-are i l x y q s =
+        let r = rowOf f i in
+        let t : stretch g (pieceStart f i) (r .len) ++ stretch g (pieceStart f i + r .len) (sizeOf (r .suite)) ≡ x ++ y = sym (two-parts g (pieceStart f i) (r .len) (sizeOf (r .suite))) ∙ piece-is i l ∙ q in
+        append-inj _ _ x y (stretch-length g (pieceStart f i) (r .len) (omega (arith, same-length, piece-in i l)) ∙ sym s) t
+
+    -- ---- the check
+
+    new-edition : editionOf g ≡ e
+    new-edition =
+        let o : (k : ℕ) → k < 2 → getD g k 0 ≡ getD (inEdition e f) k 0 = λ k b. all-outside (pieceStart f) piece (countOf f) (inEdition e f) pieces-apart (countOf f) (omega arith) k (head-outside k (omega (arith, row-late (rowSize edition) (countOf f)))) in
+        pair-is g e (p .1) (o 0 (omega arith) ∙ edition-low e f (head .long)) (o 1 (omega arith) ∙ edition-high e f (head .long))
+
+    pub passes-again : checkAs e g ≡ answer 0 0
+    passes-again =
+        check-kept f g same-length e e₀ (rowSize edition) (passes e₀ f z) (p₀ .0) (p .0) new-edition same-table
+        ∙ first-none _ _ _ (countOf f)
+        (λ j m.
+        let s = row-sound j m in
+        data-held f g (rowSize edition) j (s .held) (λ k a b. data-kept j m k a (omega (arith, s .size .ad-low, start-is j))))
+
+-- ---- and back: with the old edition, and the old bytes for text and tag of each row, it is the old file
+
+module _ (e₀ : ℕ) (f : List ℕ) (p₀ : Plain e₀) (z : checkAs e₀ f .number ≡ 0) (e : ℕ) (p : Plain e)
+    (piece : ℕ → List ℕ) (long : (i : ℕ) → i < countOf f → length (piece i) ≡ pieceSize f i)
+    (hf : AllBytes f) (old : ℕ → List ℕ) (own : (i : ℕ) → i < countOf f → old i ≡ stretch f (pieceStart f i) (pieceSize f i)) where
+  abbrev new : List ℕ
+  new = rewritten e piece f
+
+  z-new : checkAs e new .number ≡ 0
+  z-new = ap (λ (x : Answer). x .number) (passes-again e₀ f p₀ z e p piece long)
+
+  count-new : countOf new ≡ countOf f
+  count-new = same-count e₀ f p₀ z e p piece long
+
+  old-long : (i : ℕ) → i < countOf f → length (old i) ≡ pieceSize f i
+  old-long i l = ap length (own i l) ∙ stretch-length f (pieceStart f i) (pieceSize f i) (piece-in e₀ f p₀ z i l)
+
+  long-new : (i : ℕ) → i < countOf new → length (old i) ≡ pieceSize new i
+  long-new i l = let m : i < countOf f = rw (sym count-new) l in old-long i m ∙ sym (same-size e₀ f p₀ z e p piece long i m)
+
+  back-apart : Apart (pieceStart new) old (countOf new) (inEdition e₀ new)
+  back-apart = pieces-apart e new p z-new e₀ p₀ old long-new
+
+  back-length : length (rewritten e₀ old new) ≡ length f
+  back-length = same-length e new p z-new e₀ p₀ old long-new ∙ same-length e₀ f p₀ z e p piece long
+
+  back-inside : (k : ℕ) → Inside (pieceStart f) piece (countOf f) k → getD (rewritten e₀ old new) k 0 ≡ getD f k 0
+  back-inside k x =
+      let i = x .at in
+      let m = k - pieceStart f i in
+      let n : m < pieceSize f i = omega (arith, x .from, x .to, long i (x .below)) in
+      let s : pieceStart new i ≡ pieceStart f i = same-start e₀ f p₀ z e p piece long i (x .below) in
+      let q : k ≡ pieceStart new i + m = omega (arith, x .from) in
+      let r : pieceStart f i + m ≡ k = omega (arith, x .from) in
+      ap (λ (j : ℕ). getD (rewritten e₀ old new) j 0) q
+      ∙ all-inside (pieceStart new) old (countOf new) (inEdition e₀ new) back-apart (countOf new) (omega arith) i (rw count-new (x .below)) m (omega (arith, old-long i (x .below)))
+      ∙ ap (λ (l : List ℕ). getD l m 0) (own i (x .below))
+      ∙ getD-take (pieceSize f i) (drop (pieceStart f i) f) m 0 n
+      ∙ getD-drop (pieceStart f i) f m 0
+      ∙ ap (λ (j : ℕ). getD f j 0) r
+
+  back-outside : (k : ℕ) → Outside (pieceStart f) piece (countOf f) k → getD (rewritten e₀ old new) k 0 ≡ getD f k 0
+  back-outside k o =
+      let big : 8 ≤ length new = omega (arith, same-length e₀ f p₀ z e p piece long, head e₀ f p₀ z .long) in
+      let o-new : Outside (pieceStart new) old (countOf new) k =
+      λ i l.
+      let m : i < countOf f = rw (sym count-new) l in
+      let s = same-start e₀ f p₀ z e p piece long i m in
+      ⊎-elim (λ b. inl (omega (arith, s, b))) (λ b. inr (omega (arith, s, b, long i m, old-long i m))) (o i m) in
+      let ed = head e₀ f p₀ z .edition in
+      all-outside (pieceStart new) old (countOf new) (inEdition e₀ new) back-apart (countOf new) (omega arith) k o-new
+      ∙ elim (decLt k 2) [
+        | no b ↦ edition-other e₀ new big k (omega arith) ∙ kept e₀ f p₀ z e p piece long k (omega arith) o
+        | yes b ↦ elim (decLt k 1) [
+          | yes c ↦ let q : k ≡ 0 = omega arith in rw q (edition-low e₀ new big ∙ sym (pair-low f e₀ hf (p₀ .1) ed))
+          | no c ↦ let q : k ≡ 1 = omega arith in rw q (edition-high e₀ new big ∙ sym (pair-high f e₀ hf (p₀ .1) ed))
+        ]
+      ]
+
+  pub put-back : rewritten e₀ old new ≡ f
+  put-back =
+      ext-getD 0 (rewritten e₀ old new) f back-length
+      (λ k l. ⊎-elim (back-inside k) (back-outside k) (where-is (pieceStart f) piece (countOf f) k))

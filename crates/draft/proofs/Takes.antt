@@ -1,0 +1,56 @@
+-- A row of a file that passes has a suite and lengths that sealer and opener take, so their refusals cannot come out.
+use Prim.Native.Nat.{ℕ, _≤_, _<_}
+use native.Mathlib.Omega.{arith}
+use mathlib.Core.Path.{_≡_, refl, sym, ap, _∙_}
+use mathlib.Core.Bool.{Bool, true, false}
+use mathlib.Core.List.{List}
+use mathlib.Core.Logic.{_⊎_, inl, inr}
+use lib.ListN.{length}
+use borrow.Author.Tests.{eq-eqb}
+use Rattle.cipher.specs.Cipher.{sizeOf}
+use Rattle.comet.specs.Answers.{Sealed, sealedAs, sealing, Opened, openedAs}
+use Rattle.comet.proofs.Refuse.{none-bad}
+use Rattle.table.specs.Format.{edition, rowSize, rowOf}
+use Rattle.table.specs.Inside.{EntryIn}
+use Rattle.shift.specs.Opening.{entrySealing, entryOpening}
+use Rattle.shift.proofs.Entries.{key-long, nonce-long, data-long, text-long, entryRight, entryText, entry-opened}
+use Rattle.draft.specs.Files.{entryOut, entryTag}
+use Rattle.draft.specs.Answers.{tagRight}
+use Rattle.draft.specs.Promised.{SealerTakes, OpenerTakes}
+use Rattle.draft.proofs.Pieces.{entry-at}
+use Rattle.draft.proofs.Back.{plain-draft, plain-file}
+
+module _ (f ring : List ℕ) (i : ℕ) (h : EntryIn (rowSize edition) f i) (g : length ring ≡ 256) where
+  -- the sealer gives text and tag
+  pub seal-done : (out tag : List ℕ) → length out ≡ rowOf f i .len → length tag ≡ sizeOf (rowOf f i .suite)
+      → entrySealing f ring i out tag ≡ record { number = 0; out = entryOut false f ring i; tag = entryTag false f ring i }
+  unfolding entrySealing sealing entryOut entryTag
+  seal-done out tag lo lt =
+      ap (λ (n : ℕ). sealedAs n (entryOut false f ring i) (entryTag false f ring i) out tag)
+      (none-bad _ _ _ _ _ _ _ (record {
+        suite = h .suite-is;
+        key = key-long f ring i h g;
+        nonce = nonce-long f ring i h g;
+        extra = omega (arith, data-long f ring i h g, h .data-high);
+        text = omega (arith, text-long f ring i h g, h .text-high);
+        room = lo ∙ sym (text-long f ring i h g);
+        tag = lt;
+      }))
+
+  -- the opener goes by the tag
+  pub open-done : (out : List ℕ) → length out ≡ rowOf f i .len → entryOpening f ring i out ≡ openedAs 0 (tagRight f ring i) (entryOut true f ring i) out
+  unfolding tagRight entryTag entryOut
+  open-done out l = rw (eq-eqb _ _ l) at (entry-opened f ring i h g out)
+
+pub sealer-takes : SealerTakes
+sealer-takes draft ring out tag i z g l lo lt = ap (λ (x : Sealed). x .number) (seal-done draft ring i (entry-at _ draft plain-draft z i l) g out tag lo lt)
+
+pub opener-takes : OpenerTakes
+opener-takes file ring out i z g l lo =
+    let q = ap (λ (x : Opened). x .number) (open-done file ring i (entry-at _ file plain-file z i l) g out lo) in
+    tag-case (tagRight file ring i) q
+  where
+    tag-case : (b : Bool) → entryOpening file ring i out .number ≡ openedAs 0 b (entryOut true file ring i) out .number
+        → (entryOpening file ring i out .number ≡ 0) ⊎ (entryOpening file ring i out .number ≡ 8)
+    tag-case true q = inl q
+    tag-case false q = inr q

@@ -1,0 +1,4 @@
+pub mod Put
+pub mod Files
+pub mod Answers
+pub mod Promised

@@ -1,0 +1,84 @@
+-- W2 by citation: what a run gives are the specification's outputs for the joined texts, so they are the sealer's, and the opener takes them.
+use mathlib.Core.Path.{_≡_, refl, sym, ap₂, _∙_}
+use Prim.Native.Nat.{ℕ, zero, suc}
+use mathlib.Core.List.{List, [], _∷_}
+use lib.ListN.{length}
+use Rattle.words.specs.Bytes.{AllBytes}
+use Rattle.cipher.specs.Cipher.{cipherOf}
+use Rattle.comet.specs.Answers.{Sealed, opening}
+use Rattle.session.specs.Value.{Value, Given, answered, gave, starting, dataNumber, dataIn, dataPart, textNumber, textDone, textPart, endNumber, endDone, ending}
+use Rattle.session.specs.Calls.{Call, AllLent, Run, runOf}
+use Rattle.session.proofs.Whatever.{starts, refused-shut, goes, finished, whatever, facts}
+use Rattle.promises.specs.Input.{Input}
+use Rattle.promises.specs.Sessions.{AsOneCall, OpensWhole, Keeps, Sessions}
+use Rattle.promises.proofs.Demand2.{sealing-is, round-trip}
+
+-- the joined texts are an input of the sealer
+input : (suite : ℕ) (key nonce : List ℕ) (cs : List Call) (out₀ tag₀ : List ℕ) → AllBytes key → AllBytes nonce → AllLent cs
+    → starting suite key nonce .number ≡ 0 → ending (runOf suite key nonce cs .now) out₀ tag₀ .number ≡ 0
+    → let r : Run = runOf suite key nonce cs in Input suite key nonce (r .ad) (r .msg)
+input suite key nonce cs out₀ tag₀ hk hv hc e0 e1 =
+    let f = facts suite key nonce e0 in
+    let s = finished suite key nonce cs out₀ tag₀ hk hv hc e0 e1 .1 in
+    record {
+      texts = record {
+        suite-is = f .0;
+        key-bytes = hk;
+        key-length = f .1;
+        nonce-bytes = hv;
+        nonce-length = f .2;
+        ad-bytes = s .dataBytes;
+        text-bytes = s .textBytes;
+      };
+      ad-most = s .dataSmall;
+      text-most = s .textSmall;
+    }
+
+pub as-one-call : AsOneCall
+as-one-call suite key nonce cs out₀ tag₀ hk hv hc e0 e1 out₁ tag₁ lo lt =
+    let r = runOf suite key nonce cs in
+    let w = finished suite key nonce cs out₀ tag₀ hk hv hc e0 e1 .0 in
+    sealing-is suite key nonce (r .ad) (r .msg) out₁ tag₁ (input suite key nonce cs out₀ tag₀ hk hv hc e0 e1) lo lt
+    ∙ sym (ap₂ (λ (o t : List ℕ). record { number = 0; out = o; tag = t }) (w .0) (w .1))
+
+pub opens-whole : OpensWhole
+opens-whole suite key nonce cs out₀ tag₀ hk hv hc e0 e1 out₁ lo =
+    let r = runOf suite key nonce cs in
+    let w = finished suite key nonce cs out₀ tag₀ hk hv hc e0 e1 .0 in
+    ap₂ (λ (c t : List ℕ). opening suite key nonce (r .ad) c t out₁) (w .0) (w .1)
+    ∙ round-trip suite key nonce (r .ad) (r .msg) out₁ (input suite key nonce cs out₀ tag₀ hk hv hc e0 e1) lo
+
+-- ---- refusals
+
+kept : (k : ℕ) (done : Given) (v : Value) (out tag : List ℕ) → done .number ≡ 0 →
+    let g : Given = answered k done v out tag in (g .number ≡ 0 → ⊥) → (g .next ≡ v) × (g .count ≡ 0) × (g .out ≡ out) × (g .tag ≡ tag)
+kept zero done v out tag z h = absurd (h z)
+kept (suc k) done v out tag z h = (refl, refl, refl, refl)
+
+done-number : (v : Value) (p out : List ℕ) → textDone v p out .number ≡ 0
+done-number v [] out = refl
+done-number v (x ∷ p) out = refl
+
+pub keeps : Keeps
+unfolding dataPart textPart ending
+keeps v = (
+  λ p h.
+      let k = kept (dataNumber (v .suite) (v .came) (v .text) (length p)) (gave 0 0 (dataIn (cipherOf (v .suite)) v p) [] []) v [] [] refl h in
+      (k .0, k .1),
+  λ p out h.
+      let k = kept (textNumber (v .suite) (v .came) (v .text) (length p) (length out)) (textDone v p out) v out [] (done-number v p out) h in
+      (k .0, k .1, k .2),
+  λ out tag h. kept (endNumber (v .suite) (v .came) (v .text) (length out) (length tag)) (endDone v out) v out tag refl h,
+)
+
+pub sessions : Sessions
+sessions =
+    record {
+      starts = starts;
+      refused-shut = refused-shut;
+      goes = goes;
+      whatever = whatever;
+      as-one-call = as-one-call;
+      opens-whole = opens-whole;
+      keeps = keeps;
+    }

@@ -1,0 +1,49 @@
+-- W2 (document 02): sealing in parts. The statements on a run of a session stand in `session/specs/Calls.antt`; here they are gathered, with what needs the one-call sealer and the opener.
+use mathlib.Core.Path.{_≡_}
+use Prim.Native.Nat.{ℕ}
+use mathlib.Core.List.{List}
+use lib.ListN.{length}
+use Rattle.words.specs.Bytes.{AllBytes}
+use Rattle.cipher.specs.Cipher.{sizeOf}
+use Rattle.comet.specs.Answers.{sealing, opening}
+use Rattle.session.specs.Value.{Value, Given, starting, dataPart, textPart, ending}
+use Rattle.session.specs.Calls.{Call, AllLent, Run, runOf, joined, Starts, RefusedShut, Goes, Whatever}
+
+-- of a run whose start and end answered 0
+abbrev pub OfRuns : (ℕ → List ℕ → List ℕ → Run → Given → Type 0) → Type 0
+OfRuns P =
+    (suite : ℕ) (key nonce : List ℕ) (cs : List Call) (out₀ tag₀ : List ℕ) → AllBytes key → AllBytes nonce → AllLent cs
+    → starting suite key nonce .number ≡ 0
+    → ending (runOf suite key nonce cs .now) out₀ tag₀ .number ≡ 0
+    → P suite key nonce (runOf suite key nonce cs) (ending (runOf suite key nonce cs .now) out₀ tag₀)
+
+-- whatever the cutting, one call of the sealer takes the joined texts and gives the joined ciphertext and the tag
+abbrev pub AsOneCall : Type 0
+AsOneCall =
+    OfRuns (λ suite key nonce r e.
+    (out₁ tag₁ : List ℕ) → length out₁ ≡ length (r .msg) → length tag₁ ≡ sizeOf suite
+    → sealing suite key nonce (r .ad) (r .msg) out₁ tag₁ ≡ record { number = 0; out = joined r e; tag = e .tag })
+
+-- and one call of the opener gives the joined message back
+abbrev pub OpensWhole : Type 0
+OpensWhole =
+    OfRuns (λ suite key nonce r e.
+    (out₁ : List ℕ) → length out₁ ≡ length (r .msg)
+    → opening suite key nonce (r .ad) (joined r e) (e .tag) out₁ ≡ record { number = 0; out = r .msg })
+
+-- a refused call leaves the session and the buffers as they were, length 0, whatever value arrives
+abbrev pub Keeps : Type 0
+Keeps =
+    (v : Value)
+    → ((p : List ℕ) → (dataPart v p .number ≡ 0 → ⊥) → (dataPart v p .next ≡ v) × (dataPart v p .count ≡ 0))
+    × ((p out : List ℕ) → (textPart v p out .number ≡ 0 → ⊥) → (textPart v p out .next ≡ v) × (textPart v p out .count ≡ 0) × (textPart v p out .out ≡ out))
+    × ((out tag : List ℕ) → (ending v out tag .number ≡ 0 → ⊥) → (ending v out tag .next ≡ v) × (ending v out tag .count ≡ 0) × (ending v out tag .out ≡ out) × (ending v out tag .tag ≡ tag))
+
+pub record Sessions : Type 0 where
+  pub starts : Starts
+  pub refused-shut : RefusedShut
+  pub goes : Goes
+  pub whatever : Whatever
+  pub as-one-call : AsOneCall
+  pub opens-whole : OpensWhole
+  pub keeps : Keeps

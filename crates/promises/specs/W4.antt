@@ -1,0 +1,18 @@
+-- W4: a writer for shift files. Each statement stands, with the words that it uses, in `draft/specs/Promised.antt`.
+use Rattle.draft.specs.Promised.{SealedBack, UnsealedBack, Sealing, Unsealing, SealerTakes, OpenerTakes, SealNumbers, UnsealNumbers, TextAltered, DataAltered}
+
+pub record Writer : Type 0 where
+  -- sealing then unsealing a valid draft gives the draft; unsealing then sealing a genuine file gives the file
+  pub sealed-back : SealedBack
+  pub unsealed-back : UnsealedBack
+  -- every outcome, and when it is given: the checks, 33, 2, 6, 8, 0
+  pub sealing : Sealing
+  pub unsealing : Unsealing
+  -- no other number comes out
+  pub sealer-takes : SealerTakes
+  pub opener-takes : OpenerTakes
+  pub seal-numbers : SealNumbers
+  pub unseal-numbers : UnsealNumbers
+  -- a genuine file, altered inside one block: 8 with that row, and zeros all over
+  pub text-altered : TextAltered
+  pub data-altered : DataAltered

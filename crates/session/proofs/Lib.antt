@@ -1,0 +1,10 @@
+pub mod Joined
+pub mod SoFar
+pub mod Hold
+pub mod Refuse
+pub mod Flush
+pub mod Parts
+pub mod Count
+pub mod Accepts
+pub mod Whatever
+pub mod Outcomes

@@ -1,0 +1,93 @@
+-- What the numbers tell: 0 that the session goes on and there is room under the limit; any other that nothing changes.
+use mathlib.Core.Path.{_≡_, refl, sym, ap, ap₂, _∙_}
+use mathlib.Core.Bool.{Bool, true, false, not, cond, _&&_}
+use Prim.Native.Nat.{ℕ, zero, suc, _+_, _-_, _≤_, _<_}
+use native.Mathlib.Nat.{suc-ne-zero}
+use mathlib.Core.List.{List, []}
+use lib.Dec.{leb, ltb, eqb}
+use borrow.Author.Tests.{leb-true, ltb-false, eqb-true, not-false}
+use Rattle.words.proofs.Same.{and-true}
+use Rattle.cipher.specs.Cipher.{isSuite, IsSuite, sizeOf, nonceOf}
+use Rattle.session.specs.Value.{Value, Given, sound, Sound, answered, gave, dataNumber, textNumber, endNumber, startNumber}
+
+-- a rung of the ladder that is not taken
+pub passes : (b : Bool) (n r : ℕ) → cond b (suc n) r ≡ 0 → (b ≡ false) × (r ≡ 0)
+passes true n r e = absurd (suc-ne-zero n e)
+passes false n r e = (refl, e)
+
+pub sound-told : (s c t : ℕ) → sound s c t ≡ true → Sound s c t
+sound-told s c t e =
+    let p = and-true (isSuite s) (leb c 65536 && leb t 65536) e in
+    let r = and-true (leb c 65536) (leb t 65536) (p .1) in
+    record { known = p .0; data-most = leb-true c 65536 (r .0); text-most = leb-true t 65536 (r .1) }
+
+pub data-passed : (s c t l : ℕ) → dataNumber s c t l ≡ 0 → Sound s c t × (t ≡ 0) × (l ≤ 65536 - c)
+unfolding dataNumber
+data-passed s c t l e =
+    let p = passes (not (sound s c t && eqb t 0)) 8 (cond (ltb (65536 - c) l) 4 0) e in
+    let q = and-true (sound s c t) (eqb t 0) (not-false (sound s c t && eqb t 0) (p .0)) in
+    (sound-told s c t (q .0), eqb-true t 0 (q .1), ltb-false (65536 - c) l (passes (ltb (65536 - c) l) 3 0 (p .1) .0))
+
+-- k is the number
+pub answer-kept : (k j : ℕ) (done : Given) (v : Value) (out tag : List ℕ) → (k ≡ 0 → ⊥) → k ≡ j → gave k 0 v out tag ≡ answered j done v out tag
+answer-kept zero j done v out tag h e = absurd (h refl)
+answer-kept (suc k) j done v out tag h e = ap (λ (i : ℕ). answered i done v out tag) e
+
+pub answer-done : (k j : ℕ) (done : Given) (v : Value) (out tag : List ℕ) → k ≡ 0 → k ≡ j → done ≡ answered j done v out tag
+answer-done k j done v out tag z e = ap (λ (i : ℕ). answered i done v out tag) (sym z ∙ e)
+
+-- the ladder, rung by rung
+module _ (s c t l : ℕ) where
+  pub data-closed : sound s c t ≡ false → dataNumber s c t l ≡ 9
+  unfolding dataNumber
+  data-closed e = ap (λ (b : Bool). cond (not (b && eqb t 0)) 9 (cond (ltb (65536 - c) l) 4 0)) e
+
+  pub data-begun : sound s c t ≡ true → eqb t 0 ≡ false → dataNumber s c t l ≡ 9
+  unfolding dataNumber
+  data-begun e z = ap₂ (λ (b d : Bool). cond (not (b && d)) 9 (cond (ltb (65536 - c) l) 4 0)) e z
+
+  pub data-limit : (b : Bool) → sound s c t ≡ true → eqb t 0 ≡ true → ltb (65536 - c) l ≡ b → dataNumber s c t l ≡ cond b 4 0
+  unfolding dataNumber
+  data-limit b e z q =
+      ap₂ (λ (x y : Bool). cond (not (x && y)) 9 (cond (ltb (65536 - c) l) 4 0)) e z ∙ ap (λ (x : Bool). cond x 4 0) q
+
+module _ (s c t l o : ℕ) where
+  pub text-passed : textNumber s c t l o ≡ 0 → Sound s c t × (l ≤ 65536 - t) × (l + (sizeOf s - 1) ≤ o)
+  unfolding textNumber
+  text-passed e =
+      let p = passes (not (sound s c t)) 8 (cond (ltb (65536 - t) l) 5 (cond (ltb o (l + (sizeOf s - 1))) 6 0)) e in
+      let q = passes (ltb (65536 - t) l) 4 (cond (ltb o (l + (sizeOf s - 1))) 6 0) (p .1) in
+      (sound-told s c t (not-false (sound s c t) (p .0)), ltb-false (65536 - t) l (q .0), ltb-false o (l + (sizeOf s - 1)) (passes (ltb o (l + (sizeOf s - 1))) 5 0 (q .1) .0))
+
+  -- the ladder, its tests given
+  pub text-is : (b d f : Bool) → sound s c t ≡ b → ltb (65536 - t) l ≡ d → ltb o (l + (sizeOf s - 1)) ≡ f → textNumber s c t l o ≡ cond (not b) 9 (cond d 5 (cond f 6 0))
+  unfolding textNumber
+  text-is b d f eb ed ef =
+      ap₂ (λ (x y : Bool). cond (not x) 9 (cond y 5 (cond (ltb o (l + (sizeOf s - 1))) 6 0))) eb ed ∙ ap (λ (z : Bool). cond (not b) 9 (cond d 5 (cond z 6 0))) ef
+
+module _ (s c t o g : ℕ) where
+  pub end-passed : endNumber s c t o g ≡ 0 → Sound s c t × (sizeOf s ≤ o) × (g ≡ sizeOf s)
+  unfolding endNumber
+  end-passed e =
+      let p = passes (not (sound s c t)) 8 (cond (ltb o (sizeOf s)) 6 (cond (not (eqb g (sizeOf s))) 7 0)) e in
+      let q = passes (ltb o (sizeOf s)) 5 (cond (not (eqb g (sizeOf s))) 7 0) (p .1) in
+      (sound-told s c t (not-false (sound s c t) (p .0)), ltb-false o (sizeOf s) (q .0), eqb-true g (sizeOf s) (not-false (eqb g (sizeOf s)) (passes (not (eqb g (sizeOf s))) 6 0 (q .1) .0)))
+
+  pub end-is : (b d f : Bool) → sound s c t ≡ b → ltb o (sizeOf s) ≡ d → eqb g (sizeOf s) ≡ f → endNumber s c t o g ≡ cond (not b) 9 (cond d 6 (cond (not f) 7 0))
+  unfolding endNumber
+  end-is b d f eb ed ef =
+      ap₂ (λ (x y : Bool). cond (not x) 9 (cond y 6 (cond (not (eqb g (sizeOf s))) 7 0))) eb ed ∙ ap (λ (z : Bool). cond (not b) 9 (cond d 6 (cond (not z) 7 0))) ef
+
+module _ (s k v : ℕ) where
+  pub start-passed : startNumber s k v ≡ 0 → IsSuite s × (k ≡ 16) × (v ≡ nonceOf s)
+  unfolding startNumber
+  start-passed e =
+      let p = passes (not (isSuite s)) 0 _ e in
+      let q = passes (not (eqb k 16)) 1 _ (p .1) in
+      let r = passes (not (eqb v (nonceOf s))) 2 _ (q .1) in
+      (not-false (isSuite s) (p .0), eqb-true k 16 (not-false (eqb k 16) (q .0)), eqb-true v (nonceOf s) (not-false (eqb v (nonceOf s)) (r .0)))
+
+  pub start-is : (b d f : Bool) → isSuite s ≡ b → eqb k 16 ≡ d → eqb v (nonceOf s) ≡ f → startNumber s k v ≡ cond (not b) 1 (cond (not d) 2 (cond (not f) 3 0))
+  unfolding startNumber
+  start-is b d f eb ed ef =
+      ap₂ (λ (x y : Bool). cond (not x) 1 (cond (not y) 2 (cond (not (eqb v (nonceOf s))) 3 0))) eb ed ∙ ap (λ (z : Bool). cond (not b) 1 (cond (not d) 2 (cond (not z) 3 0))) ef

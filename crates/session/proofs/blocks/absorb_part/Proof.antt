@@ -1,0 +1,121 @@
+-- `session::blocks::absorb_part` meets its contract: the held bytes and the first of the associated data make a block, if they are enough.
+use borrow.Author.Needs.{needs}
+use denote.Ref.{now}
+use lib.ListN.{length, take, drop, length-append}
+use lib.Seq.{length-take-le}
+use mathlib.Core.List.{List, _++_}
+use mathlib.Core.Path.{_≡_, sym, ap, _∙_}
+use native.Mathlib.Omega.{arith}
+use Prim.Native.Nat.{ℕ, _+_, _-_, _≤_, _<_}
+use Rattle.cipher.specs.Cipher.{sizeOf, cipherOf}
+use Rattle.session.specs.Value.{filled}
+use Rattle.step.specs.Two.{twoOf}
+use Rattle.mode.proofs.Cut.{rest-short}
+use Rattle.session.proofs.Hold.{short-walk, more-walk, more-rest, block-size}
+use Rattle.session.proofs.blocks.absorb_part.Statement.{statement}
+use Rattle.session.proofs.blocks.absorb_part.Tie as tie
+
+size-of-requires : tie.Need-size-of-requires
+size-of-requires c κs = search needs
+
+sub-need : tie.Need-sub-need
+sub-need c = search needs
+
+joined-requires : tie.Need-joined-requires
+joined-requires c κs = search needs
+
+returns : tie.Need-returns
+returns c =
+    let st = c .before .before .before .before in
+    let suite = st .args .suite in
+    let size = c .before .before .size-of in
+    let en : size .result ≡ sizeOf suite = size .ensures .0 in
+    let pos : 0 < sizeOf suite = omega (arith, size .ensures .1 .0) in
+    let x : List ℕ = take (st .args .h) (st .args .held) in
+    let part = now (st .args .ad) in
+    let lh : length (st .args .held) ≡ 16 = search needs in
+    let lx : length x ≡ st .args .h = length-take-le (st .args .h) (st .args .held) (omega (arith, st .pre .2, size .ensures .1 .1)) in
+    let l : length (x ++ part) < sizeOf suite = omega (arith, length-append x part, c .before .if1 .taken) in
+    (sym (short-walk (cipherOf suite) pos 0x10 (st .args .m) (twoOf suite (st .args .s)) (x ++ part) l), c .joined .ensures ∙ ap filled (sym (rest-short (sizeOf suite) pos (x ++ part) l)))
+
+sub-joined : tie.Need-sub-joined
+sub-joined c = search needs
+
+part-joined-start : tie.Need-part-joined-start
+part-joined-start c = search needs
+
+part-joined-end : tie.Need-part-joined-end
+part-joined-end c = search needs
+
+joined-requires-2 : tie.Need-joined-requires-2
+joined-requires-2 c κs = search needs
+
+sub-absorb-full : tie.Need-sub-absorb-full
+sub-absorb-full c = search needs
+
+part-absorb-full-start : tie.Need-part-absorb-full-start
+part-absorb-full-start c = search needs
+
+part-absorb-full-end : tie.Need-part-absorb-full-end
+part-absorb-full-end c = search needs
+
+absorb-full-requires : tie.Need-absorb-full-requires
+absorb-full-requires c κs = search needs
+
+sub-absorb-blocks : tie.Need-sub-absorb-blocks
+sub-absorb-blocks c = search needs
+
+part-absorb-blocks-start : tie.Need-part-absorb-blocks-start
+part-absorb-blocks-start c = search needs
+
+part-absorb-blocks-end : tie.Need-part-absorb-blocks-end
+part-absorb-blocks-end c = search needs
+
+absorb-blocks-requires : tie.Need-absorb-blocks-requires
+absorb-blocks-requires c κs = search needs
+
+returns-2 : tie.Need-returns-2
+returns-2 c =
+    let st = c .before .before .before .before .before .before .before .before .before .before in
+    let suite = st .args .suite in
+    let size = c .before .before .before .before .before .before .before .before .size-of in
+    let h = st .args .h in
+    let en : size .result ≡ sizeOf suite = size .ensures .0 in
+    let pos : 0 < sizeOf suite = omega (arith, size .ensures .1 .0) in
+    let most : sizeOf suite ≤ 16 = omega (arith, size .ensures .1 .1) in
+    let x : List ℕ = take h (st .args .held) in
+    let part = now (st .args .ad) in
+    let lh : length (st .args .held) ≡ 16 = search needs in
+    let hn : h < sizeOf suite = st .pre .2 in
+    let lx : length x ≡ h = length-take-le h (st .args .held) (omega arith) in
+    let need = size .result - h in
+    let ln : h + need ≡ sizeOf suite = omega arith in
+    let lp : need ≤ length part = omega (arith, c .before .before .before .before .before .before .before .if1 .left) in
+    let j = c .before .before .before .before .before .joined2 in
+    let k = cipherOf suite in (
+      more-walk k pos 0x10 x part (j .result) h need lx ln lp most (j .ensures) (st .args .m) (size .result) (twoOf suite (st .args .s)) (twoOf suite (c .before .before .absorb-full .result)) _ en
+          (c .before .before .absorb-full .ensures .two) (c .absorb-blocks .ensures .0),
+      more-rest k pos 0x10 x part (j .result) h need lx ln lp most (j .ensures) _ (c .absorb-blocks .ensures .1),
+    )
+
+pub absorb-part-spec : {M : Type 1} → statement M
+absorb-part-spec =
+    tie.close
+    (tie.spec
+    size-of-requires
+    sub-need
+    joined-requires
+    returns
+    sub-joined
+    part-joined-start
+    part-joined-end
+    joined-requires-2
+    sub-absorb-full
+    part-absorb-full-start
+    part-absorb-full-end
+    absorb-full-requires
+    sub-absorb-blocks
+    part-absorb-blocks-start
+    part-absorb-blocks-end
+    absorb-blocks-requires
+    returns-2)

@@ -1,0 +1,92 @@
+-- `session::work::begin` meets its contract: where the message has not begun, the last bytes of the associated data are one short block, or none.
+use denote.Ref.{now}
+use borrow.Author.Tests.{eq-eqb, ne-eqb}
+use lib.ListN.{length, take, length-take}
+use lib.Dec.{eqb}
+use lib.Seq.{length-take-le}
+use mathlib.Core.Bool.{Bool, cond}
+use mathlib.Core.List.{List}
+use mathlib.Core.Path.{_≡_, refl, sym, ap, ap₂, _∙_, subst}
+use native.Mathlib.Nat.{mod-lt, sub-zero}
+use native.Mathlib.Omega.{arith}
+use Prim.Native.Nat.{ℕ, _-_, _%_, _≤_, _<_}
+use Rattle.words.specs.Words.{xor}
+use Rattle.cipher.specs.Cipher.{sizeOf, cipherOf}
+use Rattle.mode.specs.Blocks.{blocks}
+use Rattle.mode.specs.Walk.{States, turned, walked}
+use Rattle.session.specs.Value.{Value, states, heldOf, firstMark, begun}
+use Rattle.step.specs.Two.{twoOf}
+use Rattle.session.specs.Told.{told}
+use Rattle.session.proofs.Flush.{begun-on, begun-none, begun-short}
+use borrow.Author.Needs.{needs}
+use Rattle.session.proofs.work.begin.Statement.{statement}
+use Rattle.session.proofs.work.begin.Tie as tie
+
+returns : tie.Need-returns
+returns c =
+    let s = c .before .before .before .before .args .s in
+    sym (begun-on (cipherOf (s .suite)) (told s) (c .if1 .taken))
+
+size-of-requires : tie.Need-size-of-requires
+size-of-requires c κs = search needs
+
+rem-h : tie.Need-rem-h
+rem-h c = search needs
+
+returns-2 : tie.Need-returns-2
+returns-2 c =
+    let s = c .before .before .before .before .before .before .args .s in
+    let n = c .before .size-of in
+    sym (begun-none (cipherOf (s .suite)) (told s) (n .result) (n .ensures .0) (n .ensures .1 .0) (c .before .before .if1 .left) (c .if2 .taken))
+
+first-mark-requires : tie.Need-first-mark-requires
+first-mark-requires c κs = search needs
+
+sub-absorb-short : tie.Need-sub-absorb-short
+sub-absorb-short c = search needs
+
+part-absorb-short-start : tie.Need-part-absorb-short-start
+part-absorb-short-start c = search needs
+
+part-absorb-short-end : tie.Need-part-absorb-short-end
+part-absorb-short-end c =
+    let s = c .before .before .before .before .before .before .before .before .args .s in
+    let n = c .before .before .before .size-of in
+    let lh : s .came % n .result < n .result = mod-lt (s .came) (n .ensures .1 .0) in
+    let l16 : length (s .held) ≡ 16 = search needs in
+    omega (arith, n .ensures .1 .1)
+
+absorb-short-requires : tie.Need-absorb-short-requires
+absorb-short-requires c κs =
+    let st = c .before .before .before .before .before .before .before .before .before in
+    let s = st .args .s in
+    let n = c .before .before .before .before .size-of in
+    let h = s .came % n .result in
+    let lh : h < n .result = mod-lt (s .came) (n .ensures .1 .0) in
+    (st .pre .0, st .pre .1, omega (arith, n .ensures .0, lh, length-take (h - 0) (s .held)))
+
+returns-3 : tie.Need-returns-3
+unfolding xor
+returns-3 c =
+    let st = c .before .before .before .before .before .before .before .before .before .before in
+    let s = st .args .s in
+    let n = c .before .before .before .before .before .size-of in
+    let lh : length (s .held) ≡ 16 = search needs in
+    c .absorb-short .ensures .two
+    ∙ begun-short (cipherOf (s .suite)) (told s) (n .result) (n .ensures .0) (n .ensures .1 .0) (n .ensures .1 .1) lh (c .before .before .before .before .before .before .if1 .left) (c .before .before .before .before .if2 .left)
+    (c .before .before .before .first-mark .result) (c .before .before .before .first-mark .ensures)
+
+pub begin-spec : {M : Type 1} → statement M
+begin-spec =
+    tie.close
+    (tie.spec
+    returns
+    size-of-requires
+    rem-h
+    returns-2
+    first-mark-requires
+    sub-absorb-short
+    part-absorb-short-start
+    part-absorb-short-end
+    absorb-short-requires
+    returns-3)

@@ -1,0 +1,20 @@
+-- `session::work::packed` meets its contract.
+use borrow.Author.Needs.{needs}
+use mathlib.Core.Path.{_≡_, ap}
+use mathlib.Core.List.{List}
+use Prim.Native.Nat.{ℕ}
+use Rattle.words.specs.Blocks.{wide}
+use Rattle.session.specs.Value.{Value}
+use Rattle.session.proofs.work.packed.Statement.{statement}
+use Rattle.session.proofs.work.packed.Tie as tie
+
+clean-requires : tie.Need-clean-requires
+clean-requires c κs = search needs
+
+returns : tie.Need-returns
+returns c =
+    let x = c .before .before .before .before .before .args in
+    ap (λ (y : List ℕ). record { suite = x .suite; Y = y; Z = wide (x .f .s .z); held = x .f .held; came = x .came; text = x .text }) (c .clean .ensures)
+
+pub packed-spec : {M : Type 1} → statement M
+packed-spec = tie.close (tie.spec clean-requires returns)

@@ -1,0 +1,65 @@
+-- `session::work::take_in` meets its contract: the held bytes and the part go in.
+use borrow.Author.Needs.{needs}
+use denote.Ref.{now}
+use lib.ListN.{length, take}
+use mathlib.Core.Bool.{false}
+use mathlib.Core.List.{List, [], _++_}
+use mathlib.Core.Path.{_≡_, refl, sym, ap, ap₂, _∙_, subst}
+use native.Mathlib.Nat.{mod-lt}
+use native.Mathlib.Omega.{arith}
+use Prim.Native.Nat.{ℕ, _+_, _%_, _<_}
+use Rattle.cipher.specs.Cipher.{sizeOf, cipherOf}
+use Rattle.mode.specs.Blocks.{blocks}
+use Rattle.mode.specs.Walk.{States, whole, rest, walked}
+use Rattle.session.specs.Value.{Value, valueOf, filled, gave, states, dataNumber, dataStates, dataIn, dataPart}
+use Rattle.session.specs.Told.{told}
+use Rattle.session.proofs.Refuse.{data-passed, answer-done}
+use Rattle.session.proofs.work.take_in.Statement.{statement}
+use Rattle.session.proofs.work.take_in.Tie as tie
+
+size-of-requires : tie.Need-size-of-requires
+size-of-requires c κs = search needs
+
+first-mark-requires : tie.Need-first-mark-requires
+first-mark-requires c κs = search needs
+
+rem-h : tie.Need-rem-h
+rem-h c = search needs
+
+absorb-part-requires : tie.Need-absorb-part-requires
+absorb-part-requires c κs =
+    let st = c .before .before .before .before .before .before in
+    let s = st .args .s in
+    let n = c .before .size-of in
+    let p = data-passed (s .suite) (s .came) (s .text) (length (now (st .args .part))) (st .pre .1) in
+    (st .pre .0, p .0 .known, subst (λ (k : ℕ). s .came % n .result < k) (n .ensures .0) (mod-lt (s .came) (n .ensures .1 .0)))
+
+add-packed : tie.Need-add-packed
+add-packed c =
+    let st = c .before .before .before .before .before .before .before in
+    let s = st .args .s in
+    let p = data-passed (s .suite) (s .came) (s .text) (length (now (st .args .part))) (st .pre .1) in
+    omega (arith, p .0 .data-most, p .2)
+
+packed-requires : tie.Need-packed-requires
+packed-requires c κs = search needs
+
+returns : tie.Need-returns
+unfolding dataIn dataStates dataPart
+returns c =
+    let st = c .before .before .before .before .before .before .before .before in
+    let v = told (st .args .s) in
+    let k = cipherOf (st .args .s .suite) in
+    let n = sizeOf (st .args .s .suite) in
+    let size = c .before .before .before .size-of in
+    let p = now (st .args .part) in
+    let x : ℕ → List ℕ = λ j. take (v .came % j) (v .held) ++ p in
+    let f = c .before .absorb-part in
+    let es = f .ensures .0
+    ∙ ap₂ (λ (m j : ℕ). walked k false m 0x10 (states k v) (blocks n (whole n (x j)))) (c .before .before .first-mark .ensures) (size .ensures .0) in
+    let eh = f .ensures .1 ∙ ap (λ (j : ℕ). filled (rest n (x j))) (size .ensures .0) in
+    ap (λ (w : Value). gave 0 0 w [] []) (c .packed .ensures ∙ ap₂ (λ (s : States) (h : List ℕ). valueOf (v .suite) s h (v .came + length p) (v .text)) es eh)
+    ∙ answer-done 0 (dataNumber (v .suite) (v .came) (v .text) (length p)) (gave 0 0 (dataIn k v p) [] []) v [] [] refl (sym (st .pre .1))
+
+pub take-in-spec : {M : Type 1} → statement M
+take-in-spec = tie.close (tie.spec size-of-requires first-mark-requires rem-h absorb-part-requires add-packed packed-requires returns)

@@ -1,0 +1,158 @@
+-- A session: its value, and what each call gives and leaves (document 02, W2).
+use Prim.Native.Nat.{ℕ, zero, suc, _+_, _-_, _%_, _≤_}
+use mathlib.Core.Bool.{Bool, false, cond, not, _&&_}
+use mathlib.Core.List.{List, [], _∷_, _++_}
+use lib.ListN.{length, take, drop, replicate}
+use lib.Dec.{leb, ltb, eqb}
+use Rattle.cipher.specs.Cipher.{Cipher, isSuite, IsSuite, cipherOf, sizeOf, nonceOf}
+use Rattle.mode.specs.Blocks.{blocks}
+use Rattle.mode.specs.Walk.{States, whole, rest, walked, covered, tagged, origin}
+
+-- Y, Z and the held bytes in sixteen bytes each; how many bytes of associated data and of message have come. The message has begun if one of its bytes has come
+pub record Value : Type 0 where
+  pub suite : ℕ
+  pub Y : List ℕ
+  pub Z : List ℕ
+  pub held : List ℕ
+  pub came : ℕ
+  pub text : ℕ
+
+-- zeros behind, up to sixteen bytes
+abbrev pub filled : List ℕ → List ℕ
+filled l = l ++ replicate (16 - length l) 0
+
+-- the value of these states, held bytes and totals
+abbrev pub valueOf : ℕ → States → List ℕ → ℕ → ℕ → Value
+valueOf suite s held came text = record { suite = suite; Y = filled (s .Y); Z = s .Z; held = held; came = came; text = text }
+
+-- a session that answers 9 to every call: a refused one, and one that has ended
+abbrev pub over : Value
+over = record { suite = 0; Y = replicate 16 0; Z = replicate 16 0; held = replicate 16 0; came = 0; text = 0 }
+
+-- a session that goes on, by its suite and its totals: a suite that we have, and totals within the limit. No other value is one that a run of ours gives
+abbrev pub sound : ℕ → ℕ → ℕ → Bool
+sound suite came text = isSuite suite && (leb came 65536 && leb text 65536)
+
+-- the same as facts
+pub record Sound (suite came text : ℕ) : Type 0 where
+  pub known : IsSuite suite
+  pub data-most : came ≤ 65536
+  pub text-most : text ≤ 65536
+
+module _ (κ : Cipher) where
+  -- the session's two states
+  abbrev pub states : Value → States
+  states v = record { Y = take (κ .size) (v .Y); Z = v .Z }
+
+  -- the held bytes of a text of which t bytes have come
+  abbrev pub heldOf : Value → ℕ → List ℕ
+  heldOf v t = take (t % κ .size) (v .held)
+
+  -- the first block's mark, where t bytes have come: no block of them is in if they are fewer than a block
+  abbrev pub firstMark : ℕ → ℕ → ℕ
+  firstMark m t = cond (ltb t (κ .size)) m 0
+
+  -- the states once associated data p came: the whole blocks of held bytes and p go in
+  unfoldable pub dataStates : Value → List ℕ → States
+  dataStates v p = walked κ false (firstMark 0x08 (v .came)) 0x10 (states v) (blocks (κ .size) (whole (κ .size) (heldOf v (v .came) ++ p)))
+
+  unfoldable pub dataIn : Value → List ℕ → Value
+  dataIn v p = valueOf (v .suite) (dataStates v p) (filled (rest (κ .size) (heldOf v (v .came) ++ p))) (v .came + length p) (v .text)
+
+  -- the states as the message goes on: if it has not begun, the associated data's last bytes go in first, a short block if there are any
+  unfoldable pub begun : Value → States
+  begun v = cond (eqb (v .text) 0) (walked κ false (firstMark 0x08 (v .came)) 0x10 (states v) (blocks (κ .size) (heldOf v (v .came)))) (states v)
+
+  -- the states once blocks of message went in, and what goes out for them
+  unfoldable pub textStates : Value → List ℕ → States
+  textStates v l = walked κ false (firstMark 0x20 (v .text)) 0x40 (begun v) (blocks (κ .size) l)
+
+  unfoldable pub textOut : Value → List ℕ → List ℕ
+  textOut v l = covered κ false (firstMark 0x20 (v .text)) 0x40 (begun v) (blocks (κ .size) l)
+
+  -- message bytes p, at least one
+  unfoldable pub textIn : Value → List ℕ → Value
+  textIn v p = valueOf (v .suite) (textStates v (whole (κ .size) (heldOf v (v .text) ++ p))) (filled (rest (κ .size) (heldOf v (v .text) ++ p))) (v .came) (v .text + length p)
+
+  -- what goes out for them: the ciphertext of the blocks that they complete
+  unfoldable pub partOut : Value → List ℕ → List ℕ
+  partOut v p = textOut v (whole (κ .size) (heldOf v (v .text) ++ p))
+
+  -- at the end: the rest of the ciphertext, and the tag
+  unfoldable pub endOut : Value → List ℕ
+  endOut v = textOut v (heldOf v (v .text))
+
+  unfoldable pub endTag : Value → List ℕ
+  endTag v = tagged κ (textStates v (heldOf v (v .text)))
+
+-- what a call gives: the number, how many bytes it wrote at the output's start, the next session, and the buffers after it (none: the empty list)
+pub record Given : Type 0 where
+  pub number : ℕ
+  pub count : ℕ
+  pub next : Value
+  pub out : List ℕ
+  pub tag : List ℕ
+
+abbrev pub gave : ℕ → ℕ → Value → List ℕ → List ℕ → Given
+gave k n v out tag = record { number = k; count = n; next = v; out = out; tag = tag }
+
+-- on 0 what was worked out; on any other number the session and the buffers as they were, length 0
+abbrev pub answered : ℕ → Given → Value → List ℕ → List ℕ → Given
+answered zero done v out tag = done
+answered (suc k) done v out tag = gave (suc k) 0 v out tag
+
+-- the first bytes of a buffer written over
+abbrev pub written : List ℕ → List ℕ → List ℕ
+written new out = new ++ drop (length new) out
+
+-- ---- start
+
+unfoldable pub startNumber : ℕ → ℕ → ℕ → ℕ
+startNumber suite key nonce =
+    cond (not (isSuite suite)) 1
+    (cond (not (eqb key 16)) 2
+    (cond (not (eqb nonce (nonceOf suite))) 3
+    0))
+
+abbrev pub fresh : ℕ → List ℕ → List ℕ → Value
+fresh suite key nonce = valueOf suite (origin (cipherOf suite) key nonce) (replicate 16 0) 0 0
+
+unfoldable pub starting : ℕ → List ℕ → List ℕ → Given
+starting suite key nonce = answered (startNumber suite (length key) (length nonce)) (gave 0 0 (fresh suite key nonce) [] []) over [] []
+
+-- ---- associated data
+
+unfoldable pub dataNumber : ℕ → ℕ → ℕ → ℕ → ℕ
+dataNumber suite came text l = cond (not (sound suite came text && eqb text 0)) 9 (cond (ltb (65536 - came) l) 4 0)
+
+unfoldable pub dataPart : Value → List ℕ → Given
+dataPart v p = answered (dataNumber (v .suite) (v .came) (v .text) (length p)) (gave 0 0 (dataIn (cipherOf (v .suite)) v p) [] []) v [] []
+
+-- ---- message: an empty part changes nothing
+
+unfoldable pub textNumber : ℕ → ℕ → ℕ → ℕ → ℕ → ℕ
+textNumber suite came text l o = cond (not (sound suite came text)) 9 (cond (ltb (65536 - text) l) 5 (cond (ltb o (l + (sizeOf suite - 1))) 6 0))
+
+abbrev pub textGiven : Value → List ℕ → List ℕ → Given
+textGiven v p out =
+    gave 0 (length (partOut (cipherOf (v .suite)) v p)) (textIn (cipherOf (v .suite)) v p) (written (partOut (cipherOf (v .suite)) v p) out) []
+
+abbrev pub textDone : Value → List ℕ → List ℕ → Given
+textDone v [] out = gave 0 0 v out []
+textDone v (x ∷ p) out = textGiven v (x ∷ p) out
+
+unfoldable pub textPart : Value → List ℕ → List ℕ → Given
+textPart v p out = answered (textNumber (v .suite) (v .came) (v .text) (length p) (length out)) (textDone v p out) v out []
+
+-- ---- end
+
+unfoldable pub endNumber : ℕ → ℕ → ℕ → ℕ → ℕ → ℕ
+endNumber suite came text o t = cond (not (sound suite came text)) 9 (cond (ltb o (sizeOf suite)) 6 (cond (not (eqb t (sizeOf suite))) 7 0))
+
+abbrev pub endDone : Value → List ℕ → Given
+endDone v out =
+    let new : List ℕ = endOut (cipherOf (v .suite)) v in
+    gave 0 (length new) over (written new out) (endTag (cipherOf (v .suite)) v)
+
+unfoldable pub ending : Value → List ℕ → List ℕ → Given
+ending v out tag = answered (endNumber (v .suite) (v .came) (v .text) (length out) (length tag)) (endDone v out) v out tag

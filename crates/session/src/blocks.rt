@@ -1,0 +1,175 @@
+// Held bytes and a part behind them: the whole blocks go through the block step, and the rest is held.
+use cipher::Lent;
+use step::block::absorb_full;
+use step::block::crypt_full;
+use step::block::crypt_short;
+use step::state::State;
+ghost use mathlib.Core.Path.{_≡_};
+ghost use mathlib.Core.Bool.{false};
+ghost use mathlib.Core.List.{_++_};
+ghost use Prim.Native.Nat.{_+_, _-_, _≤_, _<_};
+ghost use lib.ListN.{length, take};
+ghost use Rattle.cipher.specs.Cipher.{Ready, IsSuite, sizeOf, cipherOf};
+ghost use Rattle.mode.specs.Blocks.{blocks};
+ghost use Rattle.mode.specs.Walk.{whole, rest, walked, covered};
+ghost use Rattle.step.specs.Two.{twoOf};
+ghost use Rattle.session.specs.Value.{filled, written};
+
+// The two states, and what is held back.
+pub(crate) struct Fed {
+    pub s: State,
+    pub held: [u8; 16],
+}
+
+// The first h bytes of held, then p, and zeros.
+fn joined(held: [u8; 16], h: usize, p: &[u8]) -> [u8; 16]
+    requires { ⌜ h + length (now p) ≤ 16 ⌝ }
+    ensures { λ r. ⌜ r ≡ filled (take h held ++ now (p .entry)) ⌝ }
+{
+    let mut r = words::block::filled_bytes(&held[0..h]);
+    let mut j: usize = 0;
+    while j < p.len() {
+        r[h + j] = p[j];
+        j += 1;
+    }
+    r
+}
+
+// The whole blocks of ad go in, the first under the mark m, and the rest is held.
+fn absorb_blocks(tb: &[Lent], suite: u8, s: State, m: u8, ad: &[u8]) -> Fed
+    requires { ⌜ Ready suite (now tb) × IsSuite suite ⌝ }
+    ensures states { λ r. ⌜ twoOf suite (r .s) ≡ walked (cipherOf suite) false m 0x10 (twoOf suite s) (blocks (sizeOf suite) (whole (sizeOf suite) (now (ad .entry)))) ⌝ }
+    ensures held { λ r. ⌜ r .held ≡ filled (rest (sizeOf suite) (now (ad .entry))) ⌝ }
+{
+    let n = cipher::size_of(suite);
+    let mut t = s;
+    let mut k = m;
+    let mut i: usize = 0;
+    while n <= ad.len() - i {
+        let e = i + n;
+        t = absorb_full(tb, suite, t, k, &ad[i..e]);
+        k = 0;
+        i = e;
+    }
+    let h = words::block::filled_bytes(&ad[i..ad.len()]);
+    Fed { s: t, held: h }
+}
+
+// The same for h held bytes and then ad.
+pub(crate) fn absorb_part(
+    tb: &[Lent],
+    suite: u8,
+    s: State,
+    m: u8,
+    held: [u8; 16],
+    h: usize,
+    ad: &[u8],
+) -> Fed
+    requires { ⌜ Ready suite (now tb) × IsSuite suite × (h < sizeOf suite) ⌝ }
+    ensures states { λ r. ⌜ twoOf suite (r .s) ≡ walked (cipherOf suite) false m 0x10 (twoOf suite s) (blocks (sizeOf suite) (whole (sizeOf suite) (take h held ++ now (ad .entry)))) ⌝ }
+    ensures held { λ r. ⌜ r .held ≡ filled (rest (sizeOf suite) (take h held ++ now (ad .entry))) ⌝ }
+{
+    let n = cipher::size_of(suite);
+    let need = n - h;
+    if ad.len() < need {
+        let g = joined(held, h, ad);
+        return Fed { s: s, held: g };
+    }
+    let b = joined(held, h, &ad[0..need]);
+    let t = absorb_full(tb, suite, s, m, &b[0..n]);
+    absorb_blocks(tb, suite, t, 0, &ad[need..ad.len()])
+}
+
+// The two states, what is held back, and how many bytes went out.
+pub(crate) struct Made {
+    pub s: State,
+    pub held: [u8; 16],
+    pub count: usize,
+}
+
+// The whole blocks of part go in, the first under the mark m, and their ciphertext out; the rest is held.
+fn crypt_blocks(tb: &[Lent], suite: u8, s: State, m: u8, part: &[u8], out: &mut [u8]) -> Made
+    requires { ⌜ Ready suite (now tb) × IsSuite suite × (length (now part) ≤ length (now out)) ⌝ }
+    ensures text { λ _. ⌜ now (out .exit) ≡ written (covered (cipherOf suite) false m 0x40 (twoOf suite s) (blocks (sizeOf suite) (whole (sizeOf suite) (now (part .entry))))) (now (out .entry)) ⌝ }
+    ensures count { λ r. ⌜ r .count ≡ length (covered (cipherOf suite) false m 0x40 (twoOf suite s) (blocks (sizeOf suite) (whole (sizeOf suite) (now (part .entry))))) ⌝ }
+    ensures states { λ r. ⌜ twoOf suite (r .s) ≡ walked (cipherOf suite) false m 0x40 (twoOf suite s) (blocks (sizeOf suite) (whole (sizeOf suite) (now (part .entry)))) ⌝ }
+    ensures held { λ r. ⌜ r .held ≡ filled (rest (sizeOf suite) (now (part .entry))) ⌝ }
+{
+    let n = cipher::size_of(suite);
+    let mut t = s;
+    let mut k = m;
+    let mut i: usize = 0;
+    while n <= part.len() - i {
+        let e = i + n;
+        t = crypt_full(tb, false, suite, t, k, &part[i..e], &mut out[i..e]);
+        k = 0;
+        i = e;
+    }
+    let h = words::block::filled_bytes(&part[i..part.len()]);
+    Made {
+        s: t,
+        held: h,
+        count: i,
+    }
+}
+
+// The same for h held bytes and then part.
+pub(crate) fn crypt_part(
+    tb: &[Lent],
+    suite: u8,
+    s: State,
+    m: u8,
+    held: [u8; 16],
+    h: usize,
+    part: &[u8],
+    out: &mut [u8],
+) -> Made
+    requires { ⌜ Ready suite (now tb) × IsSuite suite × (h < sizeOf suite) × (length (now part) + (sizeOf suite - 1) ≤ length (now out)) ⌝ }
+    ensures text { λ _. ⌜ now (out .exit) ≡ written (covered (cipherOf suite) false m 0x40 (twoOf suite s) (blocks (sizeOf suite) (whole (sizeOf suite) (take h held ++ now (part .entry))))) (now (out .entry)) ⌝ }
+    ensures count { λ r. ⌜ r .count ≡ length (covered (cipherOf suite) false m 0x40 (twoOf suite s) (blocks (sizeOf suite) (whole (sizeOf suite) (take h held ++ now (part .entry))))) ⌝ }
+    ensures states { λ r. ⌜ twoOf suite (r .s) ≡ walked (cipherOf suite) false m 0x40 (twoOf suite s) (blocks (sizeOf suite) (whole (sizeOf suite) (take h held ++ now (part .entry)))) ⌝ }
+    ensures held { λ r. ⌜ r .held ≡ filled (rest (sizeOf suite) (take h held ++ now (part .entry))) ⌝ }
+{
+    let n = cipher::size_of(suite);
+    let need = n - h;
+    if part.len() < need {
+        let g = joined(held, h, part);
+        return Made {
+            s: s,
+            held: g,
+            count: 0,
+        };
+    }
+    let b = joined(held, h, &part[0..need]);
+    let t = crypt_full(tb, false, suite, s, m, &b[0..n], &mut out[0..n]);
+    let end = out.len();
+    let f = crypt_blocks(tb, suite, t, 0, &part[need..part.len()], &mut out[n..end]);
+    let u = f.s;
+    let g = f.held;
+    Made {
+        s: u,
+        held: g,
+        count: n + f.count,
+    }
+}
+
+// The h held bytes of message go in as a short block, if there are any, and their ciphertext out.
+pub(crate) fn last_in(
+    tb: &[Lent],
+    suite: u8,
+    s: State,
+    m: u8,
+    held: [u8; 16],
+    h: usize,
+    out: &mut [u8],
+) -> State
+    requires { ⌜ Ready suite (now tb) × IsSuite suite × (h < sizeOf suite) × (sizeOf suite ≤ length (now out)) ⌝ }
+    ensures text { λ _. ⌜ now (out .exit) ≡ written (covered (cipherOf suite) false m 0x40 (twoOf suite s) (blocks (sizeOf suite) (take h held))) (now (out .entry)) ⌝ }
+    ensures count { λ _. ⌜ h ≡ length (covered (cipherOf suite) false m 0x40 (twoOf suite s) (blocks (sizeOf suite) (take h held))) ⌝ }
+    ensures state { λ r. ⌜ twoOf suite r ≡ walked (cipherOf suite) false m 0x40 (twoOf suite s) (blocks (sizeOf suite) (take h held)) ⌝ }
+{
+    if h == 0 {
+        return s;
+    }
+    crypt_short(tb, false, suite, s, m ^ 0x40, &held[0..h], &mut out[0..h])
+}

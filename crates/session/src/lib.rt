@@ -1,0 +1,118 @@
+// Sealing in parts: a session by value, handed back by every call.
+use words::block::Block;
+
+mod blocks;
+mod numbers;
+mod work;
+
+ghost use mathlib.Core.Path.{_≡_};
+ghost use mathlib.Core.List.{[]};
+ghost use Rattle.session.specs.Value.{dataPart, textPart, ending, starting};
+ghost use Rattle.session.specs.Told.{told, gives};
+
+// Y and Z, the bytes held back (the first of the sixteen, as many as a total leaves over whole blocks), and how many bytes of associated data and of message have come. Any value may arrive: the methods ask nothing of it.
+pub struct Session {
+    pub suite: u8,
+    pub y: Block,
+    pub z: Block,
+    pub held: [u8; 16],
+    pub came: usize,
+    pub text: usize,
+}
+
+// What a call gives: the next session, the number, and how many bytes it wrote at the output's start.
+pub struct Step {
+    pub next: Session,
+    pub number: u8,
+    pub count: usize,
+}
+
+impl Session {
+    // A session's start. Only a suite whose engine is lent tables pays for them, here and below.
+    pub fn start(suite: u8, key: &[u8], nonce: &[u8]) -> Step
+        ensures { λ r. ⌜ gives r [] [] ≡ starting suite (now (key .entry)) (now (nonce .entry)) ⌝ }
+    {
+        let k = numbers::start_number(suite, key.len(), nonce.len());
+        if k != 0 {
+            return work::refused(k);
+        }
+        if cipher::lends(suite) {
+            let tb = cipher::tables(suite);
+            return work::opened(&tb, suite, key, nonce);
+        }
+        work::opened(&[], suite, key, nonce)
+    }
+
+    // A part of the associated data.
+    pub fn associated(self, part: &[u8]) -> Step
+        ensures { λ r. ⌜ gives r [] [] ≡ dataPart (told self) (now (part .entry)) ⌝ }
+    {
+        let suite = self.suite;
+        let came = self.came;
+        let text = self.text;
+        let k = numbers::data_number(suite, came, text, part.len());
+        if k != 0 {
+            return Step {
+                next: self,
+                number: k,
+                count: 0,
+            };
+        }
+        if cipher::lends(suite) {
+            let tb = cipher::tables(suite);
+            return work::take_in(&tb, self, part);
+        }
+        work::take_in(&[], self, part)
+    }
+
+    // A part of the message.
+    pub fn message(self, part: &[u8], out: &mut [u8]) -> Step
+        ensures { λ r. ⌜ gives r (now (out .exit)) [] ≡ textPart (told self) (now (part .entry)) (now (out .entry)) ⌝ }
+    {
+        let suite = self.suite;
+        let came = self.came;
+        let text = self.text;
+        let k = numbers::text_number(suite, came, text, part.len(), out.len());
+        if k != 0 {
+            return Step {
+                next: self,
+                number: k,
+                count: 0,
+            };
+        }
+        if part.len() == 0 {
+            return Step {
+                next: self,
+                number: 0,
+                count: 0,
+            };
+        }
+        if cipher::lends(suite) {
+            let tb = cipher::tables(suite);
+            return work::seal_in(&tb, self, part, out);
+        }
+        work::seal_in(&[], self, part, out)
+    }
+
+    // The end: the rest of the ciphertext into out, and the tag.
+    pub fn finish(self, out: &mut [u8], tag: &mut [u8]) -> Step
+        ensures { λ r. ⌜ gives r (now (out .exit)) (now (tag .exit)) ≡ ending (told self) (now (out .entry)) (now (tag .entry)) ⌝ }
+    {
+        let suite = self.suite;
+        let came = self.came;
+        let text = self.text;
+        let k = numbers::end_number(suite, came, text, out.len(), tag.len());
+        if k != 0 {
+            return Step {
+                next: self,
+                number: k,
+                count: 0,
+            };
+        }
+        if cipher::lends(suite) {
+            let tb = cipher::tables(suite);
+            return work::close(&tb, self, out, tag);
+        }
+        work::close(&[], self, out, tag)
+    }
+}

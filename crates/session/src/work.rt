@@ -1,0 +1,190 @@
+// What the calls do once nothing is refused: the cipher is lent what it needs.
+use crate::Session;
+use crate::Step;
+use crate::blocks::Fed;
+use cipher::Lent;
+use step::state::State;
+use words::block::Block;
+ghost use mathlib.Core.Path.{_≡_};
+ghost use mathlib.Core.List.{[]};
+ghost use Prim.Native.Nat.{_<_};
+ghost use lib.ListN.{length, take};
+ghost use Rattle.words.specs.Blocks.{wide};
+ghost use Rattle.cipher.specs.Cipher.{Ready, IsSuite, sizeOf, cipherOf};
+ghost use Rattle.step.specs.Two.{twoOf};
+ghost use Rattle.session.specs.Value.{valueOf, filled, over, gave, firstMark, begun, startNumber, starting, dataNumber, dataPart, textNumber, textPart, endNumber, ending};
+ghost use Rattle.session.specs.Told.{told, gives};
+
+// The bytes that the suite does not use are zero.
+fn clean(suite: u8, y: Block) -> Block
+    ensures { λ r. ⌜ wide r ≡ filled (take (sizeOf suite) (wide y)) ⌝ }
+{
+    if cipher::size_of(suite) == 16 {
+        return y;
+    }
+    Block { a: y.a, b: 0 }
+}
+
+// A session of these states, held bytes and totals.
+fn packed(suite: u8, f: Fed, came: usize, text: usize) -> Session
+    ensures { λ r. ⌜ told r ≡ valueOf suite (twoOf suite (f .s)) (f .held) came text ⌝ }
+{
+    let s = f.s;
+    let y0 = s.y;
+    let z = s.z;
+    let held = f.held;
+    let y = clean(suite, y0);
+    Session {
+        suite: suite,
+        y: y,
+        z: z,
+        held: held,
+        came: came,
+        text: text,
+    }
+}
+
+// A session that is over.
+fn ended() -> Session
+    ensures { λ r. ⌜ told r ≡ over ⌝ }
+{
+    let zero = Block { a: 0, b: 0 };
+    Session {
+        suite: 0,
+        y: zero,
+        z: zero,
+        held: [0u8; 16],
+        came: 0,
+        text: 0,
+    }
+}
+
+// A start that was refused.
+pub(crate) fn refused(k: u8) -> Step
+    ensures { λ r. ⌜ gives r [] [] ≡ gave k 0 over [] [] ⌝ }
+{
+    let none = ended();
+    Step {
+        next: none,
+        number: k,
+        count: 0,
+    }
+}
+
+// A session that key and nonce start.
+pub(crate) fn opened(tb: &[Lent], suite: u8, key: &[u8], nonce: &[u8]) -> Step
+    requires { ⌜ Ready suite (now tb) × (startNumber suite (length (now key)) (length (now nonce)) ≡ 0) ⌝ }
+    ensures { λ r. ⌜ gives r [] [] ≡ starting suite (now (key .entry)) (now (nonce .entry)) ⌝ }
+{
+    let s = step::state::start(tb, suite, key, nonce);
+    let z = [0u8; 16];
+    let next = packed(suite, Fed { s: s, held: z }, 0, 0);
+    Step {
+        next: next,
+        number: 0,
+        count: 0,
+    }
+}
+
+// The mark of the next whole block: m if none has gone in.
+fn first_mark(suite: u8, m: u8, came: usize) -> u8
+    ensures { λ r. ⌜ r ≡ firstMark (cipherOf suite) m came ⌝ }
+{
+    let n = cipher::size_of(suite);
+    if came < n { m } else { 0 }
+}
+
+// Associated data goes in.
+pub(crate) fn take_in(tb: &[Lent], s: Session, part: &[u8]) -> Step
+    requires { ⌜ Ready (s .suite) (now tb) × (dataNumber (s .suite) (s .came) (s .text) (length (now part)) ≡ 0) ⌝ }
+    ensures { λ r. ⌜ gives r [] [] ≡ dataPart (told s) (now (part .entry)) ⌝ }
+{
+    let suite = s.suite;
+    let y = s.y;
+    let z = s.z;
+    let held = s.held;
+    let came = s.came;
+    let text = s.text;
+    let n = cipher::size_of(suite);
+    let m = first_mark(suite, 0x08, came);
+    let h = came % n;
+    let two = State { y: y, z: z };
+    let f = crate::blocks::absorb_part(tb, suite, two, m, held, h, part);
+    let next = packed(suite, f, came + part.len(), text);
+    Step {
+        next: next,
+        number: 0,
+        count: 0,
+    }
+}
+
+// The states as the message goes on: where it has not begun, the associated data's last bytes go in first.
+fn begin(tb: &[Lent], s: Session) -> State
+    requires { ⌜ Ready (s .suite) (now tb) × IsSuite (s .suite) ⌝ }
+    ensures { λ r. ⌜ twoOf (s .suite) r ≡ begun (cipherOf (s .suite)) (told s) ⌝ }
+{
+    let suite = s.suite;
+    let y = s.y;
+    let z = s.z;
+    let held = s.held;
+    let came = s.came;
+    let text = s.text;
+    let two = State { y: y, z: z };
+    if text != 0 {
+        return two;
+    }
+    let n = cipher::size_of(suite);
+    let h = came % n;
+    if h == 0 {
+        return two;
+    }
+    let m = first_mark(suite, 0x08, came);
+    step::block::absorb_short(tb, suite, two, m ^ 0x10, &held[0..h])
+}
+
+// Message goes in, at least one byte of it, and the ciphertext of the blocks that it completes out.
+pub(crate) fn seal_in(tb: &[Lent], s: Session, part: &[u8], out: &mut [u8]) -> Step
+    requires { ⌜ Ready (s .suite) (now tb) × (textNumber (s .suite) (s .came) (s .text) (length (now part)) (length (now out)) ≡ 0) × (0 < length (now part)) ⌝ }
+    ensures { λ r. ⌜ gives r (now (out .exit)) [] ≡ textPart (told s) (now (part .entry)) (now (out .entry)) ⌝ }
+{
+    let suite = s.suite;
+    let came = s.came;
+    let text = s.text;
+    let held = s.held;
+    let two = begin(tb, s);
+    let n = cipher::size_of(suite);
+    let m = first_mark(suite, 0x20, text);
+    let h = text % n;
+    let f = crate::blocks::crypt_part(tb, suite, two, m, held, h, part, out);
+    let u = f.s;
+    let g = f.held;
+    let next = packed(suite, Fed { s: u, held: g }, came, text + part.len());
+    Step {
+        next: next,
+        number: 0,
+        count: f.count,
+    }
+}
+
+// The end's work: the rest of the ciphertext, and the tag.
+pub(crate) fn close(tb: &[Lent], s: Session, out: &mut [u8], tag: &mut [u8]) -> Step
+    requires { ⌜ Ready (s .suite) (now tb) × (endNumber (s .suite) (s .came) (s .text) (length (now out)) (length (now tag)) ≡ 0) ⌝ }
+    ensures { λ r. ⌜ gives r (now (out .exit)) (now (tag .exit)) ≡ ending (told s) (now (out .entry)) (now (tag .entry)) ⌝ }
+{
+    let suite = s.suite;
+    let text = s.text;
+    let held = s.held;
+    let two = begin(tb, s);
+    let n = cipher::size_of(suite);
+    let m = first_mark(suite, 0x20, text);
+    let h = text % n;
+    let t = crate::blocks::last_in(tb, suite, two, m, held, h, out);
+    let g = step::tag::tag_of(tb, suite, t);
+    words::block::put(g, tag);
+    let next = ended();
+    Step {
+        next: next,
+        number: 0,
+        count: h,
+    }
+}

@@ -1,0 +1,106 @@
+// The rows, from the file into the output: text and tag of each are replaced.
+use crate::answers::Written;
+use comet::Answer;
+use shift::lend::open_row;
+use shift::lend::row_of;
+use shift::lend::seal_row;
+use table::body::text_start;
+use table::row::Row;
+use words::runs::copy;
+use words::zeros::wipe;
+ghost use mathlib.Core.Path.{_≡_};
+ghost use mathlib.Core.Bool.{true, false};
+ghost use Prim.Native.Nat.{_≤_};
+ghost use lib.ListN.{length, take};
+ghost use Rattle.cipher.specs.Cipher.{sizeOf};
+ghost use Rattle.draft.specs.Put.{put, putAll};
+ghost use Rattle.draft.specs.Files.{inEdition, pieceStart, entryOut, entryTag, sealedPiece, draftPiece};
+ghost use Rattle.draft.specs.Answers.{tagRight, wrongFrom, leaves, FileWritten};
+ghost use Rattle.writer.specs.Answers.{writtenAnswer};
+ghost use Rattle.writer.specs.Inside.{Writable, RowWritable, TextWritable};
+
+// The edition, in the first two bytes.
+pub(crate) fn put_edition(e: u16, out: &mut [u8])
+    requires { ⌜ 2 ≤ length (now out) ⌝ }
+    ensures { λ _. ⌜ now (out .exit) ≡ inEdition e (now (out .entry)) ⌝ }
+{
+    let h = e / 256;
+    out[0] = (e % 256) as u8;
+    out[1] = (h % 256) as u8;
+}
+
+// Seals the text of row i into out; gives the tag, in the first bytes.
+fn seal_text(f: &[u8], ring: &[u8], i: usize, row: Row, out: &mut [u8]) -> [u8; 16]
+    requires { ⌜ TextWritable (now f) (now ring) i row (now out) ⌝ }
+    ensures text { λ _. ⌜ now (out .exit) ≡ entryOut false (now (f .entry)) (now (ring .entry)) i ⌝ }
+    ensures tag { λ r. ⌜ take (sizeOf (row .suite)) r ≡ entryTag false (now (f .entry)) (now (ring .entry)) i ⌝ }
+{
+    let n = cipher::size_of(row.suite);
+    let mut tag = [0u8; 16];
+    seal_row(f, ring, i, row, out, &mut tag[0..n]);
+    tag
+}
+
+// Seals row i of a draft into the output.
+fn seal_entry(f: &[u8], ring: &[u8], i: usize, out: &mut [u8])
+    requires { ⌜ RowWritable (now f) i (now ring) (now out) ⌝ }
+    ensures { λ _. ⌜ now (out .exit) ≡ put (now (out .entry)) (pieceStart (now (f .entry)) i) (sealedPiece (now (f .entry)) (now (ring .entry)) i) ⌝ }
+{
+    let row = row_of(f, i);
+    let len = row.len as usize;
+    let n = cipher::size_of(row.suite);
+    let a = text_start(row);
+    let b = a + len;
+    let e = b + n;
+    let tag = seal_text(f, ring, i, row, &mut out[a..b]);
+    copy(&tag[0..n], &mut out[b..e]);
+}
+
+// Seals the n rows of a draft into the output.
+pub(crate) fn seal_rows(f: &[u8], n: usize, ring: &[u8], out: &mut [u8])
+    requires { ⌜ Writable (now f) n (now ring) (now out) ⌝ }
+    ensures { λ _. ⌜ now (out .exit) ≡ putAll (pieceStart (now (f .entry))) (sealedPiece (now (f .entry)) (now (ring .entry))) n (now (out .entry)) ⌝ }
+{
+    let mut i: usize = 0;
+    while i < n {
+        seal_entry(f, ring, i, out);
+        i += 1;
+    }
+}
+
+// Opens row i of a file into the output, and zeros its tag there; false where the tag is wrong.
+fn unseal_entry(f: &[u8], ring: &[u8], i: usize, out: &mut [u8]) -> bool
+    requires { ⌜ RowWritable (now f) i (now ring) (now out) ⌝ }
+    ensures right { λ r. ⌜ r ≡ tagRight (now (f .entry)) (now (ring .entry)) i ⌝ }
+    ensures text { λ r. ⌜ (r ≡ true → now (out .exit) ≡ put (now (out .entry)) (pieceStart (now (f .entry)) i) (draftPiece (now (f .entry)) (now (ring .entry)) i)) ⌝ }
+{
+    let row = row_of(f, i);
+    let len = row.len as usize;
+    let n = cipher::size_of(row.suite);
+    let a = text_start(row);
+    let b = a + len;
+    let e = b + n;
+    let opened = open_row(f, ring, i, row, &mut out[a..b]);
+    let Answer::Done = opened else {
+        return false;
+    };
+    wipe(&mut out[b..e]);
+    true
+}
+
+// Opens the n rows of a file into the output; the first whose tag is wrong leaves zeros all over.
+pub(crate) fn unseal_rows(f: &[u8], n: usize, ring: &[u8], out: &mut [u8]) -> Written
+    requires { ⌜ Writable (now f) n (now ring) (now out) ⌝ }
+    ensures { λ r. ⌜ _≡_ {A = FileWritten} (record { answer = writtenAnswer r; out = now (out .exit) })
+        (leaves (wrongFrom (now (f .entry)) (now (ring .entry)) n 0) (putAll (pieceStart (now (f .entry))) (draftPiece (now (f .entry)) (now (ring .entry))) n (now (out .entry))) (now (out .entry))) ⌝ }
+{
+    let mut i: usize = 0;
+    while i < n {
+        if !unseal_entry(f, ring, i, out) {
+            wipe(out);
+            return Written::Forged(i);
+        }
+        i += 1;
+    }
+    Written::Done
+}

@@ -1,0 +1,33 @@
+//! Document 02, W3: no decision in the doubling, as the proved code's own MIR shows it (`tools/branches`).
+//! Where the Rattle kit is not there, there is no MIR to look at, and the test says so.
+
+use std::path::Path;
+use std::process::Command;
+
+/// What `tools/branches` counts in a function, or None where there is no kit.
+fn decisions(name: &str, function: &str) -> Option<u32> {
+    Command::new("rt").arg("version").output().ok()?;
+    let script = Path::new(env!("CARGO_MANIFEST_DIR")).join("../tools/branches");
+    let output = Command::new(script).args([name, function]).output().expect("tools/branches");
+    assert!(output.status.success(), "{}", String::from_utf8_lossy(&output.stderr));
+    let text = String::from_utf8(output.stdout).unwrap();
+    let last = text.lines().last().unwrap();
+    let count = last.strip_prefix(&format!("{function}: ")).unwrap().strip_suffix(" decisions").unwrap();
+    Some(count.parse().unwrap())
+}
+
+#[test]
+fn the_doubling_decides_nothing() {
+    match decisions("step", "step::key::doubling") {
+        Some(count) => assert_eq!(count, 0),
+        None => eprintln!("no rt on this machine: the MIR was not looked at"),
+    }
+}
+
+/// The count is one that can be other than 0: the suite's block size is a decision.
+#[test]
+fn a_decision_is_counted() {
+    if let Some(count) = decisions("cipher", "cipher::size_of") {
+        assert!(count > 0);
+    }
+}
