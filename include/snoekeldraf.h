@@ -180,6 +180,8 @@ uint32_t shift_open_job(const uint8_t *file, size_t file_len,
 /* The writer. A draft is a shift file with edition 0, plaintext where the ciphertext goes, and zero tags. Numbers, in this
  * order; out is as it was after every number but 0 and 8. *row is written always: the row after 25 to 30, 34, 33 and 8, and
  * 0 after every other number, 0 too.
+ * order; out is as it was after every number but 0 and 8. *row is written always: the row after 25 to 30, 34, 33 and
+ * 8, and 0 after every other number, 0 too.
  *  20 to 31, 34   as above, of the draft or the file; 21 says that a draft's edition is not 0, or a file's is not 1
  *  33   shift_seal_file alone: the row's tag has a byte that is not zero; the first such row
  *   2   the ring is not 256 bytes long
@@ -201,6 +203,15 @@ uint32_t shift_unseal_file(const uint8_t *file, size_t file_len,
                            const uint8_t *ring, size_t ring_len,
                            uint8_t *out, size_t out_len,
                            uint32_t *row);
+
+/* Finds a job without walking the file: 20 to 24 alone, and then the table is halved. From c rows at row s it looks at
+ * row s + c/2, stops if that has the job, and keeps the rows after it if its job is lower, else those before; 32 when
+ * no row is left. No body is read, and 25 to 31 and 34 are not asked: on a file that passes shift_check the number and
+ * *row are shift_lookup's; on others they are what the halving gives.
+ * Both are written always: *row is the row found after 0, and 0 after every other number; *looked is how many rows were
+ * looked at, at most 10, and 0 after 20 to 24.
+ */
+uint32_t shift_search(const uint8_t *file, size_t file_len, uint32_t job, uint32_t *row, uint32_t *looked);
 
 #ifdef __cplusplus
 }

@@ -150,10 +150,17 @@ static uint32_t unseal_file(void) {
     return shift_unseal_file(SLICE(file), SLICE(ring), SLICE(out), lent_number());
 }
 
+static uint32_t search(void) {
+    bytes file = given();
+    uint32_t job = (uint32_t)number(), *row = lent_number(), *looked = lent_number();
+    return shift_search(SLICE(file), job, row, looked);
+}
+
 static uint32_t (*const functions[])(void) = {
     seal, open_record, check, lookup, associated, open_job, entry,
     session_start, session_data, session_part, session_end,
     seal_file, unseal_file,
+    search,
 };
 
 int main(void) {

@@ -183,6 +183,12 @@ fn unseal_file(file: &[u8], ring: &[u8], out: &mut [u8]) -> Answer {
     (number, row)
 }
 
+/// Number and row, and how many rows were looked at.
+fn search(file: &[u8], job: u32) -> (Answer, u32) {
+    let (number, [row, looked]) = ask(13, vec![Given(file), Number(job.into())]);
+    ((number, row), looked)
+}
+
 pub const PROVED: Library = Library {
     seal,
     open,
@@ -197,4 +203,5 @@ pub const PROVED: Library = Library {
     session_end,
     seal_file,
     unseal_file,
+    search,
 };

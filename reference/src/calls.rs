@@ -2,7 +2,7 @@
 
 use crate::session::{Session, Step};
 use crate::show::{fold, shown};
-use crate::{comet, session, shift, writer};
+use crate::{comet, search, session, shift, writer};
 
 /// What lent buffers hold before a call.
 pub const FILLER: u8 = 0xa5;
@@ -29,6 +29,7 @@ pub struct Library {
     pub session_end: fn(Session, &mut [u8], &mut [u8]) -> Step,
     pub seal_file: Rewrite,
     pub unseal_file: Rewrite,
+    pub search: fn(&[u8], u32) -> (shift::Answer, u32),
 }
 
 pub const REFERENCE: Library = Library {
@@ -48,6 +49,7 @@ pub const REFERENCE: Library = Library {
     session_end: session::end,
     seal_file: writer::seal_file,
     unseal_file: writer::unseal_file,
+    search: search::search,
 };
 
 /// A call, or a run of calls.

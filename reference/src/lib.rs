@@ -3,13 +3,13 @@
 //! It is written from the papers and documents 01 and 02 alone and shares nothing with the proved crates:
 //! what both say is said twice, by two hands.
 //!
-//! `aes`, `cham`, `speck`, `comet`, `session`, `shift` and `writer` are the implementation. The rest makes inputs of
-//! it: `random`, `plan` and `calls` say what a call is, `data` holds the calls that the test programs run and
+//! The first list of modules below is the implementation. The rest makes inputs of it: `random`, `plan` and `calls` say what a call is, `data` holds the calls that the test programs run and
 //! compare with, and `trials` and `data` those of the comparison with the proved library.
 
 pub mod aes;
 pub mod cham;
 pub mod comet;
+pub mod search;
 pub mod session;
 pub mod shift;
 pub mod speck;

@@ -93,6 +93,8 @@ mod proved {
             draft: *const u8, draft_len: usize, ring: *const u8, ring_len: usize, out: *mut u8, out_len: usize,
             row: *mut u32,
         ) -> u32;
+        fn shift_lookup(file: *const u8, file_len: usize, job: u32, row: *mut u32) -> u32;
+        fn shift_search(file: *const u8, file_len: usize, job: u32, row: *mut u32, looked: *mut u32) -> u32;
     }
 
     fn given(s: Session) -> CSession {
@@ -129,6 +131,18 @@ mod proved {
             unsafe { shift_seal_file(draft_at, draft.len(), ring_at, ring.len(), out_at, out.len(), &mut row) };
         (number, row)
     }
+
+    pub fn lookup(file: &[u8], job: u32) -> Answer {
+        let mut row = super::UNWRITTEN;
+        let number = unsafe { shift_lookup(file.as_ptr(), file.len(), job, &mut row) };
+        (number, row)
+    }
+
+    pub fn search(file: &[u8], job: u32) -> (Answer, u32) {
+        let (mut row, mut looked) = (super::UNWRITTEN, super::UNWRITTEN);
+        let number = unsafe { shift_search(file.as_ptr(), file.len(), job, &mut row, &mut looked) };
+        ((number, row), looked)
+    }
 }
 
 /// The plain C has no lookup and opens no job: the reference stands in for those.
@@ -148,6 +162,8 @@ pub const PROVED: Library = Library {
     session_part: proved::session_part,
     session_end: proved::session_end,
     seal_file: proved::seal_file,
+    lookup: proved::lookup,
+    search: proved::search,
     ..bridge::PROVED
 };
 #[cfg(not(target_arch = "x86_64"))]

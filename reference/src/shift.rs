@@ -94,7 +94,7 @@ pub fn rows(file: &[u8]) -> Vec<Row> {
 }
 
 /// Numbers 20 to 24, and 0 where none applies.
-fn check_header(file: &[u8], editions: &[usize]) -> u32 {
+pub fn check_header(file: &[u8], editions: &[usize]) -> u32 {
     if file.len() < HEADER || file.len() > LONGEST {
         20
     } else if !editions.contains(&u16_at(file, 0)) {

@@ -1,7 +1,7 @@
 //! The data of the test programs: it provokes every number, and the repository's files are what is generated.
 
 use reference::calls::{Case, REFERENCE};
-use reference::data::{cases, files, parts, sessions, writing, FOLDERS};
+use reference::data::{cases, files, parts, searching, sessions, writing, FOLDERS};
 use reference::random::Random;
 use reference::trials;
 use std::collections::BTreeSet;
@@ -41,6 +41,14 @@ fn writing_provokes_every_number() {
     };
     assert_eq!(numbers(writing::Pass::Seal), [0, 2, 6, 33, 34].into_iter().chain(20..=31).collect());
     assert_eq!(numbers(writing::Pass::Unseal), [0, 2, 6, 8, 34].into_iter().chain(20..=31).collect());
+}
+
+#[test]
+fn searching_provokes_every_number() {
+    let answers: Vec<_> = searching::calls().iter().flat_map(|call| call.answer(&REFERENCE)).collect();
+    let numbers: BTreeSet<u32> = answers.iter().map(|((number, _), _)| *number).collect();
+    assert_eq!(numbers, [0, 32].into_iter().chain(20..=24).collect());
+    assert_eq!(answers.iter().map(|(_, looked)| *looked).max(), Some(10));
 }
 
 /// The random files of the comparison are of all kinds too.

@@ -3,8 +3,9 @@
 use reference::comet::seal;
 use reference::data::{files, samples};
 use reference::plan::{Entry, Plan};
+use reference::search::search;
 use reference::session::{data, end, part, start, OVER};
-use reference::shift::{check, rows};
+use reference::shift::{check, lookup, rows};
 use reference::writer::{seal_file, unseal_file};
 
 mod w2 {
@@ -143,5 +144,42 @@ mod w5 {
         draft[8 + 31] = 1;
         let mut out = vec![0; draft.len()];
         assert_eq!(seal_file(&draft, &samples::ring(), &mut out), (34, 0));
+    }
+}
+
+mod w6 {
+    use super::*;
+
+    /// Rows from row 0 with jobs 10 i: what is looked at first, and on which side the search goes on.
+    #[test]
+    fn halving() {
+        let file = files::many_rows(4);
+        let answers = [20, 30, 10, 0, 25, 35].map(|job| search(&file, job));
+        let expected = [((0, 2), 1), ((0, 3), 2), ((0, 1), 2), ((0, 0), 3), ((32, 0), 2), ((32, 0), 2)];
+        assert_eq!(answers, expected);
+        assert_eq!(search(&files::many_rows(0), 0), ((32, 0), 0));
+    }
+
+    /// On good files the lookup's answer; 10 rows of 512 at most, 9 of 511.
+    #[test]
+    fn as_the_lookup() {
+        for (rows, most) in [(1, 1), (2, 2), (3, 2), (511, 9), (512, 10)] {
+            let file = files::many_rows(rows);
+            let jobs = || (0..10 * rows as u32 + 2).filter(|job| job % 10 < 2);
+            assert_eq!(jobs().map(|job| search(&file, job).1).max(), Some(most));
+            for job in jobs().step_by(37) {
+                assert_eq!(search(&file, job).0, lookup(&file, job));
+            }
+        }
+    }
+
+    /// Rows that no check would pass, and a refusal at the header.
+    #[test]
+    fn any_bytes() {
+        let mut file = files::many_rows(4);
+        file[8 + 4..40].fill(0xff);
+        assert_eq!((check(&file).0, search(&file, 30)), (26, ((0, 3), 2)));
+        file[0] = 3;
+        assert_eq!(search(&file, 30), ((21, 0), 0));
     }
 }

@@ -12,6 +12,7 @@ use Rattle.session.proofs.Outcomes as session
 use Rattle.table.proofs.Outcomes as table
 use Rattle.shift.proofs.Outcomes as shift
 use Rattle.writer.proofs.Outcomes as writer
+use Rattle.search.proofs.Outcomes as halving
 use Rattle.comet.proofs.Refuse.{refusal-most}
 use Rattle.promises.specs.Demand1.{EntryPoints, SealKeeps, OpenKeeps}
 
@@ -28,6 +29,7 @@ entry-points =
       session-data = record { asks-nothing = λ κs a. tt; one-outcome = session.associated };
       session-part = record { asks-nothing = λ κs a. tt; one-outcome = session.message };
       session-end = record { asks-nothing = λ κs a. tt; one-outcome = session.finish };
+      search = record { asks-nothing = λ κs a. tt; one-outcome = halving.search };
       associated = shift.associated;
       seal-file = record { asks-nothing = λ κs a. tt; one-outcome = writer.seal-file };
       unseal-file = record { asks-nothing = λ κs a. tt; one-outcome = writer.unseal-file };

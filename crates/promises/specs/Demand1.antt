@@ -34,13 +34,14 @@ use Rattle.writer.proofs.seal_file.Kinds as seal-file-kinds
 use Rattle.writer.proofs.seal_file.Reads as seal-file-reads
 use Rattle.writer.proofs.unseal_file.Kinds as unseal-file-kinds
 use Rattle.writer.proofs.unseal_file.Reads as unseal-file-reads
+use Rattle.search.proofs.search.Kinds as search-kinds
+use Rattle.search.proofs.search.Reads as search-reads
 
 -- of a routine's own signature and contract: it asks nothing of its arguments, and they leave one outcome
 pub record Answers {n : ℕ} (ps : List (PK n)) (r : RK n) (Pre : In n ps) (Post : Out n ps r) : Type 0 where
   pub asks-nothing : (κs : Lfts n) (a : Dens κs ps) → Pre κs a
   pub one-outcome : OneOutcome ps r Pre Post
 
--- every entry point
 -- every entry point of document 01, and those that document 02 adds
 pub record EntryPoints : Type 0 where
   pub seal : Answers seal-kinds.ps seal-kinds.r seal-reads.Pre seal-reads.Post
@@ -54,6 +55,8 @@ pub record EntryPoints : Type 0 where
   pub session-data : Answers session-data-kinds.ps session-data-kinds.r session-data-reads.Pre session-data-reads.Post
   pub session-part : Answers session-part-kinds.ps session-part-kinds.r session-part-reads.Pre session-part-reads.Post
   pub session-end : Answers session-end-kinds.ps session-end-kinds.r session-end-reads.Pre session-end-reads.Post
+  -- document 02, W6
+  pub search : Answers search-kinds.ps search-kinds.r search-reads.Pre search-reads.Post
   -- the associated data is a part of the file: its bytes and its place are one; a reference's ghost name belongs to the proof and is no outcome
   pub associated : (κs : Lfts 1) (a : Dens κs associated-kinds.ps) (x y : Outcome associated-kinds.ps associated-kinds.r associated-reads.Post κs a)
       → (now (x .result) ≡ now (y .result)) × (x .result .ptr ≡ y .result .ptr)

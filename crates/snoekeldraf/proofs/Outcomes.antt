@@ -1,5 +1,5 @@
 -- One outcome for each input: a contract says what the number and every lent output equal, so any two outcomes that it allows are equal.
-use mathlib.Core.Path.{_≡_, refl, sym, ap, _∙_}
+use mathlib.Core.Path.{_≡_, refl, sym, ap, ap₂, _∙_}
 use Prim.Native.Nat.{ℕ, _^_, _<_}
 use native.Mathlib.Omega.{arith}
 use mathlib.Core.List.{List}
@@ -42,6 +42,8 @@ use Rattle.snoekeldraf.proofs.drafts.shift_seal_file.Kinds as seal-file
 use Rattle.snoekeldraf.proofs.drafts.shift_seal_file.Reads as seal-file-reads
 use Rattle.snoekeldraf.proofs.drafts.shift_unseal_file.Kinds as unseal-file-kinds
 use Rattle.snoekeldraf.proofs.drafts.shift_unseal_file.Reads as unseal-file-reads
+use Rattle.snoekeldraf.proofs.halving.shift_search.Kinds as search-kinds
+use Rattle.snoekeldraf.proofs.halving.shift_search.Reads as search-reads
 
 pub comet-seal : OneOutcome seal-kinds.ps seal-kinds.r seal-reads.Pre seal-reads.Post
 comet-seal κs a h x y =
@@ -132,3 +134,8 @@ pub shift-unseal-file : OneOutcome unseal-file-kinds.ps unseal-file-kinds.r unse
 shift-unseal-file κs a h x y =
     let e = x .ensures ∙ sym (y .ensures) in
     (ap (λ (w : FileWritten). w .answer .number) e, ap (λ (w : FileWritten). (tt, (tt, (w .out, (w .answer .row, tt))))) e)
+
+pub shift-search : OneOutcome search-kinds.ps search-kinds.r search-reads.Pre search-reads.Post
+shift-search κs a h x y =
+    let e = x .ensures .0 ∙ sym (y .ensures .0) in
+    (ap (λ (w : Answer). w .number) e, ap₂ (λ (w : Answer) (l : ℕ). (tt, (tt, (w .row, (l, tt))))) e (x .ensures .1 ∙ sym (y .ensures .1)))

@@ -155,6 +155,17 @@ fn session_ratio(repetitions: usize, call: &Call, length: usize) -> f64 {
     median(ratios.collect())
 }
 
+/// Nanoseconds of the search and of the full lookup for the last job of a file of 512 rows, in turns.
+fn search_times(repetitions: usize, file: &[u8]) -> [f64; 2] {
+    let job = shift::rows(file).last().unwrap().job;
+    let times = (0..repetitions).map(|_| {
+        let search = time(100, &mut || assert_eq!((PROVED.search)(black_box(file), job).0, (0, 511)));
+        [search, time(1, &mut || assert_eq!((PROVED.lookup)(black_box(file), job), (0, 511)))]
+    });
+    let times: Vec<[f64; 2]> = times.collect();
+    [0, 1].map(|which| median(times.iter().map(|pair| pair[which]).collect()))
+}
+
 fn line(suite: u8, what: &str, size: usize, m: Measured) {
     let has_bytes = size > 0 && !what.starts_with("check");
     let per_byte = if has_bytes { format!("{:.3}", m.ours / size as f64) } else { "-".to_string() };
@@ -233,6 +244,8 @@ fn main() {
             missed.push(format!("suite {suite}, the writer: {:.2} and {:.2}, not 0.9", ratios[0], ratios[1]));
         }
     }
+    let [search, lookup] = search_times(repetitions, &plan(&mut random, 3, 0).file(&samples::ring()));
+    println!("\nA job among 512 rows: {search:.0} ns by the search, {lookup:.0} ns by the full lookup");
     println!("\n{} targets missed", missed.len());
     missed.iter().for_each(|miss| println!("- {miss}"));
 }

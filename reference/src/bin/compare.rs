@@ -5,7 +5,7 @@
 
 use reference::bridge::PROVED;
 use reference::calls::{Case, Library, REFERENCE};
-use reference::data::{cases, files, sessions, writing};
+use reference::data::{cases, files, searching, sessions, writing};
 use reference::linked::{COLUMNS, PLAIN};
 use reference::random::Random;
 use reference::show::hex;
@@ -103,6 +103,15 @@ fn compare_writer(tally: &mut Tally, random: &mut Random) {
     tally.report("random drafts and files, good and edited");
 }
 
+fn compare_search(tally: &mut Tally, random: &mut Random) {
+    searching::calls().iter().for_each(|call| tally.proved(call));
+    tally.report("the calls of the program searching");
+    searching::trials(random, 3_000, |call| tally.proved(call));
+    tally.report("jobs looked for in random files and tables");
+    searching::longest(|call| tally.proved(call));
+    tally.report("jobs looked for in the longest file, and in one too long");
+}
+
 fn main() {
     let seed = std::env::args().nth(1).map_or(2026, |seed| seed.parse().expect("SEED is a number"));
     let mut tally = Tally::default();
@@ -111,6 +120,7 @@ fn main() {
     compare_files(&mut tally, &mut random);
     compare_sessions(&mut tally, &mut random);
     compare_writer(&mut tally, &mut random);
+    compare_search(&mut tally, &mut random);
     println!("{} cases, {} differences", tally.cases, tally.differences);
     if tally.differences > 0 {
         std::process::exit(1);

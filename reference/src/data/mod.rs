@@ -3,6 +3,7 @@
 pub mod cases;
 pub mod files;
 pub mod samples;
+pub mod searching;
 pub mod sessions;
 pub mod vectors;
 pub mod writing;
@@ -13,7 +14,7 @@ use crate::calls::{Case, REFERENCE};
 pub type Part = (&'static str, Vec<u8>);
 
 /// The folders of the repository that are written.
-pub const FOLDERS: [&str; 8] = [
+pub const FOLDERS: [&str; 9] = [
     "samples",
     "crates/vectors",
     "crates/cases",
@@ -22,6 +23,7 @@ pub const FOLDERS: [&str; 8] = [
     "crates/sessions",
     "crates/writing",
     "crates/write",
+    "crates/searching",
 ];
 
 /// What a test program reads and writes.
@@ -42,6 +44,7 @@ pub fn parts(folder: &str) -> Vec<Part> {
         "crates/sessions" => sessions::parts().to_vec(),
         "crates/writing" => writing::parts().to_vec(),
         "crates/write" => writing::write_parts().to_vec(),
+        "crates/searching" => searching::parts().to_vec(),
         _ => unreachable!("no data for {folder}"),
     }
 }

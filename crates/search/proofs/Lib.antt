@@ -1,0 +1,3 @@
+pub mod Halves
+pub mod Promised
+pub mod Outcomes

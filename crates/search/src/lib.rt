@@ -1,0 +1,69 @@
+// Finding a job in a shift file by halving, without walking the file.
+use shift::answers::Found;
+use table::answers::Checked;
+use table::check_head;
+use table::row::EDITION;
+use table::row::count;
+use table::row::row_at;
+use table::row::row_size;
+ghost use mathlib.Core.Path.{_≡_};
+ghost use lib.ListN.{length};
+ghost use Rattle.table.specs.Inside.{TableIn};
+ghost use Rattle.shift.specs.Answers.{foundAnswer};
+ghost use Rattle.search.specs.Halving.{jobsOf, halving, searching};
+
+// What the search finds, and how many rows it looked at.
+pub struct Searched {
+    pub found: Found,
+    pub looked: usize,
+}
+
+// Halves n rows until one has the job or none is left.
+fn halve(w: usize, f: &[u8], n: usize, job: u32) -> Searched
+    requires { ⌜ TableIn w (now f) n ⌝ }
+    ensures { λ r. ⌜ (foundAnswer (r .found) ≡ halving (jobsOf w (now (f .entry))) job 0 n .says) × (r .looked ≡ length (halving (jobsOf w (now (f .entry))) job 0 n .rows)) ⌝ }
+{
+    let mut s: usize = 0;
+    let mut c: usize = n;
+    let mut looked: usize = 0;
+    while 0 < c {
+        let h = c / 2;
+        let m = s + h;
+        let row = row_at(w, f, m);
+        let seen = row.job;
+        let looks = looked + 1;
+        if seen == job {
+            return Searched {
+                found: Found::At(m),
+                looked: looks,
+            };
+        }
+        looked = looks;
+        if seen < job {
+            s = m + 1;
+            c = c - h - 1;
+        } else {
+            c = h;
+        }
+    }
+    Searched {
+        found: Found::Missing,
+        looked: looked,
+    }
+}
+
+// Numbers 20 to 24, and then the row that halving finds, or 32; and how many rows were looked at.
+pub fn search(file: &[u8], job: u32) -> Searched
+    ensures { λ r. ⌜ (foundAnswer (r .found) ≡ searching (now (file .entry)) job .says) × (r .looked ≡ length (searching (now (file .entry)) job .rows)) ⌝ }
+{
+    match check_head(EDITION, file) {
+        Checked::Refused(x) => {
+            return Searched {
+                found: Found::Refused(x),
+                looked: 0,
+            };
+        }
+        Checked::Passed => {}
+    }
+    halve(row_size(EDITION), file, count(file), job)
+}
