@@ -36,6 +36,12 @@ use Rattle.writer.proofs.unseal_file.Kinds as unseal-file-kinds
 use Rattle.writer.proofs.unseal_file.Reads as unseal-file-reads
 use Rattle.search.proofs.search.Kinds as search-kinds
 use Rattle.search.proofs.search.Reads as search-reads
+use Rattle.amend.proofs.locate.Kinds as locate-kinds
+use Rattle.amend.proofs.locate.Reads as locate-reads
+use Rattle.amend.proofs.current.Kinds as current-kinds
+use Rattle.amend.proofs.current.Reads as current-reads
+use Rattle.amend.proofs.open_current.Kinds as open-current-kinds
+use Rattle.amend.proofs.open_current.Reads as open-current-reads
 
 -- of a routine's own signature and contract: it asks nothing of its arguments, and they leave one outcome
 pub record Answers {n : ℕ} (ps : List (PK n)) (r : RK n) (Pre : In n ps) (Post : Out n ps r) : Type 0 where
@@ -63,6 +69,11 @@ pub record EntryPoints : Type 0 where
   -- W4
   pub seal-file : Answers seal-file-kinds.ps seal-file-kinds.r seal-file-reads.Pre seal-file-reads.Post
   pub unseal-file : Answers unseal-file-kinds.ps unseal-file-kinds.r unseal-file-reads.Pre unseal-file-reads.Post
+  -- W11: the second hands back a part of one of two files, its bytes and its place
+  pub locate : Answers locate-kinds.ps locate-kinds.r locate-reads.Pre locate-reads.Post
+  pub current : (κs : Lfts 1) (a : Dens κs current-kinds.ps) (x y : Outcome current-kinds.ps current-kinds.r current-reads.Post κs a)
+      → (now (x .result) ≡ now (y .result)) × (x .result .ptr ≡ y .result .ptr)
+  pub open-current : Answers open-current-kinds.ps open-current-kinds.r open-current-reads.Pre open-current-reads.Post
 
 -- the sealer gives 0 to 7, and on any but 0 both buffers are as they were
 abbrev pub SealKeeps : Type 0
