@@ -213,6 +213,29 @@ uint32_t shift_unseal_file(const uint8_t *file, size_t file_len,
  */
 uint32_t shift_search(const uint8_t *file, size_t file_len, uint32_t job, uint32_t *row, uint32_t *looked);
 
+/* Amendments: a small file that replaces some jobs of the day's. The current entry of a job is the amendment's if it has
+ * the job, else the day's. Numbers, in this order: the full check of the amendment (*file 1, *row as by shift_check), the
+ * full check of the day's file (*file 2), also where the amendment has the job; then 32 (*file 0, *row 0), exactly if
+ * neither has the job. After 0, *file is the file that holds the current entry (1 the amendment, 2 the day's) and *row its
+ * row there; its associated data is *len bytes from amendment + *at or from day + *at. It is not yet shown to be genuine.
+ * All four are written always: *at and *len are 0 after every number but 0.
+ */
+uint32_t shift_amended(const uint8_t *amendment, size_t amendment_len,
+                       const uint8_t *day, size_t day_len,
+                       uint32_t job,
+                       uint32_t *file, uint32_t *row, uint32_t *at, uint32_t *len);
+
+/* Opens the current entry: the numbers of shift_amended, with file and row, and then 2, 6 and 8 of shift_open_job on the
+ * file that holds the entry. After 0, 2, 6 and 8, *file is that file and *row 0. out is as shift_open_job leaves it:
+ * written whole after 0, zeros after 8, as it was after every other number.
+ */
+uint32_t shift_open_amended(const uint8_t *amendment, size_t amendment_len,
+                            const uint8_t *day, size_t day_len,
+                            const uint8_t *ring, size_t ring_len,
+                            uint32_t job,
+                            uint8_t *out, size_t out_len,
+                            uint32_t *file, uint32_t *row);
+
 #ifdef __cplusplus
 }
 #endif
