@@ -3,7 +3,6 @@
 // A call is job and the lengths of amendment, day's file, ring and output (4 bytes each, little-endian), then the
 // amendment, the day's file and the ring. A line is number, file and row; place, length and bytes of the associated data
 // that is handed back; number, file and row of opening the current entry, and its output, which holds 0xa5 before.
-use amend::OpenedIn;
 use libc::STDIN_FILENO;
 use libc::STDOUT_FILENO;
 
@@ -37,7 +36,7 @@ fn answer(number: u8, file: u8, row: usize) {
 }
 
 // The call beside; place, length and bytes of the part.
-fn located(amendment: &[u8], day: &[u8], job: u32) {
+fn located<'a>(amendment: &'a [u8], day: &'a [u8], job: u32) {
     let x = amend::locate(amendment, day, job);
     let part = amend::current(amendment, day, job);
     answer(x.entry.number, x.file, x.entry.row);
@@ -49,15 +48,17 @@ fn located(amendment: &[u8], day: &[u8], job: u32) {
     lines::show::space();
 }
 
-fn opened(x: OpenedIn, out: &[u8]) {
-    let a = x.opened.answer();
+fn opening(amendment: &[u8], day: &[u8], ring: &[u8], job: u32, out: &mut [u8]) {
+    let x = amend::open_current(amendment, day, ring, job, out);
+    let o = x.opened;
+    let a = o.answer();
     answer(a.number, x.file, a.row);
     lines::show::bytes(out);
     lines::show::end();
 }
 
 // Runs a call, once both files are there; false where ring or output have no room.
-fn line(amendment: &[u8], day: &[u8], c: Call) -> bool {
+fn line<'a>(amendment: &'a [u8], day: &'a [u8], c: Call) -> bool {
     let mut r = [0u8; 300];
     let mut out = [0xa5u8; 65540];
     let n = c.ring;
@@ -70,30 +71,25 @@ fn line(amendment: &[u8], day: &[u8], c: Call) -> bool {
         return false;
     }
     located(amendment, day, c.job);
-    let x = amend::open_current(amendment, day, ring, c.job, &mut out[0..o]);
-    opened(x, &out[0..o]);
+    opening(amendment, day, ring, c.job, &mut out[0..o]);
     true
 }
 
-// Reads the day's file, behind the amendment; false where it has no room or the input ends.
-fn run_on(amendment: &[u8], c: Call) -> bool {
-    let mut f = [0u8; 65540];
-    let n = c.day;
-    let day = lines::read::field(&mut f, n);
-    if day.len() != n {
-        return false;
-    }
-    line(amendment, day, c)
-}
-
+// Reads both files; false where one has no room or the input ends.
 fn run(c: Call) -> bool {
     let mut f = [0u8; 65540];
+    let mut g = [0u8; 65540];
     let n = c.amendment;
+    let m = c.day;
     let amendment = lines::read::field(&mut f, n);
     if amendment.len() != n {
         return false;
     }
-    run_on(amendment, c)
+    let day = lines::read::field(&mut g, m);
+    if day.len() != m {
+        return false;
+    }
+    line(amendment, day, c)
 }
 
 // Reads a call and runs it; false at the end of the input.
