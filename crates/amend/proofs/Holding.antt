@@ -12,7 +12,7 @@ use Rattle.table.specs.declared.answers.Answer.{Answer}
 use Rattle.table.specs.Format.{edition}
 use Rattle.table.specs.Answers.{answer}
 use Rattle.table.specs.Check.{checkFile}
-use Rattle.table.proofs.Told.{check-told}
+use Rattle.table.proofs.Numbered.{check-numbered}
 use Rattle.shift.specs.declared.answers.Entry.{Entry}
 use Rattle.shift.specs.Lookup.{lookupAs, lookupJob}
 use Rattle.shift.specs.Entry.{dataStart, dataLength, textStart, textLength, entryOf}
@@ -53,7 +53,7 @@ module _ (f : List ℕ) (job : ℕ) where
 
   -- the check itself never gives 32
   pub not-missing : checkFile f .number ≡ 32 → ⊥
-  not-missing q = ⊎-elim (λ z. omega arith) (λ r. ⊎-elim (λ s. omega arith) (λ s. omega arith) r) (check-told edition f .number)
+  not-missing q = ⊎-elim (λ z. omega arith) (λ r. ⊎-elim (λ s. omega arith) (λ s. omega arith) r) (check-numbered edition f .number)
 
   -- so the lookup's number tells whether the check refuses
   pub number-tells : refusing (lookupJob f job .number) ≡ refused f

@@ -1,5 +1,5 @@
 // Amendments.
-use crate::file::told;
+use crate::file::say;
 ghost use mathlib.Core.Path.{_≡_};
 ghost use Rattle.table.specs.Answers.{answer};
 ghost use Rattle.amend.specs.Amending.{AmendedOpening, amendedOpening};
@@ -45,5 +45,5 @@ pub extern "C" fn shift_open_amended(
     let x = amend::open_current(amendment, day, ring, job, out);
     *file = x.file as u32;
     let opened = x.opened;
-    told(opened.answer(), row)
+    say(opened.answer(), row)
 }

@@ -4,7 +4,7 @@ use mathlib.Core.Path.{_≡_, sym, ap, subst, _∙_}
 use borrow.Author.Needs.{needs}
 use Rattle.table.specs.declared.answers.Answer.{Answer}
 use Rattle.amend.specs.Amending.{AmendedOpening}
-use Rattle.snoekeldraf.proofs.Rows.{same-answer}
+use Rattle.table.proofs.Outcomes.{same-answer}
 use Rattle.snoekeldraf.proofs.AmendedRows.{open-amended-row}
 use Rattle.snoekeldraf.proofs.amending.shift_open_amended.Statement.{statement}
 use Rattle.snoekeldraf.proofs.amending.shift_open_amended.Tie as tie
@@ -18,8 +18,8 @@ cast-file c = search needs
 answer-requires : tie.Need-answer-requires
 answer-requires c κs = search needs
 
-told-requires : tie.Need-told-requires
-told-requires c κs =
+say-requires : tie.Need-say-requires
+say-requires c κs =
     let e = c .before .before .before .before .before .open-current .ensures in
     rw (c .before .answer .ensures .1, ap (λ (w : AmendedOpening). w .answer .row) e) (open-amended-row _ _ _ _ _)
 
@@ -27,9 +27,9 @@ same-length : tie.Need-same-length
 same-length c = search needs
 
 returns : tie.Need-returns
-returns c = rw (c .told .ensures ∙ same-answer (c .before .before .answer .ensures)) (c .before .before .before .before .before .before .open-current .ensures)
+returns c = rw (c .say .ensures ∙ same-answer (c .before .before .answer .ensures)) (c .before .before .before .before .before .before .open-current .ensures)
 
 pub shift-open-amended-spec : {M : Type 1} → statement M
 shift-open-amended-spec =
     tie.close
-    (tie.spec open-current-requires cast-file answer-requires told-requires same-length returns)
+    (tie.spec open-current-requires cast-file answer-requires say-requires same-length returns)
