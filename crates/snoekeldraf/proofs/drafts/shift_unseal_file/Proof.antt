@@ -2,7 +2,8 @@
 use mathlib.Core.Path.{ap, _∙_}
 use borrow.Author.Needs.{needs}
 use Rattle.draft.specs.Answers.{FileWritten}
-use Rattle.snoekeldraf.proofs.Rows.{unsealed-row, same-answer}
+use Rattle.table.proofs.Outcomes.{same-answer}
+use Rattle.snoekeldraf.proofs.Rows.{unsealed-row}
 use Rattle.snoekeldraf.proofs.drafts.shift_unseal_file.Statement.{statement}
 use Rattle.snoekeldraf.proofs.drafts.shift_unseal_file.Tie as tie
 

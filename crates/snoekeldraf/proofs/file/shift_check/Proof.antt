@@ -1,6 +1,7 @@
 -- The check answers with a row of the file, which fits, so what it says passes whole.
 use mathlib.Core.Path.{_∙_}
-use Rattle.snoekeldraf.proofs.Rows.{check-row, same-answer}
+use Rattle.table.proofs.Outcomes.{same-answer}
+use Rattle.snoekeldraf.proofs.Rows.{check-row}
 use borrow.Author.Needs.{needs}
 use Rattle.snoekeldraf.proofs.file.shift_check.Statement.{statement}
 use Rattle.snoekeldraf.proofs.file.shift_check.Tie as tie
