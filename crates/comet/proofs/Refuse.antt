@@ -16,9 +16,9 @@ use Rattle.words.specs.Bytes.{sameBytes}
 use Rattle.cipher.specs.Cipher.{isSuite, IsSuite, sizeOf, nonceOf, cipherOf}
 use Rattle.mode.specs.Mode.{ciphertext, tag, textOut, tagOut}
 use Rattle.comet.specs.Answers.{numberOf, refusal, Sealed, sealedAs, sealing, Opened, openedAs, opening}
-use Rattle.comet.specs.declared.Answer.{Answer}
-use Rattle.comet.specs.declared.Answer.the-variants.{Done, Suite, Key, Nonce, Data, Text, Room, Tag, Forged}
-use Rattle.comet.proofs.Answer.{the-type}
+use Rattle.comet.specs.declared.Verdict.{Verdict}
+use Rattle.comet.specs.declared.Verdict.the-variants.{Done, Suite, Key, Nonce, Data, Text, Room, Tag, Forged}
+use Rattle.comet.proofs.Verdict.{the-type}
 
 -- the suite and every length are right
 pub record Passed (s k v a t o g : ℕ) : Type 0 where
@@ -76,7 +76,7 @@ refusal-most s k v a t o g =
     (rung (λ j. j ≤ 7) (not (eqb g (sizeOf s))) 7 _ (omega arith) (omega arith)))))))
 
 -- the number is the variant's place
-pub place-is : (a : Answer) → Declared.tagOf the-type a ≡ numberOf a
+pub place-is : (a : Verdict) → Declared.tagOf the-type a ≡ numberOf a
 place-is Done = refl
 place-is Suite = refl
 place-is Key = refl

@@ -10,7 +10,7 @@ use Rattle.mode.specs.Mode.{tag}
 use Rattle.mode.proofs.Demand2.{empty-tag}
 use Rattle.mode.proofs.Demand3.{same-before, same-behind, message-told, data-told}
 use Rattle.mode.proofs.LastBlock.{last-told}
-use Rattle.comet.specs.declared.Answer.{Answer}
+use Rattle.comet.specs.declared.Verdict.{Verdict}
 use Rattle.comet.specs.Answers.{numberOf, Opened}
 use Rattle.promises.specs.Input.{Texts, Input}
 use Rattle.promises.specs.Demand3.{OneBlock, LastBlock, EmptyMessage}
@@ -34,7 +34,7 @@ one-block suite key nonce ad ad′ msg msg′ j i i′ la lm (inr (em, ne, insid
     (e ∙ ap (tag (cipherOf suite) key nonce ad′) (sym em)))
 
 -- what the contract says of an answer, of a call whose outcome is known
-says : (r : Answer) (out : List ℕ) (w z : Opened) → _≡_ {A = Opened} (record { number = numberOf r; out = out }) w → w ≡ z → (numberOf r ≡ z .number) × (out ≡ z .out)
+says : (r : Verdict) (out : List ℕ) (w z : Opened) → _≡_ {A = Opened} (record { number = numberOf r; out = out }) w → w ≡ z → (numberOf r ≡ z .number) × (out ≡ z .out)
 says r out w z p q = (ap (λ (x : Opened). x .number) (p ∙ q), ap (λ (x : Opened). x .out) (p ∙ q))
 
 pub last-block : LastBlock

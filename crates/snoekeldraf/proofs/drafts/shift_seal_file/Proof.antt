@@ -21,7 +21,7 @@ same-length : tie.Need-same-length
 same-length c = search needs
 
 returns : tie.Need-returns
-returns c = rw (c .told .ensures ∙ same-answer (c .before .before .answer .ensures)) (c .before .before .before .before .before .seal-file .ensures)
+returns c = rw (c .say .ensures ∙ same-answer (c .before .before .answer .ensures)) (c .before .before .before .before .before .seal-file .ensures)
 
 pub shift-seal-file-spec : {M : Type 1} → statement M
 shift-seal-file-spec =

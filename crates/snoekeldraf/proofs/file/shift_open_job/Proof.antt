@@ -21,7 +21,7 @@ same-length : tie.Need-same-length
 same-length c = search needs
 
 returns : tie.Need-returns
-returns c = rw (c .told .ensures ∙ same-answer (c .before .before .answer .ensures)) (c .before .before .before .before .before .open-job .ensures)
+returns c = rw (c .say .ensures ∙ same-answer (c .before .before .answer .ensures)) (c .before .before .before .before .before .open-job .ensures)
 
 pub shift-open-job-spec : {M : Type 1} → statement M
 shift-open-job-spec =

@@ -40,35 +40,35 @@ head-among e f =
     (rung (Among 20 24) (ltb (length f) (rowStart (rowSize e) (countOf f))) 24 0 (inr (inl (lit≤ tt, lit≤ tt))) (inl refl)))))
 
 -- an answer of 0, 20 to `most` or 34, with a row only where that is 25 to 30 or 34
-pub record Told (most : ℕ) (x : Answer) : Type 0 where
+pub record Numbered (most : ℕ) (x : Answer) : Type 0 where
   pub number : Among 20 most (x .number)
   pub row : (x .row ≡ 0) ⊎ Ranged 25 30 (x .number)
 
-end-told : (w : ℕ) (f : List ℕ) (n : ℕ) → Told 31 (endAnswer w f n)
+end-numbered : (w : ℕ) (f : List ℕ) (n : ℕ) → Numbered 31 (endAnswer w f n)
 unfolding endAnswer
-end-told w f n = end-case (eqb (bodyStart w f n n) (length f))
+end-numbered w f n = end-case (eqb (bodyStart w f n n) (length f))
   where
-    end-case : (b : Bool) → Told 31 (cond b (answer 0 0) (answer 31 0))
+    end-case : (b : Bool) → Numbered 31 (cond b (answer 0 0) (answer 31 0))
     end-case true = record { number = inl refl; row = inl refl }
     end-case false = record { number = inr (inl (lit≤ tt, lit≤ tt)); row = inl refl }
 
-rows-told : (w : ℕ) (f : List ℕ) (n i : ℕ) → Told 31 (rowsFrom w f n i)
+rows-numbered : (w : ℕ) (f : List ℕ) (n i : ℕ) → Numbered 31 (rowsFrom w f n i)
 unfolding rowsFrom
-rows-told w f n i =
+rows-numbered w f n i =
     ⊎-elim
-    (λ h. subst (Told 31) (h .gives)
+    (λ h. subst (Numbered 31) (h .gives)
     (⊎-elim
     (λ z. absurd (eqb-false _ _ (not-true _ (h .hits)) z))
     (λ r. record { number = inr (⊎-elim (λ s. inl (omega arith)) inr r); row = inr r })
     (row-among w f n (h .at))))
-    (λ h. subst (Told 31) (h .gives) (end-told w f n))
+    (λ h. subst (Numbered 31) (h .gives) (end-numbered w f n))
     (first-says _ _ _ (n - i) i (rowsFrom w f n i) refl)
 
-pub check-told : (e : ℕ) (f : List ℕ) → Told 31 (checkAs e f)
+pub check-numbered : (e : ℕ) (f : List ℕ) → Numbered 31 (checkAs e f)
 unfolding checkAs
-check-told e f =
+check-numbered e f =
     ⊎-elim
-    (λ (z : headNumber e f ≡ 0). simp z (rows-told (rowSize e) f (countOf f) 0))
+    (λ (z : headNumber e f ≡ 0). simp z (rows-numbered (rowSize e) f (countOf f) 0))
     (λ (r : Ranged 20 24 (headNumber e f)).
     let n : headNumber e f ≡ 0 → ⊥ = λ z. ⊎-elim (λ s. omega arith) (λ s. omega arith) r in
     simp (ne-eqb _ _ n) (record { number = inr (⊎-elim (λ s. inl (s .0, omega arith)) inr r); row = inl refl }))
