@@ -12,11 +12,11 @@ lookup-requires c κs = search needs
 answer-requires : tie.Need-answer-requires
 answer-requires c κs = search needs
 
-told-requires : tie.Need-told-requires
-told-requires c κs = rw (c .before .answer .ensures .1, c .before .before .lookup .ensures) (lookup-row _ _)
+say-requires : tie.Need-say-requires
+say-requires c κs = rw (c .before .answer .ensures .1, c .before .before .lookup .ensures) (lookup-row _ _)
 
 returns : tie.Need-returns
 returns c = c .say .ensures ∙ same-answer (c .before .before .answer .ensures) ∙ c .before .before .before .lookup .ensures
 
 pub shift-lookup-spec : {M : Type 1} → statement M
-shift-lookup-spec = tie.close (tie.spec lookup-requires answer-requires told-requires returns)
+shift-lookup-spec = tie.close (tie.spec lookup-requires answer-requires say-requires returns)

@@ -13,8 +13,8 @@ open-job-requires c κs = search needs
 answer-requires : tie.Need-answer-requires
 answer-requires c κs = search needs
 
-told-requires : tie.Need-told-requires
-told-requires c κs =
+say-requires : tie.Need-say-requires
+say-requires c κs =
     rw (c .before .answer .ensures .1, ap (λ (w : JobOpened). w .answer .row) (c .before .before .before .before .open-job .ensures)) (job-row _ _ _ _)
 
 same-length : tie.Need-same-length
@@ -25,4 +25,4 @@ returns c = rw (c .say .ensures ∙ same-answer (c .before .before .answer .ensu
 
 pub shift-open-job-spec : {M : Type 1} → statement M
 shift-open-job-spec =
-    tie.close (tie.spec open-job-requires answer-requires told-requires same-length returns)
+    tie.close (tie.spec open-job-requires answer-requires say-requires same-length returns)
