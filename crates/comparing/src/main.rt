@@ -40,12 +40,16 @@ fn told(t: Told) {
     lines::show::number(t.differ as u64);
 }
 
+fn place(n: u32) {
+    lines::show::space();
+    lines::show::number(n as u64);
+}
+
 // Every place of a list, a space before each.
 fn places(list: &[u32]) {
     let mut i: usize = 0;
     while i < list.len() {
-        lines::show::space();
-        lines::show::number(list[i] as u64);
+        place(list[i]);
         i += 1;
     }
 }

@@ -6,6 +6,11 @@
 use compare::Told;
 use libc::STDOUT_FILENO;
 
+fn print_number(n: u32) {
+    lines::show::number(n as u64);
+    lines::show::end();
+}
+
 // The first n numbers of a list, one to a line.
 fn print_list(list: &[u32], n: usize) {
     let mut i: usize = 0;
@@ -13,8 +18,7 @@ fn print_list(list: &[u32], n: usize) {
         if n <= i {
             return;
         }
-        lines::show::number(list[i] as u64);
-        lines::show::end();
+        print_number(list[i]);
         i += 1;
     }
 }
