@@ -8,7 +8,7 @@ use Rattle.words.specs.Outcome.{OneOutcome}
 use Rattle.table.specs.Answers.{answer}
 use Rattle.table.proofs.Numbers.{refusal-some}
 use Rattle.table.proofs.Outcomes.{refusalOf, refusal-back, unlike}
-use Rattle.compare.specs.declared.Told.{Told}
+use Rattle.compare.specs.declared.Numbered.{Numbered}
 use Rattle.compare.specs.declared.Compared.{Compared}
 use Rattle.compare.specs.declared.Compared.the-variants.{Done, First, Second, Room}
 use Rattle.compare.specs.Comparing.{toldOf, Comparison}
@@ -18,7 +18,7 @@ use Rattle.compare.proofs.Compared.told.Kinds as told-kinds
 use Rattle.compare.proofs.Compared.told.Reads as told-reads
 
 -- the case that is told
-abbrev comparedOf : Told → Compared
+abbrev comparedOf : Numbered → Compared
 comparedOf t =
     cond (eqb (t .number) 0) (Done (t .first) (t .second) (t .differ))
     (cond (eqb (t .number) 36) Room

@@ -8,12 +8,12 @@ use borrow.Author.Tests.{eqb-true, not-false}
 use Rattle.table.specs.Format.{edition}
 use Rattle.table.specs.Answers.{answer}
 use Rattle.table.specs.Check.{checkFile}
-use Rattle.compare.specs.declared.Told.{Told}
+use Rattle.compare.specs.declared.Numbered.{Numbered}
 use Rattle.compare.specs.Comparing.{toldIn, Comparison, stopped, refused, tooLong, listed, comparison}
 use Rattle.compare.proofs.Passing.{only-few, differ-few}
 use Rattle.snoekeldraf.proofs.Rows.{check-row}
 
-pub record Low (t : Told) : Type 0 where
+pub record Low (t : Numbered) : Type 0 where
   pub row : t .row ≤ 512
   pub first : t .first ≤ 512
   pub second : t .second ≤ 512
@@ -34,5 +34,5 @@ told-low f g x y z = on (refused f) (refused g) (tooLong f g x y z) refl refl
         record { row = lit≤ tt; first = only-few f g a; second = only-few g f b; differ = differ-few f g a }
 
 -- what is told of a comparison
-pub counted : (t : Told) (r : Comparison) (f g x y z : List ℕ) → t ≡ r .told → r ≡ comparison f g x y z → Low t
+pub counted : (t : Numbered) (r : Comparison) (f g x y z : List ℕ) → t ≡ r .told → r ≡ comparison f g x y z → Low t
 counted t r f g x y z p q = subst Low (sym (p ∙ ap (λ (w : Comparison). w .told) q)) (told-low f g x y z)
