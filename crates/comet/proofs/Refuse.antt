@@ -1,22 +1,24 @@
 -- What the first number that applies tells: 0 that every length is right, any other that the buffers stay.
 use mathlib.Core.Path.{_≡_, refl, sym, ap, ap₂, _∙_}
 use mathlib.Core.Bool.{Bool, true, false, not, cond}
-use mathlib.Core.Logic.{inl, inr}
+use mathlib.Core.Logic.{_⊎_, inl, inr}
 use Prim.Native.Nat.{ℕ, zero, suc, _≤_, _<_}
 use native.Mathlib.Nat.{not-suc-le-zero, suc-ne-zero}
+use lib.Dec.{lit<}
 use native.Mathlib.Omega.{arith}
 use mathlib.Core.List.{List, [], _∷_}
 use lib.ListN.{length}
 use lib.Dec.{ltb, eqb}
 use borrow.Author.Tests.{ltb-false, eqb-true, le-ltb, eq-eqb, not-false}
 use denote.Enum.Declared
-use types.Run.{OneOf}
+use types.Run.{OneOf, miss}
 use Rattle.words.specs.Bytes.{sameBytes}
-use Rattle.cipher.specs.Cipher.{isSuite, IsSuite, sizeOf, nonceOf, cipherOf}
+use Rattle.cipher.proofs.Suites.{seals-has}
+use Rattle.cipher.specs.Cipher.{isSuite, IsSuite, seals, Seals, sizeOf, nonceOf, cipherOf}
 use Rattle.mode.specs.Mode.{ciphertext, tag, textOut, tagOut}
-use Rattle.comet.specs.Answers.{numberOf, refusal, Sealed, sealedAs, sealing, Opened, openedAs, opening}
+use Rattle.comet.specs.Answers.{numberOf, lengthRefusal, refusal, sealRefusal, Sealed, sealedAs, sealing, Opened, openedAs, opening}
 use Rattle.comet.specs.declared.Answer.{Answer}
-use Rattle.comet.specs.declared.Answer.the-variants.{Done, Suite, Key, Nonce, Data, Text, Room, Tag, Forged}
+use Rattle.comet.specs.declared.Answer.the-variants.{Done, Suite, Key, Nonce, Data, Text, Room, Tag, Forged, Retired}
 use Rattle.comet.proofs.Answer.{the-type}
 
 -- the suite and every length are right
@@ -34,18 +36,18 @@ passes : (b : Bool) (n r : ℕ) → cond b (suc n) r ≡ 0 → (b ≡ false) × 
 passes true n r e = absurd (suc-ne-zero n e)
 passes false n r e = (refl, e)
 
-pub passed : (s k v a t o g : ℕ) → refusal s k v a t o g ≡ 0 → Passed s k v a t o g
-unfolding refusal
-passed s k v a t o g e =
-    let p1 = passes (not (isSuite s)) 0 _ e in
-    let p2 = passes (not (eqb k 16)) 1 _ (p1 .1) in
+-- of a suite that we have
+lengths-passed : (s k v a t o g : ℕ) → IsSuite s → lengthRefusal s k v a t o g ≡ 0 → Passed s k v a t o g
+unfolding lengthRefusal
+lengths-passed s k v a t o g h e =
+    let p2 = passes (not (eqb k 16)) 1 _ e in
     let p3 = passes (not (eqb v (nonceOf s))) 2 _ (p2 .1) in
     let p4 = passes (ltb 65536 a) 3 _ (p3 .1) in
     let p5 = passes (ltb 65536 t) 4 _ (p4 .1) in
     let p6 = passes (not (eqb o t)) 5 _ (p5 .1) in
     let p7 = passes (not (eqb g (sizeOf s))) 6 _ (p6 .1) in
     record {
-      suite = not-false (isSuite s) (p1 .0);
+      suite = h;
       key = eqb-true k 16 (not-false (eqb k 16) (p2 .0));
       nonce = eqb-true v (nonceOf s) (not-false (eqb v (nonceOf s)) (p3 .0));
       extra = ltb-false 65536 a (p4 .0);
@@ -54,11 +56,24 @@ passed s k v a t o g e =
       tag = eqb-true g (sizeOf s) (not-false (eqb g (sizeOf s)) (p7 .0));
     }
 
-pub none-bad : (s k v a t o g : ℕ) → Passed s k v a t o g → refusal s k v a t o g ≡ 0
+pub passed : (s k v a t o g : ℕ) → refusal s k v a t o g ≡ 0 → Passed s k v a t o g
 unfolding refusal
-none-bad s k v a t o g p =
+passed s k v a t o g e =
+    let p1 = passes (not (isSuite s)) 0 _ e in
+    lengths-passed s k v a t o g (not-false (isSuite s) (p1 .0)) (p1 .1)
+
+-- the sealer's 0 says no less
+pub seal-passed : (s k v a t o g : ℕ) → sealRefusal s k v a t o g ≡ 0 → Passed s k v a t o g
+unfolding sealRefusal
+seal-passed s k v a t o g e =
+    let p1 = passes (not (isSuite s)) 0 _ e in
+    let p10 = passes (not (seals s)) 9 _ (p1 .1) in
+    lengths-passed s k v a t o g (not-false (isSuite s) (p1 .0)) (p10 .1)
+
+none-long : (s k v a t o g : ℕ) → Passed s k v a t o g → lengthRefusal s k v a t o g ≡ 0
+unfolding lengthRefusal
+none-long s k v a t o g p =
     simp (
-      p .suite,
       eq-eqb k 16 (p .key),
       eq-eqb v (nonceOf s) (p .nonce),
       le-ltb 65536 a (p .extra),
@@ -67,44 +82,68 @@ none-bad s k v a t o g p =
       eq-eqb g (sizeOf s) (p .tag),
     )
 
+pub none-bad : (s k v a t o g : ℕ) → Passed s k v a t o g → refusal s k v a t o g ≡ 0
+unfolding refusal
+none-bad s k v a t o g p = simp (p .suite) (none-long s k v a t o g p)
+
+-- and of a suite that seals the sealer refuses nothing either
+pub none-refused : (s k v a t o g : ℕ) → Seals s → Passed s k v a t o g → sealRefusal s k v a t o g ≡ 0
+unfolding sealRefusal
+none-refused s k v a t o g h p = simp (p .suite, h) (none-long s k v a t o g p)
+
 -- no number above 7
 rung-most : (b : Bool) (n r : ℕ) → n ≤ 7 → r ≤ 7 → cond b n r ≤ 7
 rung-most true n r h k = h
 rung-most false n r h k = k
 
-pub refusal-most : (s k v a t o g : ℕ) → refusal s k v a t o g ≤ 7
-unfolding refusal
-refusal-most s k v a t o g =
-    rung-most (not (isSuite s)) 1 _ (omega arith)
-    (rung-most (not (eqb k 16)) 2 _ (omega arith)
+lengths-most : (s k v a t o g : ℕ) → lengthRefusal s k v a t o g ≤ 7
+unfolding lengthRefusal
+lengths-most s k v a t o g =
+    rung-most (not (eqb k 16)) 2 _ (omega arith)
     (rung-most (not (eqb v (nonceOf s))) 3 _ (omega arith)
     (rung-most (ltb 65536 a) 4 _ (omega arith)
     (rung-most (ltb 65536 t) 5 _ (omega arith)
     (rung-most (not (eqb o t)) 6 _ (omega arith)
-    (rung-most (not (eqb g (sizeOf s))) 7 _ (omega arith) (omega arith)))))))
+    (rung-most (not (eqb g (sizeOf s))) 7 _ (omega arith) (omega arith))))))
 
--- the number is the variant's place
-pub place-is : (a : Answer) → Declared.tagOf the-type a ≡ numberOf a
-place-is Done = refl
-place-is Suite = refl
-place-is Key = refl
-place-is Nonce = refl
-place-is Data = refl
-place-is Text = refl
-place-is Room = refl
-place-is Tag = refl
-place-is Forged = refl
+pub refusal-most : (s k v a t o g : ℕ) → refusal s k v a t o g ≤ 7
+unfolding refusal
+refusal-most s k v a t o g = rung-most (not (isSuite s)) 1 _ (omega arith) (lengths-most s k v a t o g)
 
--- one of 1 to 8 is above 0
-pub one-of-pos : (x : ℕ) → OneOf (1 ∷ 2 ∷ 3 ∷ 4 ∷ 5 ∷ 6 ∷ 7 ∷ 8 ∷ []) x → 0 < x
-one-of-pos x (inl e) = omega arith
-one-of-pos x (inr (inl e)) = omega arith
-one-of-pos x (inr (inr (inl e))) = omega arith
-one-of-pos x (inr (inr (inr (inl e)))) = omega arith
-one-of-pos x (inr (inr (inr (inr (inl e))))) = omega arith
-one-of-pos x (inr (inr (inr (inr (inr (inl e)))))) = omega arith
-one-of-pos x (inr (inr (inr (inr (inr (inr (inl e))))))) = omega arith
-one-of-pos x (inr (inr (inr (inr (inr (inr (inr e))))))) = omega arith
+-- the sealer has 10 beside
+pub seal-most : (s k v a t o g : ℕ) → (sealRefusal s k v a t o g ≤ 7) ⊎ (sealRefusal s k v a t o g ≡ 10)
+unfolding sealRefusal
+seal-most s k v a t o g = rungs (isSuite s) (seals s)
+  where
+    rungs : (b d : Bool) → let x : ℕ = cond (not b) 1 (cond (not d) 10 (lengthRefusal s k v a t o g)) in (x ≤ 7) ⊎ (x ≡ 10)
+    rungs false d = inl (omega arith)
+    rungs true false = inr refl
+    rungs true true = inl (lengths-most s k v a t o g)
+
+-- Done alone has number 0
+pub done-zero : (a : Answer) → Declared.tagOf the-type a ≡ 0 → numberOf a ≡ 0
+done-zero Done e = refl
+done-zero Suite e = absurd (suc-ne-zero _ e)
+done-zero Key e = absurd (suc-ne-zero _ e)
+done-zero Nonce e = absurd (suc-ne-zero _ e)
+done-zero Data e = absurd (suc-ne-zero _ e)
+done-zero Text e = absurd (suc-ne-zero _ e)
+done-zero Room e = absurd (suc-ne-zero _ e)
+done-zero Tag e = absurd (suc-ne-zero _ e)
+done-zero Forged e = absurd (suc-ne-zero _ e)
+done-zero Retired e = absurd (suc-ne-zero _ e)
+
+pub other-some : (a : Answer) → OneOf (1 ∷ 2 ∷ 3 ∷ 4 ∷ 5 ∷ 6 ∷ 7 ∷ 8 ∷ 9 ∷ []) (Declared.tagOf the-type a) → 0 < numberOf a
+other-some Done k = absurd (miss (1 ∷ 2 ∷ 3 ∷ 4 ∷ 5 ∷ 6 ∷ 7 ∷ 8 ∷ 9 ∷ []) 0 tt k)
+other-some Suite k = lit< tt
+other-some Key k = lit< tt
+other-some Nonce k = lit< tt
+other-some Data k = lit< tt
+other-some Text k = lit< tt
+other-some Room k = lit< tt
+other-some Tag k = lit< tt
+other-some Forged k = lit< tt
+other-some Retired k = lit< tt
 
 -- ---- the sealer
 
@@ -112,7 +151,7 @@ as-kept : (n : ℕ) (x y o t : List ℕ) → 0 < n → _≡_ {A = Sealed} (recor
 as-kept zero x y o t h = absurd (not-suc-le-zero h)
 as-kept (suc j) x y o t h = refl
 
-module _ (s : ℕ) (k v a m o t : List ℕ) (n : ℕ) (e : n ≡ refusal s (length k) (length v) (length a) (length m) (length o) (length t)) where
+module _ (s : ℕ) (k v a m o t : List ℕ) (n : ℕ) (e : n ≡ sealRefusal s (length k) (length v) (length a) (length m) (length o) (length t)) where
   abbrev at : ℕ → Sealed
   at j = sealedAs j (ciphertext (cipherOf s) k v a m) (tag (cipherOf s) k v a m) o t
 

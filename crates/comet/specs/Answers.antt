@@ -1,14 +1,14 @@
--- The numbers that sealer and opener give, and what they leave in every buffer (document 01, "Numbers given by sealer and opener").
+-- The numbers that sealer and opener give, and what they leave in every buffer (document 01, "Numbers given by sealer and opener"; document 02, W7 for 10).
 use mathlib.Core.Bool.{Bool, true, false, cond, not}
 use Prim.Native.Nat.{ℕ, zero, suc}
 use mathlib.Core.List.{List}
 use lib.ListN.{length, replicate}
 use lib.Dec.{ltb, eqb}
 use Rattle.words.specs.Bytes.{sameBytes}
-use Rattle.cipher.specs.Cipher.{isSuite, sizeOf, nonceOf, cipherOf}
+use Rattle.cipher.specs.Cipher.{isSuite, seals, sizeOf, nonceOf, cipherOf}
 use Rattle.mode.specs.Mode.{ciphertext, tag, textOut, tagOut}
 use Rattle.comet.specs.declared.Answer.{Answer}
-use Rattle.comet.specs.declared.Answer.the-variants.{Done, Suite, Key, Nonce, Data, Text, Room, Tag, Forged}
+use Rattle.comet.specs.declared.Answer.the-variants.{Done, Suite, Key, Nonce, Data, Text, Room, Tag, Forged, Retired}
 
 -- the number of each answer
 abbrev pub numberOf : Answer → ℕ
@@ -21,18 +21,31 @@ numberOf Text = 5
 numberOf Room = 6
 numberOf Tag = 7
 numberOf Forged = 8
+numberOf Retired = 10
 
--- numbers 1 to 7, from the suite and the lengths of key, nonce, associated data, text, output and tag: the first that applies, 0 where none does
-unfoldable pub refusal : ℕ → ℕ → ℕ → ℕ → ℕ → ℕ → ℕ → ℕ
-refusal suite key nonce ad text out tag =
-    cond (not (isSuite suite)) 1
-    (cond (not (eqb key 16)) 2
+-- numbers 2 to 7, from the suite and the lengths of key, nonce, associated data, text, output and tag: the first that applies, 0 where none does
+unfoldable pub lengthRefusal : ℕ → ℕ → ℕ → ℕ → ℕ → ℕ → ℕ → ℕ
+lengthRefusal suite key nonce ad text out tag =
+    cond (not (eqb key 16)) 2
     (cond (not (eqb nonce (nonceOf suite))) 3
     (cond (ltb 65536 ad) 4
     (cond (ltb 65536 text) 5
     (cond (not (eqb out text)) 6
     (cond (not (eqb tag (sizeOf suite))) 7
-    0))))))
+    0)))))
+
+-- the opener's: 1, then those
+unfoldable pub refusal : ℕ → ℕ → ℕ → ℕ → ℕ → ℕ → ℕ → ℕ
+refusal suite key nonce ad text out tag =
+    cond (not (isSuite suite)) 1
+    (lengthRefusal suite key nonce ad text out tag)
+
+-- the sealer's: 1, then 10 (a suite that seals no more), then those
+unfoldable pub sealRefusal : ℕ → ℕ → ℕ → ℕ → ℕ → ℕ → ℕ → ℕ
+sealRefusal suite key nonce ad text out tag =
+    cond (not (isSuite suite)) 1
+    (cond (not (seals suite)) 10
+    (lengthRefusal suite key nonce ad text out tag))
 
 -- what a call of the sealer gives and leaves
 pub record Sealed : Type 0 where
@@ -47,7 +60,7 @@ sealedAs (suc j) text tag out₀ tag₀ = record { number = suc j; out = out₀;
 
 unfoldable pub sealing : ℕ → List ℕ → List ℕ → List ℕ → List ℕ → List ℕ → List ℕ → Sealed
 sealing s key nonce ad msg out₀ tag₀ =
-    sealedAs (refusal s (length key) (length nonce) (length ad) (length msg) (length out₀) (length tag₀))
+    sealedAs (sealRefusal s (length key) (length nonce) (length ad) (length msg) (length out₀) (length tag₀))
     (ciphertext (cipherOf s) key nonce ad msg) (tag (cipherOf s) key nonce ad msg) out₀ tag₀
 
 -- what a call of the opener gives and leaves

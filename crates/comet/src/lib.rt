@@ -10,7 +10,7 @@ ghost use Rattle.words.specs.Blocks.{wide};
 ghost use Rattle.cipher.specs.Cipher.{Ready, IsSuite, sizeOf, nonceOf, cipherOf};
 ghost use Rattle.mode.specs.Mode.{textOut, tagOut};
 ghost use Rattle.step.specs.Two.{Clean};
-ghost use Rattle.comet.specs.Answers.{numberOf, refusal, Sealed, sealing, Opened, opening};
+ghost use Rattle.comet.specs.Answers.{numberOf, lengthRefusal, refusal, sealRefusal, Sealed, sealing, Opened, opening};
 
 // What a call answers: Done, or why it refused.
 pub enum Answer {
@@ -23,10 +23,11 @@ pub enum Answer {
     Room,
     Tag,
     Forged,
+    Retired,
 }
 
 impl Answer {
-    // The answer's number in document 01.
+    // The answer's number in documents 01 and 02.
     pub fn number(self) -> u8
         ensures { λ r. ⌜ r ≡ numberOf self ⌝ }
     {
@@ -40,12 +41,13 @@ impl Answer {
             Answer::Room => 6,
             Answer::Tag => 7,
             Answer::Forged => 8,
+            Answer::Retired => 10,
         }
     }
 }
 
-// Numbers 1 to 7 in the order of the table, from the suite and the lengths of key, nonce, associated data, text, output and tag.
-fn refused(
+// Numbers 2 to 7 in the order of the table, from the suite and the lengths of key, nonce, associated data, text, output and tag.
+fn lengths_refused(
     suite: u8,
     key: usize,
     nonce: usize,
@@ -54,11 +56,8 @@ fn refused(
     out: usize,
     tag: usize,
 ) -> Answer
-    ensures { λ r. ⌜ numberOf r ≡ refusal suite key nonce ad text out tag ⌝ }
+    ensures { λ r. ⌜ numberOf r ≡ lengthRefusal suite key nonce ad text out tag ⌝ }
 {
-    if !cipher::is_suite(suite) {
-        return Answer::Suite;
-    }
     if key != 16 {
         return Answer::Key;
     }
@@ -80,6 +79,45 @@ fn refused(
         return Answer::Tag;
     }
     Answer::Done
+}
+
+// The opener's refusals: 1, then those of the lengths.
+fn refused(
+    suite: u8,
+    key: usize,
+    nonce: usize,
+    ad: usize,
+    text: usize,
+    out: usize,
+    tag: usize,
+) -> Answer
+    ensures { λ r. ⌜ numberOf r ≡ refusal suite key nonce ad text out tag ⌝ }
+{
+    if !cipher::is_suite(suite) {
+        return Answer::Suite;
+    }
+    lengths_refused(suite, key, nonce, ad, text, out, tag)
+}
+
+// The sealer's refusals: 1, then 10, then those of the lengths.
+fn seal_refused(
+    suite: u8,
+    key: usize,
+    nonce: usize,
+    ad: usize,
+    text: usize,
+    out: usize,
+    tag: usize,
+) -> Answer
+    ensures { λ r. ⌜ numberOf r ≡ sealRefusal suite key nonce ad text out tag ⌝ }
+{
+    if !cipher::is_suite(suite) {
+        return Answer::Suite;
+    }
+    if !cipher::seals(suite) {
+        return Answer::Retired;
+    }
+    lengths_refused(suite, key, nonce, ad, text, out, tag)
 }
 
 // The text that goes out and the tag, once every length is right: the cipher is lent what it needs.
@@ -115,7 +153,7 @@ fn seal_with(
     out: &mut [u8],
     tag: &mut [u8],
 ) -> Answer
-    requires { ⌜ Ready suite (now tb) × (refusal suite (length (now key)) (length (now nonce)) (length (now ad)) (length (now msg)) (length (now out)) (length (now tag)) ≡ 0) ⌝ }
+    requires { ⌜ Ready suite (now tb) × (sealRefusal suite (length (now key)) (length (now nonce)) (length (now ad)) (length (now msg)) (length (now out)) (length (now tag)) ≡ 0) ⌝ }
     ensures { λ r. ⌜ _≡_ {A = Sealed} (record { number = numberOf r; out = now (out .exit); tag = now (tag .exit) })
         (sealing suite (now (key .entry)) (now (nonce .entry)) (now (ad .entry)) (now (msg .entry)) (now (out .entry)) (now (tag .entry))) ⌝ }
 {
@@ -137,7 +175,7 @@ pub fn seal(
     ensures { λ r. ⌜ _≡_ {A = Sealed} (record { number = numberOf r; out = now (out .exit); tag = now (tag .exit) })
         (sealing suite (now (key .entry)) (now (nonce .entry)) (now (ad .entry)) (now (msg .entry)) (now (out .entry)) (now (tag .entry))) ⌝ }
 {
-    let a = refused(
+    let a = seal_refused(
         suite,
         key.len(),
         nonce.len(),
