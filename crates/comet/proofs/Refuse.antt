@@ -13,10 +13,9 @@ use borrow.Author.Tests.{ltb-false, eqb-true, le-ltb, eq-eqb, not-false}
 use denote.Enum.Declared
 use types.Run.{OneOf, miss}
 use Rattle.words.specs.Bytes.{sameBytes}
-use Rattle.cipher.proofs.Suites.{seals-has}
-use Rattle.cipher.specs.Cipher.{isSuite, IsSuite, seals, Seals, sizeOf, nonceOf, cipherOf}
+use Rattle.cipher.specs.Cipher.{isSuite, IsSuite, sizeOf, nonceOf, cipherOf}
 use Rattle.mode.specs.Mode.{ciphertext, tag, textOut, tagOut}
-use Rattle.comet.specs.Answers.{numberOf, lengthRefusal, refusal, sealRefusal, Sealed, sealedAs, sealing, Opened, openedAs, opening}
+use Rattle.comet.specs.Answers.{numberOf, takes, refusal, Sealed, sealedAs, sealing, Opened, openedAs, opening}
 use Rattle.comet.specs.declared.Answer.{Answer}
 use Rattle.comet.specs.declared.Answer.the-variants.{Done, Suite, Key, Nonce, Data, Text, Room, Tag, Forged, Retired}
 use Rattle.comet.proofs.Answer.{the-type}
@@ -36,18 +35,19 @@ passes : (b : Bool) (n r : ℕ) → cond b (suc n) r ≡ 0 → (b ≡ false) × 
 passes true n r e = absurd (suc-ne-zero n e)
 passes false n r e = (refl, e)
 
--- of a suite that we have
-lengths-passed : (s k v a t o g : ℕ) → IsSuite s → lengthRefusal s k v a t o g ≡ 0 → Passed s k v a t o g
-unfolding lengthRefusal
-lengths-passed s k v a t o g h e =
-    let p2 = passes (not (eqb k 16)) 1 _ e in
+pub passed : (d : Bool) (s k v a t o g : ℕ) → refusal d s k v a t o g ≡ 0 → Passed s k v a t o g
+unfolding refusal
+passed d s k v a t o g e =
+    let p1 = passes (not (isSuite s)) 0 _ e in
+    let p10 = passes (not (takes d s)) 9 _ (p1 .1) in
+    let p2 = passes (not (eqb k 16)) 1 _ (p10 .1) in
     let p3 = passes (not (eqb v (nonceOf s))) 2 _ (p2 .1) in
     let p4 = passes (ltb 65536 a) 3 _ (p3 .1) in
     let p5 = passes (ltb 65536 t) 4 _ (p4 .1) in
     let p6 = passes (not (eqb o t)) 5 _ (p5 .1) in
     let p7 = passes (not (eqb g (sizeOf s))) 6 _ (p6 .1) in
     record {
-      suite = h;
+      suite = not-false (isSuite s) (p1 .0);
       key = eqb-true k 16 (not-false (eqb k 16) (p2 .0));
       nonce = eqb-true v (nonceOf s) (not-false (eqb v (nonceOf s)) (p3 .0));
       extra = ltb-false 65536 a (p4 .0);
@@ -56,24 +56,12 @@ lengths-passed s k v a t o g h e =
       tag = eqb-true g (sizeOf s) (not-false (eqb g (sizeOf s)) (p7 .0));
     }
 
-pub passed : (s k v a t o g : ℕ) → refusal s k v a t o g ≡ 0 → Passed s k v a t o g
+pub none-bad : (d : Bool) (s k v a t o g : ℕ) → takes d s ≡ true → Passed s k v a t o g → refusal d s k v a t o g ≡ 0
 unfolding refusal
-passed s k v a t o g e =
-    let p1 = passes (not (isSuite s)) 0 _ e in
-    lengths-passed s k v a t o g (not-false (isSuite s) (p1 .0)) (p1 .1)
-
--- the sealer's 0 says no less
-pub seal-passed : (s k v a t o g : ℕ) → sealRefusal s k v a t o g ≡ 0 → Passed s k v a t o g
-unfolding sealRefusal
-seal-passed s k v a t o g e =
-    let p1 = passes (not (isSuite s)) 0 _ e in
-    let p10 = passes (not (seals s)) 9 _ (p1 .1) in
-    lengths-passed s k v a t o g (not-false (isSuite s) (p1 .0)) (p10 .1)
-
-none-long : (s k v a t o g : ℕ) → Passed s k v a t o g → lengthRefusal s k v a t o g ≡ 0
-unfolding lengthRefusal
-none-long s k v a t o g p =
+none-bad d s k v a t o g h p =
     simp (
+      p .suite,
+      h,
       eq-eqb k 16 (p .key),
       eq-eqb v (nonceOf s) (p .nonce),
       le-ltb 65536 a (p .extra),
@@ -82,43 +70,29 @@ none-long s k v a t o g p =
       eq-eqb g (sizeOf s) (p .tag),
     )
 
-pub none-bad : (s k v a t o g : ℕ) → Passed s k v a t o g → refusal s k v a t o g ≡ 0
-unfolding refusal
-none-bad s k v a t o g p = simp (p .suite) (none-long s k v a t o g p)
+-- no number above 7 but 10, and that for sealing alone, of a suite that does not seal
+abbrev Most : Bool → ℕ → ℕ → Type 0
+Most d s x = (x ≤ 7) ⊎ ((x ≡ 10) × IsSuite s × (takes d s ≡ false))
 
--- and of a suite that seals the sealer refuses nothing either
-pub none-refused : (s k v a t o g : ℕ) → Seals s → Passed s k v a t o g → sealRefusal s k v a t o g ≡ 0
-unfolding sealRefusal
-none-refused s k v a t o g h p = simp (p .suite, h) (none-long s k v a t o g p)
-
--- no number above 7
 rung-most : (b : Bool) (n r : ℕ) → n ≤ 7 → r ≤ 7 → cond b n r ≤ 7
 rung-most true n r h k = h
 rung-most false n r h k = k
 
-lengths-most : (s k v a t o g : ℕ) → lengthRefusal s k v a t o g ≤ 7
-unfolding lengthRefusal
-lengths-most s k v a t o g =
-    rung-most (not (eqb k 16)) 2 _ (omega arith)
+pub refusal-most : (d : Bool) (s k v a t o g : ℕ) → Most d s (refusal d s k v a t o g)
+unfolding refusal
+refusal-most d s k v a t o g =
+    rungs (isSuite s) (takes d s) refl refl _
+    (rung-most (not (eqb k 16)) 2 _ (omega arith)
     (rung-most (not (eqb v (nonceOf s))) 3 _ (omega arith)
     (rung-most (ltb 65536 a) 4 _ (omega arith)
     (rung-most (ltb 65536 t) 5 _ (omega arith)
     (rung-most (not (eqb o t)) 6 _ (omega arith)
-    (rung-most (not (eqb g (sizeOf s))) 7 _ (omega arith) (omega arith))))))
-
-pub refusal-most : (s k v a t o g : ℕ) → refusal s k v a t o g ≤ 7
-unfolding refusal
-refusal-most s k v a t o g = rung-most (not (isSuite s)) 1 _ (omega arith) (lengths-most s k v a t o g)
-
--- the sealer has 10 beside
-pub seal-most : (s k v a t o g : ℕ) → (sealRefusal s k v a t o g ≤ 7) ⊎ (sealRefusal s k v a t o g ≡ 10)
-unfolding sealRefusal
-seal-most s k v a t o g = rungs (isSuite s) (seals s)
+    (rung-most (not (eqb g (sizeOf s))) 7 _ (omega arith) (omega arith)))))))
   where
-    rungs : (b d : Bool) → let x : ℕ = cond (not b) 1 (cond (not d) 10 (lengthRefusal s k v a t o g)) in (x ≤ 7) ⊎ (x ≡ 10)
-    rungs false d = inl (omega arith)
-    rungs true false = inr refl
-    rungs true true = inl (lengths-most s k v a t o g)
+    rungs : (b c : Bool) → isSuite s ≡ b → takes d s ≡ c → (r : ℕ) → r ≤ 7 → Most d s (cond (not b) 1 (cond (not c) 10 r))
+    rungs false c eb ec r h = inl (omega arith)
+    rungs true false eb ec r h = inr (refl, eb, ec)
+    rungs true true eb ec r h = inl h
 
 -- Done alone has number 0
 pub done-zero : (a : Answer) → Declared.tagOf the-type a ≡ 0 → numberOf a ≡ 0
@@ -151,7 +125,7 @@ as-kept : (n : ℕ) (x y o t : List ℕ) → 0 < n → _≡_ {A = Sealed} (recor
 as-kept zero x y o t h = absurd (not-suc-le-zero h)
 as-kept (suc j) x y o t h = refl
 
-module _ (s : ℕ) (k v a m o t : List ℕ) (n : ℕ) (e : n ≡ sealRefusal s (length k) (length v) (length a) (length m) (length o) (length t)) where
+module _ (s : ℕ) (k v a m o t : List ℕ) (n : ℕ) (e : n ≡ refusal false s (length k) (length v) (length a) (length m) (length o) (length t)) where
   abbrev at : ℕ → Sealed
   at j = sealedAs j (ciphertext (cipherOf s) k v a m) (tag (cipherOf s) k v a m) o t
 
@@ -173,7 +147,7 @@ as-was : (j : ℕ) (b : Bool) (x o : List ℕ) → 0 < j → _≡_ {A = Opened} 
 as-was zero b x o h = absurd (not-suc-le-zero h)
 as-was (suc j) b x o h = refl
 
-module _ (s : ℕ) (k v a c g o : List ℕ) (n : ℕ) (e : n ≡ refusal s (length k) (length v) (length a) (length c) (length o) (length g)) where
+module _ (s : ℕ) (k v a c g o : List ℕ) (n : ℕ) (e : n ≡ refusal true s (length k) (length v) (length a) (length c) (length o) (length g)) where
   pub opening-kept : 0 < n → _≡_ {A = Opened} (record { number = n; out = o }) (opening s k v a c g o)
   unfolding opening
   opening-kept h =

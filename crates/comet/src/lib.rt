@@ -5,12 +5,13 @@ use words::block::Block;
 mod text;
 
 ghost use mathlib.Core.Path.{_≡_};
+ghost use mathlib.Core.Bool.{true, false};
 ghost use lib.ListN.{length, take};
 ghost use Rattle.words.specs.Blocks.{wide};
 ghost use Rattle.cipher.specs.Cipher.{Ready, IsSuite, sizeOf, nonceOf, cipherOf};
 ghost use Rattle.mode.specs.Mode.{textOut, tagOut};
 ghost use Rattle.step.specs.Two.{Clean};
-ghost use Rattle.comet.specs.Answers.{numberOf, lengthRefusal, refusal, sealRefusal, Sealed, sealing, Opened, opening};
+ghost use Rattle.comet.specs.Answers.{numberOf, takes, refusal, Sealed, sealing, Opened, opening};
 
 // What a call answers: Done, or why it refused.
 pub enum Answer {
@@ -46,8 +47,19 @@ impl Answer {
     }
 }
 
-// Numbers 2 to 7 in the order of the table, from the suite and the lengths of key, nonce, associated data, text, output and tag.
-fn lengths_refused(
+// Whether the suite, one that we have, is taken: it is always opened, and sealed if it seals.
+fn takes(opening: bool, suite: u8) -> bool
+    ensures { λ r. ⌜ r ≡ takes opening suite ⌝ }
+{
+    if opening {
+        return true;
+    }
+    cipher::seals(suite)
+}
+
+// Numbers 1, 10 and 2 to 7 in the order of the table, from the suite and the lengths of key, nonce, associated data, text, output and tag.
+fn refused(
+    opening: bool,
     suite: u8,
     key: usize,
     nonce: usize,
@@ -56,8 +68,14 @@ fn lengths_refused(
     out: usize,
     tag: usize,
 ) -> Answer
-    ensures { λ r. ⌜ numberOf r ≡ lengthRefusal suite key nonce ad text out tag ⌝ }
+    ensures { λ r. ⌜ numberOf r ≡ refusal opening suite key nonce ad text out tag ⌝ }
 {
+    if !cipher::is_suite(suite) {
+        return Answer::Suite;
+    }
+    if !takes(opening, suite) {
+        return Answer::Retired;
+    }
     if key != 16 {
         return Answer::Key;
     }
@@ -79,45 +97,6 @@ fn lengths_refused(
         return Answer::Tag;
     }
     Answer::Done
-}
-
-// The opener's refusals: 1, then those of the lengths.
-fn refused(
-    suite: u8,
-    key: usize,
-    nonce: usize,
-    ad: usize,
-    text: usize,
-    out: usize,
-    tag: usize,
-) -> Answer
-    ensures { λ r. ⌜ numberOf r ≡ refusal suite key nonce ad text out tag ⌝ }
-{
-    if !cipher::is_suite(suite) {
-        return Answer::Suite;
-    }
-    lengths_refused(suite, key, nonce, ad, text, out, tag)
-}
-
-// The sealer's refusals: 1, then 10, then those of the lengths.
-fn seal_refused(
-    suite: u8,
-    key: usize,
-    nonce: usize,
-    ad: usize,
-    text: usize,
-    out: usize,
-    tag: usize,
-) -> Answer
-    ensures { λ r. ⌜ numberOf r ≡ sealRefusal suite key nonce ad text out tag ⌝ }
-{
-    if !cipher::is_suite(suite) {
-        return Answer::Suite;
-    }
-    if !cipher::seals(suite) {
-        return Answer::Retired;
-    }
-    lengths_refused(suite, key, nonce, ad, text, out, tag)
 }
 
 // The text that goes out and the tag, once every length is right: the cipher is lent what it needs.
@@ -153,7 +132,7 @@ fn seal_with(
     out: &mut [u8],
     tag: &mut [u8],
 ) -> Answer
-    requires { ⌜ Ready suite (now tb) × (sealRefusal suite (length (now key)) (length (now nonce)) (length (now ad)) (length (now msg)) (length (now out)) (length (now tag)) ≡ 0) ⌝ }
+    requires { ⌜ Ready suite (now tb) × (refusal false suite (length (now key)) (length (now nonce)) (length (now ad)) (length (now msg)) (length (now out)) (length (now tag)) ≡ 0) ⌝ }
     ensures { λ r. ⌜ _≡_ {A = Sealed} (record { number = numberOf r; out = now (out .exit); tag = now (tag .exit) })
         (sealing suite (now (key .entry)) (now (nonce .entry)) (now (ad .entry)) (now (msg .entry)) (now (out .entry)) (now (tag .entry))) ⌝ }
 {
@@ -175,7 +154,8 @@ pub fn seal(
     ensures { λ r. ⌜ _≡_ {A = Sealed} (record { number = numberOf r; out = now (out .exit); tag = now (tag .exit) })
         (sealing suite (now (key .entry)) (now (nonce .entry)) (now (ad .entry)) (now (msg .entry)) (now (out .entry)) (now (tag .entry))) ⌝ }
 {
-    let a = seal_refused(
+    let a = refused(
+        false,
         suite,
         key.len(),
         nonce.len(),
@@ -205,7 +185,7 @@ fn unseal_with(
     tag: &[u8],
     out: &mut [u8],
 ) -> Answer
-    requires { ⌜ Ready suite (now tb) × (refusal suite (length (now key)) (length (now nonce)) (length (now ad)) (length (now text)) (length (now out)) (length (now tag)) ≡ 0) ⌝ }
+    requires { ⌜ Ready suite (now tb) × (refusal true suite (length (now key)) (length (now nonce)) (length (now ad)) (length (now text)) (length (now out)) (length (now tag)) ≡ 0) ⌝ }
     ensures { λ r. ⌜ _≡_ {A = Opened} (record { number = numberOf r; out = now (out .exit) })
         (opening suite (now (key .entry)) (now (nonce .entry)) (now (ad .entry)) (now (text .entry)) (now (tag .entry)) (now (out .entry))) ⌝ }
 {
@@ -231,6 +211,7 @@ pub fn unseal(
         (opening suite (now (key .entry)) (now (nonce .entry)) (now (ad .entry)) (now (text .entry)) (now (tag .entry)) (now (out .entry))) ⌝ }
 {
     let a = refused(
+        true,
         suite,
         key.len(),
         nonce.len(),

@@ -67,7 +67,7 @@ module _ (f ring : List ℕ) (i : ℕ) (h : EntryIn (rowSize edition) f i) (g : 
   tag-long = stretch-length f (rowOf f i .at + rowOf f i .ad + rowOf f i .len) (sizeOf (rowOf f i .suite)) (h .body-in)
 
   -- suite and lengths are right but for the output's, which is what it is
-  entry-lengths : (out : List ℕ) → refusal (rowOf f i .suite) (length (ringKey ring (rowOf f i .key))) (length (nonceRead f i)) (length (dataOf f (rowOf f i)))
+  entry-lengths : (out : List ℕ) → refusal true (rowOf f i .suite) (length (ringKey ring (rowOf f i .key))) (length (nonceRead f i)) (length (dataOf f (rowOf f i)))
       (length (textOf f (rowOf f i))) (length out) (length (tagOf f (rowOf f i))) ≡ cond (not (eqb (length out) (rowOf f i .len))) 6 0
   unfolding refusal
   entry-lengths out =

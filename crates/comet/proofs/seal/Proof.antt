@@ -1,9 +1,10 @@
 -- `comet::seal` meets its contract: a refusal leaves the buffers; else the suite's cipher is lent what it asks for, or nothing.
 use denote.Ref.{now}
+use mathlib.Core.Bool.{false}
 use lib.ListN.{length}
 use mathlib.Core.Path.{_≡_, sym, _∙_}
 use Rattle.cipher.proofs.Suites.{none-ready}
-use Rattle.comet.specs.Answers.{numberOf, sealRefusal}
+use Rattle.comet.specs.Answers.{numberOf, refusal}
 use Rattle.comet.proofs.Refuse.{done-zero, other-some, sealing-kept}
 use borrow.Author.Needs.{needs}
 use Rattle.comet.proofs.seal.Statement.{statement}
@@ -12,12 +13,12 @@ use Rattle.comet.proofs.seal.Tie as tie
 -- nothing was refused
 zero : (c : tie.At-match-keys1) →
     let st : tie.Start = c .before .before .before .before .before .before .before .before in
-    sealRefusal (st .args .suite) (length (now (st .args .key))) (length (now (st .args .nonce))) (length (now (st .args .ad)))
+    refusal false (st .args .suite) (length (now (st .args .key))) (length (now (st .args .nonce))) (length (now (st .args .ad)))
     (length (now (st .args .msg))) (length (now (st .args .out))) (length (now (st .args .tag))) ≡ 0
-zero c = sym (c .before .seal-refused .ensures) ∙ done-zero (c .before .seal-refused .result) (c .match .keys1)
+zero c = sym (c .before .refused .ensures) ∙ done-zero (c .before .refused .result) (c .match .keys1)
 
-seal-refused-requires : tie.Need-seal-refused-requires
-seal-refused-requires c κs = search needs
+refused-requires : tie.Need-refused-requires
+refused-requires c κs = search needs
 
 enum-told : tie.Need-enum-told
 enum-told c = search needs
@@ -25,8 +26,8 @@ enum-told c = search needs
 returns : tie.Need-returns
 returns c =
     let x = c .before .before .before .before .before .before .before .before .args in
-    let a = c .before .seal-refused .result in
-    sealing-kept (x .suite) (now (x .key)) (now (x .nonce)) (now (x .ad)) (now (x .msg)) (now (x .out)) (now (x .tag)) (numberOf a) (c .before .seal-refused .ensures)
+    let a = c .before .refused .result in
+    sealing-kept (x .suite) (now (x .key)) (now (x .nonce)) (now (x .ad)) (now (x .msg)) (now (x .out)) (now (x .tag)) (numberOf a) (c .before .refused .ensures)
     (other-some a (c .match .keys2))
 
 lends-requires : tie.Need-lends-requires
@@ -71,7 +72,7 @@ pub seal-spec : {M : Type 1} → statement M
 seal-spec =
     tie.close
     (tie.spec
-    seal-refused-requires
+    refused-requires
     enum-told
     returns
     lends-requires

@@ -6,7 +6,7 @@ use native.Mathlib.Omega.{arith}
 use Prim.Native.Nat.{ℕ}
 use Rattle.words.specs.Blocks.{wide}
 use Rattle.cipher.proofs.Suites.{size-most}
-use Rattle.comet.proofs.Refuse.{Passed, seal-passed, sealing-done}
+use Rattle.comet.proofs.Refuse.{Passed, passed, sealing-done}
 use borrow.Author.Needs.{needs}
 use Rattle.comet.proofs.seal_with.Statement.{statement}
 use Rattle.comet.proofs.seal_with.Tie as tie
@@ -14,7 +14,7 @@ use Rattle.comet.proofs.seal_with.Tie as tie
 -- every length is right
 ok : (st : tie.Start) → Passed (st .args .suite) (length (now (st .args .key))) (length (now (st .args .nonce))) (length (now (st .args .ad)))
     (length (now (st .args .msg))) (length (now (st .args .out))) (length (now (st .args .tag)))
-ok st = seal-passed _ _ _ _ _ _ _ (st .pre .1)
+ok st = passed _ _ _ _ _ _ _ _ (st .pre .1)
 
 crypt-requires : tie.Need-crypt-requires
 crypt-requires c κs =

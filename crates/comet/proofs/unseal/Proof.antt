@@ -1,5 +1,6 @@
 -- `comet::unseal` meets its contract: a refusal leaves the buffer; else the suite's cipher is lent what it asks for, or nothing.
 use denote.Ref.{now}
+use mathlib.Core.Bool.{true}
 use lib.ListN.{length}
 use mathlib.Core.Path.{_≡_, sym, _∙_}
 use Rattle.cipher.proofs.Suites.{none-ready}
@@ -12,7 +13,7 @@ use Rattle.comet.proofs.unseal.Tie as tie
 -- nothing was refused
 zero : (c : tie.At-match-keys1) →
     let st : tie.Start = c .before .before .before .before .before .before .before .before in
-    refusal (st .args .suite) (length (now (st .args .key))) (length (now (st .args .nonce))) (length (now (st .args .ad)))
+    refusal true (st .args .suite) (length (now (st .args .key))) (length (now (st .args .nonce))) (length (now (st .args .ad)))
     (length (now (st .args .text))) (length (now (st .args .out))) (length (now (st .args .tag))) ≡ 0
 zero c = sym (c .before .refused .ensures) ∙ done-zero (c .before .refused .result) (c .match .keys1)
 
