@@ -70,10 +70,12 @@ fn refused(
 ) -> Answer
     ensures { λ r. ⌜ numberOf r ≡ refusal opening suite key nonce ad text out tag ⌝ }
 {
-    if !cipher::is_suite(suite) {
+    let had = cipher::is_suite(suite);
+    let taken = takes(opening, suite);
+    if !had {
         return Answer::Suite;
     }
-    if !takes(opening, suite) {
+    if !taken {
         return Answer::Retired;
     }
     if key != 16 {

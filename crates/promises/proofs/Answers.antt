@@ -38,7 +38,7 @@ module _ (suite : ℕ) (key nonce ad c t out₀ : List ℕ) (i : Input suite key
   unfolding opening
   by-tag =
       ap (λ (n : ℕ). openedAs n (sameBytes (tagOut (cipherOf suite) true key nonce ad c) t) (textOut (cipherOf suite) true key nonce ad c) out₀)
-      (none-bad suite (length key) (length nonce) (length ad) (length c) (length out₀) (length t) (fits suite key nonce ad c out₀ t i lo lt))
+      (none-bad true suite (length key) (length nonce) (length ad) (length c) (length out₀) (length t) refl (fits suite key nonce ad c out₀ t i lo lt))
 
   -- the right tag opens
   pub opens : tagOut (cipherOf suite) true key nonce ad c ≡ t → opening suite key nonce ad c t out₀ ≡ record { number = 0; out = textOut (cipherOf suite) true key nonce ad c }

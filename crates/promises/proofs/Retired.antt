@@ -1,7 +1,7 @@
 -- W7, the suite that seals no more: of the ladders' rungs the second alone is 10, and its test is suite 4's.
 use mathlib.Core.Path.{_≡_, refl, sym, ap, _∙_}
 use mathlib.Core.Bool.{Bool, true, false, cond, not, true≢false}
-use mathlib.Core.Logic.{_↔_}
+use mathlib.Core.Logic.{_↔_, ⊎-elim}
 use mathlib.Core.List.{List, []}
 use Prim.Native.Nat.{ℕ, zero, suc, _≤_}
 use native.Mathlib.Omega.{arith}
@@ -9,7 +9,7 @@ use lib.ListN.{length}
 use lib.Dec.{eqb}
 use Rattle.cipher.specs.Cipher.{isSuite, IsSuite, retired, seals, Seals, nonceOf}
 use Rattle.cipher.proofs.Suites.{only-four}
-use Rattle.comet.specs.Answers.{lengthRefusal, refusal, sealRefusal, sealedAs, sealing}
+use Rattle.comet.specs.Answers.{refusal, sealedAs, sealing}
 use Rattle.comet.proofs.Refuse.{refusal-most}
 use Rattle.session.specs.Value.{Value, over, gave, answered, fresh, startNumber, starting}
 use Rattle.session.proofs.Refuse.{start-is}
@@ -37,26 +37,19 @@ four suite = (
 
 -- ---- the sealer
 
-module _ (s k v a t o g : ℕ) where
-  -- 10 on the ladder
-  ten-rung : (b d : Bool) → isSuite s ≡ b → seals s ≡ d → cond (not b) 1 (cond (not d) 10 (lengthRefusal s k v a t o g)) ≡ 10 → s ≡ 4
-  unfolding refusal
-  ten-rung false d eb ed e = absurd (omega arith)
-  ten-rung true false eb ed e = only-four s eb ed
-  ten-rung true true eb ed e =
-      let m : lengthRefusal s k v a t o g ≤ 7 = rw eb at (refusal-most s k v a t o g) in
-      absurd (omega arith)
-
-  seal-ten : sealRefusal s k v a t o g ≡ 10 → s ≡ 4
-  unfolding sealRefusal
-  seal-ten e = ten-rung (isSuite s) (seals s) refl refl e
+seal-ten : (s k v a t o g : ℕ) → refusal false s k v a t o g ≡ 10 → s ≡ 4
+seal-ten s k v a t o g e =
+    ⊎-elim
+    (λ h. absurd (omega arith))
+    (λ h. only-four s (h .1) (h .2))
+    (refusal-most false s k v a t o g)
 
 sealed-number : (n : ℕ) (x y o t : List ℕ) → sealedAs n x y o t .number ≡ n
 sealed-number zero x y o t = refl
 sealed-number (suc n) x y o t = refl
 
 sealer : SealerRefuses
-unfolding sealing sealRefusal isSuite seals retired
+unfolding sealing refusal isSuite seals retired
 sealer = (
   λ key nonce ad msg out₀ tag₀. refl,
   λ suite key nonce ad msg out₀ tag₀ e. seal-ten suite (length key) (length nonce) (length ad) (length msg) (length out₀) (length tag₀) (sym (sealed-number _ _ _ out₀ tag₀) ∙ e),

@@ -11,11 +11,11 @@ use Rattle.comet.proofs.refused.Statement.{statement}
 use Rattle.comet.proofs.refused.Tie as tie
 
 -- what each test that did not refuse has shown
-had : (c : tie.Else1) → isSuite (c .before .before .args .suite) ≡ true
-had c = sym (c .before .is-suite .ensures) ∙ not-false _ (c .if1 .left)
+had : (c : tie.Else1) → isSuite (c .before .before .before .args .suite) ≡ true
+had c = sym (c .before .before .is-suite .ensures) ∙ not-false _ (c .if1 .left)
 
 taken : (c : tie.Else2) → takes (c .before .before .before .before .args .opening) (c .before .before .before .before .args .suite) ≡ true
-taken c = sym (c .before .takes .ensures) ∙ not-false _ (c .if2 .left)
+taken c = sym (c .before .before .takes .ensures) ∙ not-false _ (c .if2 .left)
 
 key : (c : tie.Else3) → eqb (c .before .before .before .before .before .args .key) 16 ≡ true
 key c = eq-eqb (c .before .before .before .before .before .args .key) 16 (c .if3 .left)
@@ -35,60 +35,60 @@ room c = eq-eqb _ _ (c .if7 .left)
 is-suite-requires : tie.Need-is-suite-requires
 is-suite-requires c κs = search needs
 
-returns : tie.Need-returns
-unfolding refusal
-returns c = simp (← c .before .is-suite .ensures, c .if1 .taken)
-
 takes-requires : tie.Need-takes-requires
 takes-requires c κs = search needs
+
+returns : tie.Need-returns
+unfolding refusal
+returns c = simp (← c .before .before .is-suite .ensures, c .if1 .taken)
 
 returns-2 : tie.Need-returns-2
 unfolding refusal
 returns-2 c =
-    let e : takes (c .before .before .before .before .args .opening) (c .before .before .before .before .args .suite) ≡ false = sym (c .before .takes .ensures) ∙ not-true _ (c .if2 .taken) in
-    simp (had (c .before .before), e)
+    let e : takes (c .before .before .before .before .args .opening) (c .before .before .before .before .args .suite) ≡ false = sym (c .before .before .takes .ensures) ∙ not-true _ (c .if2 .taken) in
+    simp (had (c .before), e)
 
 returns-3 : tie.Need-returns-3
 unfolding refusal
-returns-3 c = simp (had (c .before .before .before), taken (c .before), ne-eqb (c .before .before .before .before .before .args .key) 16 (c .if3 .taken))
+returns-3 c = simp (had (c .before .before), taken (c .before), ne-eqb (c .before .before .before .before .before .args .key) 16 (c .if3 .taken))
 
 nonce-size-requires : tie.Need-nonce-size-requires
 nonce-size-requires c κs = search needs
 
 returns-4 : tie.Need-returns-4
 unfolding refusal
-returns-4 c = simp (had (c .before .before .before .before .before), taken (c .before .before .before), key (c .before .before), ne-eqb (c .before .before .before .before .before .before .before .args .nonce) (nonceOf (c .before .before .before .before .before .before .before .args .suite)) (λ e. c .if4 .taken (e ∙ sym (c .before .nonce-size .ensures))))
+returns-4 c = simp (had (c .before .before .before .before), taken (c .before .before .before), key (c .before .before), ne-eqb (c .before .before .before .before .before .before .before .args .nonce) (nonceOf (c .before .before .before .before .before .before .before .args .suite)) (λ e. c .if4 .taken (e ∙ sym (c .before .nonce-size .ensures))))
 
 returns-5 : tie.Need-returns-5
 unfolding refusal
-returns-5 c = simp (had (c .before .before .before .before .before .before), taken (c .before .before .before .before), key (c .before .before .before), nonce (c .before), lt-ltb 65536 (c .before .before .before .before .before .before .before .before .args .ad) (c .if5 .taken))
+returns-5 c = simp (had (c .before .before .before .before .before), taken (c .before .before .before .before), key (c .before .before .before), nonce (c .before), lt-ltb 65536 (c .before .before .before .before .before .before .before .before .args .ad) (c .if5 .taken))
 
 returns-6 : tie.Need-returns-6
 unfolding refusal
-returns-6 c = simp (had (c .before .before .before .before .before .before .before), taken (c .before .before .before .before .before), key (c .before .before .before .before), nonce (c .before .before), data-most (c .before), lt-ltb 65536 (c .before .before .before .before .before .before .before .before .before .args .text) (c .if6 .taken))
+returns-6 c = simp (had (c .before .before .before .before .before .before), taken (c .before .before .before .before .before), key (c .before .before .before .before), nonce (c .before .before), data-most (c .before), lt-ltb 65536 (c .before .before .before .before .before .before .before .before .before .args .text) (c .if6 .taken))
 
 returns-7 : tie.Need-returns-7
 unfolding refusal
-returns-7 c = simp (had (c .before .before .before .before .before .before .before .before), taken (c .before .before .before .before .before .before), key (c .before .before .before .before .before), nonce (c .before .before .before), data-most (c .before .before), text-most (c .before), ne-eqb (c .before .before .before .before .before .before .before .before .before .before .args .out) (c .before .before .before .before .before .before .before .before .before .before .args .text) (c .if7 .taken))
+returns-7 c = simp (had (c .before .before .before .before .before .before .before), taken (c .before .before .before .before .before .before), key (c .before .before .before .before .before), nonce (c .before .before .before), data-most (c .before .before), text-most (c .before), ne-eqb (c .before .before .before .before .before .before .before .before .before .before .args .out) (c .before .before .before .before .before .before .before .before .before .before .args .text) (c .if7 .taken))
 
 size-of-requires : tie.Need-size-of-requires
 size-of-requires c κs = search needs
 
 returns-8 : tie.Need-returns-8
 unfolding refusal
-returns-8 c = simp (had (c .before .before .before .before .before .before .before .before .before .before), taken (c .before .before .before .before .before .before .before .before), key (c .before .before .before .before .before .before .before), nonce (c .before .before .before .before .before), data-most (c .before .before .before .before), text-most (c .before .before .before), room (c .before .before), ne-eqb (c .before .before .before .before .before .before .before .before .before .before .before .before .args .tag) (sizeOf (c .before .before .before .before .before .before .before .before .before .before .before .before .args .suite)) (λ e. c .if8 .taken (e ∙ sym (c .before .size-of .ensures .0))))
+returns-8 c = simp (had (c .before .before .before .before .before .before .before .before .before), taken (c .before .before .before .before .before .before .before .before), key (c .before .before .before .before .before .before .before), nonce (c .before .before .before .before .before), data-most (c .before .before .before .before), text-most (c .before .before .before), room (c .before .before), ne-eqb (c .before .before .before .before .before .before .before .before .before .before .before .before .args .tag) (sizeOf (c .before .before .before .before .before .before .before .before .before .before .before .before .args .suite)) (λ e. c .if8 .taken (e ∙ sym (c .before .size-of .ensures .0))))
 
 returns-9 : tie.Need-returns-9
 unfolding refusal
-returns-9 c = simp (had (c .before .before .before .before .before .before .before .before .before .before), taken (c .before .before .before .before .before .before .before .before), key (c .before .before .before .before .before .before .before), nonce (c .before .before .before .before .before), data-most (c .before .before .before .before), text-most (c .before .before .before), room (c .before .before), eq-eqb (c .before .before .before .before .before .before .before .before .before .before .before .before .args .tag) (sizeOf (c .before .before .before .before .before .before .before .before .before .before .before .before .args .suite)) (c .if8 .left ∙ c .before .size-of .ensures .0))
+returns-9 c = simp (had (c .before .before .before .before .before .before .before .before .before), taken (c .before .before .before .before .before .before .before .before), key (c .before .before .before .before .before .before .before), nonce (c .before .before .before .before .before), data-most (c .before .before .before .before), text-most (c .before .before .before), room (c .before .before), eq-eqb (c .before .before .before .before .before .before .before .before .before .before .before .before .args .tag) (sizeOf (c .before .before .before .before .before .before .before .before .before .before .before .before .args .suite)) (c .if8 .left ∙ c .before .size-of .ensures .0))
 
 pub refused-spec : {M : Type 1} → statement M
 refused-spec =
     tie.close
     (tie.spec
     is-suite-requires
-    returns
     takes-requires
+    returns
     returns-2
     returns-3
     nonce-size-requires
