@@ -7,7 +7,7 @@ use mathlib.Core.Path.{_≡_, ap, _∙_}
 use native.Mathlib.Omega.{arith}
 use Prim.Native.Nat.{ℕ, _+_, _-_, _≤_}
 use borrow.Rule.Slice.PartMut.{putMid, same-len-mid}
-use Rattle.cipher.specs.Cipher.{sizeOf}
+use Rattle.cipher.specs.Cipher.{Seals, sizeOf}
 use Rattle.table.specs.Part.{stretch}
 use Rattle.table.proofs.Rows.{stretch-length}
 use Rattle.draft.specs.Put.{put}
@@ -43,7 +43,10 @@ part-seal-text-end : tie.Need-part-seal-text-end
 part-seal-text-end c = omega (arith, body-fits (now (c .before .before .before .before .before .before .before .args .f)) (c .before .before .before .before .before .before .before .args .i) _ (c .before .before .before .before .before .before .before .pre .0 .entry) (c .before .before .before .row-of .ensures), c .before .before .before .before .before .before .before .pre .0 .out-long, c .text-start .ensures)
 
 seal-text-requires : tie.Need-seal-text-requires
-seal-text-requires c κs = search needs
+seal-text-requires c κs =
+    let row = c .before .before .before .before .row-of in
+    let still : Seals (row .result .suite) = rw (row .ensures) (c .before .before .before .before .before .before .before .before .pre .1) in
+    search (needs, still)
 
 sub-copy : tie.Need-sub-copy
 sub-copy c = search needs
