@@ -57,7 +57,7 @@ sealer = (
 
 -- ---- a session's start
 
-start-ten : (s : ℕ) (b w d f : Bool) → isSuite s ≡ b → seals s ≡ w → cond (not b) 1 (cond (not w) 10 (cond (not d) 2 (cond (not f) 3 0))) ≡ 10 → s ≡ 4
+start-ten : (s : ℕ) (b w d f : Bool) → isSuite s ≡ b → seals s ≡ w → _≡_ {A = ℕ} (cond (not b) 1 (cond (not w) 10 (cond (not d) 2 (cond (not f) 3 0)))) 10 → s ≡ 4
 start-ten s false w d f eb ew e = absurd (omega arith)
 start-ten s true false d f eb ew e = only-four s eb ew
 start-ten s true true false f eb ew e = absurd (omega arith)
