@@ -5,7 +5,7 @@ use mathlib.Core.Bool.{Bool, true, false, not}
 use mathlib.Core.List.{List, _++_}
 use lib.ListN.{length, replicate, length-append, length-replicate}
 use lib.Dec.{lit<}
-use Rattle.cipher.specs.Cipher.{Seals, sizeOf}
+use Rattle.cipher.specs.Cipher.{sizeOf}
 use Rattle.table.specs.declared.row.Row.{Row}
 use Rattle.table.specs.declared.answers.Answer.{Answer}
 use Rattle.table.specs.Format.{countOf, edition, rowSize, nonceAt, rowOf, dataOf, textOf, tagOf}

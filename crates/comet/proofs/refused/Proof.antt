@@ -4,7 +4,6 @@ use borrow.Author.Tests.{lt-ltb, le-ltb, eq-eqb, ne-eqb, not-true, not-false}
 use lib.Dec.{ltb, eqb}
 use mathlib.Core.Bool.{true, false}
 use mathlib.Core.Path.{_≡_, sym, _∙_}
-use Prim.Native.Nat.{_-_}
 use Rattle.cipher.specs.Cipher.{isSuite, sizeOf, nonceOf}
 use Rattle.comet.specs.Answers.{takes, refusal}
 use Rattle.comet.proofs.refused.Statement.{statement}

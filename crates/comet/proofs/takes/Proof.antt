@@ -1,6 +1,5 @@
 -- `comet::takes` meets its contract: what is opened is taken, what is sealed goes by the suite.
 use borrow.Author.Needs.{needs}
-use mathlib.Core.Path.{_∙_}
 use Rattle.comet.proofs.takes.Statement.{statement}
 use Rattle.comet.proofs.takes.Tie as tie
 

@@ -1,7 +1,7 @@
 -- The suite is the row's.
 use borrow.Author.Needs.{needs}
 use mathlib.Core.Bool.{not}
-use mathlib.Core.Path.{_≡_, ap, _∙_}
+use mathlib.Core.Path.{ap, _∙_}
 use Rattle.cipher.specs.Cipher.{seals}
 use Rattle.table.specs.declared.row.Row.{Row}
 use Rattle.draft.specs.Answers.{rowRetired}
