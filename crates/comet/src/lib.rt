@@ -5,7 +5,8 @@ use words::block::Block;
 mod text;
 
 ghost use mathlib.Core.Path.{_≡_};
-ghost use mathlib.Core.Bool.{true, false};
+ghost use mathlib.Core.Bool.{true, false, cond, not};
+ghost use lib.Dec.{ltb, eqb};
 ghost use lib.ListN.{length, take};
 ghost use Rattle.words.specs.Blocks.{wide};
 ghost use Rattle.cipher.specs.Cipher.{Ready, IsSuite, sizeOf, nonceOf, cipherOf};
@@ -57,6 +58,26 @@ fn takes(opening: bool, suite: u8) -> bool
     cipher::seals(suite)
 }
 
+// Numbers 4 to 7 in the order of the table: the ladder's lower half.
+fn texts_refused(suite: u8, ad: usize, text: usize, out: usize, tag: usize) -> Answer
+    ensures { λ r. ⌜ numberOf r ≡ cond (ltb 65536 ad) 4 (cond (ltb 65536 text) 5 (cond (not (eqb out text)) 6 (cond (not (eqb tag (sizeOf suite))) 7 0))) ⌝ }
+{
+    if 65536 < ad {
+        return Answer::Data;
+    }
+    if 65536 < text {
+        return Answer::Text;
+    }
+    if out != text {
+        return Answer::Room;
+    }
+    let b = cipher::size_of(suite);
+    if tag != b {
+        return Answer::Tag;
+    }
+    Answer::Done
+}
+
 // Numbers 1, 10 and 2 to 7 in the order of the table, from the suite and the lengths of key, nonce, associated data, text, output and tag.
 fn refused(
     opening: bool,
@@ -85,20 +106,7 @@ fn refused(
     if nonce != n {
         return Answer::Nonce;
     }
-    if 65536 < ad {
-        return Answer::Data;
-    }
-    if 65536 < text {
-        return Answer::Text;
-    }
-    if out != text {
-        return Answer::Room;
-    }
-    let b = cipher::size_of(suite);
-    if tag != b {
-        return Answer::Tag;
-    }
-    Answer::Done
+    texts_refused(suite, ad, text, out, tag)
 }
 
 // The text that goes out and the tag, once every length is right: the cipher is lent what it needs.

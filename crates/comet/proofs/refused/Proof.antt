@@ -1,10 +1,10 @@
--- `comet::refused` meets its contract: each test of the code is a rung of the ladder.
+-- `comet::refused` meets its contract: each test of the code is a rung of the ladder, and the lower half has its own function.
 use borrow.Author.Needs.{needs}
-use borrow.Author.Tests.{lt-ltb, le-ltb, eq-eqb, ne-eqb, not-true, not-false}
-use lib.Dec.{ltb, eqb}
+use borrow.Author.Tests.{eq-eqb, ne-eqb, not-true, not-false}
+use lib.Dec.{eqb}
 use mathlib.Core.Bool.{true, false}
 use mathlib.Core.Path.{_≡_, sym, _∙_}
-use Rattle.cipher.specs.Cipher.{isSuite, sizeOf, nonceOf}
+use Rattle.cipher.specs.Cipher.{isSuite, nonceOf}
 use Rattle.comet.specs.Answers.{takes, refusal}
 use Rattle.comet.proofs.refused.Statement.{statement}
 use Rattle.comet.proofs.refused.Tie as tie
@@ -21,15 +21,6 @@ key c = eq-eqb (c .before .before .before .before .before .args .key) 16 (c .if3
 
 nonce : (c : tie.Else4) → let x : tie.Start = c .before .before .before .before .before .before .before in eqb (x .args .nonce) (nonceOf (x .args .suite)) ≡ true
 nonce c = eq-eqb _ _ (c .if4 .left ∙ c .before .nonce-size .ensures)
-
-data-most : (c : tie.Else5) → ltb 65536 (c .before .before .before .before .before .before .before .before .args .ad) ≡ false
-data-most c = le-ltb 65536 _ (c .if5 .left)
-
-text-most : (c : tie.Else6) → ltb 65536 (c .before .before .before .before .before .before .before .before .before .args .text) ≡ false
-text-most c = le-ltb 65536 _ (c .if6 .left)
-
-room : (c : tie.Else7) → let x : tie.Start = c .before .before .before .before .before .before .before .before .before .before in eqb (x .args .out) (x .args .text) ≡ true
-room c = eq-eqb _ _ (c .if7 .left)
 
 is-suite-requires : tie.Need-is-suite-requires
 is-suite-requires c κs = search needs
@@ -58,28 +49,12 @@ returns-4 : tie.Need-returns-4
 unfolding refusal
 returns-4 c = simp (had (c .before .before .before .before), taken (c .before .before .before), key (c .before .before), ne-eqb (c .before .before .before .before .before .before .before .args .nonce) (nonceOf (c .before .before .before .before .before .before .before .args .suite)) (λ e. c .if4 .taken (e ∙ sym (c .before .nonce-size .ensures))))
 
+texts-refused-requires : tie.Need-texts-refused-requires
+texts-refused-requires c κs = search needs
+
 returns-5 : tie.Need-returns-5
 unfolding refusal
-returns-5 c = simp (had (c .before .before .before .before .before), taken (c .before .before .before .before), key (c .before .before .before), nonce (c .before), lt-ltb 65536 (c .before .before .before .before .before .before .before .before .args .ad) (c .if5 .taken))
-
-returns-6 : tie.Need-returns-6
-unfolding refusal
-returns-6 c = simp (had (c .before .before .before .before .before .before), taken (c .before .before .before .before .before), key (c .before .before .before .before), nonce (c .before .before), data-most (c .before), lt-ltb 65536 (c .before .before .before .before .before .before .before .before .before .args .text) (c .if6 .taken))
-
-returns-7 : tie.Need-returns-7
-unfolding refusal
-returns-7 c = simp (had (c .before .before .before .before .before .before .before), taken (c .before .before .before .before .before .before), key (c .before .before .before .before .before), nonce (c .before .before .before), data-most (c .before .before), text-most (c .before), ne-eqb (c .before .before .before .before .before .before .before .before .before .before .args .out) (c .before .before .before .before .before .before .before .before .before .before .args .text) (c .if7 .taken))
-
-size-of-requires : tie.Need-size-of-requires
-size-of-requires c κs = search needs
-
-returns-8 : tie.Need-returns-8
-unfolding refusal
-returns-8 c = simp (had (c .before .before .before .before .before .before .before .before .before), taken (c .before .before .before .before .before .before .before .before), key (c .before .before .before .before .before .before .before), nonce (c .before .before .before .before .before), data-most (c .before .before .before .before), text-most (c .before .before .before), room (c .before .before), ne-eqb (c .before .before .before .before .before .before .before .before .before .before .before .before .args .tag) (sizeOf (c .before .before .before .before .before .before .before .before .before .before .before .before .args .suite)) (λ e. c .if8 .taken (e ∙ sym (c .before .size-of .ensures .0))))
-
-returns-9 : tie.Need-returns-9
-unfolding refusal
-returns-9 c = simp (had (c .before .before .before .before .before .before .before .before .before), taken (c .before .before .before .before .before .before .before .before), key (c .before .before .before .before .before .before .before), nonce (c .before .before .before .before .before), data-most (c .before .before .before .before), text-most (c .before .before .before), room (c .before .before), eq-eqb (c .before .before .before .before .before .before .before .before .before .before .before .before .args .tag) (sizeOf (c .before .before .before .before .before .before .before .before .before .before .before .before .args .suite)) (c .if8 .left ∙ c .before .size-of .ensures .0))
+returns-5 c = simp (had (c .before .before .before .before .before), taken (c .before .before .before .before), key (c .before .before .before), nonce (c .before)) (c .texts-refused .ensures)
 
 pub refused-spec : {M : Type 1} → statement M
 refused-spec =
@@ -92,9 +67,5 @@ refused-spec =
     returns-3
     nonce-size-requires
     returns-4
-    returns-5
-    returns-6
-    returns-7
-    size-of-requires
-    returns-8
-    returns-9)
+    texts-refused-requires
+    returns-5)
