@@ -15,7 +15,7 @@ ghost use Rattle.step.specs.Two.{Clean};
 ghost use Rattle.comet.specs.Answers.{numberOf, takes, refusal, Sealed, sealing, Opened, opening};
 
 // What a call answers: Done, or why it refused.
-pub enum Answer {
+pub enum Verdict {
     Done,
     Suite,
     Key,
@@ -28,22 +28,22 @@ pub enum Answer {
     Retired,
 }
 
-impl Answer {
+impl Verdict {
     // The answer's number in documents 01 and 02.
     pub fn number(self) -> u8
         ensures { λ r. ⌜ r ≡ numberOf self ⌝ }
     {
         match self {
-            Answer::Done => 0,
-            Answer::Suite => 1,
-            Answer::Key => 2,
-            Answer::Nonce => 3,
-            Answer::Data => 4,
-            Answer::Text => 5,
-            Answer::Room => 6,
-            Answer::Tag => 7,
-            Answer::Forged => 8,
-            Answer::Retired => 10,
+            Verdict::Done => 0,
+            Verdict::Suite => 1,
+            Verdict::Key => 2,
+            Verdict::Nonce => 3,
+            Verdict::Data => 4,
+            Verdict::Text => 5,
+            Verdict::Room => 6,
+            Verdict::Tag => 7,
+            Verdict::Forged => 8,
+            Verdict::Retired => 10,
         }
     }
 }
@@ -59,23 +59,23 @@ fn takes(opening: bool, suite: u8) -> bool
 }
 
 // Numbers 4 to 7 in the order of the table: the ladder's lower half.
-fn texts_refused(suite: u8, ad: usize, text: usize, out: usize, tag: usize) -> Answer
+fn texts_refused(suite: u8, ad: usize, text: usize, out: usize, tag: usize) -> Verdict
     ensures { λ r. ⌜ numberOf r ≡ cond (ltb 65536 ad) 4 (cond (ltb 65536 text) 5 (cond (not (eqb out text)) 6 (cond (not (eqb tag (sizeOf suite))) 7 0))) ⌝ }
 {
     if 65536 < ad {
-        return Answer::Data;
+        return Verdict::Data;
     }
     if 65536 < text {
-        return Answer::Text;
+        return Verdict::Text;
     }
     if out != text {
-        return Answer::Room;
+        return Verdict::Room;
     }
     let b = cipher::size_of(suite);
     if tag != b {
-        return Answer::Tag;
+        return Verdict::Tag;
     }
-    Answer::Done
+    Verdict::Done
 }
 
 // Numbers 1, 10 and 2 to 7 in the order of the table, from the suite and the lengths of key, nonce, associated data, text, output and tag.
@@ -88,23 +88,23 @@ fn refused(
     text: usize,
     out: usize,
     tag: usize,
-) -> Answer
+) -> Verdict
     ensures { λ r. ⌜ numberOf r ≡ refusal opening suite key nonce ad text out tag ⌝ }
 {
     let had = cipher::is_suite(suite);
     let taken = takes(opening, suite);
     if !had {
-        return Answer::Suite;
+        return Verdict::Suite;
     }
     if !taken {
-        return Answer::Retired;
+        return Verdict::Retired;
     }
     if key != 16 {
-        return Answer::Key;
+        return Verdict::Key;
     }
     let n = cipher::nonce_size(suite);
     if nonce != n {
-        return Answer::Nonce;
+        return Verdict::Nonce;
     }
     texts_refused(suite, ad, text, out, tag)
 }
@@ -141,14 +141,14 @@ fn seal_with(
     msg: &[u8],
     out: &mut [u8],
     tag: &mut [u8],
-) -> Answer
+) -> Verdict
     requires { ⌜ Ready suite (now tb) × (refusal false suite (length (now key)) (length (now nonce)) (length (now ad)) (length (now msg)) (length (now out)) (length (now tag)) ≡ 0) ⌝ }
     ensures { λ r. ⌜ _≡_ {A = Sealed} (record { number = numberOf r; out = now (out .exit); tag = now (tag .exit) })
         (sealing suite (now (key .entry)) (now (nonce .entry)) (now (ad .entry)) (now (msg .entry)) (now (out .entry)) (now (tag .entry))) ⌝ }
 {
     let t = crypt(tb, false, suite, key, nonce, ad, msg, out);
     words::block::put(t, tag);
-    Answer::Done
+    Verdict::Done
 }
 
 // Seals msg into out, and its tag into tag. Only a suite whose engine is lent tables pays for them.
@@ -160,7 +160,7 @@ pub fn seal(
     msg: &[u8],
     out: &mut [u8],
     tag: &mut [u8],
-) -> Answer
+) -> Verdict
     ensures { λ r. ⌜ _≡_ {A = Sealed} (record { number = numberOf r; out = now (out .exit); tag = now (tag .exit) })
         (sealing suite (now (key .entry)) (now (nonce .entry)) (now (ad .entry)) (now (msg .entry)) (now (out .entry)) (now (tag .entry))) ⌝ }
 {
@@ -174,7 +174,7 @@ pub fn seal(
         out.len(),
         tag.len(),
     );
-    let Answer::Done = a else {
+    let Verdict::Done = a else {
         return a;
     };
     if cipher::lends(suite) {
@@ -194,17 +194,17 @@ fn unseal_with(
     text: &[u8],
     tag: &[u8],
     out: &mut [u8],
-) -> Answer
+) -> Verdict
     requires { ⌜ Ready suite (now tb) × (refusal true suite (length (now key)) (length (now nonce)) (length (now ad)) (length (now text)) (length (now out)) (length (now tag)) ≡ 0) ⌝ }
     ensures { λ r. ⌜ _≡_ {A = Opened} (record { number = numberOf r; out = now (out .exit) })
         (opening suite (now (key .entry)) (now (nonce .entry)) (now (ad .entry)) (now (text .entry)) (now (tag .entry)) (now (out .entry))) ⌝ }
 {
     let t = crypt(tb, true, suite, key, nonce, ad, text, out);
     if step::tag::same(t, tag) {
-        return Answer::Done;
+        return Verdict::Done;
     }
     words::zeros::wipe(out);
-    Answer::Forged
+    Verdict::Forged
 }
 
 // Opens text into out, if its tag is right; else every byte of out is 0.
@@ -216,7 +216,7 @@ pub fn unseal(
     text: &[u8],
     tag: &[u8],
     out: &mut [u8],
-) -> Answer
+) -> Verdict
     ensures { λ r. ⌜ _≡_ {A = Opened} (record { number = numberOf r; out = now (out .exit) })
         (opening suite (now (key .entry)) (now (nonce .entry)) (now (ad .entry)) (now (text .entry)) (now (tag .entry)) (now (out .entry))) ⌝ }
 {
@@ -230,7 +230,7 @@ pub fn unseal(
         out.len(),
         tag.len(),
     );
-    let Answer::Done = a else {
+    let Verdict::Done = a else {
         return a;
     };
     if cipher::lends(suite) {
