@@ -1,13 +1,13 @@
 -- What the first number that applies tells: 0 that every length is right, any other that the buffers stay.
 use mathlib.Core.Path.{_≡_, refl, sym, ap, ap₂, _∙_}
-use mathlib.Core.Bool.{Bool, true, false, not}
+use mathlib.Core.Bool.{Bool, true, false, not, cond}
 use mathlib.Core.Logic.{_⊎_, inl, inr}
 use Prim.Native.Nat.{ℕ, zero, suc, _≤_, _<_}
-use native.Mathlib.Nat.{not-suc-le-zero}
+use native.Mathlib.Nat.{not-suc-le-zero, suc-ne-zero}
 use native.Mathlib.Omega.{arith}
 use mathlib.Core.List.{List, [], _∷_}
 use lib.ListN.{length}
-use lib.Dec.{ltb, eqb, lit<, lit<}
+use lib.Dec.{ltb, eqb, lit<}
 use borrow.Author.Tests.{ltb-false, eqb-true, le-ltb, eq-eqb, not-false}
 use denote.Enum.Declared
 use types.Run.{OneOf, miss}

@@ -46,7 +46,14 @@ fn nonce_read(f: &[u8], i: usize, suite: u8) -> &[u8]
 }
 
 // Lends row i to the sealer.
-pub fn seal_row(f: &[u8], ring: &[u8], i: usize, row: Row, out: &mut [u8], tag: &mut [u8]) -> Verdict
+pub fn seal_row(
+    f: &[u8],
+    ring: &[u8],
+    i: usize,
+    row: Row,
+    out: &mut [u8],
+    tag: &mut [u8],
+) -> Verdict
     requires { ⌜ Lendable (now f) (now ring) i row ⌝ }
     ensures { λ r. ⌜ _≡_ {A = Sealed} (record { number = numberOf r; out = now (out .exit); tag = now (tag .exit) })
         (entrySealing (now (f .entry)) (now (ring .entry)) i (now (out .entry)) (now (tag .entry))) ⌝ }
