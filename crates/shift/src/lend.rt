@@ -46,7 +46,16 @@ fn nonce_read(f: &[u8], i: usize, suite: u8) -> &[u8]
 }
 
 // Lends row i to the sealer, under a suite and with a text that the caller names.
-pub fn seal_as(f: &[u8], ring: &[u8], i: usize, row: Row, suite: u8, text: &[u8], out: &mut [u8], tag: &mut [u8]) -> Answer
+pub fn seal_as(
+    f: &[u8],
+    ring: &[u8],
+    i: usize,
+    row: Row,
+    suite: u8,
+    text: &[u8],
+    out: &mut [u8],
+    tag: &mut [u8],
+) -> Answer
     requires { ⌜ Lendable (now f) (now ring) i row ⌝ }
     ensures { λ r. ⌜ _≡_ {A = Sealed} (record { number = numberOf r; out = now (out .exit); tag = now (tag .exit) })
         (entrySealingAs (now (f .entry)) (now (ring .entry)) i suite (now (text .entry)) (now (out .entry)) (now (tag .entry))) ⌝ }
