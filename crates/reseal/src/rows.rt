@@ -1,7 +1,7 @@
 // The suite 4 entries, from the file into the output: opened, and sealed again as suite 3.
 use crate::suites::RETIRED;
 use crate::suites::SUCCESSOR;
-use comet::Answer;
+use comet::Verdict;
 use shift::lend::open_row;
 use shift::lend::row_of;
 use shift::lend::seal_as;
@@ -59,7 +59,7 @@ fn reseal_entry(f: &[u8], ring: &[u8], i: usize, row: Row, room: &mut [u8], out:
 {
     let len = row.len as usize;
     let opened = open_row(f, ring, i, row, &mut room[0..len]);
-    let Answer::Done = opened else {
+    let Verdict::Done = opened else {
         return false;
     };
     seal_again(f, ring, i, row, &room[0..len], out);

@@ -124,7 +124,3 @@ resealed-row file ring out₀ =
     (omega (arith, passes edition file z .head .few, first-row (nonceSeen (rowSize edition) (retabled file)) (λ j. 29) (answer 0 0) (countOf file) (omega arith)))
     (λ y. lent-row (length file) (length ring) (length out₀))))
     (λ z. omega (arith, passes edition file (both-zero (checkAs edition file) (andThen seen lent) z .0) .head .few, first-row (wrongAgain file ring) (λ j. 8) (answer 0 0) (countOf file) (omega arith)))
-
--- an answer is its number and its row
-pub same-answer : {a x : Answer} → (a .number ≡ x .number) × (a .row ≡ x .row) → a ≡ x
-same-answer e = ap₂ answer (e .0) (e .1)

@@ -1,5 +1,5 @@
 // The reseal pass.
-use crate::file::told;
+use crate::file::say;
 ghost use mathlib.Core.Path.{_≡_};
 ghost use Rattle.table.specs.Answers.{answer};
 ghost use Rattle.draft.specs.Answers.{FileWritten};
@@ -11,5 +11,5 @@ pub extern "C" fn shift_reseal(file: &[u8], ring: &[u8], out: &mut [u8], row: &m
     ensures { λ r. ⌜ _≡_ {A = FileWritten} (record { answer = answer r (now (row .exit)); out = now (out .exit) })
         (fileResealing (now (file .entry)) (now (ring .entry)) (now (out .entry))) ⌝ }
 {
-    told(reseal::reseal(file, ring, out).answer(), row)
+    say(reseal::reseal(file, ring, out).answer(), row)
 }
