@@ -207,6 +207,24 @@ uint32_t shift_unseal_file(const uint8_t *file, size_t file_len,
                            uint8_t *out, size_t out_len,
                            uint32_t *row);
 
+/* Suite 4 is retired: seals the suite 4 entries of a file again as suite 3, with the same key number, nonce, associated
+ * data and message. Their suite byte becomes 3, ciphertext and tag are new, and every other byte of out is the file's,
+ * the length too. Only suite 4 entries are opened; the rest are copied unchecked, wrong tags too. Numbers, in this order;
+ * out is as it was after every number but 0 and 8. *row is written always: the row after 25 to 30, 34 and 8, and 0 after
+ * every other number, 0 too.
+ *  20 to 31, 34   as above, of the file as it is
+ *  29   also where resealing would make two rows clash: the lowest row that would clash with an earlier one
+ *   2   the ring is not 256 bytes long
+ *   6   out_len is not file_len
+ *   8   the tag of a suite 4 row differs; the first such row. Every byte of out is 0
+ *   0   done: out is written whole; it passes shift_check and has no suite 4 row
+ * out may not overlap file or ring. The pass takes some 80 KiB of stack.
+ */
+uint32_t shift_reseal(const uint8_t *file, size_t file_len,
+                      const uint8_t *ring, size_t ring_len,
+                      uint8_t *out, size_t out_len,
+                      uint32_t *row);
+
 /* Finds a job without walking the file: 20 to 24 alone, and then the table is halved. From c rows at row s it looks at
  * row s + c/2, stops if that has the job, and keeps the rows after it if its job is lower, else those before; 32 when
  * no row is left. No body is read, and 25 to 31 and 34 are not asked: on a file that passes shift_check the number and

@@ -53,7 +53,7 @@ module _ (f : List ℕ) (i : ℕ) where
     unfolding tagRight
     right-test q = ap (λ (t : List ℕ). sameBytes t (tagOf f (rowOf f i))) q ∙ same-refl (tagOf f (rowOf f i))
 
-    wrong-test : (RightTag f ring i → ⊥) → tagRight f ring i ≡ false
+    pub wrong-test : (RightTag f ring i → ⊥) → tagRight f ring i ≡ false
     unfolding tagRight
     wrong-test n = told-true _ _ _ refl n
 
@@ -66,23 +66,31 @@ told-seals false s e n = refl
 -- ---- a search that gives number m or 0
 
 module _ (hit : ℕ → Bool) (m : ℕ) (some : 0 < m) (n : ℕ) where
-  abbrev first : Answer
+  abbrev pub first : Answer
   first = firstOf hit (answer m) (answer 0 0) 0 (n - 0)
 
   -- 0: nothing is found
-  found-none : first .number ≡ 0 → (i : ℕ) → i < n → hit i ≡ false
+  pub found-none : first .number ≡ 0 → (i : ℕ) → i < n → hit i ≡ false
   found-none z =
       ⊎-elim
       (λ q. absurd (let w : m ≡ 0 = ap (λ (x : Answer). x .number) (q .gives) ∙ z in omega arith))
       (λ q i l. q .none i (omega arith) (omega arith))
       (first-says _ _ _ (n - 0) 0 first refl)
 
-  found-number : (first ≡ answer 0 0) ⊎ (first .number ≡ m)
+  pub found-number : (first ≡ answer 0 0) ⊎ (first .number ≡ m)
   found-number =
       ⊎-elim
       (λ q. inr (sym (ap (λ (x : Answer). x .number) (q .gives))))
       (λ q. inl (sym (q .gives)))
       (first-says _ _ _ (n - 0) 0 first refl)
+
+-- what 0 and 8 leave depends on the output's length alone
+pub eight-leaves : (x : Answer) → (x ≡ answer 0 0) ⊎ (x .number ≡ 8) → (done a b : List ℕ) → length a ≡ length b → leaves x done a ≡ leaves x done b
+eight-leaves x n done a b q =
+    ⊎-elim
+    (λ h. ap (λ (y : Answer). leaves y done a) h ∙ sym (ap (λ (y : Answer). leaves y done b) h))
+    (λ (h : x .number ≡ 8). simp (eq-eqb (x .number) 8 h) (ap (λ (k : ℕ). writes x (cond (eqb (x .number) 0) done (replicate k 0))) q))
+    n
 
 module _ (f : List ℕ) where
   set-none : ((i : ℕ) → i < countOf f → ZeroTag f i) → setFrom f (countOf f) 0 ≡ answer 0 0
@@ -130,14 +138,8 @@ module _ (f : List ℕ) where
     unfolding wrongFrom
     wrong-number = found-number (λ j. not (tagRight f ring j)) 8 (lit< tt) (countOf f)
 
-    -- what 0 and 8 leave depends on the output's length alone
     pub wrong-leaves : (done a b : List ℕ) → length a ≡ length b → leaves (wrongFrom f ring (countOf f) 0) done a ≡ leaves (wrongFrom f ring (countOf f) 0) done b
-    wrong-leaves done a b q =
-        let x = wrongFrom f ring (countOf f) 0 in
-        ⊎-elim
-        (λ h. ap (λ (y : Answer). leaves y done a) h ∙ sym (ap (λ (y : Answer). leaves y done b) h))
-        (λ (h : x .number ≡ 8). simp (eq-eqb (x .number) 8 h) (ap (λ (k : ℕ). writes x (cond (eqb (x .number) 0) done (replicate k 0))) q))
-        wrong-number
+    wrong-leaves = eight-leaves (wrongFrom f ring (countOf f) 0) wrong-number
 
 -- ---- the lengths of what is lent
 
@@ -158,19 +160,19 @@ module _ (file ring out : ℕ) where
       ring-case true e h = record { ring-long = eqb-true _ _ e; out-long = out-case (eqb out file) refl h }
       ring-case false e h = absurd (omega arith)
 
-  room-right : ring ≡ 256 → out ≡ file → lentAnswer file ring out ≡ answer 0 0
+  pub room-right : ring ≡ 256 → out ≡ file → lentAnswer file ring out ≡ answer 0 0
   unfolding lentAnswer
   room-right a b = simp (eq-eqb _ _ a, eq-eqb _ _ b)
 
-  ring-wrong : (ring ≡ 256 → ⊥) → lentAnswer file ring out ≡ answer 2 0
+  pub ring-wrong : (ring ≡ 256 → ⊥) → lentAnswer file ring out ≡ answer 2 0
   unfolding lentAnswer
   ring-wrong a = simp (ne-eqb _ _ a)
 
-  out-wrong : ring ≡ 256 → (out ≡ file → ⊥) → lentAnswer file ring out ≡ answer 6 0
+  pub out-wrong : ring ≡ 256 → (out ≡ file → ⊥) → lentAnswer file ring out ≡ answer 6 0
   unfolding lentAnswer
   out-wrong a b = simp (eq-eqb _ _ a, ne-eqb _ _ b)
 
-  lent-number : (lentAnswer file ring out ≡ answer 0 0) ⊎ (lentAnswer file ring out ≡ answer 2 0) ⊎ (lentAnswer file ring out ≡ answer 6 0)
+  pub lent-number : (lentAnswer file ring out ≡ answer 0 0) ⊎ (lentAnswer file ring out ≡ answer 2 0) ⊎ (lentAnswer file ring out ≡ answer 6 0)
   unfolding lentAnswer
   lent-number = lent-case (eqb ring 256) (eqb out file)
     where
@@ -182,11 +184,11 @@ module _ (file ring out : ℕ) where
 -- ---- one answer after another
 
 -- a refusal of the check is neither 0 nor 8
-not-eight : (e : ℕ) (f : List ℕ) → checkAs e f .number ≡ 8 → ⊥
+pub not-eight : (e : ℕ) (f : List ℕ) → checkAs e f .number ≡ 8 → ⊥
 not-eight e f q = ⊎-elim (λ z. omega arith) (λ r. ⊎-elim (λ s. omega arith) (λ s. omega arith) r) (check-numbered e f .number)
 
 -- what a number leaves
-kept : (x : Answer) (done out₀ : List ℕ) → (x .number ≡ 0 → ⊥) → (x .number ≡ 8 → ⊥) → leaves x done out₀ ≡ writes x out₀
+pub kept : (x : Answer) (done out₀ : List ℕ) → (x .number ≡ 0 → ⊥) → (x .number ≡ 8 → ⊥) → leaves x done out₀ ≡ writes x out₀
 kept x done out₀ a b = simp (ne-eqb _ _ a, ne-eqb _ _ b)
 
 module _ (draft : List ℕ) (ring out : ℕ) where

@@ -13,6 +13,7 @@ use Rattle.session.proofs.Outcomes as session
 use Rattle.table.proofs.Outcomes as table
 use Rattle.shift.proofs.Outcomes as shift
 use Rattle.writer.proofs.Outcomes as writer
+use Rattle.reseal.proofs.Outcomes as resealer
 use Rattle.search.proofs.Outcomes as halving
 use Rattle.comet.proofs.Refuse.{refusal-most}
 use Rattle.promises.specs.Demand1.{EntryPoints, SealKeeps, OpenKeeps}
@@ -34,6 +35,7 @@ entry-points =
       associated = shift.associated;
       seal-file = record { asks-nothing = λ κs a. tt; one-outcome = writer.seal-file };
       unseal-file = record { asks-nothing = λ κs a. tt; one-outcome = writer.unseal-file };
+      reseal = record { asks-nothing = λ κs a. tt; one-outcome = resealer.reseal };
     }
 
 sealed-keeps : (n : ℕ) (x y o t : List ℕ) → (n ≤ 7) ⊎ (n ≡ 10) → ((sealedAs n x y o t .number ≤ 7) ⊎ (sealedAs n x y o t .number ≡ 10)) × (0 < sealedAs n x y o t .number → (sealedAs n x y o t .out ≡ o) × (sealedAs n x y o t .tag ≡ t))

@@ -35,6 +35,8 @@ use Rattle.writer.proofs.seal_file.Kinds as seal-file-kinds
 use Rattle.writer.proofs.seal_file.Reads as seal-file-reads
 use Rattle.writer.proofs.unseal_file.Kinds as unseal-file-kinds
 use Rattle.writer.proofs.unseal_file.Reads as unseal-file-reads
+use Rattle.reseal.proofs.reseal.Kinds as reseal-kinds
+use Rattle.reseal.proofs.reseal.Reads as reseal-reads
 use Rattle.search.proofs.search.Kinds as search-kinds
 use Rattle.search.proofs.search.Reads as search-reads
 
@@ -64,6 +66,8 @@ pub record EntryPoints : Type 0 where
   -- W4
   pub seal-file : Answers seal-file-kinds.ps seal-file-kinds.r seal-file-reads.Pre seal-file-reads.Post
   pub unseal-file : Answers unseal-file-kinds.ps unseal-file-kinds.r unseal-file-reads.Pre unseal-file-reads.Post
+  -- W7
+  pub reseal : Answers reseal-kinds.ps reseal-kinds.r reseal-reads.Pre reseal-reads.Post
 
 -- the sealer gives 0 to 7 and 10, and on any but 0 both buffers are as they were
 abbrev pub SealKeeps : Type 0

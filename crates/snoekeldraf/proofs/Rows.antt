@@ -20,6 +20,9 @@ use Rattle.shift.specs.Lookup.{findFrom, lookupAs, lookupJob}
 use Rattle.shift.specs.Opening.{entryOpening, left, rowOpening, jobOpening}
 use Rattle.draft.specs.Files.{draftEdition}
 use Rattle.draft.specs.Answers.{tagSet, rowRetired, tagRight, setFrom, retiredFrom, wrongFrom, lentAnswer, sealAnswer, openAnswer, unsealAnswer, fileSealing, fileUnsealing}
+use Rattle.reseal.specs.Files.{retabled}
+use Rattle.reseal.specs.Answers.{seenFrom, wrongAgain, wrongAgainFrom, takeAnswer, resealAnswer, fileResealing}
+use Rattle.table.specs.Check.{nonceSeen}
 
 -- the first of n rows, or what no row gives
 first-row : (hit : ℕ → Bool) (num : ℕ → ℕ) (rest : Answer) (n : ℕ) → rest .row ≤ n → firstOf hit (λ j. answer (num j) j) rest 0 (n - 0) .row ≤ n
@@ -113,3 +116,16 @@ unsealed-row file ring out₀ =
     then-row (andThen (checkAs edition file) lent) (wrongFrom file ring (countOf file) 0) 512
     (then-row (checkAs edition file) lent 512 (check-row edition file) (λ z. lent-row (length file) (length ring) (length out₀)))
     (λ z. omega (arith, passes edition file (both-zero (checkAs edition file) lent z .0) .head .few, first-row (λ j. not (tagRight file ring j)) (λ j. 8) (answer 0 0) (countOf file) (omega arith)))
+
+-- the reseal pass's
+pub resealed-row : (file ring out₀ : List ℕ) → fileResealing file ring out₀ .answer .row ≤ 512
+unfolding fileResealing resealAnswer takeAnswer seenFrom wrongAgainFrom
+resealed-row file ring out₀ =
+    let lent = lentAnswer (length file) (length ring) (length out₀) in
+    let seen = seenFrom (retabled file) (countOf file) 0 in
+    then-row (andThen (checkAs edition file) (andThen seen lent)) (wrongAgainFrom file ring (countOf file) 0) 512
+    (then-row (checkAs edition file) (andThen seen lent) 512 (check-row edition file)
+    (λ z. then-row seen lent 512
+    (omega (arith, passes edition file z .head .few, first-row (nonceSeen (rowSize edition) (retabled file)) (λ j. 29) (answer 0 0) (countOf file) (omega arith)))
+    (λ y. lent-row (length file) (length ring) (length out₀))))
+    (λ z. omega (arith, passes edition file (both-zero (checkAs edition file) (andThen seen lent) z .0) .head .few, first-row (wrongAgain file ring) (λ j. 8) (answer 0 0) (countOf file) (omega arith)))

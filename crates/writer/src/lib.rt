@@ -23,7 +23,7 @@ ghost use Rattle.writer.specs.Answers.{writtenAnswer};
 const DRAFT: u16 = 0;
 
 // 2 and 6, from the lengths of file, ring and output.
-fn lent_refused(file: usize, ring: usize, out: usize) -> Written
+pub fn lent_refused(file: usize, ring: usize, out: usize) -> Written
     ensures { λ r. ⌜ writtenAnswer r ≡ lentAnswer file ring out ⌝ }
 {
     if ring != 256 {
