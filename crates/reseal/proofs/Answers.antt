@@ -17,9 +17,9 @@ use Rattle.table.proofs.Passed.{both-zero}
 use Rattle.draft.specs.Answers.{tagRight, lentAnswer, FileWritten, writes, leaves}
 use Rattle.draft.specs.Promised.{RightTag}
 use Rattle.draft.proofs.Answers.{right-test, right-told, wrong-test, found-none, found-number, eight-leaves, Room, room-told, room-right, ring-wrong, out-wrong, lent-number, not-eight, kept}
-use Rattle.reseal.specs.Files.{retired, retabled, resealedFile}
+use Rattle.reseal.specs.Files.{retiredSuite, retabled, resealedFile}
 use Rattle.reseal.specs.Answers.{seenFrom, wrongAgain, wrongAgainFrom, takeAnswer, resealAnswer, fileResealing}
-use Rattle.reseal.specs.Promised.{Retired, Clashes, Calm, ResealCases, Resealing, ResealNumbers}
+use Rattle.reseal.specs.Promised.{HasFour, Clashes, Calm, ResealCases, Resealing, ResealNumbers}
 
 not-true-false : (b : Bool) → (b ≡ true → ⊥) → b ≡ false
 not-true-false true n = absurd (n refl)
@@ -50,33 +50,33 @@ module _ (f : List ℕ) (n : ℕ) where
 -- ---- 8, of the suite 4 rows
 
 module _ (f ring : List ℕ) where
-  again-right : (i : ℕ) → (Retired f i → RightTag f ring i) → wrongAgain f ring i ≡ false
+  again-right : (i : ℕ) → (HasFour f i → RightTag f ring i) → wrongAgain f ring i ≡ false
   unfolding wrongAgain
-  again-right i h = suite-case (eqb (rowOf f i .suite) retired) refl
+  again-right i h = suite-case (eqb (rowOf f i .suite) retiredSuite) refl
     where
-      suite-case : (b : Bool) → eqb (rowOf f i .suite) retired ≡ b → (b && not (tagRight f ring i)) ≡ false
+      suite-case : (b : Bool) → eqb (rowOf f i .suite) retiredSuite ≡ b → (b && not (tagRight f ring i)) ≡ false
       suite-case true e = ap not (right-test f i ring (h (eqb-true _ _ e)))
       suite-case false e = refl
 
-  again-wrong : (i : ℕ) → Retired f i → (RightTag f ring i → ⊥) → wrongAgain f ring i ≡ true
+  again-wrong : (i : ℕ) → HasFour f i → (RightTag f ring i → ⊥) → wrongAgain f ring i ≡ true
   unfolding wrongAgain
   again-wrong i q n = simp (eq-eqb _ _ q, wrong-test f i ring n)
 
-  again-told : (i : ℕ) → wrongAgain f ring i ≡ false → Retired f i → RightTag f ring i
+  again-told : (i : ℕ) → wrongAgain f ring i ≡ false → HasFour f i → RightTag f ring i
   unfolding wrongAgain
   again-told i e q =
       let h : not (tagRight f ring i) ≡ false = simp (eq-eqb _ _ q) at e in
       right-told f i ring (not-false _ h)
 
-  pub again-none : ((i : ℕ) → i < countOf f → Retired f i → RightTag f ring i) → wrongAgainFrom f ring (countOf f) 0 ≡ answer 0 0
+  pub again-none : ((i : ℕ) → i < countOf f → HasFour f i → RightTag f ring i) → wrongAgainFrom f ring (countOf f) 0 ≡ answer 0 0
   unfolding wrongAgainFrom
   again-none h = first-none _ _ _ (countOf f) (λ i l. again-right i (h i l))
 
-  again-first : (i : ℕ) → i < countOf f → Retired f i → (RightTag f ring i → ⊥) → ((k : ℕ) → k < i → Retired f k → RightTag f ring k) → wrongAgainFrom f ring (countOf f) 0 ≡ answer 8 i
+  again-first : (i : ℕ) → i < countOf f → HasFour f i → (RightTag f ring i → ⊥) → ((k : ℕ) → k < i → HasFour f k → RightTag f ring k) → wrongAgainFrom f ring (countOf f) 0 ≡ answer 8 i
   unfolding wrongAgainFrom
   again-first i l q n z = first-at _ _ _ (countOf f) i l (again-wrong i q n) (λ k b. again-right k (z k b))
 
-  none-again : wrongAgainFrom f ring (countOf f) 0 .number ≡ 0 → (i : ℕ) → i < countOf f → Retired f i → RightTag f ring i
+  none-again : wrongAgainFrom f ring (countOf f) 0 .number ≡ 0 → (i : ℕ) → i < countOf f → HasFour f i → RightTag f ring i
   unfolding wrongAgainFrom
   none-again z i l = again-told i (found-none (wrongAgain f ring) 8 (lit< tt) (countOf f) z i l)
 
@@ -215,7 +215,7 @@ module _ (file ring out₀ : List ℕ) where
   pub record Went : Type 0 where
     pub calm : Calm file
     pub room : Room (length file) (length ring) (length out₀)
-    pub right : (i : ℕ) → i < countOf file → Retired file i → RightTag file ring i
+    pub right : (i : ℕ) → i < countOf file → HasFour file i → RightTag file ring i
     pub leaves-it : fileResealing file ring out₀ ≡ writes (answer 0 0) (resealedFile file ring)
 
   pub went : fileResealing file ring out₀ .answer .number ≡ 0 → Went

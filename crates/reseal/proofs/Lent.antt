@@ -10,7 +10,7 @@ use lib.Seq.{take-at, getD-take}
 use lib.Dec.{eqb, lit≤}
 use borrow.Author.Tests.{eq-eqb, ne-eqb}
 use borrow.Rule.Slice.PartMut.{putMid}
-use Rattle.cipher.specs.Cipher.{factsOf, isSuite, IsSuite, sizeOf, nonceOf}
+use Rattle.cipher.specs.Cipher.{factsOf, isSuite, IsSuite, retired, seals, Seals, sizeOf, nonceOf}
 use Rattle.cipher.proofs.Suites.{nonce-most}
 use Rattle.comet.specs.Answers.{Sealed, sealedAs, sealing}
 use Rattle.comet.proofs.Refuse.{none-bad}
@@ -32,7 +32,7 @@ use Rattle.draft.proofs.Back.{plain-file}
 use Rattle.writer.specs.declared.answers.Written.{Written}
 use Rattle.writer.specs.declared.answers.Written.the-variants as written
 use Rattle.writer.specs.Answers.{writtenAnswer}
-use Rattle.reseal.specs.Files.{retired, successor, newSuite, resuited, retabled, againText, againTag, againPiece}
+use Rattle.reseal.specs.Files.{retiredSuite, successor, newSuite, resuited, retabled, againText, againTag, againPiece}
 use Rattle.reseal.specs.Answers.{seenFrom, wrongAgain, takeAnswer}
 use Rattle.reseal.specs.Inside.{Passing, tableMost, most}
 use Rattle.reseal.proofs.Retabled.{tab, unread-kept, new-table, seen-same}
@@ -45,8 +45,12 @@ pub three-is : IsSuite successor
 unfolding isSuite
 three-is = refl
 
+three-seals : Seals successor
+unfolding seals isSuite retired
+three-seals = refl
+
 -- blocks of both suites are as long
-pub four-size : (r : Row) → r .suite ≡ retired → sizeOf (r .suite) ≡ sizeOf successor
+pub four-size : (r : Row) → r .suite ≡ retiredSuite → sizeOf (r .suite) ≡ sizeOf successor
 unfolding sizeOf factsOf
 four-size r q = ap sizeOf q
 
@@ -56,7 +60,7 @@ module _ (f ring : List ℕ) (i : ℕ) (h : EntryIn (rowSize edition) f i) (g : 
   unfolding sealing againText againTag
   again-done msg out tag lm lo lt =
       ap (λ (n : ℕ). sealedAs n (againText f ring i msg) (againTag f ring i msg) out tag)
-      (none-bad _ _ _ _ _ _ _ (record {
+      (none-bad false _ _ _ _ _ _ _ three-seals (record {
         suite = three-is;
         key = key-long f ring i h g;
         nonce = length-take (nonceOf successor) (nonceAt (rowSize edition) f i) ∙ omega (arith, nonce-length (rowSize edition) f i (h .row-in), nonce-most successor);
@@ -101,30 +105,30 @@ room-front l x n q = take-at x (drop (n - 0) (drop 0 l)) (n - 0) (q ∙ let s : 
 
 module _ (f ring : List ℕ) (i : ℕ) (r : Row) (q : r ≡ rowOf f i) where
   -- of suite 4: text and tag of its message, sealed as suite 3
-  pub piece-four : r .suite ≡ retired → (msg out : List ℕ) → msg ≡ entryOut true f ring i
+  pub piece-four : r .suite ≡ retiredSuite → (msg out : List ℕ) → msg ≡ entryOut true f ring i
       → put out (pieceStart f i) (againText f ring i msg ++ againTag f ring i msg) ≡ put out (pieceStart f i) (againPiece f ring i)
   unfolding againPiece
   piece-four four msg out e =
-      let s : rowOf f i .suite ≡ retired = rw q at four in
+      let s : rowOf f i .suite ≡ retiredSuite = rw q at four in
       simp (eq-eqb _ _ s) (ap (λ (x : List ℕ). put out (pieceStart f i) (againText f ring i x ++ againTag f ring i x)) e)
 
-  pub wrong-four : r .suite ≡ retired → (b : Bool) → b ≡ tagRight f ring i → not b ≡ wrongAgain f ring i
+  pub wrong-four : r .suite ≡ retiredSuite → (b : Bool) → b ≡ tagRight f ring i → not b ≡ wrongAgain f ring i
   unfolding wrongAgain
   wrong-four four b e =
-      let s : rowOf f i .suite ≡ retired = rw q at four in
+      let s : rowOf f i .suite ≡ retiredSuite = rw q at four in
       simp (eq-eqb _ _ s) (ap not e)
 
   -- of any other: nothing
-  pub piece-other : (r .suite ≡ retired → ⊥) → (out : List ℕ) → out ≡ put out (pieceStart f i) (againPiece f ring i)
+  pub piece-other : (r .suite ≡ retiredSuite → ⊥) → (out : List ℕ) → out ≡ put out (pieceStart f i) (againPiece f ring i)
   unfolding againPiece
   piece-other n out =
-      let s : eqb (rowOf f i .suite) retired ≡ false = rw q at (ne-eqb (r .suite) retired n) in
+      let s : eqb (rowOf f i .suite) retiredSuite ≡ false = rw q at (ne-eqb (r .suite) retiredSuite n) in
       simp s (sym (put-none out (pieceStart f i)))
 
-  pub wrong-other : (r .suite ≡ retired → ⊥) → false ≡ wrongAgain f ring i
+  pub wrong-other : (r .suite ≡ retiredSuite → ⊥) → false ≡ wrongAgain f ring i
   unfolding wrongAgain
   wrong-other n =
-      let s : eqb (rowOf f i .suite) retired ≡ false = rw q at (ne-eqb (r .suite) retired n) in
+      let s : eqb (rowOf f i .suite) retiredSuite ≡ false = rw q at (ne-eqb (r .suite) retiredSuite n) in
       simp s
 
 -- ---- the table as it would be

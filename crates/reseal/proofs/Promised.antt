@@ -22,7 +22,7 @@ use Rattle.draft.proofs.Takes.{open-done}
 use Rattle.draft.proofs.Back.{plain-file}
 use Rattle.reseal.specs.Files.{retabled, resealedFile}
 use Rattle.reseal.specs.Answers.{fileResealing}
-use Rattle.reseal.specs.Promised.{Retired, Clashes, Calm, Resealed, Renewed, Renewing, NothingRetired, ResealedTwice, ClashOfCheck}
+use Rattle.reseal.specs.Promised.{HasFour, Clashes, Calm, Resealed, Renewed, Renewing, NothingRetired, ResealedTwice, ClashOfCheck}
 use Rattle.reseal.proofs.Retabled.{clash-of-check, t-same}
 use Rattle.reseal.proofs.Resealed.{resealed-passes, resealed-length, resealed-count, resealed-nonce, none-left, row-three, data-three, same-message, right-again, kept-else, unchanged}
 use Rattle.reseal.proofs.Answers.{went, resealing}
@@ -31,7 +31,7 @@ pub of-check : ClashOfCheck
 of-check = clash-of-check
 
 -- without suite 4 the table stays, so that no two rows clash that did not before
-calm-same : (f : List ℕ) → checkAs edition f .number ≡ 0 → ((i : ℕ) → i < countOf f → Retired f i → ⊥) → Calm f
+calm-same : (f : List ℕ) → checkAs edition f .number ≡ 0 → ((i : ℕ) → i < countOf f → HasFour f i → ⊥) → Calm f
 calm-same f z none =
     record {
       checked = z;
@@ -45,14 +45,14 @@ nothing-retired file ring out₀ z none r o =
 
 -- ---- what 0 leaves
 
-module _ (f ring : List ℕ) (hf : AllBytes f) (hr : AllBytes ring) (c : Calm f) (full : length ring ≡ 256) (right : (i : ℕ) → i < countOf f → Retired f i → RightTag f ring i) where
+module _ (f ring : List ℕ) (hf : AllBytes f) (hr : AllBytes ring) (c : Calm f) (full : length ring ≡ 256) (right : (i : ℕ) → i < countOf f → HasFour f i → RightTag f ring i) where
   abbrev F : List ℕ
   F = resealedFile f ring
 
   passed : checkAs edition F .number ≡ 0
   passed = ap (λ (x : Answer). x .number) (resealed-passes f ring hf hr c full)
 
-  resealed : (i : ℕ) → i < countOf f → Retired f i → Resealed f ring F i
+  resealed : (i : ℕ) → i < countOf f → HasFour f i → Resealed f ring F i
   resealed i l four =
       let row = row-three f ring hf hr c full i l four in
       let right₃ = right-again f ring hf hr c full i l four in

@@ -34,8 +34,8 @@ use Rattle.draft.proofs.Puts.{Apart, all-outside}
 use Rattle.draft.proofs.Rewritten.{piece-in, piece-end, start-is, body-late, bodies-apart, pieces-apart, same-length, same-row, same-nonce, same-data, same-count, parts-are, passes-again, edition-same, pair-low, pair-high}
 use Rattle.draft.proofs.Pieces.{entry-at, text-all, out-long}
 use Rattle.draft.proofs.Back.{plain-file}
-use Rattle.reseal.specs.Files.{retired, successor, newSuite, resuited, retabled, againText, againTag, againPiece, resealedFile}
-use Rattle.reseal.specs.Promised.{Retired, Elsewhere, Calm}
+use Rattle.reseal.specs.Files.{retiredSuite, successor, newSuite, resuited, retabled, againText, againTag, againPiece, resealedFile}
+use Rattle.reseal.specs.Promised.{HasFour, Elsewhere, Calm}
 use Rattle.reseal.proofs.Retabled.{withSuite, size-new, nonce-new, new-four, new-not, t-length, t-row, t-nonce, t-head, t-body, t-count, t-kept, t-same, clash-of-check}
 use Rattle.reseal.proofs.Pieces.{put-places, put-empty, put-alike}
 use Rattle.reseal.proofs.Answers.{seen-none}
@@ -45,7 +45,7 @@ abbrev nonceAgain : List ℕ → ℕ → List ℕ
 nonceAgain f i = take (nonceOf successor) (nonceAt (rowSize edition) f i)
 
 -- a suite 4 entry's message, sealed as suite 3: how long text and tag are
-module _ (f ring : List ℕ) (hf : AllBytes f) (hr : AllBytes ring) (full : length ring ≡ 256) (i : ℕ) (e : EntryIn (rowSize edition) f i) (four : Retired f i) where
+module _ (f ring : List ℕ) (hf : AllBytes f) (hr : AllBytes ring) (full : length ring ≡ 256) (i : ℕ) (e : EntryIn (rowSize edition) f i) (four : HasFour f i) where
   abbrev msg : List ℕ
   msg = entryOut true f ring i
 
@@ -114,32 +114,32 @@ module _ (f ring : List ℕ) (hf : AllBytes f) (hr : AllBytes ring) (c : Calm f)
   -- ---- with a piece for every row: where nothing is put, what stands there
 
   whole : ℕ → List ℕ
-  whole i = cond (eqb (rowOf f i .suite) retired) (againPiece f ring i) (stretch T (pieceStart T i) (pieceSize T i))
+  whole i = cond (eqb (rowOf f i .suite) retiredSuite) (againPiece f ring i) (stretch T (pieceStart T i) (pieceSize T i))
 
-  whole-four : (i : ℕ) → Retired f i → whole i ≡ againText f ring i (entryOut true f ring i) ++ againTag f ring i (entryOut true f ring i)
+  whole-four : (i : ℕ) → HasFour f i → whole i ≡ againText f ring i (entryOut true f ring i) ++ againTag f ring i (entryOut true f ring i)
   unfolding whole againPiece
   whole-four i q = simp (eq-eqb _ _ q)
 
-  whole-other : (i : ℕ) → (Retired f i → ⊥) → whole i ≡ stretch T (pieceStart T i) (pieceSize T i)
+  whole-other : (i : ℕ) → (HasFour f i → ⊥) → whole i ≡ stretch T (pieceStart T i) (pieceSize T i)
   unfolding whole
   whole-other i q = simp (ne-eqb _ _ q)
 
-  pub again-other : (i : ℕ) → (Retired f i → ⊥) → againPiece f ring i ≡ []
+  pub again-other : (i : ℕ) → (HasFour f i → ⊥) → againPiece f ring i ≡ []
   unfolding againPiece
   again-other i q = simp (ne-eqb _ _ q)
 
-  again-four : (i : ℕ) → Retired f i → againPiece f ring i ≡ againText f ring i (entryOut true f ring i) ++ againTag f ring i (entryOut true f ring i)
+  again-four : (i : ℕ) → HasFour f i → againPiece f ring i ≡ againText f ring i (entryOut true f ring i) ++ againTag f ring i (entryOut true f ring i)
   unfolding againPiece
   again-four i q = simp (eq-eqb _ _ q)
 
-  four-or : (i : ℕ) → Retired f i ⊎ (Retired f i → ⊥)
-  four-or i = suite-case (eqb (rowOf f i .suite) retired) refl
+  four-or : (i : ℕ) → HasFour f i ⊎ (HasFour f i → ⊥)
+  four-or i = suite-case (eqb (rowOf f i .suite) retiredSuite) refl
     where
-      suite-case : (b : Bool) → eqb (rowOf f i .suite) retired ≡ b → Retired f i ⊎ (Retired f i → ⊥)
+      suite-case : (b : Bool) → eqb (rowOf f i .suite) retiredSuite ≡ b → HasFour f i ⊎ (HasFour f i → ⊥)
       suite-case true e = inl (eqb-true _ _ e)
       suite-case false e = inr (eqb-false _ _ e)
 
-  four-long : (i : ℕ) → i < n → Retired f i → length (againText f ring i (entryOut true f ring i) ++ againTag f ring i (entryOut true f ring i)) ≡ pieceSize f i
+  four-long : (i : ℕ) → i < n → HasFour f i → length (againText f ring i (entryOut true f ring i) ++ againTag f ring i (entryOut true f ring i)) ≡ pieceSize f i
   four-long i l q =
       length-append (againText f ring i (entryOut true f ring i)) (againTag f ring i (entryOut true f ring i))
       ∙ ap₂ (λ (a b : ℕ). a + b) (text-long f ring hf hr full i (taken i l) q) (tag-long f ring hf hr full i (taken i l) q ∙ sym (size-four f ring hf hr full i (taken i l) q))
@@ -188,7 +188,7 @@ module _ (f ring : List ℕ) (hf : AllBytes f) (hr : AllBytes ring) (c : Calm f)
       ∙ same-row edition T plain-file t-passes edition plain-file whole whole-long i (rw (t-count f z) l)
       ∙ t-row f z i l
 
-  pub none-left : (i : ℕ) → i < countOf (resealedFile f ring) → Retired (resealedFile f ring) i → ⊥
+  pub none-left : (i : ℕ) → i < countOf (resealedFile f ring) → HasFour (resealedFile f ring) i → ⊥
   none-left i l q = new-not (rowOf f i .suite) (sym (ap (λ (r : Row). r .suite) (resealed-row i (rw resealed-count at l))) ∙ q)
 
   pub resealed-nonce : (i : ℕ) → i < n → nonceAt (rowSize edition) (resealedFile f ring) i ≡ nonceAt (rowSize edition) f i
@@ -199,7 +199,7 @@ module _ (f ring : List ℕ) (hf : AllBytes f) (hr : AllBytes ring) (c : Calm f)
 
   -- ---- a suite 4 entry, resealed
 
-  module _ (i : ℕ) (l : i < n) (four : Retired f i) where
+  module _ (i : ℕ) (l : i < n) (four : HasFour f i) where
     abbrev F : List ℕ
     F = resealedFile f ring
 
@@ -264,7 +264,7 @@ module _ (f ring : List ℕ) (hf : AllBytes f) (hr : AllBytes ring) (c : Calm f)
 
   -- ---- every other byte
 
-  again-long : (i : ℕ) → i < n → Retired f i → length (againPiece f ring i) ≡ pieceSize f i
+  again-long : (i : ℕ) → i < n → HasFour f i → length (againPiece f ring i) ≡ pieceSize f i
   again-long i l q = ap length (again-four i q) ∙ four-long i l q
 
   again-most : (i : ℕ) → i < n → length (againPiece f ring i) ≤ pieceSize f i
@@ -280,7 +280,7 @@ module _ (f ring : List ℕ) (hf : AllBytes f) (hr : AllBytes ring) (c : Calm f)
     after = λ i j l m. omega (arith, again-most i (omega arith), piece-end edition f plain-file z i, bodies-apart edition f plain-file z i j l m, start-is edition f plain-file z j);
   }
 
-  pub kept-else : (k : ℕ) → ((i : ℕ) → i < n → Retired f i → Elsewhere f i k) → getD (resealedFile f ring) k 0 ≡ getD f k 0
+  pub kept-else : (k : ℕ) → ((i : ℕ) → i < n → HasFour f i → Elsewhere f i k) → getD (resealedFile f ring) k 0 ≡ getD f k 0
   unfolding resealedFile
   kept-else k o =
       all-outside (pieceStart f) (againPiece f ring) n T again-apart n (omega arith) k beside
@@ -300,6 +300,6 @@ module _ (f ring : List ℕ) (hf : AllBytes f) (hr : AllBytes ring) (c : Calm f)
 
 -- ---- no suite 4 row: nothing changes
 
-pub unchanged : (f ring : List ℕ) → checkAs edition f .number ≡ 0 → ((i : ℕ) → i < countOf f → Retired f i → ⊥) → resealedFile f ring ≡ f
+pub unchanged : (f ring : List ℕ) → checkAs edition f .number ≡ 0 → ((i : ℕ) → i < countOf f → HasFour f i → ⊥) → resealedFile f ring ≡ f
 unfolding resealedFile againPiece
 unchanged f ring z none = put-empty (pieceStart f) (againPiece f ring) (countOf f) (retabled f) (λ i l. simp (ne-eqb _ _ (none i l))) ∙ t-same f z none

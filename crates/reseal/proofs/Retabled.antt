@@ -30,18 +30,18 @@ use Rattle.draft.specs.Put.{put, putAll}
 use Rattle.draft.proofs.Puts.{Beside, Apart, Inside, Outside, where-is, all-length, all-outside, all-inside, own-pieces}
 use Rattle.draft.proofs.Rewritten.{body-late}
 use Rattle.draft.proofs.Back.{plain-file}
-use Rattle.reseal.specs.Files.{retired, successor, newSuite, resuited, retabled}
+use Rattle.reseal.specs.Files.{retiredSuite, successor, newSuite, resuited, retabled}
 use Rattle.reseal.specs.Answers.{seenFrom}
 
 -- ---- the new suite
 
 module _ (s : ℕ) where
-  new-case : {A : Type 0} (of : ℕ → A) → of retired ≡ of successor → of (newSuite s) ≡ of s
+  new-case : {A : Type 0} (of : ℕ → A) → of retiredSuite ≡ of successor → of (newSuite s) ≡ of s
   unfolding newSuite
-  new-case of q = suite-case (eqb s retired) refl
+  new-case of q = suite-case (eqb s retiredSuite) refl
     where
-      suite-case : (b : Bool) → eqb s retired ≡ b → of (cond b successor s) ≡ of s
-      suite-case true e = sym q ∙ ap of (sym (eqb-true s retired e))
+      suite-case : (b : Bool) → eqb s retiredSuite ≡ b → of (cond b successor s) ≡ of s
+      suite-case true e = sym q ∙ ap of (sym (eqb-true s retiredSuite e))
       suite-case false e = refl
 
   -- block and nonce are as long as before, and it is one that we have
@@ -57,21 +57,21 @@ module _ (s : ℕ) where
   unfolding isSuite
   is-new = new-case isSuite refl
 
-  pub new-four : s ≡ retired → newSuite s ≡ successor
+  pub new-four : s ≡ retiredSuite → newSuite s ≡ successor
   unfolding newSuite
   new-four q = simp (eq-eqb _ _ q)
 
-  pub new-other : (s ≡ retired → ⊥) → newSuite s ≡ s
+  pub new-other : (s ≡ retiredSuite → ⊥) → newSuite s ≡ s
   unfolding newSuite
   new-other n = simp (ne-eqb _ _ n)
 
-  pub new-not : newSuite s ≡ retired → ⊥
+  pub new-not : newSuite s ≡ retiredSuite → ⊥
   unfolding newSuite
-  new-not = suite-case (eqb s retired) refl
+  new-not = suite-case (eqb s retiredSuite) refl
     where
-      suite-case : (b : Bool) → eqb s retired ≡ b → cond b successor s ≡ retired → ⊥
+      suite-case : (b : Bool) → eqb s retiredSuite ≡ b → cond b successor s ≡ retiredSuite → ⊥
       suite-case true e q = let z : _≡_ {A = ℕ} 3 4 = q in omega arith
-      suite-case false e q = let z : true ≡ false = sym (eq-eqb s retired q) ∙ e in true≢false z
+      suite-case false e q = let z : true ≡ false = sym (eq-eqb s retiredSuite q) ∙ e in true≢false z
 
 -- the row with its new suite
 abbrev pub withSuite : Row → Row
@@ -238,7 +238,7 @@ module _ (f : List ℕ) (z : checkAs edition f .number ≡ 0) where
   t-count = word-same T f 2 2 (λ k a b. t-head k (omega arith))
 
   -- every byte but the suite of a suite 4 row
-  pub t-kept : (k : ℕ) → ((i : ℕ) → i < n → rowOf f i .suite ≡ retired → k ≡ restStart w i → ⊥) → getD T k 0 ≡ getD f k 0
+  pub t-kept : (k : ℕ) → ((i : ℕ) → i < n → rowOf f i .suite ≡ retiredSuite → k ≡ restStart w i → ⊥) → getD T k 0 ≡ getD f k 0
   unfolding rowAt
   t-kept k o =
       ⊎-elim
@@ -323,5 +323,5 @@ module _ (f : List ℕ) (z : checkAs edition f .number ≡ 0) where
   clash-of-check = simp (t-zero, t-count) t-rows
 
   -- no suite 4 row: nothing changes
-  pub t-same : ((i : ℕ) → i < n → rowOf f i .suite ≡ retired → ⊥) → T ≡ f
+  pub t-same : ((i : ℕ) → i < n → rowOf f i .suite ≡ retiredSuite → ⊥) → T ≡ f
   t-same none = ext-getD 0 T f t-length (λ k b. t-kept k (λ i l q e. none i l q))

@@ -10,7 +10,7 @@ use Rattle.table.specs.Format.{countOf, edition, rowSize, rowOf}
 use Rattle.table.specs.Answers.{answer}
 use Rattle.table.specs.Check.{nonceSeen, andThen, checkAs}
 use Rattle.draft.specs.Answers.{tagRight, lentAnswer, FileWritten, leaves}
-use Rattle.reseal.specs.Files.{retired, retabled, resealedFile}
+use Rattle.reseal.specs.Files.{retiredSuite, retabled, resealedFile}
 
 -- 29: the first row of n, from row i on, that clashes with an earlier one, by the check's own rule
 unfoldable pub seenFrom : List ℕ → ℕ → ℕ → Answer
@@ -18,7 +18,7 @@ seenFrom f n i = firstOf (nonceSeen (rowSize edition) f) (answer 29) (answer 0 0
 
 -- the tag of row i is wrong and the row is looked at: only suite 4 entries are opened
 unfoldable pub wrongAgain : List ℕ → List ℕ → ℕ → Bool
-wrongAgain f ring i = eqb (rowOf f i .suite) retired && not (tagRight f ring i)
+wrongAgain f ring i = eqb (rowOf f i .suite) retiredSuite && not (tagRight f ring i)
 
 -- 8: the first such row of n, from row i on
 unfoldable pub wrongAgainFrom : List ℕ → List ℕ → ℕ → ℕ → Answer

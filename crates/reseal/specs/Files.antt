@@ -12,14 +12,14 @@ use Rattle.draft.specs.Put.{putAll}
 use Rattle.draft.specs.Files.{pieceStart, entryOut}
 
 -- the suite that is retired, and the one that follows it
-abbrev pub retired : ℕ
-retired = 4
+abbrev pub retiredSuite : ℕ
+retiredSuite = 4
 
 abbrev pub successor : ℕ
 successor = 3
 
 unfoldable pub newSuite : ℕ → ℕ
-newSuite s = cond (eqb s retired) successor s
+newSuite s = cond (eqb s retiredSuite) successor s
 
 -- a list of bytes with the new suites of the file's first n rows in its table
 unfoldable pub resuited : List ℕ → ℕ → List ℕ → List ℕ
@@ -44,7 +44,7 @@ againTag f ring i msg =
 unfoldable pub againPiece : List ℕ → List ℕ → ℕ → List ℕ
 againPiece f ring i =
     let msg = entryOut true f ring i in
-    cond (eqb (rowOf f i .suite) retired) (againText f ring i msg ++ againTag f ring i msg) []
+    cond (eqb (rowOf f i .suite) retiredSuite) (againText f ring i msg ++ againTag f ring i msg) []
 
 -- the resealed file
 unfoldable pub resealedFile : List ℕ → List ℕ → List ℕ

@@ -7,7 +7,7 @@ use Rattle.table.specs.declared.row.Row.{Row}
 use Rattle.table.specs.Format.{countOf, edition, rowSize, rowOf}
 use Rattle.table.specs.Check.{checkAs}
 use Rattle.table.specs.Inside.{EntryIn}
-use Rattle.reseal.specs.Files.{retired}
+use Rattle.reseal.specs.Files.{retiredSuite}
 
 -- a file of n rows that passes the check
 pub record Passing (f : List ℕ) (n : ℕ) : Type 0 where
@@ -38,7 +38,7 @@ pub record RowResealable (f : List ℕ) (i : ℕ) (ring room out : List ℕ) : T
 -- the row is one of suite 4
 pub record EntryResealable (f : List ℕ) (i : ℕ) (r : Row) (ring room out : List ℕ) : Type 0 where
   pub is-row : r ≡ rowOf f i
-  pub four : r .suite ≡ retired
+  pub four : r .suite ≡ retiredSuite
   pub entry : EntryIn (rowSize edition) f i
   pub ring-long : length ring ≡ 256
   pub room-long : length room ≡ most
@@ -47,7 +47,7 @@ pub record EntryResealable (f : List ℕ) (i : ℕ) (r : Row) (ring room out : L
 -- and its message is there
 pub record Sealable (f : List ℕ) (i : ℕ) (r : Row) (ring msg out : List ℕ) : Type 0 where
   pub is-row : r ≡ rowOf f i
-  pub four : r .suite ≡ retired
+  pub four : r .suite ≡ retiredSuite
   pub entry : EntryIn (rowSize edition) f i
   pub ring-long : length ring ≡ 256
   pub msg-long : length msg ≡ r .len

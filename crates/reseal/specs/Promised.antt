@@ -13,12 +13,12 @@ use Rattle.shift.specs.Opening.{entryOpening}
 use Rattle.draft.specs.Files.{pieceStart, pieceSize}
 use Rattle.draft.specs.Answers.{FileWritten, writes}
 use Rattle.draft.specs.Promised.{RightTag}
-use Rattle.reseal.specs.Files.{retired, successor, retabled, resealedFile}
+use Rattle.reseal.specs.Files.{retiredSuite, successor, retabled, resealedFile}
 use Rattle.reseal.specs.Answers.{seenFrom, fileResealing}
 
 -- row i has suite 4
-abbrev pub Retired : List ℕ → ℕ → Type 0
-Retired file i = rowOf file i .suite ≡ retired
+abbrev pub HasFour : List ℕ → ℕ → Type 0
+HasFour file i = rowOf file i .suite ≡ retiredSuite
 
 -- row i would clash with an earlier one: the check's rule, on the table as it would be
 abbrev pub Clashes : List ℕ → ℕ → Type 0
@@ -43,11 +43,11 @@ pub record Elsewhere (file : List ℕ) (i k : ℕ) : Type 0 where
 
 pub record Renewed (file ring out : List ℕ) : Type 0 where
   pub checked : checkAs edition out ≡ answer 0 0
-  pub none : (i : ℕ) → i < countOf out → Retired out i → ⊥
-  pub again : (i : ℕ) → i < countOf file → Retired file i → Resealed file ring out i
+  pub none : (i : ℕ) → i < countOf out → HasFour out i → ⊥
+  pub again : (i : ℕ) → i < countOf file → HasFour file i → Resealed file ring out i
   -- every other byte is as it was
   pub long : length out ≡ length file
-  pub kept : (k : ℕ) → ((i : ℕ) → i < countOf file → Retired file i → Elsewhere file i k) → getD out k 0 ≡ getD file k 0
+  pub kept : (k : ℕ) → ((i : ℕ) → i < countOf file → HasFour file i → Elsewhere file i k) → getD out k 0 ≡ getD file k 0
 
 abbrev pub Renewing : Type 0
 Renewing =
@@ -58,7 +58,7 @@ Renewing =
 -- a file without suite 4 comes back byte for byte
 abbrev pub NothingRetired : Type 0
 NothingRetired =
-    (file ring out₀ : List ℕ) → checkAs edition file .number ≡ 0 → ((i : ℕ) → i < countOf file → Retired file i → ⊥) → length ring ≡ 256 → length out₀ ≡ length file
+    (file ring out₀ : List ℕ) → checkAs edition file .number ≡ 0 → ((i : ℕ) → i < countOf file → HasFour file i → ⊥) → length ring ≡ 256 → length out₀ ≡ length file
     → fileResealing file ring out₀ ≡ writes (answer 0 0) file
 
 -- resealing twice is resealing once
@@ -87,9 +87,9 @@ pub record ResealCases (file ring out₀ : List ℕ) : Type 0 where
   pub ring-wrong : Calm file → (length ring ≡ 256 → ⊥) → fileResealing file ring out₀ ≡ writes (answer 2 0) out₀
   pub room-wrong : Calm file → length ring ≡ 256 → (length out₀ ≡ length file → ⊥) → fileResealing file ring out₀ ≡ writes (answer 6 0) out₀
   pub tags : Calm file → length ring ≡ 256 → length out₀ ≡ length file
-      → (i : ℕ) → i < countOf file → Retired file i → (RightTag file ring i → ⊥) → ((k : ℕ) → k < i → Retired file k → RightTag file ring k)
+      → (i : ℕ) → i < countOf file → HasFour file i → (RightTag file ring i → ⊥) → ((k : ℕ) → k < i → HasFour file k → RightTag file ring k)
       → fileResealing file ring out₀ ≡ writes (answer 8 i) (replicate (length out₀) 0)
-  pub done : Calm file → length ring ≡ 256 → length out₀ ≡ length file → ((i : ℕ) → i < countOf file → Retired file i → RightTag file ring i)
+  pub done : Calm file → length ring ≡ 256 → length out₀ ≡ length file → ((i : ℕ) → i < countOf file → HasFour file i → RightTag file ring i)
       → fileResealing file ring out₀ ≡ writes (answer 0 0) (resealedFile file ring)
 
 abbrev pub Resealing : Type 0

@@ -9,7 +9,7 @@ use native.Mathlib.Omega.{arith}
 use Prim.Native.Nat.{ℕ, _-_, _≤_}
 use borrow.Rule.Slice.PartMut.{putMid, same-len-mid}
 use Rattle.comet.specs.Answers.{numberOf}
-use Rattle.comet.proofs.Refuse.{place-is, one-of-pos}
+use Rattle.comet.proofs.Refuse.{other-some}
 use Rattle.table.specs.Part.{stretch}
 use Rattle.shift.proofs.Entries.{lendable}
 use Rattle.writer.proofs.Lent.{open-told}
@@ -50,7 +50,7 @@ returns c =
     let room = now (s .args .room) in
     let r = s .args .row in
     let lo = room-own f (s .args .i) r (s .pre .entry) (s .pre .is-row) room (s .pre .room-long) in
-    let some = rw (place-is (call .result)) at (one-of-pos _ (c .match .keys2)) in
+    let some = other-some (call .result) (c .match .keys2) in
     let t = open-told f (now (s .args .ring)) (s .args .i) (s .pre .entry) (s .pre .ring-long) _ _ (stretch room 0 (r .len - 0)) lo (call .ensures) in
     (t .wrong some, λ e. absurd (true≢false (sym e)))
 
