@@ -9,3 +9,5 @@ pub mod Sessions
 pub mod W4
 pub mod Nonces
 pub mod Search
+pub mod Retired
+pub mod Reseal

@@ -4,3 +4,4 @@ pub mod file;
 pub mod halving;
 pub mod parts;
 pub mod record;
+pub mod renewal;
