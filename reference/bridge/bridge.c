@@ -156,11 +156,17 @@ static uint32_t search(void) {
     return shift_search(SLICE(file), job, row, looked);
 }
 
+static uint32_t reseal(void) {
+    bytes file = given(), ring = given(), out = lent();
+    return shift_reseal(SLICE(file), SLICE(ring), SLICE(out), lent_number());
+}
+
 static uint32_t (*const functions[])(void) = {
     seal, open_record, check, lookup, associated, open_job, entry,
     session_start, session_data, session_part, session_end,
     seal_file, unseal_file,
     search,
+    reseal,
 };
 
 int main(void) {

@@ -9,6 +9,7 @@
 pub mod aes;
 pub mod cham;
 pub mod comet;
+pub mod reseal;
 pub mod search;
 pub mod session;
 pub mod shift;

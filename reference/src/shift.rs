@@ -21,6 +21,7 @@ fn u32_at(file: &[u8], at: usize) -> u32 {
 }
 
 /// A row of the table of contents.
+#[derive(Clone, Copy)]
 pub struct Row {
     pub job: u32,
     pub suite: u8,
@@ -68,7 +69,7 @@ impl Row {
     }
 
     /// Two rows clash if suite, key number and the nonce bytes that the suite reads are all equal.
-    fn clashes(&self, other: &Row) -> bool {
+    pub fn clashes(&self, other: &Row) -> bool {
         (self.suite, self.key, self.nonce()) == (other.suite, other.key, other.nonce())
     }
 

@@ -1,11 +1,12 @@
 //! What document 02 says of each request, at its edges.
 
-use reference::comet::seal;
+use reference::comet::{open, seal, specified};
 use reference::data::{files, samples};
 use reference::plan::{Entry, Plan};
+use reference::reseal::reseal;
 use reference::search::search;
 use reference::session::{data, end, part, start, OVER};
-use reference::shift::{check, lookup, rows};
+use reference::shift::{check, lookup, open_job, rows};
 use reference::writer::{seal_file, unseal_file};
 
 mod w2 {
@@ -181,5 +182,77 @@ mod w6 {
         assert_eq!((check(&file).0, search(&file, 30)), (26, ((0, 3), 2)));
         file[0] = 3;
         assert_eq!(search(&file, 30), ((21, 0), 0));
+    }
+}
+
+mod w7 {
+    use super::*;
+
+    /// 10 stands just after 1 and writes nothing; the opener takes suite 4 as before.
+    #[test]
+    fn sealing_under_suite_4() {
+        let (mut out, mut tag) = ([7; 9], [7; 8]);
+        assert_eq!(seal(4, &[], &[], &[], &[0; 9], &mut out, &mut tag), 10);
+        assert_eq!(seal(4, &[1; 16], &[2; 15], b"ad", &[3; 9], &mut out, &mut tag), 10);
+        assert_eq!((out, tag), ([7; 9], [7; 8]));
+        let (text, tag) = specified(4, &[1; 16], &[2; 15], b"ad", &[3; 9]);
+        assert_eq!(open(4, &[1; 16], &[2; 15], b"ad", &text, &tag, &mut out), 0);
+        assert_eq!(out, [3; 9]);
+        assert_eq!(open(4, &[1; 15], &[2; 15], b"ad", &text, &tag, &mut out), 2);
+    }
+
+    /// A start under suite 4 is 10, and its session over; so is a session of suite 4 that somebody built.
+    #[test]
+    fn sessions() {
+        let step = start(4, &[], &[]);
+        assert_eq!((step.number, step.next), (10, OVER));
+        let built = reference::session::Session { suite: 4, ..start(3, &[1; 16], &[2; 15]).next };
+        assert_eq!(data(built, b"ad").number, 9);
+        assert_eq!(part(built, b"message", &mut [0; 20]).number, 9);
+        assert_eq!(end(built, &mut [0; 8], &mut [0; 8]).number, 9);
+    }
+
+    /// Jobs 10 and 30 of three rows have suites 3 and 4.
+    #[test]
+    fn a_draft() {
+        let (ring, mut draft) = (samples::ring(), files::three_rows().draft());
+        let mut out = vec![7; draft.len()];
+        assert_eq!(seal_file(&draft, &[], &mut out), (10, 2));
+        assert!(out.iter().all(|byte| *byte == 7));
+        *draft.last_mut().unwrap() = 1;
+        assert_eq!(seal_file(&draft, &ring, &mut out), (33, 2));
+    }
+
+    /// Only the entry of suite 4 changes: its suite, its text and its tag; its message stays.
+    #[test]
+    fn resealing() {
+        let (ring, file) = (samples::ring(), files::three_rows().file(&samples::ring()));
+        let mut out = vec![7; file.len()];
+        assert_eq!(reseal(&file, &ring, &mut out), (0, 0));
+        let row = rows(&file)[2];
+        let mut kept = out.clone();
+        kept[8 + 2 * 32 + 4] = 4;
+        kept[row.text().start..].copy_from_slice(&file[row.text().start..]);
+        assert!(kept == file && check(&out) == (0, 0));
+        let mut message = [0; 11];
+        assert_eq!((open_job(&out, &ring, 30, &mut message), &message), ((0, 0), b"thirty jobs"));
+        let mut again = vec![7; file.len()];
+        assert_eq!(reseal(&out, &ring, &mut again), (0, 0));
+        assert_eq!(again, out);
+    }
+
+    #[test]
+    fn refusals() {
+        let (ring, mut file) = (samples::ring(), files::three_rows().file(&samples::ring()));
+        let mut out = vec![7; file.len()];
+        *file.last_mut().unwrap() ^= 1;
+        let elsewhere = rows(&file)[1].tag().start;
+        file[elsewhere] ^= 1;
+        assert_eq!(reseal(&file, &[], &mut []), (2, 0));
+        assert_eq!(reseal(&file, &ring, &mut []), (6, 0));
+        assert_eq!(reseal(&file, &ring, &mut out), (8, 2));
+        assert!(out.iter().all(|byte| *byte == 0));
+        let clash = [(10, 3), (20, 1), (30, 4)].map(|(job, suite)| Entry::new(job, suite, 0, 1, [9; 16], b""));
+        assert_eq!(reseal(&Plan::new(clash.to_vec()).file(&ring), &[], &mut []), (29, 2));
     }
 }

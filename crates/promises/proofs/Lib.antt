@@ -10,3 +10,5 @@ pub mod W4
 pub mod Nonces
 pub mod Search
 pub mod Compare
+pub mod Retired
+pub mod Reseal

@@ -42,6 +42,8 @@ use Rattle.snoekeldraf.proofs.drafts.shift_seal_file.Kinds as seal-file
 use Rattle.snoekeldraf.proofs.drafts.shift_seal_file.Reads as seal-file-reads
 use Rattle.snoekeldraf.proofs.drafts.shift_unseal_file.Kinds as unseal-file-kinds
 use Rattle.snoekeldraf.proofs.drafts.shift_unseal_file.Reads as unseal-file-reads
+use Rattle.snoekeldraf.proofs.renewal.shift_reseal.Kinds as reseal-kinds
+use Rattle.snoekeldraf.proofs.renewal.shift_reseal.Reads as reseal-reads
 use Rattle.snoekeldraf.proofs.halving.shift_search.Kinds as search-kinds
 use Rattle.snoekeldraf.proofs.halving.shift_search.Reads as search-reads
 use Rattle.compare.specs.Comparing.{Comparison}
@@ -135,6 +137,11 @@ shift-seal-file κs a h x y =
 
 pub shift-unseal-file : OneOutcome unseal-file-kinds.ps unseal-file-kinds.r unseal-file-reads.Pre unseal-file-reads.Post
 shift-unseal-file κs a h x y =
+    let e = x .ensures ∙ sym (y .ensures) in
+    (ap (λ (w : FileWritten). w .answer .number) e, ap (λ (w : FileWritten). (tt, (tt, (w .out, (w .answer .row, tt))))) e)
+
+pub shift-reseal : OneOutcome reseal-kinds.ps reseal-kinds.r reseal-reads.Pre reseal-reads.Post
+shift-reseal κs a h x y =
     let e = x .ensures ∙ sym (y .ensures) in
     (ap (λ (w : FileWritten). w .answer .number) e, ap (λ (w : FileWritten). (tt, (tt, (w .out, (w .answer .row, tt))))) e)
 

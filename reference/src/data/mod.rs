@@ -2,6 +2,7 @@
 
 pub mod cases;
 pub mod files;
+pub mod resealing;
 pub mod samples;
 pub mod searching;
 pub mod sessions;
@@ -14,7 +15,7 @@ use crate::calls::{Case, REFERENCE};
 pub type Part = (&'static str, Vec<u8>);
 
 /// The folders of the repository that are written.
-pub const FOLDERS: [&str; 9] = [
+pub const FOLDERS: [&str; 10] = [
     "samples",
     "crates/vectors",
     "crates/cases",
@@ -24,6 +25,7 @@ pub const FOLDERS: [&str; 9] = [
     "crates/writing",
     "crates/write",
     "crates/searching",
+    "crates/resealing",
 ];
 
 /// What a test program reads and writes.
@@ -45,6 +47,7 @@ pub fn parts(folder: &str) -> Vec<Part> {
         "crates/writing" => writing::parts().to_vec(),
         "crates/write" => writing::write_parts().to_vec(),
         "crates/searching" => searching::parts().to_vec(),
+        "crates/resealing" => resealing::parts().to_vec(),
         _ => unreachable!("no data for {folder}"),
     }
 }
