@@ -234,6 +234,23 @@ uint32_t shift_reseal(const uint8_t *file, size_t file_len,
  */
 uint32_t shift_search(const uint8_t *file, size_t file_len, uint32_t job, uint32_t *row, uint32_t *looked);
 
+/* Compares two files. Job numbers are written in rising order from the front of three lists: those only in the first file
+ * (only_first), only in the second (only_second), and in both but different in suite, key number, associated data length,
+ * nonce or body (differ); offsets do not count. A list's length is in 32-bit places.
+ *   20 to 31, 34  the first file is refused (*file is 1), else the second (*file is 2); *row as shift_check gives it
+ *   36            a list is longer than its buffer; *file and *row are 0
+ *   0             *first_count, *second_count and *differ_count are how many there are; *file and *row are 0
+ * The five are written always; the counts are 0 after every number but 0. Every refusal leaves the lists unchanged, and 0
+ * leaves the places past a count. A file has at most 512 rows, so lists of 512 places never give 36.
+ */
+uint32_t shift_compare(const uint8_t *first, size_t first_len,
+                       const uint8_t *second, size_t second_len,
+                       uint32_t *only_first, size_t only_first_len,
+                       uint32_t *only_second, size_t only_second_len,
+                       uint32_t *differ, size_t differ_len,
+                       uint32_t *first_count, uint32_t *second_count, uint32_t *differ_count,
+                       uint32_t *file, uint32_t *row);
+
 #ifdef __cplusplus
 }
 #endif

@@ -1,11 +1,15 @@
 //! What is put to an implementation, and what it answers: calls of the sealer, the opener and the shift file.
 
+use crate::difference::{self, Compared};
 use crate::session::{Session, Step};
 use crate::show::{fold, shown};
 use crate::{comet, reseal, search, session, shift, writer};
 
 /// What lent buffers hold before a call.
 pub const FILLER: u8 = 0xa5;
+
+/// What a place of a lent list of numbers holds before a call.
+pub const FILLER_NUMBER: u32 = u32::from_le_bytes([FILLER; 4]);
 
 pub type Seal = fn(u8, &[u8], &[u8], &[u8], &[u8], &mut [u8], &mut [u8]) -> u32;
 pub type Open = fn(u8, &[u8], &[u8], &[u8], &[u8], &[u8], &mut [u8]) -> u32;
@@ -31,6 +35,7 @@ pub struct Library {
     pub unseal_file: Rewrite,
     pub search: fn(&[u8], u32) -> (shift::Answer, u32),
     pub reseal: Rewrite,
+    pub compare: fn(&[u8], &[u8], [&mut [u32]; 3]) -> Compared,
 }
 
 pub const REFERENCE: Library = Library {
@@ -52,6 +57,7 @@ pub const REFERENCE: Library = Library {
     unseal_file: writer::unseal_file,
     search: search::search,
     reseal: reseal::reseal,
+    compare: difference::compare,
 };
 
 /// A call, or a run of calls.

@@ -51,6 +51,10 @@ impl Row {
         self.offset + self.ad + self.message + comet::block_size(self.suite)
     }
 
+    pub fn body(&self) -> Range<usize> {
+        self.offset..self.end()
+    }
+
     pub fn associated(&self) -> Range<usize> {
         self.offset..self.offset + self.ad
     }

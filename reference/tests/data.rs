@@ -1,7 +1,7 @@
 //! The data of the test programs: it provokes every number, and the repository's files are what is generated.
 
 use reference::calls::{Case, REFERENCE};
-use reference::data::{cases, files, parts, resealing, searching, sessions, writing, FOLDERS};
+use reference::data::{cases, comparing, files, parts, resealing, searching, sessions, writing, FOLDERS};
 use reference::random::Random;
 use reference::trials;
 use std::collections::BTreeSet;
@@ -55,6 +55,17 @@ fn searching_provokes_every_number() {
 fn resealing_provokes_every_number() {
     let numbers: BTreeSet<u32> = resealing::calls().iter().map(|call| call.answer(&REFERENCE).answer.0).collect();
     assert_eq!(numbers, [0, 2, 6, 8, 34].into_iter().chain(20..=31).collect());
+}
+
+#[test]
+fn comparing_provokes_every_number() {
+    let answers: Vec<_> = comparing::calls().iter().map(|call| call.answer(&REFERENCE).answer).collect();
+    let numbers = |file: u32| -> BTreeSet<u32> {
+        answers.iter().filter(|answer| answer.file == file).map(|answer| answer.number).collect()
+    };
+    assert_eq!(numbers(0), [0, 36].into());
+    assert_eq!(numbers(1), [34].into_iter().chain(20..=31).collect());
+    assert_eq!(numbers(2), numbers(1));
 }
 
 /// The random files of the comparison are of all kinds too.

@@ -2,6 +2,7 @@
 
 use reference::comet::{open, seal, specified};
 use reference::data::{files, samples};
+use reference::difference::{compare, printed, PROGRAM_LONGEST};
 use reference::plan::{Entry, Plan};
 use reference::reseal::reseal;
 use reference::search::search;
@@ -254,5 +255,62 @@ mod w7 {
         assert!(out.iter().all(|byte| *byte == 0));
         let clash = [(10, 3), (20, 1), (30, 4)].map(|(job, suite)| Entry::new(job, suite, 0, 1, [9; 16], b""));
         assert_eq!(reseal(&Plan::new(clash.to_vec()).file(&ring), &[], &mut []), (29, 2));
+    }
+}
+
+mod w8 {
+    use super::*;
+
+    fn of_jobs(jobs: &[u32]) -> Vec<u8> {
+        let entry = |job: &u32| Entry::new(*job, 3, 0, 1, [*job as u8; 16], b"message");
+        Plan::new(jobs.iter().map(entry).collect()).file(&samples::ring())
+    }
+
+    /// Places behind a count stay; a list that is too short is 36, and nothing is written.
+    #[test]
+    fn lists() {
+        let (first, second) = (of_jobs(&[1, 2, 3, 5]), of_jobs(&[2, 3, 4]));
+        let (mut one, mut other, mut both) = ([9; 3], [9; 1], [9; 0]);
+        let answer = compare(&first, &second, [&mut one, &mut other, &mut both]);
+        assert_eq!((answer.number, answer.counts, one, other), (0, [2, 1, 0], [1, 5, 9], [4]));
+        let mut short = [9; 1];
+        let answer = compare(&first, &second, [&mut short, &mut other, &mut both]);
+        assert_eq!((answer.number, answer.file, answer.counts, short), (36, 0, [0; 3], [9]));
+    }
+
+    /// A body that lies elsewhere is the same; one bit of a tag is not.
+    #[test]
+    fn offsets_do_not_count() {
+        let (first, mut second) = (of_jobs(&[1, 2, 3]), of_jobs(&[2, 3]));
+        assert_eq!(printed(&first, &second), "first\n1\nsecond\ndiffer\n");
+        *second.last_mut().unwrap() ^= 1;
+        assert_eq!(printed(&first, &second), "first\n1\nsecond\ndiffer\n3\n");
+    }
+
+    #[test]
+    fn the_program() {
+        let (good, empty) = (of_jobs(&[7]), of_jobs(&[]));
+        assert_eq!(printed(&empty, &empty), "first\nsecond\ndiffer\n");
+        assert_eq!(printed(&[], &good), "refused 1 20 0\n");
+        assert_eq!(printed(&good, &[]), "refused 2 20 0\n");
+        let mut faulty = of_jobs(&[7, 8]);
+        faulty[8 + 32 + 4] = 9;
+        assert_eq!(printed(&good, &faulty), "refused 2 26 1\n");
+        assert_eq!(printed(&faulty, &[]), "refused 1 26 1\n");
+        assert_eq!(printed(&faulty, &vec![0; PROGRAM_LONGEST + 1]), "refused 1 26 1\n");
+        assert_eq!(printed(&good, &vec![0; PROGRAM_LONGEST + 1]), "refused 2 20 0\n");
+    }
+
+    /// 65,280 bytes are taken by the program, one more is 20; the library has the format's own limit.
+    #[test]
+    fn the_programs_limit() {
+        let of_length = |length: usize| {
+            let message = vec![0; length - 8 - 32 - 5 - 8];
+            Plan::new(vec![Entry::new(7, 3, 0, 1, [0; 16], &message)]).file(&samples::ring())
+        };
+        let (longest, longer) = (of_length(PROGRAM_LONGEST), of_length(PROGRAM_LONGEST + 1));
+        assert_eq!(printed(&longest, &longest), "first\nsecond\ndiffer\n");
+        assert_eq!(printed(&longer, &longest), "refused 1 20 0\n");
+        assert_eq!(compare(&longer, &longer, [&mut [], &mut [], &mut []]).number, 0);
     }
 }

@@ -39,6 +39,8 @@ use Rattle.reseal.proofs.reseal.Kinds as reseal-kinds
 use Rattle.reseal.proofs.reseal.Reads as reseal-reads
 use Rattle.search.proofs.search.Kinds as search-kinds
 use Rattle.search.proofs.search.Reads as search-reads
+use Rattle.compare.proofs.compare.Kinds as compare-kinds
+use Rattle.compare.proofs.compare.Reads as compare-reads
 
 -- of a routine's own signature and contract: it asks nothing of its arguments, and they leave one outcome
 pub record Answers {n : ℕ} (ps : List (PK n)) (r : RK n) (Pre : In n ps) (Post : Out n ps r) : Type 0 where
@@ -66,6 +68,8 @@ pub record EntryPoints : Type 0 where
   -- W4
   pub seal-file : Answers seal-file-kinds.ps seal-file-kinds.r seal-file-reads.Pre seal-file-reads.Post
   pub unseal-file : Answers unseal-file-kinds.ps unseal-file-kinds.r unseal-file-reads.Pre unseal-file-reads.Post
+  -- W8
+  pub compare : Answers compare-kinds.ps compare-kinds.r compare-reads.Pre compare-reads.Post
   -- W7
   pub reseal : Answers reseal-kinds.ps reseal-kinds.r reseal-reads.Pre reseal-reads.Post
 

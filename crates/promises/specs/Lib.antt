@@ -9,5 +9,6 @@ pub mod Sessions
 pub mod W4
 pub mod Nonces
 pub mod Search
+pub mod Compare
 pub mod Retired
 pub mod Reseal

@@ -5,7 +5,7 @@
 
 use reference::bridge::PROVED;
 use reference::calls::{Case, Library, REFERENCE};
-use reference::data::{cases, files, resealing, searching, sessions, writing};
+use reference::data::{cases, comparing, files, resealing, searching, sessions, writing};
 use reference::linked::{COLUMNS, PLAIN};
 use reference::random::Random;
 use reference::show::hex;
@@ -121,6 +121,15 @@ fn compare_reseal(tally: &mut Tally, random: &mut Random) {
     tally.report("random files to reseal, good and edited");
 }
 
+fn compare_compare(tally: &mut Tally, random: &mut Random) {
+    comparing::calls().iter().for_each(|call| tally.proved(call));
+    tally.report("the calls of the program comparing");
+    comparing::trials(random, 10_000, |call| tally.proved(call));
+    tally.report("random pairs of files, good and edited");
+    comparing::longest(|call| tally.proved(call));
+    tally.report("pairs of the longest files");
+}
+
 fn main() {
     let seed = std::env::args().nth(1).map_or(2026, |seed| seed.parse().expect("SEED is a number"));
     let mut tally = Tally::default();
@@ -131,6 +140,7 @@ fn main() {
     compare_writer(&mut tally, &mut random);
     compare_search(&mut tally, &mut random);
     compare_reseal(&mut tally, &mut random);
+    compare_compare(&mut tally, &mut random);
     println!("{} cases, {} differences", tally.cases, tally.differences);
     if tally.differences > 0 {
         std::process::exit(1);

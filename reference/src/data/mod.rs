@@ -1,6 +1,7 @@
 //! The data of the test programs and the samples, the same in every run.
 
 pub mod cases;
+pub mod comparing;
 pub mod files;
 pub mod resealing;
 pub mod samples;
@@ -15,7 +16,7 @@ use crate::calls::{Case, REFERENCE};
 pub type Part = (&'static str, Vec<u8>);
 
 /// The folders of the repository that are written.
-pub const FOLDERS: [&str; 10] = [
+pub const FOLDERS: [&str; 12] = [
     "samples",
     "crates/vectors",
     "crates/cases",
@@ -26,6 +27,8 @@ pub const FOLDERS: [&str; 10] = [
     "crates/write",
     "crates/searching",
     "crates/resealing",
+    "crates/comparing",
+    "crates/differ",
 ];
 
 /// What a test program reads and writes.
@@ -48,6 +51,8 @@ pub fn parts(folder: &str) -> Vec<Part> {
         "crates/write" => writing::write_parts().to_vec(),
         "crates/searching" => searching::parts().to_vec(),
         "crates/resealing" => resealing::parts().to_vec(),
+        "crates/comparing" => comparing::parts().to_vec(),
+        "crates/differ" => comparing::differ_parts().to_vec(),
         _ => unreachable!("no data for {folder}"),
     }
 }
