@@ -1,4 +1,8 @@
 pub mod Rows
+<<<<<<< HEAD
 pub mod AmendedRows
+=======
+pub mod Lists
+>>>>>>> main
 pub mod Steps
 pub mod Outcomes

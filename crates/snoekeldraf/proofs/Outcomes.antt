@@ -42,6 +42,8 @@ use Rattle.snoekeldraf.proofs.drafts.shift_seal_file.Kinds as seal-file
 use Rattle.snoekeldraf.proofs.drafts.shift_seal_file.Reads as seal-file-reads
 use Rattle.snoekeldraf.proofs.drafts.shift_unseal_file.Kinds as unseal-file-kinds
 use Rattle.snoekeldraf.proofs.drafts.shift_unseal_file.Reads as unseal-file-reads
+use Rattle.snoekeldraf.proofs.renewal.shift_reseal.Kinds as reseal-kinds
+use Rattle.snoekeldraf.proofs.renewal.shift_reseal.Reads as reseal-reads
 use Rattle.snoekeldraf.proofs.halving.shift_search.Kinds as search-kinds
 use Rattle.snoekeldraf.proofs.halving.shift_search.Reads as search-reads
 use Rattle.amend.specs.Amending.{AmendedOpening}
@@ -50,6 +52,9 @@ use Rattle.snoekeldraf.proofs.amending.shift_amended.Kinds as amended-k
 use Rattle.snoekeldraf.proofs.amending.shift_amended.Reads as amended-reads
 use Rattle.snoekeldraf.proofs.amending.shift_open_amended.Kinds as open-amended-kinds
 use Rattle.snoekeldraf.proofs.amending.shift_open_amended.Reads as open-amended-reads
+use Rattle.compare.specs.Comparing.{Comparison}
+use Rattle.snoekeldraf.proofs.listing.shift_compare.Kinds as compare-kinds
+use Rattle.snoekeldraf.proofs.listing.shift_compare.Reads as compare-reads
 
 pub comet-seal : OneOutcome seal-kinds.ps seal-kinds.r seal-reads.Pre seal-reads.Post
 comet-seal κs a h x y =
@@ -141,11 +146,17 @@ shift-unseal-file κs a h x y =
     let e = x .ensures ∙ sym (y .ensures) in
     (ap (λ (w : FileWritten). w .answer .number) e, ap (λ (w : FileWritten). (tt, (tt, (w .out, (w .answer .row, tt))))) e)
 
+pub shift-reseal : OneOutcome reseal-kinds.ps reseal-kinds.r reseal-reads.Pre reseal-reads.Post
+shift-reseal κs a h x y =
+    let e = x .ensures ∙ sym (y .ensures) in
+    (ap (λ (w : FileWritten). w .answer .number) e, ap (λ (w : FileWritten). (tt, (tt, (w .out, (w .answer .row, tt))))) e)
+
 pub shift-search : OneOutcome search-kinds.ps search-kinds.r search-reads.Pre search-reads.Post
 shift-search κs a h x y =
     let e = x .ensures .0 ∙ sym (y .ensures .0) in
     (ap (λ (w : Answer). w .number) e, ap₂ (λ (w : Answer) (l : ℕ). (tt, (tt, (w .row, (l, tt))))) e (x .ensures .1 ∙ sym (y .ensures .1)))
 
+<<<<<<< HEAD
 pub shift-amended : OneOutcome amended-kinds.ps amended-kinds.r amended-reads.Pre amended-reads.Post
 shift-amended κs a h x y =
     let e = x .ensures ∙ sym (y .ensures) in
@@ -155,3 +166,12 @@ pub shift-open-amended : OneOutcome open-amended-kinds.ps open-amended-kinds.r o
 shift-open-amended κs a h x y =
     let e = x .ensures ∙ sym (y .ensures) in
     (ap (λ (w : AmendedOpening). w .answer .number) e, ap (λ (w : AmendedOpening). (tt, (tt, (tt, (tt, (w .out, (w .file, (w .answer .row, tt)))))))) e)
+=======
+pub shift-compare : OneOutcome compare-kinds.ps compare-kinds.r compare-reads.Pre compare-reads.Post
+shift-compare κs a h x y =
+    let e = x .ensures ∙ sym (y .ensures) in (
+      ap (λ (w : Comparison). w .finding .number) e,
+      ap (λ (w : Comparison).
+          (tt, (tt, (w .first, (w .second, (w .differ, (w .finding .first, (w .finding .second, (w .finding .differ, (w .finding .file, (w .finding .row, tt))))))))))) e,
+    )
+>>>>>>> main
