@@ -1,8 +1,5 @@
 pub mod Rows
-<<<<<<< HEAD
 pub mod AmendedRows
-=======
 pub mod Lists
->>>>>>> main
 pub mod Steps
 pub mod Outcomes

@@ -156,7 +156,6 @@ shift-search κs a h x y =
     let e = x .ensures .0 ∙ sym (y .ensures .0) in
     (ap (λ (w : Answer). w .number) e, ap₂ (λ (w : Answer) (l : ℕ). (tt, (tt, (w .row, (l, tt))))) e (x .ensures .1 ∙ sym (y .ensures .1)))
 
-<<<<<<< HEAD
 pub shift-amended : OneOutcome amended-kinds.ps amended-kinds.r amended-reads.Pre amended-reads.Post
 shift-amended κs a h x y =
     let e = x .ensures ∙ sym (y .ensures) in
@@ -166,7 +165,7 @@ pub shift-open-amended : OneOutcome open-amended-kinds.ps open-amended-kinds.r o
 shift-open-amended κs a h x y =
     let e = x .ensures ∙ sym (y .ensures) in
     (ap (λ (w : AmendedOpening). w .answer .number) e, ap (λ (w : AmendedOpening). (tt, (tt, (tt, (tt, (w .out, (w .file, (w .answer .row, tt)))))))) e)
-=======
+
 pub shift-compare : OneOutcome compare-kinds.ps compare-kinds.r compare-reads.Pre compare-reads.Post
 shift-compare κs a h x y =
     let e = x .ensures ∙ sym (y .ensures) in (
@@ -174,4 +173,3 @@ shift-compare κs a h x y =
       ap (λ (w : Comparison).
           (tt, (tt, (w .first, (w .second, (w .differ, (w .finding .first, (w .finding .second, (w .finding .differ, (w .finding .file, (w .finding .row, tt))))))))))) e,
     )
->>>>>>> main
