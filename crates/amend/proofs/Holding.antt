@@ -1,11 +1,10 @@
 -- The number of a lookup tells which case of the current entry applies: neither 0 nor 32 is a refusal of the file, which then has no entry; 32 is a file that passes and lacks the job.
-use Prim.Native.Nat.{ℕ, _+_, _≤_}
+use Prim.Native.Nat.{ℕ}
 use native.Mathlib.Omega.{arith}
 use mathlib.Core.Path.{_≡_, refl, sym, ap, subst, _∙_}
-use mathlib.Core.Bool.{Bool, true, false, not, _&&_, cond}
+use mathlib.Core.Bool.{Bool, true, false, not, _&&_}
 use mathlib.Core.List.{List}
-use mathlib.Core.Logic.{_⊎_, inl, inr, ⊎-elim}
-use lib.ListN.{length}
+use mathlib.Core.Logic.{⊎-elim}
 use lib.Dec.{eqb}
 use borrow.Author.Tests.{eqb-true, eqb-false, eq-eqb, ne-eqb, not-true, not-false}
 use Rattle.table.specs.declared.answers.Answer.{Answer}
@@ -18,7 +17,7 @@ use Rattle.shift.specs.Lookup.{lookupAs, lookupJob}
 use Rattle.shift.specs.Entry.{dataStart, dataLength, textStart, textLength, entryOf}
 use Rattle.shift.proofs.Finding.{finds}
 use Rattle.amend.specs.declared.Amended.{Amended}
-use Rattle.amend.specs.Amending.{noEntry, inFile, refused, holds, amendedEntry, refusing}
+use Rattle.amend.specs.Amending.{noEntry, inFile, refused, amendedEntry, refusing}
 
 -- a number is 0 or not
 pub zero-or-not : {A : Type 0} (m : ℕ) → (m ≡ 0 → A) → ((m ≡ 0 → ⊥) → A) → A

@@ -8,7 +8,6 @@ use Rattle.words.specs.Outcome.{Outcome, OneOutcome}
 use Rattle.table.proofs.Outcomes.{part-one}
 use Rattle.shift.specs.declared.answers.Opened.{Opened}
 use Rattle.shift.proofs.Outcomes.{opened-one}
-use Rattle.amend.specs.declared.OpenedIn.{OpenedIn}
 use Rattle.amend.specs.Amending.{AmendedOpening}
 use Rattle.amend.proofs.locate.Kinds as locate-kinds
 use Rattle.amend.proofs.locate.Reads as locate-reads

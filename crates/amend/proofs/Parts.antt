@@ -1,7 +1,7 @@
 -- Where the current entry lies, and what opening it is, case by case: a refusal has no place, and a found entry is the one-file entry of the file that holds it.
 use Prim.Native.Nat.{ℕ, _+_, _≤_}
 use native.Mathlib.Omega.{arith}
-use mathlib.Core.Path.{_≡_, refl, sym, ap, ap₂, subst, _∙_}
+use mathlib.Core.Path.{_≡_, refl, sym, ap, ap₂, subst}
 use mathlib.Core.Bool.{Bool, true, false, _&&_, cond}
 use mathlib.Core.List.{List}
 use lib.ListN.{length}
@@ -18,7 +18,7 @@ use Rattle.shift.specs.Entry.{entryOf}
 use Rattle.shift.specs.Opening.{JobOpened, left, jobOpening}
 use Rattle.shift.proofs.Places.{data-in}
 use Rattle.amend.specs.declared.Amended.{Amended}
-use Rattle.amend.specs.Amending.{noEntry, inFile, amendedEntry, holder, CurrentPart, AmendedOpening, openedIn, amendedOpening}
+use Rattle.amend.specs.Amending.{amendedEntry, holder, CurrentPart, openedIn, amendedOpening}
 use Rattle.amend.proofs.Holding.{stands, missing, five}
 
 -- the file that holds an entry

@@ -1,26 +1,24 @@
 -- What was asked of amendments, from the five cases and from what a lookup finds in one file.
-use Prim.Native.Nat.{ℕ, _-_, _≤_}
+use Prim.Native.Nat.{ℕ}
 use native.Mathlib.Omega.{arith}
 use mathlib.Core.Path.{_≡_, refl, sym, ap, subst, _∙_}
 use mathlib.Core.List.{List}
-use mathlib.Core.Logic.{_↔_}
 use denote.Ref.{RefT, now}
 use Rattle.table.specs.declared.answers.Answer.{Answer}
 use Rattle.table.specs.Part.{PartOf}
-use Rattle.table.specs.Format.{countOf}
 use Rattle.table.specs.Answers.{answer}
 use Rattle.table.specs.Check.{checkFile}
 use Rattle.shift.specs.declared.answers.Entry.{Entry}
 use Rattle.shift.specs.Lookup.{lookupJob}
 use Rattle.shift.specs.Entry.{entryOf}
-use Rattle.shift.specs.Opening.{JobOpened, jobOpening}
+use Rattle.shift.specs.Opening.{jobOpening}
 use Rattle.shift.specs.Promised.{Has}
 use Rattle.shift.proofs.Finding.{finds}
 use Rattle.amend.specs.declared.Amended.{Amended}
-use Rattle.amend.specs.Amending.{inFile, amendedEntry, holder, CurrentPart, openedIn, amendedOpening}
-use Rattle.amend.specs.Promised.{BothPass, Lacks, InOrder, AmendmentWins, Neither, MissingExactly, OneFilePart, PartOfHolder, NoRows}
-use Rattle.amend.proofs.Holding.{not-missing, missing, entry-refused, entry-missing, amendment-refused, day-refused, in-amendment, in-day, in-neither, five}
-use Rattle.amend.proofs.Parts.{holder-none, holder-now, held, no-place, opens-first, opens-second}
+use Rattle.amend.specs.Amending.{amendedEntry, holder, openedIn, amendedOpening}
+use Rattle.amend.specs.Promised.{Lacks, InOrder, AmendmentWins, Neither, MissingExactly, PartOfHolder, NoRows}
+use Rattle.amend.proofs.Holding.{not-missing, entry-refused, entry-missing, amendment-refused, day-refused, in-amendment, in-day, in-neither, five}
+use Rattle.amend.proofs.Parts.{holder-none, holder-now, held, no-place, opens-second}
 
 pub in-order : InOrder
 in-order a d job = record { amendment = amendment-refused a d job; day = day-refused a d job }

@@ -1,5 +1,5 @@
 -- Each return is one of the five cases, told by the two entries' numbers.
-use mathlib.Core.Path.{_≡_, ap, sym, _∙_}
+use mathlib.Core.Path.{ap, sym, _∙_}
 use Rattle.shift.specs.declared.answers.Entry.{Entry}
 use Rattle.amend.specs.Amending.{inFile}
 use Rattle.amend.proofs.Holding.{flag, told-first, told-second, told-amendment, told-day, told-neither}

@@ -1,8 +1,6 @@
 -- Opening answers with a row of one file, which fits, so what it says passes whole beside the file and the output.
-use Prim.Native.Nat.{ℕ, _≤_}
-use mathlib.Core.Path.{_≡_, sym, ap, subst, _∙_}
+use mathlib.Core.Path.{ap, _∙_}
 use borrow.Author.Needs.{needs}
-use Rattle.table.specs.declared.answers.Answer.{Answer}
 use Rattle.amend.specs.Amending.{AmendedOpening}
 use Rattle.table.proofs.Outcomes.{same-answer}
 use Rattle.snoekeldraf.proofs.AmendedRows.{open-amended-row}
