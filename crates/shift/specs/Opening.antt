@@ -7,7 +7,7 @@ use lib.Dec.{eqb}
 use Rattle.comet.specs.Answers as comet
 use Rattle.table.specs.declared.answers.Answer.{Answer}
 use Rattle.table.specs.Part.{stretch}
-use Rattle.table.specs.Format.{edition, rowSize, nonceReadAt, rowOf, dataOf, textOf, tagOf}
+use Rattle.table.specs.Format.{widthOf, nonceReadAt, rowOf, dataOf, textOf, tagOf}
 use Rattle.table.specs.Answers.{answer}
 use Rattle.shift.specs.Lookup.{lookupJob}
 
@@ -17,7 +17,7 @@ ringKey ring k = stretch ring (16 * k) 16
 
 -- the nonce bytes that the suite of row i reads
 abbrev pub nonceRead : List ℕ → ℕ → List ℕ
-nonceRead f i = nonceReadAt (rowSize edition) f i
+nonceRead f i = nonceReadAt (widthOf f) f i
 
 -- what the sealer and the opener give and leave on the entry's own stretch of the file, and its key
 unfoldable pub entrySealing : List ℕ → List ℕ → ℕ → List ℕ → List ℕ → comet.Sealed

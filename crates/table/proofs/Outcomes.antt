@@ -22,6 +22,8 @@ use Rattle.table.specs.Answers.{refusalAnswer, checkedAnswer}
 use Rattle.table.proofs.Numbers.{refusal-range, refusal-some}
 use Rattle.table.proofs.check_head.Kinds as check-head-kinds
 use Rattle.table.proofs.check_head.Reads as check-head-reads
+use Rattle.table.proofs.check_between.Kinds as check-between-kinds
+use Rattle.table.proofs.check_between.Reads as check-between-reads
 use Rattle.table.proofs.check_as.Kinds as check-as-kinds
 use Rattle.table.proofs.check_as.Reads as check-as-reads
 use Rattle.table.proofs.check.Kinds as check-kinds
@@ -30,6 +32,10 @@ use Rattle.table.proofs.row.count.Kinds as count-kinds
 use Rattle.table.proofs.row.count.Reads as count-reads
 use Rattle.table.proofs.row.row_size.Kinds as row-size-kinds
 use Rattle.table.proofs.row.row_size.Reads as row-size-reads
+use Rattle.table.proofs.row.width.Kinds as width-kinds
+use Rattle.table.proofs.row.width.Reads as width-reads
+use Rattle.table.proofs.row.station_of.Kinds as station-of-kinds
+use Rattle.table.proofs.row.station_of.Reads as station-of-reads
 use Rattle.table.proofs.row.row_at.Kinds as row-at-kinds
 use Rattle.table.proofs.row.row_at.Reads as row-at-reads
 use Rattle.table.proofs.row.stretch.Kinds as stretch-kinds
@@ -113,6 +119,9 @@ part-one p q = (p .bytes ∙ sym (q .bytes), p .place ∙ sym (q .place))
 pub check-head : OneOutcome check-head-kinds.ps check-head-kinds.r check-head-reads.Pre check-head-reads.Post
 check-head κs a h x y = (checked-one (x .ensures ∙ sym (y .ensures)), refl)
 
+pub check-between : OneOutcome check-between-kinds.ps check-between-kinds.r check-between-reads.Pre check-between-reads.Post
+check-between κs a h x y = (checked-one (x .ensures ∙ sym (y .ensures)), refl)
+
 pub check-as : OneOutcome check-as-kinds.ps check-as-kinds.r check-as-reads.Pre check-as-reads.Post
 check-as κs a h x y = (checked-one (x .ensures ∙ sym (y .ensures)), refl)
 
@@ -124,6 +133,12 @@ count κs a h x y = (x .ensures ∙ sym (y .ensures), refl)
 
 pub row-size : OneOutcome row-size-kinds.ps row-size-kinds.r row-size-reads.Pre row-size-reads.Post
 row-size κs a h x y = (x .ensures ∙ sym (y .ensures), refl)
+
+pub width : OneOutcome width-kinds.ps width-kinds.r width-reads.Pre width-reads.Post
+width κs a h x y = (x .ensures ∙ sym (y .ensures), refl)
+
+pub station-of : OneOutcome station-of-kinds.ps station-of-kinds.r station-of-reads.Pre station-of-reads.Post
+station-of κs a h x y = (x .ensures ∙ sym (y .ensures), refl)
 
 pub row-at : OneOutcome row-at-kinds.ps row-at-kinds.r row-at-reads.Pre row-at-reads.Post
 row-at κs a h x y = (x .ensures ∙ sym (y .ensures), refl)

@@ -9,9 +9,9 @@ use lib.ListN.{length}
 use lib.Dec.{eqb, ltb, lit≤}
 use borrow.Author.Tests.{eqb-false, not-true, ne-eqb}
 use Rattle.table.specs.declared.answers.Answer.{Answer}
-use Rattle.table.specs.Format.{editionOf, countOf, totalOf, rowSize, rowStart, rowAt}
+use Rattle.table.specs.Format.{editionOf, countOf, totalOf, widthOf, rowStart, rowAt}
 use Rattle.table.specs.Answers.{answer, Ranged}
-use Rattle.table.specs.Check.{notAbove, badSuite, badLength, misplaced, unreadSet, nonceSeen, badData, bodyStart, rowNumber, bodyNumber, headNumber, endAnswer, rowsFrom, checkAs}
+use Rattle.table.specs.Check.{outside, notAbove, badSuite, badLength, misplaced, unreadSet, nonceSeen, badData, bodyStart, rowNumber, bodyNumber, headNumber, endAnswer, rowsFrom, checkBetween}
 use Rattle.table.proofs.Searches.{first-says}
 
 -- 0, or from low to high, or 34
@@ -34,14 +34,14 @@ row-among w f n i =
     (rung 25 30 29 _ (nonceSeen w f i) (inl (lit≤ tt, lit≤ tt))
     (rung 25 30 30 0 (badData f (rowAt w f i)) (inl (lit≤ tt, lit≤ tt)) (inl refl)))))))
 
-head-among : (e : ℕ) (f : List ℕ) → Among 20 24 (headNumber e f)
+head-among : (low high : ℕ) (f : List ℕ) → Among 20 24 (headNumber low high f)
 unfolding headNumber
-head-among e f =
+head-among low high f =
     rung 20 24 20 _ (ltb (length f) 8 || ltb 1048576 (length f)) (inl (lit≤ tt, lit≤ tt))
-    (rung 20 24 21 _ (not (eqb (editionOf f) e)) (inl (lit≤ tt, lit≤ tt))
+    (rung 20 24 21 _ (outside low high (editionOf f)) (inl (lit≤ tt, lit≤ tt))
     (rung 20 24 22 _ (ltb 512 (countOf f)) (inl (lit≤ tt, lit≤ tt))
     (rung 20 24 23 _ (not (eqb (totalOf f) (length f))) (inl (lit≤ tt, lit≤ tt))
-    (rung 20 24 24 0 (ltb (length f) (rowStart (rowSize e) (countOf f))) (inl (lit≤ tt, lit≤ tt)) (inl refl)))))
+    (rung 20 24 24 0 (ltb (length f) (rowStart (widthOf f) (countOf f))) (inl (lit≤ tt, lit≤ tt)) (inl refl)))))
 
 -- an answer of 0, 20 to `most` or 34, with a row only where that is 25 to 30 or 34
 pub record Told (most : ℕ) (x : Answer) : Type 0 where
@@ -68,12 +68,12 @@ rows-told w f n i =
     (λ h. subst (Told 31) (h .gives) (end-told w f n))
     (first-says _ _ _ (n - i) i (rowsFrom w f n i) refl)
 
-pub check-told : (e : ℕ) (f : List ℕ) → Told 31 (checkAs e f)
-unfolding checkAs
-check-told e f =
+pub check-told : (low high : ℕ) (f : List ℕ) → Told 31 (checkBetween low high f)
+unfolding checkBetween
+check-told low high f =
     ⊎-elim
-    (λ (z : headNumber e f ≡ 0). simp z (rows-told (rowSize e) f (countOf f) 0))
-    (λ (r : Ranged 20 24 (headNumber e f)).
-    let n : headNumber e f ≡ 0 → ⊥ = λ z. ⊎-elim (λ s. omega arith) (λ s. omega arith) r in
+    (λ (z : headNumber low high f ≡ 0). simp z (rows-told (widthOf f) f (countOf f) 0))
+    (λ (r : Ranged 20 24 (headNumber low high f)).
+    let n : headNumber low high f ≡ 0 → ⊥ = λ z. ⊎-elim (λ s. omega arith) (λ s. omega arith) r in
     simp (ne-eqb _ _ n) (record { number = inr (⊎-elim (λ s. inl (s .0, omega arith)) inr r); row = inl refl }))
-    (head-among e f)
+    (head-among low high f)
