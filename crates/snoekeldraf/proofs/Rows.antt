@@ -10,13 +10,13 @@ use lib.Dec.{eqb}
 use borrow.Author.Tests.{eqb-true}
 use Rattle.table.specs.declared.answers.Answer.{Answer}
 use Rattle.table.specs.Search.{firstOf}
-use Rattle.table.specs.Format.{countOf, edition, rowSize, rowOf}
+use Rattle.table.specs.Format.{countOf, edition, newest, widthOf, rowOf}
 use Rattle.table.specs.Answers.{answer}
-use Rattle.table.specs.Check.{bodyStart, endAnswer, rowsFrom, headNumber, andThen, checkAs, checkFile}
+use Rattle.table.specs.Check.{bodyStart, endAnswer, rowsFrom, headNumber, andThen, checkBetween, checkAs, checkFile}
 use Rattle.table.proofs.Searches.{first-says}
 use Rattle.table.proofs.Sound.{headed}
 use Rattle.table.proofs.Passed.{passes, both-zero}
-use Rattle.shift.specs.Lookup.{findFrom, lookupAs, lookupJob}
+use Rattle.shift.specs.Lookup.{findFrom, lookupJob}
 use Rattle.shift.specs.Opening.{entryOpening, left, rowOpening, jobOpening}
 use Rattle.draft.specs.Files.{draftEdition}
 use Rattle.draft.specs.Answers.{tagSet, tagRight, setFrom, wrongFrom, lentAnswer, sealAnswer, openAnswer, unsealAnswer, fileSealing, fileUnsealing}
@@ -53,17 +53,17 @@ find-row : (w : ℕ) (f : List ℕ) (n job : ℕ) → findFrom w f n job 0 .row 
 unfolding findFrom
 find-row w f n job = first-row _ _ (answer 32 0) n (omega arith)
 
-pub check-row : (e : ℕ) (f : List ℕ) → checkAs e f .row ≤ 512
-unfolding checkAs
-check-row e f =
-    then-row (answer (headNumber e f) 0) (rowsFrom (rowSize e) f (countOf f) 0) 512 (omega arith)
-    (λ z. omega (arith, headed e f z .few, rows-row (rowSize e) f (countOf f)))
+pub check-row : (low high : ℕ) (f : List ℕ) → checkBetween low high f .row ≤ 512
+unfolding checkBetween
+check-row low high f =
+    then-row (answer (headNumber low high f) 0) (rowsFrom (widthOf f) f (countOf f) 0) 512 (omega arith)
+    (λ z. omega (arith, headed low high f z .few, rows-row (widthOf f) f (countOf f)))
 
 pub lookup-row : (f : List ℕ) (job : ℕ) → lookupJob f job .row ≤ 512
-unfolding lookupAs
+unfolding lookupJob
 lookup-row f job =
-    then-row (checkFile f) (findFrom (rowSize edition) f (countOf f) job 0) 512 (check-row edition f)
-    (λ z. omega (arith, passes edition f z .head .few, find-row (rowSize edition) f (countOf f) job))
+    then-row (checkFile f) (findFrom (widthOf f) f (countOf f) job 0) 512 (check-row edition newest f)
+    (λ z. omega (arith, passes edition newest f z .head .few, find-row (widthOf f) f (countOf f) job))
 
 opened-row : (f ring : List ℕ) (i : ℕ) (out₀ : List ℕ) → rowOpening f ring i out₀ .answer .row ≡ 0
 unfolding rowOpening
@@ -96,9 +96,9 @@ lent-row file ring out = go (eqb ring 256) (eqb out file)
 pub sealed-row : (draft ring out₀ : List ℕ) → fileSealing draft ring out₀ .answer .row ≤ 512
 unfolding fileSealing sealAnswer setFrom
 sealed-row draft ring out₀ =
-    then-row (checkAs draftEdition draft) (andThen (setFrom draft (countOf draft) 0) (lentAnswer (length draft) (length ring) (length out₀))) 512 (check-row draftEdition draft)
+    then-row (checkAs draftEdition draft) (andThen (setFrom draft (countOf draft) 0) (lentAnswer (length draft) (length ring) (length out₀))) 512 (check-row draftEdition draftEdition draft)
     (λ z. then-row (setFrom draft (countOf draft) 0) (lentAnswer (length draft) (length ring) (length out₀)) 512
-    (omega (arith, passes draftEdition draft z .head .few, first-row (tagSet draft) (λ j. 33) (answer 0 0) (countOf draft) (omega arith)))
+    (omega (arith, passes draftEdition draftEdition draft z .head .few, first-row (tagSet draft) (λ j. 33) (answer 0 0) (countOf draft) (omega arith)))
     (λ y. lent-row (length draft) (length ring) (length out₀)))
 
 pub unsealed-row : (file ring out₀ : List ℕ) → fileUnsealing file ring out₀ .answer .row ≤ 512
@@ -106,8 +106,8 @@ unfolding fileUnsealing unsealAnswer openAnswer wrongFrom
 unsealed-row file ring out₀ =
     let lent = lentAnswer (length file) (length ring) (length out₀) in
     then-row (andThen (checkAs edition file) lent) (wrongFrom file ring (countOf file) 0) 512
-    (then-row (checkAs edition file) lent 512 (check-row edition file) (λ z. lent-row (length file) (length ring) (length out₀)))
-    (λ z. omega (arith, passes edition file (both-zero (checkAs edition file) lent z .0) .head .few, first-row (λ j. not (tagRight file ring j)) (λ j. 8) (answer 0 0) (countOf file) (omega arith)))
+    (then-row (checkAs edition file) lent 512 (check-row edition edition file) (λ z. lent-row (length file) (length ring) (length out₀)))
+    (λ z. omega (arith, passes edition edition file (both-zero (checkAs edition file) lent z .0) .head .few, first-row (λ j. not (tagRight file ring j)) (λ j. 8) (answer 0 0) (countOf file) (omega arith)))
 
 -- an answer is its number and its row
 pub same-answer : {a x : Answer} → (a .number ≡ x .number) × (a .row ≡ x .row) → a ≡ x

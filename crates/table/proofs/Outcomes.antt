@@ -36,6 +36,10 @@ use Rattle.table.proofs.row.width.Kinds as width-kinds
 use Rattle.table.proofs.row.width.Reads as width-reads
 use Rattle.table.proofs.row.station_of.Kinds as station-of-kinds
 use Rattle.table.proofs.row.station_of.Reads as station-of-reads
+use Rattle.table.proofs.row.row_start.Kinds as row-start-kinds
+use Rattle.table.proofs.row.row_start.Reads as row-start-reads
+use Rattle.table.proofs.row.rest_start.Kinds as rest-start-kinds
+use Rattle.table.proofs.row.rest_start.Reads as rest-start-reads
 use Rattle.table.proofs.row.row_at.Kinds as row-at-kinds
 use Rattle.table.proofs.row.row_at.Reads as row-at-reads
 use Rattle.table.proofs.row.stretch.Kinds as stretch-kinds
@@ -139,6 +143,12 @@ width κs a h x y = (x .ensures ∙ sym (y .ensures), refl)
 
 pub station-of : OneOutcome station-of-kinds.ps station-of-kinds.r station-of-reads.Pre station-of-reads.Post
 station-of κs a h x y = (x .ensures ∙ sym (y .ensures), refl)
+
+pub row-start : OneOutcome row-start-kinds.ps row-start-kinds.r row-start-reads.Pre row-start-reads.Post
+row-start κs a h x y = (x .ensures ∙ sym (y .ensures), refl)
+
+pub rest-start : OneOutcome rest-start-kinds.ps rest-start-kinds.r rest-start-reads.Pre rest-start-reads.Post
+rest-start κs a h x y = (x .ensures .0 ∙ sym (y .ensures .0), refl)
 
 pub row-at : OneOutcome row-at-kinds.ps row-at-kinds.r row-at-reads.Pre row-at-reads.Post
 row-at κs a h x y = (x .ensures ∙ sym (y .ensures), refl)

@@ -64,7 +64,7 @@ pub fn width(f: &[u8]) -> usize
 }
 
 // Where row i starts; of n rows, where the bodies do: row_start(w, n).
-pub(crate) fn row_start(w: usize, i: usize) -> usize
+pub fn row_start(w: usize, i: usize) -> usize
     requires { ⌜ rowStart w i < 0x1_0000_0000_0000_0000 ⌝ }
     ensures { λ r. ⌜ r ≡ rowStart w i ⌝ }
 {
@@ -72,7 +72,7 @@ pub(crate) fn row_start(w: usize, i: usize) -> usize
 }
 
 // Where the rest of row i starts, after job number and station.
-fn rest_start(w: usize, i: usize) -> usize
+pub fn rest_start(w: usize, i: usize) -> usize
     requires { ⌜ (28 ≤ w) × (rowStart w i + w < 0x1_0000_0000_0000_0000) ⌝ }
     ensures { λ r. ⌜ (r ≡ restStart w i) × (r + 28 ≡ rowStart w i + w) ⌝ }
 {

@@ -12,7 +12,7 @@ answer-requires : tie.Need-answer-requires
 answer-requires c κs = search needs
 
 told-requires : tie.Need-told-requires
-told-requires c κs = rw (c .before .answer .ensures .1, c .before .before .check .ensures) (check-row _ _)
+told-requires c κs = rw (c .before .answer .ensures .1, c .before .before .check .ensures) (check-row _ _ _)
 
 returns : tie.Need-returns
 returns c = c .told .ensures ∙ same-answer (c .before .before .answer .ensures) ∙ c .before .before .before .check .ensures
