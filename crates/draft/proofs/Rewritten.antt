@@ -88,8 +88,8 @@ module _ (e₀ : ℕ) (f : List ℕ) (p₀ : Plain e₀) (z : checkAs e₀ f .nu
   pub head : Headed e₀ e₀ f
   head = passes e₀ e₀ f z .head
 
-  pub own : editionOf f ≡ e₀
-  own = own-edition e₀ f (passes e₀ e₀ f z)
+  pub edition-own : editionOf f ≡ e₀
+  edition-own = own-edition e₀ f (passes e₀ e₀ f z)
 
   pub walk : Walked (widthOf f) f (countOf f)
   walk = passes e₀ e₀ f z .walk
@@ -166,7 +166,7 @@ module _ (e₀ : ℕ) (f : List ℕ) (p₀ : Plain e₀) (z : checkAs e₀ f .nu
 
     -- rows are as long as they were
     same-width : widthOf g ≡ widthOf f
-    same-width = ap rowSize new-edition ∙ p .0 ∙ sym (ap rowSize own ∙ p₀ .0)
+    same-width = ap rowSize new-edition ∙ p .0 ∙ sym (ap rowSize edition-own ∙ p₀ .0)
 
     pub same-row : (i : ℕ) → i < countOf f → rowOf g i ≡ rowOf f i
     same-row i l = ap (λ (w : ℕ). rowAt w g i) same-width ∙ row-same g f same-length (widthOf f) (countOf f) (row-broad (editionOf f)) same-table i l
@@ -254,7 +254,7 @@ module _ (e₀ : ℕ) (f : List ℕ) (p₀ : Plain e₀) (z : checkAs e₀ f .nu
       let m : i < countOf f = rw (sym count-new) l in
       let s = same-start e₀ f p₀ z e p piece long i m in
       ⊎-elim (λ b. inl (omega (arith, s, b))) (λ b. inr (omega (arith, s, b, long i m, old-long i m))) (o i m) in
-      let ed = own e₀ f p₀ z in
+      let ed = edition-own e₀ f p₀ z in
       all-outside (pieceStart new) old (countOf new) (inEdition e₀ new) back-apart (countOf new) (omega arith) k o-new
       ∙ elim (decLt k 2) [
         | no b ↦ edition-other e₀ new big k (omega arith) ∙ kept e₀ f p₀ z e p piece long k (omega arith) o
