@@ -23,7 +23,8 @@ use Rattle.table.proofs.Bodies.{after-table}
 use Rattle.editions.specs.declared.answers.Moved.{Moved}
 use Rattle.editions.specs.declared.answers.Moved.the-variants as moved-case
 use Rattle.editions.specs.Files.{carried, movedFrom, moved}
-use Rattle.editions.specs.Answers.{movedAnswer, stationsFrom, lengthAnswer, upAnswer, backAnswer, FileMoved, moves}
+use Rattle.editions.specs.Answers.{movedAnswer, stationsFrom, lengthAnswer, upAnswer, backAnswer, FileMoved, moves, toEdition2, toEdition1}
+use Rattle.editions.specs.Promised.{done}
 use Rattle.editions.specs.Inside.{Movable, Source, Room}
 use Rattle.editions.proofs.Laid.{file-long}
 use Rattle.editions.proofs.answers.Moved.{the-type}
@@ -34,6 +35,9 @@ not-done moved-case.Done k q = miss (1 ∷ 2 ∷ 3 ∷ []) 0 tt k
 not-done (moved-case.Refused x) k q = refusal-some x q
 not-done (moved-case.Station i) k q = omega arith
 not-done moved-case.Room k q = omega arith
+
+pub told-zero : (x : Moved) (y : Answer) → movedAnswer x ≡ y → x ≡ moved-case.Done → y .number ≡ 0
+told-zero x y q d = ap (λ (z : Answer). z .number) (sym q ∙ ap movedAnswer d)
 
 -- a refusal leaves the output
 pub refused-moves : (x y : Answer) (g out : List ℕ) → x ≡ y → (x .number ≡ 0 → ⊥) → _≡_ {A = FileMoved} (record { answer = x; out = out }) (moves y g out)
@@ -100,9 +104,25 @@ back-goes f out z =
     let r = lengths-pass _ _ (rw (b .1 ∙ s .1) at z) in
     (record { passed = b .0; room = r; zero = b .1 ∙ s .1 ∙ lengths-fit _ _ r }, stations-none f (s .0))
 
+-- a station that is not 0 stands
+pub station-stands : (f : List ℕ) (out : ℕ) → checkAs newest f .number ≡ 0 → (x : Answer) → x ≡ stationsFrom f (countOf f) 0 → (x .number ≡ 0 → ⊥) → x ≡ backAnswer f out
+unfolding backAnswer
+station-stands f out z x q n = simp (z, ← q, ne-eqb _ _ n)
+
 pub goes-back : (f : List ℕ) (out : ℕ) → checkAs newest f .number ≡ 0 → NoStation f → Room (length (moved edition f)) out → backAnswer f out ≡ answer 0 0
 unfolding backAnswer
 goes-back f out z n r = simp (z, none-stations f n) (lengths-fit _ _ r)
+
+-- ---- what is left then
+
+-- number 0: the moved file is what the output holds
+pub up-is : (f out₀ : List ℕ) → upAnswer f (length out₀) ≡ answer 0 0 → toEdition2 f out₀ ≡ done (moved newest f)
+unfolding toEdition2
+up-is f out₀ q = ap (λ (x : Answer). moves x (moved newest f) out₀) q
+
+pub back-is : (f out₀ : List ℕ) → backAnswer f (length out₀) ≡ answer 0 0 → toEdition1 f out₀ ≡ done (moved edition f)
+unfolding toEdition1
+back-is f out₀ q = ap (λ (x : Answer). moves x (moved edition f) out₀) q
 
 -- ---- a file that passes can be moved
 

@@ -6,12 +6,22 @@ use native.Mathlib.Omega.{arith}
 use mathlib.Core.Path.{_≡_, refl, sym, ap, ap₂, _∙_}
 use mathlib.Core.List.{List, [], _∷_, _++_, append-assoc, append-nil}
 use lib.ListN.{length, take, drop, replicate, length-append, length-drop}
-use lib.Seq.{take-at, take-all}
+use lib.Seq.{take-at, take-all, length-take-le}
+use borrow.Rule.Slice.PartMut.{putMid}
 use Rattle.words.specs.Bytes.{bytes}
 use Rattle.words.proofs.Bytes.{length-bytes, bytes-join}
 use Rattle.table.specs.Part.{stretch}
 use Rattle.table.specs.Format.{rowStart, restStart, rowAt}
 use Rattle.editions.specs.Files.{carried, movedRow, movedRows, movedHeader, movedFrom}
+
+-- a part put at `at`, up to its end
+pub mid-front : (o x y : List ℕ) (at m : ℕ) → at ≤ length o → y ≡ x → take (at + length x) (putMid at m o y) ≡ take at o ++ x
+mid-front o x y at m h q =
+    let d = drop m (drop at o) in
+    let long : length (take at o ++ x) ≡ at + length x = length-append (take at o) x ∙ ap (λ (k : ℕ). k + length x) (length-take-le at o h) in
+    ap (λ (z : List ℕ). take (at + length x) (take at o ++ (z ++ d))) q
+    ∙ ap (take (at + length x)) (sym (append-assoc (take at o) x d))
+    ∙ take-at (take at o ++ x) d (at + length x) long
 
 -- the part by another name
 pub front-is : (o p x y : List ℕ) (at m : ℕ) → take (at + length x) p ≡ take at o ++ x → x ≡ y → length x ≡ m → take (at + m) p ≡ take at o ++ y

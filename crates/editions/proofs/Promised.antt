@@ -17,14 +17,14 @@ use Rattle.table.proofs.Rows.{row-broad, row-in, station-none}
 use Rattle.table.proofs.Passed.{Passes, passes, own-edition}
 use Rattle.table.proofs.Bodies.{after-table}
 use Rattle.editions.specs.Files.{carried, movedFrom, moved}
-use Rattle.editions.specs.Answers.{upAnswer, backAnswer, FileMoved, moves, toEdition2, toEdition1}
+use Rattle.editions.specs.Answers.{FileMoved, toEdition2, toEdition1}
 use Rattle.editions.specs.Promised.{done, ThereAndBack, BackAndThere, UpPasses, BackPasses, BackShort}
 use Rattle.editions.proofs.Segments.{word-stretch}
 use Rattle.editions.proofs.Laid.{file-long}
 use Rattle.editions.proofs.Kept.{edition-is, count-is, station-part, table-in}
 use Rattle.editions.proofs.Back.{Whole, file-back}
 use Rattle.editions.proofs.Passing.{file-passes}
-use Rattle.editions.proofs.Done.{NoStation, up-goes, goes-up, back-goes, goes-back}
+use Rattle.editions.proofs.Done.{NoStation, up-goes, goes-up, back-goes, goes-back, up-is, back-is}
 
 -- a station of 0, as bytes, and read again
 zero-bytes : (m : ℕ) → bytes m 0 ≡ replicate m 0
@@ -140,15 +140,6 @@ back-short f z =
 
 abbrev numberOf : Answer → ℕ
 numberOf x = x .number
-
--- number 0: the moved file is what the output holds
-pub up-is : (f out₀ : List ℕ) → upAnswer f (length out₀) ≡ answer 0 0 → toEdition2 f out₀ ≡ done (moved newest f)
-unfolding toEdition2
-up-is f out₀ q = ap (λ (x : Answer). moves x (moved newest f) out₀) q
-
-pub back-is : (f out₀ : List ℕ) → backAnswer f (length out₀) ≡ answer 0 0 → toEdition1 f out₀ ≡ done (moved edition f)
-unfolding toEdition1
-back-is f out₀ q = ap (λ (x : Answer). moves x (moved edition f) out₀) q
 
 abbrev pub outOf : FileMoved → List ℕ
 outOf x = x .out

@@ -32,8 +32,12 @@ use Rattle.editions.specs.Promised.{SameRead, UpReads, BackReads}
 use Rattle.editions.proofs.Laid.{file-long}
 use Rattle.editions.proofs.Kept.{body-from}
 use Rattle.editions.proofs.Passing.{low, row, reads}
-use Rattle.editions.proofs.Done.{Goes, up-goes, back-goes}
-use Rattle.editions.proofs.Promised.{new-width, new-count, new-passes, up-is, back-is, outOf}
+use Rattle.editions.proofs.Done.{Goes, up-goes, back-goes, up-is, back-is}
+use Rattle.editions.proofs.Promised.{new-width, new-count, new-passes, outOf}
+
+-- a row, its body carried
+abbrev carriedRow : ℕ → ℕ → ℕ → Row → Row
+carriedRow w v n r = record { job = r .job; suite = r .suite; key = r .key; ad = r .ad; at = carried w v n (r .at); len = r .len }
 
 -- both pass, and every row of g is that of f, but for where its body lies
 pub record Alike (f g : List ℕ) : Type 0 where
@@ -55,7 +59,7 @@ module _ (f g : List ℕ) (h : Alike f g) where
       let n = countOf f in
       goes g job (passes edition newest g (h .new) .zero)
       ∙ ap (halving (jobsOf (widthOf g) g) job 0) (h .count)
-      ∙ jobs-same (jobsOf (widthOf g) g) (jobsOf (widthOf f) f) job n 0 n (omega arith) (λ i a b. h .job i b)
+      ∙ jobs-same (jobsOf (widthOf g) g) (jobsOf (widthOf f) f) job n 0 n (omega arith) (λ i a b. h .job i (omega arith))
       ∙ sym (goes f job (passes edition newest f (h .old) .zero))
 
   found : (job : ℕ) → lookupJob g job ≡ lookupJob f job
@@ -169,18 +173,18 @@ module _ (a b : ℕ) (la : edition ≤ a) (ma : a ≤ newest) (lb : edition ≤ 
       let small : carried w v n (length f) < 256 ^ 4 = omega (arith, file-long w v f n t broad b, d .room .short) in
       let wide = new-width a b wa wb f (d .passed) in
       let is : (i : ℕ) → i < n → rowOf g i ≡ rowAt v g i = λ i l. ap (λ (k : ℕ). rowAt k g i) wide in
-      let shifted = λ i l. is i l ∙ row b w v f n t broad (p .walk) small i l in
+      let carries : (i : ℕ) → i < n → rowOf g i ≡ carriedRow w v n (rowOf f i) = λ i l. is i l ∙ row b w v f n t broad (p .walk) small i l in
       record {
         old = wider a f la ma (d .passed);
         new = wider b g lb mb (ap (λ (y : Answer). y .number) (new-passes a b wa wb f (d .passed) (d .room .short)));
         count = new-count a b wa wb f (d .passed);
-        job = λ i l. ap (λ (r : Row). r .job) (shifted i l);
-        suite = λ i l. ap (λ (r : Row). r .suite) (shifted i l);
-        key = λ i l. ap (λ (r : Row). r .key) (shifted i l);
-        extra = λ i l. ap (λ (r : Row). r .ad) (shifted i l);
-        len = λ i l. ap (λ (r : Row). r .len) (shifted i l);
+        job = λ i l. ap (λ (r : Row). r .job) (carries i l);
+        suite = λ i l. ap (λ (r : Row). r .suite) (carries i l);
+        key = λ i l. ap (λ (r : Row). r .key) (carries i l);
+        extra = λ i l. ap (λ (r : Row). r .ad) (carries i l);
+        len = λ i l. ap (λ (r : Row). r .len) (carries i l);
         nonce = λ i l. ap (λ (k : ℕ). nonceReadAt k g i) wide ∙ reads b w v f n t broad (p .walk) small i l;
-        body = λ i l. ap (λ (r : Row). drop (r .at) g) (shifted i l) ∙ body-from b w v f n t broad (rowAt w f i .at) (low b w v f n t broad (p .walk) small i l);
+        body = λ i l. ap (λ (r : Row). drop (r .at) g) (carries i l) ∙ body-from b w v f n t broad (rowAt w f i .at) (low b w v f n t broad (p .walk) small i l);
       }
 
 pub up-reads : UpReads

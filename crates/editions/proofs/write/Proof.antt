@@ -1,36 +1,39 @@
+-- The file's own row size and count, and the new edition's row size.
+use mathlib.Core.Path.{_≡_, _∙_}
+use native.Mathlib.Omega.{arith}
+use denote.Ref.{now}
+use Rattle.editions.specs.Files.{movedFrom}
+use Rattle.editions.proofs.Done.{length-is, movable}
 use borrow.Author.Needs.{needs}
 use Rattle.editions.proofs.write.Statement.{statement}
 use Rattle.editions.proofs.write.Tie as tie
-use Rattle.editions.proofs.write.Reads as reads
-use Rattle.editions.proofs.write.Lts as lts
-use Rattle.editions.proofs.put_file.Reads as put-file-reads
-use Rattle.table.proofs.row.count.Reads as count-reads
-use Rattle.table.proofs.row.row_size.Reads as row-size-reads
-use Rattle.table.proofs.row.width.Reads as width-reads
 
--- src/lib.rt:56:22
 width-requires : tie.Need-width-requires
 width-requires c κs = search needs
 
--- src/lib.rt:56:32
 row-size-requires : tie.Need-row-size-requires
 row-size-requires c κs = search needs
 
--- src/lib.rt:56:48
 count-requires : tie.Need-count-requires
 count-requires c κs = search needs
 
--- src/lib.rt:56:5
 put-file-requires : tie.Need-put-file-requires
-put-file-requires c κs = ?
+put-file-requires c κs =
+    let s = c .before .before .before .before .before .before in
+    let f = now (s .args .f) in
+    let e = s .args .e in
+    rw (c .before .before .width .ensures, c .before .row-size .ensures, c .count .ensures)
+    (movable f e (s .pre .0) (s .pre .1 .short), (omega (arith, s .pre .0 .few), s .pre .1 .fits ∙ length-is f e (s .pre .0)))
 
--- src/lib.rt:52:1
 same-length : tie.Need-same-length
 same-length c = search needs
 
--- src/lib.rt:52:1
 returns : tie.Need-returns
-returns c = ?
+returns c =
+    let n = c .before .before .before in
+    let s = n .before .before .before .before .before .before in
+    let f = now (s .args .f) in
+    c .before .before .put-file .ensures ∙ (λ t. movedFrom (s .args .e) (n .before .before .width .ensures t) (n .before .row-size .ensures t) f (n .count .ensures t))
 
 pub write-spec : {M : Type 1} → statement M
 write-spec =
