@@ -12,7 +12,17 @@ use Rattle.words.specs.Bytes.{bytes}
 use Rattle.words.proofs.Bytes.{length-bytes, bytes-join}
 use Rattle.table.specs.Part.{stretch}
 use Rattle.table.specs.Format.{rowStart, restStart, rowAt}
+use Rattle.table.proofs.Rows.{row-in, row-below}
+use Rattle.editions.specs.Inside.{Movable}
 use Rattle.editions.specs.Files.{carried, movedRow, movedRows, movedHeader, movedFrom}
+
+-- where row i lies in the new table, and in the old file
+module _ (w v : ℕ) (f : List ℕ) (n i : ℕ) (h : Movable w v f n) (l : i < n) where
+  pub new-row : (rowStart v i + v ≤ rowStart v n) × (rowStart v i + v < 1048576)
+  new-row = let b = row-below v i n l in (b, omega (arith, h .new-small))
+
+  pub old-row : (rowStart w i + w ≤ length f) × (32 ≤ w)
+  old-row = let r = row-in w f n i (h .table) l in (r .fits, r .broad)
 
 -- a part put at `at`, up to its end
 pub mid-front : (o x y : List ℕ) (at m : ℕ) → at ≤ length o → y ≡ x → take (at + length x) (putMid at m o y) ≡ take at o ++ x
@@ -89,26 +99,26 @@ rows-put f o p q w v n i e g =
     ∙ ap (λ (k : ℕ). take 8 o ++ movedRows w v f n k) (sym (add-one i))
 
 -- the header, made of two numbers of four bytes
-pub header-put : (f o p x : List ℕ) (e w v n c : ℕ) → e < 256 ^ 2 → c ≡ carried w v n (length f) → x ≡ bytes 4 (e + 65536 * n) ++ bytes 4 c
-    → take (0 + length (take 8 x)) p ≡ take 0 o ++ take 8 x → take 8 p ≡ movedHeader e w v f n
-unfolding movedHeader
-header-put f o p x e w v n c h qc qx g =
+pub header-put : (o p x : List ℕ) (e n c : ℕ) → e < 256 ^ 2 → x ≡ bytes 4 (e + 65536 * n) ++ bytes 4 c
+    → take (0 + length (take 8 x)) p ≡ take 0 o ++ take 8 x → take 8 p ≡ bytes 2 e ++ (bytes 2 n ++ bytes 4 c)
+header-put o p x e n c h qx g =
     let top : bytes 4 (e + 65536 * n) ≡ bytes 2 e ++ bytes 2 n = bytes-join 2 2 e n h in
     let long : length x ≡ 8 = ap length qx ∙ length-append (bytes 4 (e + 65536 * n)) (bytes 4 c) ∙ ap₂ (λ (a b : ℕ). a + b) (length-bytes 4 (e + 65536 * n)) (length-bytes 4 c) in
     let all : take 8 x ≡ x = take-all 8 x (omega (arith, long)) in
     let eight : 0 + length (take 8 x) ≡ 8 = omega (arith, ap length all, long) in
     ap (λ (k : ℕ). take k p) (sym eight) ∙ g ∙ all ∙ qx
-    ∙ ap₂ (λ (a : List ℕ) (b : ℕ). a ++ bytes 4 b) top qc
-    ∙ append-assoc (bytes 2 e) (bytes 2 n) (bytes 4 (carried w v n (length f)))
+    ∙ ap (λ (a : List ℕ). a ++ bytes 4 c) top
+    ∙ append-assoc (bytes 2 e) (bytes 2 n) (bytes 4 c)
 
 -- the whole file
-pub file-put : (f p q s : List ℕ) (e w v n a b m : ℕ) → a ≡ rowStart v n → b ≡ rowStart w n → m ≡ length f - rowStart w n → length s ≤ a + m
-    → take 8 p ≡ movedHeader e w v f n → take (rowStart v n) q ≡ take 8 p ++ movedRows w v f n n → take (a + m) s ≡ take a q ++ stretch f b m
+pub file-put : (f p q s : List ℕ) (e w v n a b m t : ℕ) → a ≡ rowStart v n → b ≡ rowStart w n → m ≡ length f - rowStart w n → length s ≤ a + m
+    → t ≡ carried w v n (length f) → take 8 p ≡ bytes 2 e ++ (bytes 2 n ++ bytes 4 t) → take (rowStart v n) q ≡ take 8 p ++ movedRows w v f n n → take (a + m) s ≡ take a q ++ stretch f b m
     → s ≡ movedFrom e w v f n
-unfolding movedFrom
-file-put f p q s e w v n a b m qa qb qm l eh er eb =
+unfolding movedFrom movedHeader
+file-put f p q s e w v n a b m t qa qb qm l qt eh er eb =
     let body : stretch f b m ≡ drop (rowStart w n) f =
         ap (λ (k : ℕ). stretch f k m) qb ∙ take-all m (drop (rowStart w n) f) (omega (arith, length-drop (rowStart w n) f)) in
+    let header : take 8 p ≡ movedHeader e w v f n = eh ∙ ap (λ (k : ℕ). bytes 2 e ++ (bytes 2 n ++ bytes 4 k)) qt in
     sym (take-all (a + m) s l) ∙ eb
-    ∙ ap₂ (λ (x y : List ℕ). x ++ y) (ap (λ (k : ℕ). take k q) qa ∙ er ∙ ap (λ (x : List ℕ). x ++ movedRows w v f n n) eh) body
+    ∙ ap₂ (λ (x y : List ℕ). x ++ y) (ap (λ (k : ℕ). take k q) qa ∙ er ∙ ap (λ (x : List ℕ). x ++ movedRows w v f n n) header) body
     ∙ append-assoc (movedHeader e w v f n) (movedRows w v f n n) (drop (rowStart w n) f)

@@ -18,22 +18,23 @@ use table::row::row_start;
 use table::row::station_of;
 use table::row::width;
 ghost use mathlib.Core.Path.{_≡_};
+ghost use mathlib.Core.List.{_++_};
 ghost use Prim.Native.Nat.{_≤_, _<_};
 ghost use lib.ListN.{length, take};
+ghost use Rattle.words.specs.Bytes.{bytes};
 ghost use Rattle.table.specs.Format.{widthOf};
 ghost use Rattle.table.specs.Inside.{TableIn};
-ghost use Rattle.editions.specs.Files.{carried, movedHeader, movedFrom, moved};
+ghost use Rattle.editions.specs.Files.{carried, movedFrom, moved};
 ghost use Rattle.editions.specs.Answers.{movedAnswer, stationsFrom, lengthAnswer, upAnswer, backAnswer, FileMoved, toEdition2, toEdition1};
 ghost use Rattle.editions.specs.Inside.{Movable, Source, Room};
 
-// Writes the header.
-fn put_header(out: &mut [u8], e: u16, w: usize, v: usize, f: &[u8], n: usize)
-    requires { ⌜ Movable w v (now f) n × ((n < 65536) × (8 ≤ length (now out))) ⌝ }
-    ensures { λ _. ⌜ take 8 (now (out .exit)) ≡ movedHeader e w v (now (f .entry)) n ⌝ }
+// Writes the header: edition, row count, and the output's own length.
+fn put_header(out: &mut [u8], e: u16, n: usize)
+    requires { ⌜ (n < 65536) × ((8 ≤ length (now out)) × (length (now out) < 0x1_0000_0000)) ⌝ }
+    ensures { λ _. ⌜ take 8 (now (out .exit)) ≡ bytes 2 e ++ (bytes 2 n ++ bytes 4 (length (now (out .entry)))) ⌝ }
 {
-    let total = (f.len() - row_start(w, n) + row_start(v, n)) as u32;
     let top = e as u32 + 65536 * (n as u32);
-    let b = words::arx::store2_32(top, total);
+    let b = words::arx::store2_32(top, out.len() as u32);
     put(out, 0, &b[0..8]);
 }
 
@@ -42,7 +43,7 @@ fn put_file(out: &mut [u8], e: u16, w: usize, v: usize, f: &[u8], n: usize)
     requires { ⌜ Movable w v (now f) n × ((n < 65536) × (length (now out) ≡ carried w v n (length (now f)))) ⌝ }
     ensures { λ _. ⌜ now (out .exit) ≡ movedFrom e w v (now (f .entry)) n ⌝ }
 {
-    put_header(out, e, w, v, f, n);
+    put_header(out, e, n);
     put_rows(out, w, v, f, n);
     let p = row_start(w, n);
     put_part(out, row_start(v, n), f, p, f.len() - p);

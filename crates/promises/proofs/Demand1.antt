@@ -13,6 +13,7 @@ use Rattle.table.proofs.Outcomes as table
 use Rattle.shift.proofs.Outcomes as shift
 use Rattle.writer.proofs.Outcomes as writer
 use Rattle.search.proofs.Outcomes as halving
+use Rattle.editions.proofs.Outcomes as editions
 use Rattle.comet.proofs.Refuse.{refusal-most}
 use Rattle.promises.specs.Demand1.{EntryPoints, SealKeeps, OpenKeeps}
 
@@ -33,6 +34,8 @@ entry-points =
       associated = shift.associated;
       seal-file = record { asks-nothing = λ κs a. tt; one-outcome = writer.seal-file };
       unseal-file = record { asks-nothing = λ κs a. tt; one-outcome = writer.unseal-file };
+      to-edition2 = record { asks-nothing = λ κs a. tt; one-outcome = editions.to-edition2 };
+      to-edition1 = record { asks-nothing = λ κs a. tt; one-outcome = editions.to-edition1 };
     }
 
 sealed-keeps : (n : ℕ) (x y o t : List ℕ) → n ≤ 7 → (sealedAs n x y o t .number ≤ 7) × (0 < sealedAs n x y o t .number → (sealedAs n x y o t .out ≡ o) × (sealedAs n x y o t .tag ≡ t))

@@ -6,11 +6,11 @@ use mathlib.Core.Bool.{Bool, true, false, not, cond}
 use mathlib.Core.List.{List}
 use mathlib.Core.Logic.{⊎-elim}
 use lib.ListN.{length}
-use lib.Dec.{eqb}
+use lib.Dec.{eqb, ltb}
 use borrow.Author.Tests.{eqb-true}
 use Rattle.table.specs.declared.answers.Answer.{Answer}
 use Rattle.table.specs.Search.{firstOf}
-use Rattle.table.specs.Format.{countOf, edition, newest, widthOf, rowOf}
+use Rattle.table.specs.Format.{countOf, edition, newest, widthOf, rowOf, stationOf}
 use Rattle.table.specs.Answers.{answer}
 use Rattle.table.specs.Check.{bodyStart, endAnswer, rowsFrom, headNumber, andThen, checkBetween, checkAs, checkFile}
 use Rattle.table.proofs.Searches.{first-says}
@@ -19,6 +19,8 @@ use Rattle.table.proofs.Passed.{passes, both-zero}
 use Rattle.shift.specs.Lookup.{findFrom, lookupJob}
 use Rattle.shift.specs.Opening.{entryOpening, left, rowOpening, jobOpening}
 use Rattle.draft.specs.Files.{draftEdition}
+use Rattle.editions.specs.Files.{moved}
+use Rattle.editions.specs.Answers.{stationsFrom, lengthAnswer, upAnswer, backAnswer, toEdition2, toEdition1}
 use Rattle.draft.specs.Answers.{tagSet, tagRight, setFrom, wrongFrom, lentAnswer, sealAnswer, openAnswer, unsealAnswer, fileSealing, fileUnsealing}
 
 -- the first of n rows, or what no row gives
@@ -108,6 +110,31 @@ unsealed-row file ring out₀ =
     then-row (andThen (checkAs edition file) lent) (wrongFrom file ring (countOf file) 0) 512
     (then-row (checkAs edition file) lent 512 (check-row edition edition file) (λ z. lent-row (length file) (length ring) (length out₀)))
     (λ z. omega (arith, passes edition edition file (both-zero (checkAs edition file) lent z .0) .head .few, first-row (λ j. not (tagRight file ring j)) (λ j. 8) (answer 0 0) (countOf file) (omega arith)))
+
+-- the moves' answers
+length-row : (new out : ℕ) → lengthAnswer new out .row ≤ 512
+unfolding lengthAnswer
+length-row new out = go (ltb 1048576 new) (eqb out new)
+  where
+    go : (a b : Bool) → cond a (answer 20 0) (cond (not b) (answer 6 0) (answer 0 0)) .row ≤ 512
+    go true b = omega arith
+    go false true = omega arith
+    go false false = omega arith
+
+pub up-row : (file out₀ : List ℕ) → toEdition2 file out₀ .answer .row ≤ 512
+unfolding toEdition2 upAnswer
+up-row file out₀ =
+    let new = lengthAnswer (length (moved newest file)) (length out₀) in
+    then-row (checkAs edition file) new 512 (check-row edition edition file) (λ z. length-row (length (moved newest file)) (length out₀))
+
+pub back-row : (file out₀ : List ℕ) → toEdition1 file out₀ .answer .row ≤ 512
+unfolding toEdition1 backAnswer stationsFrom
+back-row file out₀ =
+    let new = lengthAnswer (length (moved edition file)) (length out₀) in
+    then-row (checkAs newest file) (andThen (stationsFrom file (countOf file) 0) new) 512 (check-row newest newest file)
+    (λ z. then-row (stationsFrom file (countOf file) 0) new 512
+    (omega (arith, passes newest newest file z .head .few, first-row (λ j. not (eqb (stationOf file j) 0)) (λ j. 35) (answer 0 0) (countOf file) (omega arith)))
+    (λ y. length-row (length (moved edition file)) (length out₀)))
 
 -- an answer is its number and its row
 pub same-answer : {a x : Answer} → (a .number ≡ x .number) × (a .row ≡ x .row) → a ≡ x

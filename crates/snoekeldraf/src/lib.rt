@@ -2,5 +2,6 @@
 pub mod drafts;
 pub mod file;
 pub mod halving;
+pub mod moves;
 pub mod parts;
 pub mod record;

@@ -13,7 +13,10 @@ use Rattle.editions.proofs.put_file.Tie as tie
 
 put-header-requires : tie.Need-put-header-requires
 unfolding carried rowStart
-put-header-requires c κs = let s = c .before .before .before in (s .pre .0, (s .pre .1 .0, omega (arith, s .pre .1 .1)))
+put-header-requires c κs =
+    let s = c .before .before .before in
+    let long = s .pre .1 .1 in
+    (s .pre .1 .0, (omega (arith, long), omega (arith, long, s .pre .0 .small)))
 
 put-rows-requires : tie.Need-put-rows-requires
 unfolding carried
@@ -44,17 +47,18 @@ same-length c = search needs
 returns : tie.Need-returns
 unfolding carried
 returns c =
-    let s = c .before .before .before .before .before .before .before .before .before .before .before .before .before .before .before .before in
+    let body = c .before .before in
+    let a = body .before .row-start2 in
+    let b = body .before .before .before .row-start in
+    let rows = body .before .before .before .before .before .before in
+    let head = rows .before .before .before .before in
+    let s = head .before .before .before .before in
     let x = s .args in
     let f = now (x .f) in
-    let a = c .before .before .before .row-start2 in
-    let b = c .before .before .before .before .before .row-start in
-    let l = c .before .before .put-part .kept .0 in
-    let k = c .before .before .before .before .before .before .before .before .put-rows .kept .0 in
-    let j = c .before .before .before .before .before .before .before .before .before .before .before .before .put-header .kept .0 in
-    file-put f (c .before .before .before .before .before .before .before .before .before .before .before .before .put-header .last .0) (c .before .before .before .before .before .before .before .before .put-rows .last .0) (c .before .before .put-part .last .0) (x .e) (x .w) (x .v) (x .n) (a .result) (b .result) (length f - b .result)
-    (a .ensures) (b .ensures) (ap (λ (t : ℕ). length f - t) (b .ensures)) (omega (arith, l, k, j, a .ensures, b .ensures, s .pre .1 .1))
-    (c .before .before .before .before .before .before .before .before .before .before .before .before .put-header .ensures) (c .before .before .before .before .before .before .before .before .put-rows .ensures) (c .before .before .put-part .ensures)
+    file-put f (head .put-header .last .0) (rows .put-rows .last .0) (body .put-part .last .0) (x .e) (x .w) (x .v) (x .n) (a .result) (b .result) (length f - b .result) (length (now (x .out)))
+    (a .ensures) (b .ensures) (ap (λ (t : ℕ). length f - t) (b .ensures))
+    (omega (arith, body .put-part .kept .0, rows .put-rows .kept .0, head .put-header .kept .0, a .ensures, b .ensures, s .pre .1 .1)) (s .pre .1 .1)
+    (head .put-header .ensures) (rows .put-rows .ensures) (body .put-part .ensures)
 
 pub put-file-spec : {M : Type 1} → statement M
 put-file-spec =

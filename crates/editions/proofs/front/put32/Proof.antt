@@ -1,3 +1,4 @@
+-- The first four of eight bytes that hold the number.
 use mathlib.Core.Path.{ap, _∙_}
 use lib.ListN.{length, take}
 use denote.Ref.{now}

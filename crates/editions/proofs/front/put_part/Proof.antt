@@ -1,3 +1,4 @@
+-- A part of the file is what is put.
 use denote.Ref.{now}
 use Rattle.editions.proofs.Fronts.{front-is}
 use borrow.Author.Needs.{needs}

@@ -1,3 +1,4 @@
+-- As many as are wanted, of four zeros.
 use Prim.Native.Nat.{ℕ, _-_}
 use mathlib.Core.Path.{_≡_, ap, _∙_}
 use native.Mathlib.Omega.{arith}

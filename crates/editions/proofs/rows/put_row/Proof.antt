@@ -1,3 +1,4 @@
+-- The row's front, and its rest behind it.
 use denote.Ref.{now}
 use Rattle.editions.proofs.Fronts.{row-put}
 use borrow.Author.Needs.{needs}
@@ -15,8 +16,11 @@ same-length c = search needs
 
 returns : tie.Need-returns
 returns c =
-    let s = c .before .before .before .before .before .before .before .before .before .before in
-    row-put (now (s .args .f)) (now (s .args .out)) (c .before .before .before .before .before .before .put-job .last .0) (c .before .before .put-rest .last .0) (s .args .w) (s .args .v) (s .args .n) (s .args .i) (s .pre .0 .broad) (c .before .before .before .before .before .before .put-job .ensures) (c .before .before .put-rest .ensures)
+    let u = c .before .before in
+    let t = u .before .before .before .before in
+    let s = t .before .before .before .before in
+    let a = s .args in
+    row-put (now (a .f)) (now (a .out)) (t .put-job .last .0) (u .put-rest .last .0) (a .w) (a .v) (a .n) (a .i) (s .pre .0 .broad) (t .put-job .ensures) (u .put-rest .ensures)
 
 pub put-row-spec : {M : Type 1} → statement M
 put-row-spec = tie.close (tie.spec put-job-requires put-rest-requires same-length returns)
