@@ -56,7 +56,7 @@ module _ (e w v : ℕ) (f : List ℕ) (n : ℕ) (h : Whole w v f n) (broad : 32 
       let q = p + (w - 28) in
       let fits = row-in w f n i t l .fits in
       let at : carried v w n (rowAt v there i .at) ≡ rowAt w f i .at =
-          ap (λ (r : Row). carried v w n (r .at)) (row-is e w v f n t broad i l (h .small i l)) ∙ carried-back w v n (rowAt w f i .at) (h .behind i l) in
+      ap (λ (r : Row). carried v w n (r .at)) (row-is e w v f n t broad i l (h .small i l)) ∙ carried-back w v n (rowAt w f i .at) (h .behind i l) in
       let offset : bytes 4 (carried v w n (rowAt v there i .at)) ≡ stretch f (q + 4) 4 = ap (bytes 4) at ∙ offset-is i l in
       let r4 : p + 4 + (w - 32) ≡ q = omega (arith, t .broad) in
       let w4 : 4 + (w - 32 + 28) ≡ w = omega (arith, t .broad) in

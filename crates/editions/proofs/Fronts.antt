@@ -117,7 +117,7 @@ pub file-put : (f p q s : List ℕ) (e w v n a b m t : ℕ) → a ≡ rowStart v
 unfolding movedFrom movedHeader
 file-put f p q s e w v n a b m t qa qb qm l qt eh er eb =
     let body : stretch f b m ≡ drop (rowStart w n) f =
-        ap (λ (k : ℕ). stretch f k m) qb ∙ take-all m (drop (rowStart w n) f) (omega (arith, length-drop (rowStart w n) f)) in
+    ap (λ (k : ℕ). stretch f k m) qb ∙ take-all m (drop (rowStart w n) f) (omega (arith, length-drop (rowStart w n) f)) in
     let header : take 8 p ≡ movedHeader e w v f n = eh ∙ ap (λ (k : ℕ). bytes 2 e ++ (bytes 2 n ++ bytes 4 k)) qt in
     sym (take-all (a + m) s l) ∙ eb
     ∙ ap₂ (λ (x y : List ℕ). x ++ y) (ap (λ (k : ℕ). take k q) qa ∙ er ∙ ap (λ (x : List ℕ). x ++ movedRows w v f n n) header) body

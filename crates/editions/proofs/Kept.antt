@@ -109,15 +109,15 @@ module _ (e w v : ℕ) (f : List ℕ) (n : ℕ) (t : TableIn w f n) (broad : 32 
         let p = restStart v i in
         let q = restStart w i in
         let job : word 4 file (rowStart v i) ≡ word 4 f (rowStart w i) =
-            word-stretch 4 file (rowStart v i) (omega (arith, row-fits)) ∙ ap value job-part ∙ sym (word-stretch 4 f (rowStart w i) (omega (arith, old-fits, t .broad))) in
+        word-stretch 4 file (rowStart v i) (omega (arith, row-fits)) ∙ ap value job-part ∙ sym (word-stretch 4 f (rowStart w i) (omega (arith, old-fits, t .broad))) in
         let suite : getD file p 0 ≡ getD f q 0 =
-            ap (λ (j : ℕ). getD file j 0) (sym (add-zero p)) ∙ byte-in f file q p 4 (omega (arith, old-rest-fits)) (omega (arith, rest-fits)) field-part 0 (omega arith) ∙ ap (λ (j : ℕ). getD f j 0) (add-zero q) in
+        ap (λ (j : ℕ). getD file j 0) (sym (add-zero p)) ∙ byte-in f file q p 4 (omega (arith, old-rest-fits)) (omega (arith, rest-fits)) field-part 0 (omega arith) ∙ ap (λ (j : ℕ). getD f j 0) (add-zero q) in
         let key = byte-in f file q p 4 (omega (arith, old-rest-fits)) (omega (arith, rest-fits)) field-part 1 (omega arith) in
         let ad = word-in f file q p 4 (omega (arith, old-rest-fits)) (omega (arith, rest-fits)) field-part 2 2 (omega arith) in
         let at : word 4 file (p + 4) ≡ carried w v n (word 4 f (q + 4)) =
-            word-stretch 4 file (p + 4) (omega (arith, rest-fits)) ∙ ap value offset-part ∙ value-bytes 4 (carried w v n (rowAt w f i .at)) h in
+        word-stretch 4 file (p + 4) (omega (arith, rest-fits)) ∙ ap value offset-part ∙ value-bytes 4 (carried w v n (rowAt w f i .at)) h in
         let len : word 4 file (p + 8) ≡ word 4 f (q + 8) =
-            ap (λ (j : ℕ). word 4 file j) (sym (add-zero (p + 8))) ∙ word-in f file (q + 8) (p + 8) 20 (omega (arith, old-rest-fits)) (omega (arith, rest-fits)) rest-part 0 4 (omega arith) ∙ ap (λ (j : ℕ). word 4 f j) (add-zero (q + 8)) in
+        ap (λ (j : ℕ). word 4 file j) (sym (add-zero (p + 8))) ∙ word-in f file (q + 8) (p + 8) 20 (omega (arith, old-rest-fits)) (omega (arith, rest-fits)) rest-part 0 4 (omega arith) ∙ ap (λ (j : ℕ). word 4 f j) (add-zero (q + 8)) in
         λ s. record { job = job s; suite = suite s; key = key s; ad = ad s; at = at s; len = len s }
 
     pub nonce-is : nonceAt v file i ≡ nonceAt w f i

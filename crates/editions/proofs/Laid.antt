@@ -54,9 +54,18 @@ module _ (w v : ℕ) (f : List ℕ) (n : ℕ) (t : TableIn w f n) (broad : 32 �
     pub row-long : length (movedRow w v f n i) ≡ v
     unfolding movedRow
     row-long =
-        omega (arith,
-          length-append jobPart (zeros ++ (fieldPart ++ (offset ++ restPart))), length-append zeros (fieldPart ++ (offset ++ restPart)),
-          length-append fieldPart (offset ++ restPart), length-append offset restPart, job-long, fields-long, rest-long, offset-long, zeros-long)
+        omega (
+          arith,
+          length-append jobPart (zeros ++ (fieldPart ++ (offset ++ restPart))),
+          length-append zeros (fieldPart ++ (offset ++ restPart)),
+          length-append fieldPart (offset ++ restPart),
+          length-append offset restPart,
+          job-long,
+          fields-long,
+          rest-long,
+          offset-long,
+          zeros-long,
+        )
 
     pub row-job : stretch (movedRow w v f n i) 0 4 ≡ jobPart
     unfolding movedRow
@@ -134,6 +143,11 @@ module _ (w v : ℕ) (f : List ℕ) (n : ℕ) (t : TableIn w f n) (broad : 32 �
     unfolding movedFrom carried rowStart
     file-long =
         let d = drop (rowStart w n) f in
-        omega (arith,
-          length-append (movedHeader e w v f n) (movedRows w v f n n ++ d), length-append (movedRows w v f n n) d, header-long, rows-long n (omega arith),
-          length-drop (rowStart w n) f)
+        omega (
+          arith,
+          length-append (movedHeader e w v f n) (movedRows w v f n n ++ d),
+          length-append (movedRows w v f n n) d,
+          header-long,
+          rows-long n (omega arith),
+          length-drop (rowStart w n) f,
+        )

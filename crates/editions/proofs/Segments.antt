@@ -10,7 +10,6 @@ use Rattle.words.specs.Bytes.{part, word, value}
 use Rattle.words.proofs.Lists.{part-take}
 use Rattle.table.specs.Part.{stretch}
 
-
 -- behind the first m elements
 pub skip : (x y : List ℕ) (m k : ℕ) → length x ≡ m → drop (m + k) (x ++ y) ≡ drop k y
 skip x y m k e = sym (drop-drop k m (x ++ y)) ∙ ap (drop k) (drop-at x y m e)

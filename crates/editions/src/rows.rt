@@ -1,7 +1,7 @@
 // The rows, from w bytes each to v bytes each.
-use crate::front::put32;
 use crate::front::put_part;
 use crate::front::put_zeros;
+use crate::front::put32;
 use table::row::rest_start;
 use table::row::row_at;
 use table::row::row_start;

@@ -46,6 +46,7 @@ pub fn count(f: &[u8]) -> usize
 
 // The first edition of a shift file, which the writer makes, and the newest; readers take both.
 pub const EDITION: u16 = 1;
+
 pub const NEWEST: u16 = 2;
 
 // The bytes of a row, in edition e.

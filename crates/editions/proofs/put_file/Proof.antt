@@ -35,8 +35,7 @@ put-part-requires : tie.Need-put-part-requires
 unfolding carried
 put-part-requires c κs =
     let s = c .before .before .before .before .before .before .before .before .before .before .before .before .before in
-    let p = c .before .before .row-start .ensures in
-    (
+    let p = c .before .before .row-start .ensures in (
       omega (arith, c .before .before .before .before .before .put-rows .kept .0, c .before .before .before .before .before .before .before .before .before .put-header .kept .0, c .row-start2 .ensures, p, s .pre .1 .1),
       omega (arith, p, s .pre .0 .table .fits),
     )

@@ -30,7 +30,7 @@ returns c =
     let a = u .before .before .before .before .before .args in
     let z : a .len - 0 ≡ a .len = omega arith in
     let q : take (a .len - 0) (replicate {A = ℕ} 4 0) ≡ replicate (a .len) 0 =
-        ap (λ (k : ℕ). take k (replicate {A = ℕ} 4 0)) z ∙ take-zeros (a .len) 4 (u .before .before .before .before .before .pre .1) in
+    ap (λ (k : ℕ). take k (replicate {A = ℕ} 4 0)) z ∙ take-zeros (a .len) 4 (u .before .before .before .before .before .pre .1) in
     front-is (now (a .out)) (u .put .last .0) _ _ (a .at) (a .len) (u .put .ensures) q (ap length q ∙ length-replicate (a .len) 0)
 
 pub put-zeros-spec : {M : Type 1} → statement M

@@ -6,7 +6,6 @@ use borrow.Author.Needs.{needs}
 use Rattle.table.specs.declared.row.Row.{Row}
 use Rattle.table.proofs.Rows.{row-in}
 use Rattle.editions.specs.Files.{carried}
-
 use Rattle.editions.proofs.rows.offset.Statement.{statement}
 use Rattle.editions.proofs.rows.offset.Tie as tie
 
