@@ -2,8 +2,8 @@
 use Prim.Native.Nat.{ℕ, zero, suc, _+_, _-_, _*_, _^_, _≤_, _<_}
 use native.Mathlib.Nat.{mul-suc, mul-zero, add-assoc}
 use native.Mathlib.Omega.{arith}
-use mathlib.Core.Path.{_≡_, refl, sym, ap, ap₂, _∙_}
-use mathlib.Core.List.{List, [], _++_}
+use mathlib.Core.Path.{_≡_, sym, ap, ap₂, _∙_}
+use mathlib.Core.List.{List, _++_}
 use lib.ListN.{length, take, drop, replicate, take-append-drop}
 use lib.Seq.{drop-drop}
 use Rattle.words.specs.Bytes.{AllBytes, bytes}
@@ -11,12 +11,12 @@ use Rattle.words.proofs.Bytes.{unpack}
 use Rattle.table.specs.declared.row.Row.{Row}
 use Rattle.table.specs.Part.{stretch}
 use Rattle.table.specs.Format.{editionOf, countOf, totalOf, rowStart, restStart, rowAt}
-use Rattle.table.specs.Inside.{RowIn, TableIn}
+use Rattle.table.specs.Inside.{TableIn}
 use Rattle.table.proofs.Rows.{row-in}
 use Rattle.editions.specs.Files.{carried, movedRow, movedRows, movedHeader, movedFrom}
 use Rattle.table.proofs.Parts.{join}
 use Rattle.editions.proofs.Laid.{file-bodies, file-long}
-use Rattle.editions.proofs.Kept.{table-in, job-part, field-part, rest-part, row-is, carried-back}
+use Rattle.editions.proofs.Kept.{job-part, field-part, rest-part, row-is, carried-back}
 
 -- what a file must say of itself to come back
 pub record Whole (w v : ℕ) (f : List ℕ) (n : ℕ) : Type 0 where

@@ -1,5 +1,5 @@
 -- What a move's answer says: the file passes, the stations are 0, and the output has room; and so the other way round.
-use Prim.Native.Nat.{ℕ, _+_, _-_, _*_, _≤_, _<_}
+use Prim.Native.Nat.{ℕ, _-_, _≤_, _<_}
 use native.Mathlib.Nat.{mul-le-mul-right}
 use native.Mathlib.Omega.{arith}
 use mathlib.Core.Path.{_≡_, refl, sym, ap, _∙_}
@@ -22,7 +22,7 @@ use Rattle.table.proofs.Passed.{passes, both-zero}
 use Rattle.table.proofs.Bodies.{after-table}
 use Rattle.editions.specs.declared.answers.Moved.{Moved}
 use Rattle.editions.specs.declared.answers.Moved.the-variants as moved-case
-use Rattle.editions.specs.Files.{carried, movedFrom, moved}
+use Rattle.editions.specs.Files.{carried, moved}
 use Rattle.editions.specs.Answers.{movedAnswer, stationsFrom, lengthAnswer, upAnswer, backAnswer, FileMoved, moves, toEdition2, toEdition1}
 use Rattle.editions.specs.Promised.{done}
 use Rattle.editions.specs.Inside.{Movable, Source, Room}

@@ -1,21 +1,20 @@
 -- What is read from a moved file.
-use Prim.Native.Nat.{ℕ, zero, suc, _+_, _-_, _*_, _^_, _≤_, _<_}
+use Prim.Native.Nat.{ℕ, _+_, _-_, _^_, _≤_, _<_}
 use native.Mathlib.Nat.{add-zero, add-assoc}
 use native.Mathlib.Omega.{arith}
-use mathlib.Core.Path.{_≡_, refl, sym, ap, ap₂, _∙_}
-use mathlib.Core.List.{List, [], _++_}
-use lib.ListN.{length, getD, take, drop, replicate, length-append}
+use mathlib.Core.Path.{_≡_, sym, ap, _∙_}
+use mathlib.Core.List.{List, _++_}
+use lib.ListN.{length, getD, drop, replicate}
 use lib.Seq.{drop-drop, take-all}
 use Rattle.words.specs.Bytes.{value, bytes, word}
 use Rattle.words.proofs.Bytes.{length-bytes, value-bytes}
-use Rattle.table.specs.declared.row.Row.{Row}
 use Rattle.table.specs.Part.{stretch}
 use Rattle.table.specs.Format.{editionOf, countOf, totalOf, rowStart, restStart, rowAt, nonceStart, nonceAt}
-use Rattle.table.specs.Inside.{RowIn, TableIn}
-use Rattle.table.proofs.Rows.{row-in, row-below}
-use Rattle.editions.specs.Files.{carried, movedRow, movedRows, movedHeader, movedFrom}
-use Rattle.editions.proofs.Segments.{skip, inside, in-first, in-second, at-front, word-stretch, seg-same, word-in, byte-in}
-use Rattle.editions.proofs.Laid.{row-long, row-job, row-station, row-fields, row-offset, row-rest, header-long, file-row, file-bodies, file-long}
+use Rattle.table.specs.Inside.{TableIn}
+use Rattle.table.proofs.Rows.{row-in}
+use Rattle.editions.specs.Files.{carried, movedRow, movedHeader, movedFrom}
+use Rattle.editions.proofs.Segments.{inside, in-first, in-second, at-front, word-stretch, seg-same, word-in, byte-in}
+use Rattle.editions.proofs.Laid.{row-job, row-station, row-fields, row-offset, row-rest, header-long, file-row, file-bodies, file-long}
 
 module _ (e w v : ℕ) (f : List ℕ) (n : ℕ) (t : TableIn w f n) (broad : 32 ≤ v) where
   abbrev file : List ℕ

@@ -2,19 +2,19 @@
 use Prim.Native.Nat.{ℕ, zero, suc, _+_, _-_, _*_, _≤_, _<_}
 use native.Mathlib.Nat.{mul-suc, mul-le-mul-left, eq-or-lt-of-le, le-of-suc-le-suc, not-suc-le-zero, mul-zero}
 use native.Mathlib.Omega.{arith}
-use mathlib.Core.Path.{_≡_, refl, sym, ap, ap₂, _∙_}
-use mathlib.Core.List.{List, [], _++_}
+use mathlib.Core.Path.{_≡_, sym, ap, ap₂, _∙_}
+use mathlib.Core.List.{List, _++_}
 use mathlib.Core.Logic.{⊎-elim}
 use lib.ListN.{length, take, drop, replicate, length-append, length-replicate, length-drop}
-use lib.Seq.{take-all, drop-at, take-append-le, drop-append-le}
+use lib.Seq.{take-all, drop-at}
 use Rattle.words.specs.Bytes.{bytes}
 use Rattle.words.proofs.Bytes.{length-bytes}
 use Rattle.table.specs.Part.{stretch}
 use Rattle.table.specs.Format.{rowStart, restStart, rowAt}
-use Rattle.table.specs.Inside.{RowIn, TableIn}
-use Rattle.table.proofs.Rows.{row-in, row-below, stretch-length}
+use Rattle.table.specs.Inside.{TableIn}
+use Rattle.table.proofs.Rows.{row-in, stretch-length}
 use Rattle.editions.specs.Files.{carried, movedRow, movedRows, movedHeader, movedFrom}
-use Rattle.editions.proofs.Segments.{skip, inside, in-first, in-second, at-front}
+use Rattle.editions.proofs.Segments.{skip, in-first, in-second, at-front}
 
 module _ (w v : ℕ) (f : List ℕ) (n : ℕ) (t : TableIn w f n) (broad : 32 ≤ v) where
   module _ (i : ℕ) (l : i < n) where

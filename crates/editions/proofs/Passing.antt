@@ -1,17 +1,16 @@
 -- A moved file passes: every test says of it what it said of the file.
-use Prim.Native.Nat.{ℕ, zero, suc, _+_, _-_, _*_, _^_, _≤_, _<_}
+use Prim.Native.Nat.{ℕ, zero, suc, _-_, _^_, _≤_, _<_}
 use native.Mathlib.Omega.{arith}
-use mathlib.Core.Path.{_≡_, refl, sym, ap, ap₂, _∙_}
-use mathlib.Core.Bool.{Bool, true, false, _||_, _&&_, not, cond}
+use mathlib.Core.Path.{_≡_, sym, ap, ap₂, _∙_}
+use mathlib.Core.Bool.{false, _||_, _&&_, not}
 use mathlib.Core.List.{List}
-use lib.ListN.{length, getD, take, drop}
-use lib.Dec.{eqb, leb, ltb, eqb·suc-zero}
+use lib.ListN.{length, take}
+use lib.Dec.{eqb, leb, eqb·suc-zero}
 use borrow.Author.Tests.{eq-eqb, le-ltb}
-use Rattle.words.specs.Bytes.{word, sameBytes}
+use Rattle.words.specs.Bytes.{sameBytes}
 use Rattle.cipher.specs.Cipher.{nonceOf}
 use Rattle.table.specs.declared.row.Row.{Row}
-use Rattle.table.specs.Search.{anyBelow}
-use Rattle.table.specs.Format.{editionOf, countOf, totalOf, rowSize, widthOf, rowStart, rowAt, nonceAt, nonceReadAt, padded, bodyEnd, dataJob, unitOf}
+use Rattle.table.specs.Format.{editionOf, countOf, totalOf, rowSize, widthOf, rowStart, rowAt, nonceAt, nonceReadAt, padded, bodyEnd}
 use Rattle.table.specs.Answers.{answer}
 use Rattle.table.specs.Check.{outside, notAbove, badSuite, badLength, bodyStart, misplaced, unreadSet, clash, nonceSeen, badData, bodyNumber, rowNumber, endAnswer, rowsFrom, headNumber, checkBetween, checkAs}
 use Rattle.table.specs.Inside.{TableIn}

@@ -6,11 +6,11 @@ use mathlib.Core.Path.{_≡_, refl, sym, ap, _∙_}
 use mathlib.Core.List.{List, _∷_}
 use lib.ListN.{length, replicate}
 use lib.Dec.{lit<}
-use Rattle.words.specs.Bytes.{AllBytes, bytes, word, value}
+use Rattle.words.specs.Bytes.{AllBytes, bytes, value}
 use Rattle.words.proofs.Bytes.{unpack}
 use Rattle.table.specs.declared.answers.Answer.{Answer}
 use Rattle.table.specs.Part.{stretch}
-use Rattle.table.specs.Format.{editionOf, countOf, edition, newest, rowSize, widthOf, rowStart, bodyEnd, stationAt, stationOf}
+use Rattle.table.specs.Format.{editionOf, countOf, edition, newest, rowSize, widthOf, rowStart, bodyEnd, stationAt}
 use Rattle.table.specs.Answers.{answer}
 use Rattle.table.specs.Check.{checkAs}
 use Rattle.table.proofs.Rows.{row-broad, row-in, station-none}

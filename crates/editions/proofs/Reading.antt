@@ -2,18 +2,18 @@
 use Prim.Native.Nat.{ℕ, _+_, _^_, _≤_, _<_}
 use native.Mathlib.Omega.{arith}
 use mathlib.Core.Path.{_≡_, refl, sym, ap, ap₂, _∙_}
-use mathlib.Core.Bool.{Bool, true, false, not, cond}
+use mathlib.Core.Bool.{Bool, true, false, cond}
 use mathlib.Core.List.{List}
 use lib.ListN.{length, take, drop}
 use lib.Seq.{drop-drop}
-use lib.Dec.{eqb, lit≤, lit<}
+use lib.Dec.{eqb, lit≤}
 use borrow.Author.Tests.{eqb-true}
 use Rattle.cipher.specs.Cipher.{sizeOf}
 use Rattle.comet.specs.Answers as comet
 use Rattle.table.specs.declared.row.Row.{Row}
 use Rattle.table.specs.declared.answers.Answer.{Answer}
 use Rattle.table.specs.Part.{stretch}
-use Rattle.table.specs.Format.{editionOf, countOf, edition, newest, rowSize, widthOf, rowAt, nonceReadAt, rowOf, dataOf, textOf, tagOf, bodyEnd}
+use Rattle.table.specs.Format.{editionOf, countOf, edition, newest, rowSize, widthOf, rowAt, nonceReadAt, rowOf, dataOf, textOf, tagOf}
 use Rattle.table.specs.Answers.{answer}
 use Rattle.table.specs.Check.{outside, headNumber, checkBetween, checkAs, checkFile}
 use Rattle.table.proofs.Rows.{row-broad}
@@ -21,7 +21,7 @@ use Rattle.table.proofs.Passed.{passes, own-edition}
 use Rattle.table.proofs.Kept.{taken}
 use Rattle.shift.specs.Lookup.{lookupJob}
 use Rattle.shift.specs.Entry.{dataStart, dataLength}
-use Rattle.shift.specs.Opening.{ringKey, nonceRead, entryOpening, JobOpened, left, rowOpening, jobOpening}
+use Rattle.shift.specs.Opening.{ringKey, nonceRead, entryOpening, left, rowOpening, jobOpening}
 use Rattle.shift.proofs.Lookups.{holding}
 use Rattle.search.specs.Halving.{Walk, halving, jobsOf, searching}
 use Rattle.search.proofs.Halves.{jobs-same}

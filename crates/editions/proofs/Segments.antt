@@ -5,7 +5,7 @@ use native.Mathlib.Omega.{arith}
 use mathlib.Core.Path.{_≡_, refl, sym, ap, ap₂, _∙_}
 use mathlib.Core.List.{List, _∷_, _++_}
 use lib.ListN.{length, take, drop, getD, length-drop}
-use lib.Seq.{take-add, take-take, take-at, drop-at, drop-drop, length-take-le, take-all, take-append-le, drop-append-le, getD-take, getD-drop}
+use lib.Seq.{take-add, take-take, take-at, drop-at, drop-drop, length-take-le, take-append-le, drop-append-le, getD-take, getD-drop}
 use Rattle.words.specs.Bytes.{part, word, value}
 use Rattle.words.proofs.Lists.{part-take}
 use Rattle.table.specs.Part.{stretch}

@@ -1,8 +1,7 @@
 -- The file without its old table, and the new table.
 use Prim.Native.Nat.{_<_}
-use mathlib.Core.Path.{_≡_, sym, ap, _∙_}
+use mathlib.Core.Path.{_≡_, _∙_}
 use native.Mathlib.Omega.{arith}
-use lib.ListN.{length}
 use denote.Ref.{now}
 use Rattle.table.specs.Format.{editionOf, countOf, rowSize, widthOf, rowStart}
 use Rattle.table.proofs.Rows.{rows-small}

@@ -1,5 +1,5 @@
 -- The file's own row size and count, and the new edition's row size.
-use mathlib.Core.Path.{_≡_, _∙_}
+use mathlib.Core.Path.{_∙_}
 use native.Mathlib.Omega.{arith}
 use denote.Ref.{now}
 use Rattle.editions.specs.Files.{movedFrom}

@@ -1,4 +1,4 @@
-// Moves a shift file to another edition: move FILE OUT from edition 1 to 2, move back FILE OUT from edition 2 to 1.
+// Moves a shift file to another edition: moves FILE OUT from edition 1 to 2, moves back FILE OUT from edition 2 to 1.
 //
 // Prints number and row on one line; the file OUT is made where the number is 0, and else left alone. A file that cannot
 // be read counts as zero bytes. The program takes files up to 524,288 bytes, half the format's limit (longer: 20): the
@@ -31,29 +31,32 @@ fn run(back: bool, file: &[u8], i: usize, out: &mut [u8]) {
     }
 }
 
-// How long the moved file is. Of a file without a header any length will do: it is refused before its output counts.
+// How long the moved file is. Of a file whose header is refused any length will do: the output's does not count then.
 fn new_length(back: bool, file: &[u8]) -> usize {
     if file.len() < 8 {
         return 0;
     }
-    let stations = 4 * count(file);
-    if !back {
-        return file.len() + stations;
-    }
-    if file.len() < stations {
+    if 524288 < file.len() {
         return 0;
     }
-    file.len() - stations
+    let n = count(file);
+    if 512 < n {
+        return 0;
+    }
+    if !back {
+        return file.len() + 4 * n;
+    }
+    if file.len() < 4 * n {
+        return 0;
+    }
+    file.len() - 4 * n
 }
 
-// An output of the moved file's length, in a buffer that has room for 512 stations more than the file. A count that
-// asks for more is refused, whatever the output.
+// An output of the moved file's length; the buffer has room for 512 stations more than the file, so the test always holds.
 fn run_in(back: bool, file: &[u8], i: usize, out: &mut [u8]) {
     let n = new_length(back, file);
     if n <= out.len() {
         run(back, file, i, &mut out[0..n]);
-    } else {
-        run(back, file, i, &mut out[0..0]);
     }
 }
 
@@ -84,6 +87,6 @@ fn main() {
     } else if os::arg_count() == 4 && is_back() {
         move_file(true, 2);
     } else {
-        io::write_all(STDOUT_FILENO, b"move FILE OUT\nmove back FILE OUT\n");
+        io::write_all(STDOUT_FILENO, b"moves FILE OUT\nmoves back FILE OUT\n");
     }
 }
