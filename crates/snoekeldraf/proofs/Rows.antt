@@ -135,7 +135,3 @@ back-row file out₀ =
     (λ z. then-row (stationsFrom file (countOf file) 0) new 512
     (omega (arith, passes newest newest file z .head .few, first-row (λ j. not (eqb (stationOf file j) 0)) (λ j. 35) (answer 0 0) (countOf file) (omega arith)))
     (λ y. length-row (length (moved edition file)) (length out₀)))
-
--- an answer is its number and its row
-pub same-answer : {a x : Answer} → (a .number ≡ x .number) × (a .row ≡ x .row) → a ≡ x
-same-answer e = ap₂ answer (e .0) (e .1)

@@ -2,7 +2,8 @@
 use mathlib.Core.Path.{ap, _∙_}
 use borrow.Author.Needs.{needs}
 use Rattle.editions.specs.Answers.{FileMoved}
-use Rattle.snoekeldraf.proofs.Rows.{up-row, same-answer}
+use Rattle.table.proofs.Outcomes.{same-answer}
+use Rattle.snoekeldraf.proofs.Rows.{up-row}
 use Rattle.snoekeldraf.proofs.moves.shift_to_edition2.Statement.{statement}
 use Rattle.snoekeldraf.proofs.moves.shift_to_edition2.Tie as tie
 
@@ -12,16 +13,16 @@ to-edition2-requires c κs = search needs
 answer-requires : tie.Need-answer-requires
 answer-requires c κs = search needs
 
-told-requires : tie.Need-told-requires
-told-requires c κs =
+say-requires : tie.Need-say-requires
+say-requires c κs =
     rw (c .before .answer .ensures .1, ap (λ (w : FileMoved). w .answer .row) (c .before .before .before .before .to-edition2 .ensures)) (up-row _ _)
 
 same-length : tie.Need-same-length
 same-length c = search needs
 
 returns : tie.Need-returns
-returns c = rw (c .told .ensures ∙ same-answer (c .before .before .answer .ensures)) (c .before .before .before .before .before .to-edition2 .ensures)
+returns c = rw (c .say .ensures ∙ same-answer (c .before .before .answer .ensures)) (c .before .before .before .before .before .to-edition2 .ensures)
 
 pub shift-to-edition2-spec : {M : Type 1} → statement M
 shift-to-edition2-spec =
-    tie.close (tie.spec to-edition2-requires answer-requires told-requires same-length returns)
+    tie.close (tie.spec to-edition2-requires answer-requires say-requires same-length returns)
