@@ -47,8 +47,13 @@ use Rattle.snoekeldraf.proofs.moves.shift_to_edition2.Kinds as to-editi
 use Rattle.snoekeldraf.proofs.moves.shift_to_edition2.Reads as to-edition2-reads
 use Rattle.snoekeldraf.proofs.moves.shift_to_edition1.Kinds as to-edition1-kinds
 use Rattle.snoekeldraf.proofs.moves.shift_to_edition1.Reads as to-edition1-reads
+use Rattle.snoekeldraf.proofs.renewal.shift_reseal.Kinds as reseal-kinds
+use Rattle.snoekeldraf.proofs.renewal.shift_reseal.Reads as reseal-reads
 use Rattle.snoekeldraf.proofs.halving.shift_search.Kinds as search-kinds
 use Rattle.snoekeldraf.proofs.halving.shift_search.Reads as search-reads
+use Rattle.compare.specs.Comparing.{Comparison}
+use Rattle.snoekeldraf.proofs.listing.shift_compare.Kinds as compare-kinds
+use Rattle.snoekeldraf.proofs.listing.shift_compare.Reads as compare-reads
 
 pub comet-seal : OneOutcome seal-kinds.ps seal-kinds.r seal-reads.Pre seal-reads.Post
 comet-seal κs a h x y =
@@ -140,6 +145,11 @@ shift-unseal-file κs a h x y =
     let e = x .ensures ∙ sym (y .ensures) in
     (ap (λ (w : FileWritten). w .answer .number) e, ap (λ (w : FileWritten). (tt, (tt, (w .out, (w .answer .row, tt))))) e)
 
+pub shift-reseal : OneOutcome reseal-kinds.ps reseal-kinds.r reseal-reads.Pre reseal-reads.Post
+shift-reseal κs a h x y =
+    let e = x .ensures ∙ sym (y .ensures) in
+    (ap (λ (w : FileWritten). w .answer .number) e, ap (λ (w : FileWritten). (tt, (tt, (w .out, (w .answer .row, tt))))) e)
+
 pub shift-search : OneOutcome search-kinds.ps search-kinds.r search-reads.Pre search-reads.Post
 shift-search κs a h x y =
     let e = x .ensures .0 ∙ sym (y .ensures .0) in
@@ -154,3 +164,11 @@ pub shift-to-edition1 : OneOutcome to-edition1-kinds.ps to-edition1-kinds.r to-e
 shift-to-edition1 κs a h x y =
     let e = x .ensures ∙ sym (y .ensures) in
     (ap (λ (w : FileMoved). w .answer .number) e, ap (λ (w : FileMoved). (tt, (w .out, (w .answer .row, tt)))) e)
+
+pub shift-compare : OneOutcome compare-kinds.ps compare-kinds.r compare-reads.Pre compare-reads.Post
+shift-compare κs a h x y =
+    let e = x .ensures ∙ sym (y .ensures) in (
+      ap (λ (w : Comparison). w .finding .number) e,
+      ap (λ (w : Comparison).
+          (tt, (tt, (w .first, (w .second, (w .differ, (w .finding .first, (w .finding .second, (w .finding .differ, (w .finding .file, (w .finding .row, tt))))))))))) e,
+    )

@@ -3,5 +3,7 @@ pub mod drafts;
 pub mod file;
 pub mod halving;
 pub mod moves;
+pub mod listing;
 pub mod parts;
 pub mod record;
+pub mod renewal;

@@ -40,6 +40,10 @@ use Rattle.table.proofs.row.row_start.Kinds as row-start-kinds
 use Rattle.table.proofs.row.row_start.Reads as row-start-reads
 use Rattle.table.proofs.row.rest_start.Kinds as rest-start-kinds
 use Rattle.table.proofs.row.rest_start.Reads as rest-start-reads
+use Rattle.table.proofs.row.set_suite.Kinds as set-suite-kinds
+use Rattle.table.proofs.row.set_suite.Reads as set-suite-reads
+use Rattle.table.proofs.rules.nonce_seen.Kinds as nonce-seen-kinds
+use Rattle.table.proofs.rules.nonce_seen.Reads as nonce-seen-reads
 use Rattle.table.proofs.row.row_at.Kinds as row-at-kinds
 use Rattle.table.proofs.row.row_at.Reads as row-at-reads
 use Rattle.table.proofs.row.stretch.Kinds as stretch-kinds
@@ -153,6 +157,12 @@ row-start κs a h x y = (x .ensures ∙ sym (y .ensures), refl)
 
 pub rest-start : OneOutcome rest-start-kinds.ps rest-start-kinds.r rest-start-reads.Pre rest-start-reads.Post
 rest-start κs a h x y = (x .ensures .0 ∙ sym (y .ensures .0), refl)
+
+pub set-suite : OneOutcome set-suite-kinds.ps set-suite-kinds.r set-suite-reads.Pre set-suite-reads.Post
+set-suite κs a h x y = (refl, ap (λ (l : List ℕ). (tt, (l, (tt, (tt, tt))))) (x .ensures ∙ sym (y .ensures)))
+
+pub nonce-seen : OneOutcome nonce-seen-kinds.ps nonce-seen-kinds.r nonce-seen-reads.Pre nonce-seen-reads.Post
+nonce-seen κs a h x y = (x .ensures ∙ sym (y .ensures), refl)
 
 pub row-at : OneOutcome row-at-kinds.ps row-at-kinds.r row-at-reads.Pre row-at-reads.Post
 row-at κs a h x y = (x .ensures ∙ sym (y .ensures), refl)

@@ -2,7 +2,7 @@
 use words::block::Block;
 ghost use mathlib.Core.Path.{_≡_};
 ghost use Prim.Native.Nat.{_+_, _≤_, _<_};
-ghost use lib.ListN.{length, take};
+ghost use lib.ListN.{length, take, set};
 ghost use Rattle.words.specs.Bytes.{word};
 ghost use Rattle.words.specs.Blocks.{wide};
 ghost use Rattle.cipher.specs.Cipher.{nonceOf};
@@ -107,6 +107,14 @@ pub fn station_of(f: &[u8], i: usize) -> u32
         return 0;
     }
     get32(f, row_start(w, i) + 4)
+}
+
+// Another suite for row i.
+pub fn set_suite(w: usize, f: &mut [u8], i: usize, suite: u8)
+    requires { ⌜ RowIn w (now f) i ⌝ }
+    ensures { λ _. ⌜ now (f .exit) ≡ set (now (f .entry)) (restStart w i) suite ⌝ }
+{
+    f[rest_start(w, i)] = suite;
 }
 
 // The len bytes from `at`, as a part of the file.
