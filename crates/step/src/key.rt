@@ -18,11 +18,16 @@ fn doubling(x: u64) -> u64
 fn doubling120(z: Block) -> Block
     ensures { λ r. ⌜ wide r ≡ doubled two (wide z) ⌝ }
 {
-    let h = z.b % 0x100_0000_0000_0000;
     let t = z.b / 0x100_0000_0000_0000;
+    let h = z.b % 0x100_0000_0000_0000;
+    let p = (h >> 55) * 0x245;
+    let twice = h % 0x80_0000_0000_0000 * 2;
+    let high = twice + (z.a >> 63);
+    let top = t * 0x100_0000_0000_0000;
+    let b = high + top;
     Block {
-        a: (z.a << 1) ^ ((h >> 55) * 0x245),
-        b: h % 0x80_0000_0000_0000 * 2 + (z.a >> 63) + t * 0x100_0000_0000_0000,
+        a: (z.a << 1) ^ p,
+        b: b,
     }
 }
 
