@@ -7,9 +7,7 @@ use lib.Dec.{leb}
 use lib.ListN.{take, drop}
 use Rattle.words.specs.Words.{xor}
 use Rattle.words.specs.Bytes.{value, bytes}
-use Rattle.fips197.specs.Cipher.{cipher}
-use Rattle.speck.specs.Speck.{speck}
-use Rattle.cipher.specs.Cipher.{one, two, facts, factsOf, versionOf}
+use Rattle.cipher.specs.Cipher.{one, two, Facts, facts, factsOf, versionOf}
 use Rattle.mode.specs.Blocks.{lengths}
 use Rattle.mode.specs.Words.{double, double120}
 use Rattle.mode.specs.Keys.{textMarks, marks, marked, doubled, nextKey}
@@ -22,11 +20,16 @@ pub record VersionOne : Type 0 where
   pub key : (m : ℕ) (z : List ℕ) → nextKey one m z ≡ bytes 8 (double (value (take 8 (marked m z)))) ++ drop 8 (marked m z)
   pub places : (n a m : ℕ) → marks one n a m ≡ textMarks n 0x08 0x10 (lengths n a) ++ (textMarks n 0x20 0x40 (lengths n m) ++ (0x80 ∷ []))
 
--- ---- suites 5 and 6: what they have, and values of the two components that version 2 changes
+-- ---- suites 5 and 6: cipher and sizes of suites 1 and 3, in version 2
+
+abbrev pub inTwo : Facts → Facts
+inTwo f = facts (f .block) (f .nonce) (f .tag) two (f .E)
 
 pub record VersionTwo : Type 0 where
-  pub five : factsOf 5 ≡ facts 16 16 16 two cipher
-  pub six : factsOf 6 ≡ facts 8 15 8 two speck
+  pub five : factsOf 5 ≡ inTwo (factsOf 1)
+  pub six : factsOf 6 ≡ inTwo (factsOf 3)
+
+-- ---- values of the two components that version 2 changes
 
 -- what the definitions give
 abbrev pub givenTwo : List (List ℕ)
@@ -50,7 +53,7 @@ abbrev pub statedTwo : List (List ℕ)
 statedTwo =
     (2 ∷ [])
     ∷ (0x245 ∷ [])
-    ∷ (2 ^ 120 - 1 - 0x244 ∷ [])
+    ∷ (0xff_ffff_ffff_ffff_ffff_ffff_ffff_fdbb ∷ [])
     ∷ (0x45 ∷ 0x02 ∷ 0 ∷ 0 ∷ 0 ∷ 0 ∷ 0 ∷ 0 ∷ 0x01 ∷ 0 ∷ 0 ∷ 0 ∷ 0 ∷ 0 ∷ 0 ∷ 0x81 ∷ [])
     ∷ (0x80 ∷ [])
     ∷ (0 ∷ 0x08 ∷ 0x90 ∷ [])
