@@ -1,5 +1,6 @@
 -- Demand 1: every entry point answers on any bytes and any lengths, with one outcome; a refused length or suite changes nothing, a wrong tag leaves zeros.
 use mathlib.Core.Path.{_≡_}
+use mathlib.Core.Logic.{_⊎_}
 use Prim.Native.Nat.{ℕ, _≤_, _<_}
 use mathlib.Core.List.{List}
 use lib.ListN.{length, replicate}
@@ -34,8 +35,12 @@ use Rattle.writer.proofs.seal_file.Kinds as seal-file-kinds
 use Rattle.writer.proofs.seal_file.Reads as seal-file-reads
 use Rattle.writer.proofs.unseal_file.Kinds as unseal-file-kinds
 use Rattle.writer.proofs.unseal_file.Reads as unseal-file-reads
+use Rattle.reseal.proofs.reseal.Kinds as reseal-kinds
+use Rattle.reseal.proofs.reseal.Reads as reseal-reads
 use Rattle.search.proofs.search.Kinds as search-kinds
 use Rattle.search.proofs.search.Reads as search-reads
+use Rattle.compare.proofs.compare.Kinds as compare-kinds
+use Rattle.compare.proofs.compare.Reads as compare-reads
 
 -- of a routine's own signature and contract: it asks nothing of its arguments, and they leave one outcome
 pub record Answers {n : ℕ} (ps : List (PK n)) (r : RK n) (Pre : In n ps) (Post : Out n ps r) : Type 0 where
@@ -63,13 +68,17 @@ pub record EntryPoints : Type 0 where
   -- W4
   pub seal-file : Answers seal-file-kinds.ps seal-file-kinds.r seal-file-reads.Pre seal-file-reads.Post
   pub unseal-file : Answers unseal-file-kinds.ps unseal-file-kinds.r unseal-file-reads.Pre unseal-file-reads.Post
+  -- W8
+  pub compare : Answers compare-kinds.ps compare-kinds.r compare-reads.Pre compare-reads.Post
+  -- W7
+  pub reseal : Answers reseal-kinds.ps reseal-kinds.r reseal-reads.Pre reseal-reads.Post
 
--- the sealer gives 0 to 7, and on any but 0 both buffers are as they were
+-- the sealer gives 0 to 7 and 10, and on any but 0 both buffers are as they were
 abbrev pub SealKeeps : Type 0
 SealKeeps =
     (suite : ℕ) (key nonce ad msg out₀ tag₀ : List ℕ) →
     let r : Sealed = sealing suite key nonce ad msg out₀ tag₀ in
-    (r .number ≤ 7) × (0 < r .number → (r .out ≡ out₀) × (r .tag ≡ tag₀))
+    ((r .number ≤ 7) ⊎ (r .number ≡ 10)) × (0 < r .number → (r .out ≡ out₀) × (r .tag ≡ tag₀))
 
 -- the opener gives 0 to 8; on 1 to 7 the buffer is as it was, on 8 every byte of it is 0
 abbrev pub OpenKeeps : Type 0

@@ -10,3 +10,6 @@ pub mod W4
 pub mod Nonces
 pub mod Search
 pub mod W9
+pub mod Compare
+pub mod Retired
+pub mod Reseal

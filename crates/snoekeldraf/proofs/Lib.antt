@@ -1,3 +1,4 @@
 pub mod Rows
+pub mod Lists
 pub mod Steps
 pub mod Outcomes

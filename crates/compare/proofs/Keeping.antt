@@ -1,0 +1,56 @@
+-- Searches below a number that one number alone can end, and lists of what passes a test, one number more.
+use Prim.Native.Nat.{ℕ, zero, suc, _+_, _-_, _≤_, _<_}
+use native.Mathlib.Omega.{arith}
+use native.Mathlib.Nat.{eq-or-lt-of-le}
+use native.Mathlib.Numerals.{add-one}
+use mathlib.Core.Path.{_≡_, refl, sym, ap, _∙_}
+use mathlib.Core.Bool.{Bool, true, false, cond, or-false}
+use mathlib.Core.List.{List, [], _∷_}
+use mathlib.Core.Logic.{⊎-elim}
+use lib.ListN.{length}
+use Rattle.table.specs.Search.{anyBelow}
+use Rattle.compare.specs.Kept.{kept}
+
+-- none passes
+pub any-none : (p : ℕ → Bool) (n : ℕ) → ((k : ℕ) → k < n → p k ≡ false) → anyBelow p n ≡ false
+unfolding anyBelow
+any-none p zero h = refl
+any-none p (suc n) h = simp (h n (omega arith)) (any-none p n (λ k l. h k (omega arith)))
+
+-- no other than j does
+pub any-only : (p : ℕ → Bool) (n j : ℕ) → j < n → ((k : ℕ) → k < n → (k ≡ j → ⊥) → p k ≡ false) → anyBelow p n ≡ p j
+unfolding anyBelow
+any-only p zero j l h = absurd (omega arith)
+any-only p (suc n) j l h =
+    ⊎-elim
+    (λ (e : j ≡ n). simp (any-none p n (λ k m. h k (omega arith) (λ q. omega arith)), or-false) (ap p (sym e)))
+    (λ (m : j < n). simp (h n (omega arith) (λ q. omega arith)) (any-only p n j m (λ k z. h k (omega arith))))
+    (eq-or-lt-of-le (omega arith))
+
+shorter : (l : List ℕ) (x k : ℕ) (b : Bool) → length l ≤ k → length (cond b (x ∷ l) l) ≤ suc k
+shorter l x k true h = omega arith
+shorter l x k false h = omega arith
+
+module _ (p : ℕ → Bool) (what : ℕ → ℕ) where
+  -- one number more
+  pub kept-step : (i n : ℕ) → i < n → kept p what i (n - i) ≡ cond (p i) (what i ∷ kept p what (i + 1) (n - (i + 1))) (kept p what (i + 1) (n - (i + 1)))
+  unfolding kept
+  kept-step i n h =
+      let q : n - i ≡ suc (n - (i + 1)) = omega arith in
+      rw (q, add-one)
+
+  -- none is left
+  pub kept-end : (i n : ℕ) → n ≤ i → kept p what i (n - i) ≡ []
+  unfolding kept
+  kept-end i n h = let q : n - i ≡ 0 = omega arith in rw q
+
+  pub kept-length : (i k : ℕ) → length (kept p what i k) ≤ k
+  unfolding kept
+  kept-length i zero = omega arith
+  kept-length i (suc k) = shorter (kept p what (suc i) k) (what i) k (p i) (kept-length (suc i) k)
+
+  -- no number passes
+  pub kept-none : (i k : ℕ) → ((j : ℕ) → i ≤ j → j < i + k → p j ≡ false) → kept p what i k ≡ []
+  unfolding kept
+  kept-none i zero h = refl
+  kept-none i (suc k) h = simp (h i (omega arith) (omega arith)) (kept-none (suc i) k (λ j l m. h j (omega arith) (omega arith)))

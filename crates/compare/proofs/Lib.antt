@@ -1,0 +1,10 @@
+pub mod Keeping
+pub mod Filling
+pub mod Turns
+pub mod Passing
+pub mod Strings
+pub mod Cases
+pub mod Members
+pub mod Rising
+pub mod Promised
+pub mod Outcomes

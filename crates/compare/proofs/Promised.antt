@@ -1,0 +1,108 @@
+-- What the comparison is worth: membership as worded; rising and apart; itself; exchanged; another length is another body.
+use Prim.Native.Nat.{ℕ, _+_, _-_, _≤_, _<_}
+use native.Mathlib.Omega.{arith}
+use mathlib.Core.Path.{_≡_, refl, sym, ap, _∙_}
+use mathlib.Core.Bool.{Bool, true, false, not, _&&_}
+use mathlib.Core.List.{List, []}
+use lib.ListN.{length}
+use lib.Dec.{ltb, lit≤}
+use borrow.Author.Tests.{eq-eqb, le-ltb}
+use Rattle.cipher.specs.Cipher.{sizeOf}
+use Rattle.table.specs.Format.{countOf, edition, rowSize, rowOf, bodyEnd}
+use Rattle.table.specs.Check.{checkFile}
+use Rattle.table.proofs.Rows.{stretch-length}
+use Rattle.table.proofs.Passed.{passes, entry-in}
+use Rattle.table.proofs.Searches.{any-hit}
+use Rattle.compare.specs.Comparing.{bodyOf, sameEntry, jobAt, has, hasJob, differs, onlyIn, differing, tooLong, comparison}
+use Rattle.compare.specs.Promised.{Same, Different, ExactlyListed, ListsRise, WithItself, FilesExchanged, OtherLength}
+use Rattle.compare.proofs.Keeping.{any-only, kept-none}
+use Rattle.compare.proofs.Turns.{jobs-rise, others}
+use Rattle.compare.proofs.Members.{same-tells, only-has, only-gets, differ-has, differ-gets}
+use Rattle.compare.proofs.Rising.{Climbs, kept-climbs, climbs-rise, climbs-same}
+use Rattle.compare.proofs.Cases.{lists-fit}
+
+pub exactly-listed : ExactlyListed
+exactly-listed f g job = record {
+  first = (only-has f g job, only-gets f g job);
+  second = (only-has g f job, only-gets g f job);
+  differ = (differ-has f g job, differ-gets f g job);
+}
+
+-- ---- rising
+
+only-climbs : (f g : List ℕ) → checkFile f .number ≡ 0 → Climbs (onlyIn f g)
+unfolding onlyIn
+only-climbs f g z = kept-climbs _ (jobAt f) 0 (countOf f) (λ r s l b h. jobs-rise f z r s b (omega arith))
+
+differ-climbs : (f g : List ℕ) → checkFile f .number ≡ 0 → Climbs (differing f g)
+unfolding differing
+differ-climbs f g z = kept-climbs _ (jobAt f) 0 (countOf f) (λ r s l b h. jobs-rise f z r s b (omega arith))
+
+pub lists-rise : ListsRise
+lists-rise f g p q = record {
+  rise-first = climbs-rise (onlyIn f g) (only-climbs f g p);
+  rise-second = climbs-rise (onlyIn g f) (only-climbs g f q);
+  rise-differ = climbs-rise (differing f g) (differ-climbs f g p);
+  first-second = λ job a b. only-has g f job b .1 (only-has f g job a .0);
+  first-differ = λ job a b. only-has f g job a .1 (differ-has f g job b .second);
+  second-differ = λ job a b. only-has g f job a .1 (differ-has f g job b .first);
+}
+
+-- ---- a file and itself
+
+no-other : (f : List ℕ) → onlyIn f f ≡ []
+unfolding onlyIn
+no-other f =
+    kept-none (λ i. not (hasJob f (jobAt f i))) (jobAt f) 0 (countOf f)
+    (λ j l h. simp (any-hit (has f (jobAt f j)) j (countOf f) (omega arith) (eq-eqb (jobAt f j) (jobAt f j) refl)))
+
+same-self : (f : List ℕ) (i : ℕ) → sameEntry f f i i ≡ true
+same-self f i = same-tells f f i i (record { suite = refl; key = refl; ad = refl; nonce = refl; body = refl })
+
+no-difference : (f : List ℕ) → checkFile f .number ≡ 0 → differing f f ≡ []
+unfolding differing
+no-difference f z =
+    kept-none (differs f f) (jobAt f) 0 (countOf f)
+    (λ j l h.
+    let b : j < countOf f = omega arith in
+    any-only (λ k. has f (jobAt f j) k && not (sameEntry f f j k)) (countOf f) j b (λ k m n. simp (others f z (jobAt f j) j b refl k m n))
+    ∙ simp (eq-eqb (jobAt f j) (jobAt f j) refl, same-self f j))
+
+fits-all : (x : List ℕ) → ltb (length x) 0 ≡ false
+fits-all x = let l : 0 ≤ length x = omega arith in le-ltb (length x) 0 l
+
+pub with-itself : WithItself
+with-itself f x y z p =
+    lists-fit f f x y z (record { first = p; second = p }) (simp (no-other f, no-difference f p, fits-all x, fits-all y, fits-all z))
+    ∙ simp (no-other f, no-difference f p)
+
+-- ---- the files exchanged
+
+other-way : (f g : List ℕ) (job : ℕ) → Different f g job → Different g f job
+other-way f g job h = record {
+  first = h .second;
+  second = h .first;
+  other = λ s. h .other (record { suite = sym (s .suite); key = sym (s .key); ad = sym (s .ad); nonce = sym (s .nonce); body = sym (s .body) });
+}
+
+pub files-exchanged : FilesExchanged
+files-exchanged f g p q = record {
+  first = refl;
+  second = refl;
+  differ = climbs-same (differing g f) (differing f g) (differ-climbs g f q) (differ-climbs f g p)
+      (λ job m. differ-gets f g job (other-way g f job (differ-has g f job m)))
+      (λ job m. differ-gets g f job (other-way f g job (differ-has f g job m)));
+}
+
+-- ---- lengths
+
+body-length : (f : List ℕ) (i : ℕ) → checkFile f .number ≡ 0 → i < countOf f → length (bodyOf f i) ≡ rowOf f i .ad + rowOf f i .len + sizeOf (rowOf f i .suite)
+unfolding bodyEnd
+body-length f i z l =
+    let b = entry-in edition f (passes edition f z) i l .body-in in
+    stretch-length f (rowOf f i .at) (bodyEnd (rowOf f i) - rowOf f i .at) (omega arith) ∙ omega arith
+
+pub other-length : OtherLength
+other-length f g i j p q m n h =
+    let s : sizeOf (rowOf f i .suite) ≡ sizeOf (rowOf g j .suite) = ap sizeOf (h .suite) in
+    omega (arith, body-length f i p m, body-length g j q n, ap length (h .body), h .ad)

@@ -1,0 +1,4 @@
+pub mod Kept
+pub mod Comparing
+pub mod Promised
+pub mod Inside

@@ -1,0 +1,72 @@
+// Two rows, compared as entries.
+use table::row::EDITION;
+use table::row::Row;
+use table::row::body_end;
+use table::row::nonce_at;
+use table::row::row_at;
+use table::row::row_size;
+use table::row::stretch;
+ghost use mathlib.Core.Path.{_≡_};
+ghost use Prim.Native.Nat.{_-_, _≤_};
+ghost use lib.ListN.{length};
+ghost use Rattle.words.specs.Bytes.{sameBytes};
+ghost use Rattle.table.specs.Part.{stretch};
+ghost use Rattle.table.specs.Format.{edition, rowSize, bodyEnd};
+ghost use Rattle.table.specs.Inside.{EntryIn};
+ghost use Rattle.compare.specs.Comparing.{sameFields, sameEntry};
+
+// The same bytes, all of them.
+fn same_bytes(x: &[u8], y: &[u8]) -> bool
+    ensures { λ r. ⌜ r ≡ sameBytes (now (x .entry)) (now (y .entry)) ⌝ }
+{
+    if x.len() != y.len() {
+        return false;
+    }
+    let mut i: usize = 0;
+    while i < x.len() {
+        if x[i] != y[i] {
+            return false;
+        }
+        i += 1;
+    }
+    true
+}
+
+// A row's body, as a part of the file.
+fn body_of(f: &[u8], row: Row) -> &[u8]
+    requires { ⌜ bodyEnd row ≤ length (now f) ⌝ }
+    ensures { λ r. ⌜ now r ≡ stretch (now (f .entry)) (row .at) (bodyEnd row - row .at) ⌝ }
+{
+    let at = row.at as usize;
+    stretch(f, at, body_end(row) - at)
+}
+
+// Suite, key number and associated data length of two rows are equal.
+fn same_fields(x: Row, y: Row) -> bool
+    ensures { λ r. ⌜ r ≡ sameFields x y ⌝ }
+{
+    if x.suite != y.suite {
+        return false;
+    }
+    if x.key != y.key {
+        return false;
+    }
+    x.ad == y.ad
+}
+
+// Rows i of f and j of g are the same entry.
+pub(crate) fn same_entry(f: &[u8], g: &[u8], i: usize, j: usize) -> bool
+    requires { ⌜ EntryIn (rowSize edition) (now f) i × EntryIn (rowSize edition) (now g) j ⌝ }
+    ensures { λ r. ⌜ r ≡ sameEntry (now (f .entry)) (now (g .entry)) i j ⌝ }
+{
+    let w = row_size(EDITION);
+    let x = row_at(w, f, i);
+    let y = row_at(w, g, j);
+    if !same_fields(x, y) {
+        return false;
+    }
+    if !same_bytes(nonce_at(w, f, i), nonce_at(w, g, j)) {
+        return false;
+    }
+    same_bytes(body_of(f, x), body_of(g, y))
+}
