@@ -63,8 +63,11 @@ abbrev pub IsSuite : ℕ → Type 0
 IsSuite s = isSuite s ≡ true
 
 -- suite 4 is retired (document 02, W7): it still opens, and seals no more
+abbrev pub retiredSuite : ℕ
+retiredSuite = 4
+
 unfoldable pub retired : ℕ → Bool
-retired s = eqb s 4
+retired s = eqb s retiredSuite
 
 -- a suite that seals: one that we have, and that is not retired
 unfoldable pub seals : ℕ → Bool
