@@ -1,5 +1,5 @@
 -- No bytes between job number and rest are 0; else there are four.
-use mathlib.Core.Path.{_≡_, sym, _∙_}
+use mathlib.Core.Path.{sym, _∙_}
 use native.Mathlib.Omega.{arith}
 use denote.Ref.{now}
 use Rattle.table.specs.Inside.{RowIn}
