@@ -121,7 +121,7 @@ fn check_row(file: &[u8], i: usize) -> u32 {
     let start = if i == 0 { HEADER + ROW * count(file) } else { row(file, i - 1).end() };
     if i > 0 && this.job <= row(file, i - 1).job {
         25
-    } else if !(1..=4).contains(&this.suite) || this.key > 15 {
+    } else if !comet::SUITES.contains(&this.suite) || this.key > 15 {
         26
     } else if !(5..=1024).contains(&this.ad) || this.message > comet::LIMIT {
         27

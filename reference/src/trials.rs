@@ -198,7 +198,7 @@ fn edit_row(random: &mut Random, file: &mut [u8], rows: usize) {
     let (row, other) = (row_at(random.below(rows)), row_at(random.below(rows)));
     let (at, bytes) = match random.below(10) {
         0 => (row, near(random, file, other, &[0, u32::MAX]).to_vec()),
-        1 => (row + 4, vec![random.below(7) as u8]),
+        1 => (row + 4, vec![random.below(9) as u8]),
         2 => (row + 5, vec![13 + random.below(5) as u8]),
         3 => (row + 6, near(random, file, row + 6, &[0, 4, 5, 1024, 1025])[..2].to_vec()),
         4 => (row + 8, near(random, file, row + 8, &[0, 8, 40, u32::MAX]).to_vec()),

@@ -8,6 +8,7 @@ use mathlib.Core.Logic.{_⊎_, inl, inr, ⊎-elim}
 use lib.ListN.{length, replicate}
 use lib.Dec.{eqb, lit<}
 use borrow.Author.Tests.{eq-eqb, ne-eqb, eqb-true, eqb-false, not-false}
+use Rattle.cipher.specs.Cipher.{retiredSuite}
 use Rattle.table.specs.declared.answers.Answer.{Answer}
 use Rattle.table.specs.Format.{countOf, edition, rowSize, rowOf}
 use Rattle.table.specs.Answers.{answer}
@@ -17,7 +18,7 @@ use Rattle.table.proofs.Passed.{both-zero}
 use Rattle.draft.specs.Answers.{tagRight, lentAnswer, FileWritten, writes, leaves}
 use Rattle.draft.specs.Promised.{RightTag}
 use Rattle.draft.proofs.Answers.{right-test, right-told, wrong-test, found-none, found-number, eight-leaves, Room, room-told, room-right, ring-wrong, out-wrong, lent-number, not-eight, kept}
-use Rattle.reseal.specs.Files.{retiredSuite, retabled, resealedFile}
+use Rattle.reseal.specs.Files.{retabled, resealedFile}
 use Rattle.reseal.specs.Answers.{seenFrom, wrongAgain, wrongAgainFrom, takeAnswer, resealAnswer, fileResealing}
 use Rattle.reseal.specs.Promised.{HasFour, Clashes, Calm, ResealCases, Resealing, ResealNumbers}
 

@@ -10,7 +10,7 @@ use lib.Seq.{take-at, getD-take}
 use lib.Dec.{eqb, lit≤}
 use borrow.Author.Tests.{eq-eqb, ne-eqb}
 use borrow.Rule.Slice.PartMut.{putMid}
-use Rattle.cipher.specs.Cipher.{factsOf, isSuite, IsSuite, retired, seals, Seals, sizeOf, nonceOf}
+use Rattle.cipher.specs.Cipher.{retiredSuite, factsOf, isSuite, IsSuite, retired, seals, Seals, sizeOf, nonceOf}
 use Rattle.cipher.proofs.Suites.{nonce-most}
 use Rattle.comet.specs.Answers.{Sealed, sealedAs, sealing}
 use Rattle.comet.proofs.Refuse.{none-bad}
@@ -32,7 +32,7 @@ use Rattle.draft.proofs.Back.{plain-file}
 use Rattle.writer.specs.declared.answers.Written.{Written}
 use Rattle.writer.specs.declared.answers.Written.the-variants as written
 use Rattle.writer.specs.Answers.{writtenAnswer}
-use Rattle.reseal.specs.Files.{retiredSuite, successor, newSuite, resuited, retabled, againText, againTag, againPiece}
+use Rattle.reseal.specs.Files.{successor, newSuite, resuited, retabled, againText, againTag, againPiece}
 use Rattle.reseal.specs.Answers.{seenFrom, wrongAgain, takeAnswer}
 use Rattle.reseal.specs.Inside.{Passing, tableMost, most}
 use Rattle.reseal.proofs.Retabled.{tab, unread-kept, new-table, seen-same}

@@ -10,7 +10,7 @@ use lib.ListN.{length, getD, take, drop, length-append}
 use lib.Dec.{eqb}
 use borrow.Author.Tests.{eq-eqb, ne-eqb, eqb-true, eqb-false}
 use Rattle.words.specs.Bytes.{AllBytes}
-use Rattle.cipher.specs.Cipher.{cipherOf, sizeOf, nonceOf}
+use Rattle.cipher.specs.Cipher.{retiredSuite, cipherOf, sizeOf, nonceOf}
 use Rattle.cipher.proofs.Lawful.{lawful}
 use Rattle.mode.specs.Mode.{textOut, tagOut}
 use Rattle.mode.proofs.Demand2.{text-length, text-bytes, text-back, tag-back, tag-block}
@@ -34,7 +34,7 @@ use Rattle.draft.proofs.Puts.{Apart, all-outside}
 use Rattle.draft.proofs.Rewritten.{piece-in, piece-end, start-is, body-late, bodies-apart, pieces-apart, same-length, same-row, same-nonce, same-data, same-count, parts-are, passes-again, edition-same, pair-low, pair-high}
 use Rattle.draft.proofs.Pieces.{entry-at, text-all, out-long}
 use Rattle.draft.proofs.Back.{plain-file}
-use Rattle.reseal.specs.Files.{retiredSuite, successor, newSuite, resuited, retabled, againText, againTag, againPiece, resealedFile}
+use Rattle.reseal.specs.Files.{successor, newSuite, resuited, retabled, againText, againTag, againPiece, resealedFile}
 use Rattle.reseal.specs.Promised.{HasFour, Elsewhere, Calm}
 use Rattle.reseal.proofs.Retabled.{withSuite, size-new, nonce-new, new-four, new-not, t-length, t-row, t-nonce, t-head, t-body, t-count, t-kept, t-same, clash-of-check}
 use Rattle.reseal.proofs.Pieces.{put-places, put-empty, put-alike}

@@ -11,7 +11,7 @@ use lib.Seq.{ext-getD}
 use lib.Dec.{eqb, leb}
 use borrow.Author.Tests.{le-ltb, eq-eqb, ne-eqb, eqb-true}
 use Rattle.words.specs.Bytes.{sameBytes}
-use Rattle.cipher.specs.Cipher.{factsOf, isSuite, IsSuite, sizeOf, nonceOf}
+use Rattle.cipher.specs.Cipher.{retiredSuite, factsOf, isSuite, IsSuite, sizeOf, nonceOf}
 use Rattle.table.specs.declared.row.Row.{Row}
 use Rattle.table.specs.declared.answers.Answer.{Answer}
 use Rattle.table.specs.Search.{anyBelow}
@@ -30,7 +30,7 @@ use Rattle.draft.specs.Put.{put, putAll}
 use Rattle.draft.proofs.Puts.{Beside, Apart, Inside, Outside, where-is, all-length, all-outside, all-inside, own-pieces}
 use Rattle.draft.proofs.Rewritten.{body-late}
 use Rattle.draft.proofs.Back.{plain-file}
-use Rattle.reseal.specs.Files.{retiredSuite, successor, newSuite, resuited, retabled}
+use Rattle.reseal.specs.Files.{successor, newSuite, resuited, retabled}
 use Rattle.reseal.specs.Answers.{seenFrom}
 
 -- ---- the new suite

@@ -4,17 +4,14 @@ use mathlib.Core.Bool.{true, false, cond}
 use mathlib.Core.List.{List, [], _∷_, _++_}
 use lib.ListN.{take}
 use lib.Dec.{eqb}
-use Rattle.cipher.specs.Cipher.{nonceOf, cipherOf}
+use Rattle.cipher.specs.Cipher.{retiredSuite, nonceOf, cipherOf}
 use Rattle.mode.specs.Mode.{textOut, tagOut}
 use Rattle.table.specs.Format.{countOf, edition, rowSize, restStart, nonceAt, rowOf, dataOf}
 use Rattle.shift.specs.Opening.{ringKey}
 use Rattle.draft.specs.Put.{putAll}
 use Rattle.draft.specs.Files.{pieceStart, entryOut}
 
--- the suite that is retired, and the one that follows it
-abbrev pub retiredSuite : ℕ
-retiredSuite = 4
-
+-- the suite that follows the retired one
 abbrev pub successor : ℕ
 successor = 3
 

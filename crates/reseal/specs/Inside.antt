@@ -3,11 +3,11 @@ use Prim.Native.Nat.{ℕ, _<_}
 use mathlib.Core.Path.{_≡_}
 use mathlib.Core.List.{List}
 use lib.ListN.{length}
+use Rattle.cipher.specs.Cipher.{retiredSuite}
 use Rattle.table.specs.declared.row.Row.{Row}
 use Rattle.table.specs.Format.{countOf, edition, rowSize, rowOf}
 use Rattle.table.specs.Check.{checkAs}
 use Rattle.table.specs.Inside.{EntryIn}
-use Rattle.reseal.specs.Files.{retiredSuite}
 
 -- a file of n rows that passes the check
 pub record Passing (f : List ℕ) (n : ℕ) : Type 0 where

@@ -5,6 +5,7 @@ use mathlib.Core.Bool.{true, false}
 use mathlib.Core.List.{List}
 use mathlib.Core.Logic.{_⊎_}
 use lib.ListN.{length, getD, replicate}
+use Rattle.cipher.specs.Cipher.{retiredSuite}
 use Rattle.words.specs.Bytes.{AllBytes}
 use Rattle.table.specs.Format.{countOf, edition, rowSize, restStart, nonceAt, rowOf, dataOf}
 use Rattle.table.specs.Answers.{answer}
@@ -13,7 +14,7 @@ use Rattle.shift.specs.Opening.{entryOpening}
 use Rattle.draft.specs.Files.{pieceStart, pieceSize}
 use Rattle.draft.specs.Answers.{FileWritten, writes}
 use Rattle.draft.specs.Promised.{RightTag}
-use Rattle.reseal.specs.Files.{retiredSuite, successor, retabled, resealedFile}
+use Rattle.reseal.specs.Files.{successor, retabled, resealedFile}
 use Rattle.reseal.specs.Answers.{seenFrom, fileResealing}
 
 -- row i has suite 4

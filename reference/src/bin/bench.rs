@@ -15,7 +15,7 @@ use std::time::{Duration, Instant};
 
 const SIZES: [usize; 4] = [0, 64, 1_024, 65_536];
 const BATCH: Duration = Duration::from_micros(300);
-/// The proved library, the reference and the plain C; for suite 1 the plain C also with AES by four tables.
+/// The proved library, the reference and the plain C; for suites 1 and 5 the plain C also with AES by four tables.
 const LIBRARIES: [Library; 3] = [PROVED, REFERENCE, PLAIN];
 const BY_TABLES: [Library; 3] = [PROVED, REFERENCE, COLUMNS];
 
@@ -211,7 +211,7 @@ fn main() {
         let both = [("seal", calls.clone()), ("open", calls.map(|call| call.reopened()))];
         for (what, calls) in both.into_iter().skip(is_retired(suite) as usize) {
             missed.extend(measure_sizes(repetitions, what, &calls, &LIBRARIES, &[(1, 0.9), (2, 1.0), (3, 1.0)]));
-            if suite == 1 {
+            if [1, 5].contains(&suite) {
                 let what = format!("{what}, C by tables");
                 missed.extend(measure_sizes(repetitions, &what, &calls, &BY_TABLES, &[(2, 1.0), (3, 1.0)]));
             }

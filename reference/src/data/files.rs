@@ -76,7 +76,7 @@ pub fn longest() -> Vec<u8> {
     let mut table = vec![];
     let mut bodies: Vec<u8> = vec![];
     for i in 0..rows {
-        let (job, suite, key) = (i as u32 + 1, 1 + (i % 4) as u8, i as u8);
+        let (job, suite, key) = (i as u32 + 1, SUITES[i % SUITES.len()], i as u8);
         let Entry { ad, nonce, .. } = Entry::new(job, suite, key, 2, [key; 16], b"");
         let offset = row_at(rows) + bodies.len();
         let room = shift::LONGEST - offset - ad.len() - block_size(suite);
@@ -218,7 +218,7 @@ fn row_kinds(_: &mut Random) -> Vec<FileCall> {
     };
     [
         numbers(25, 0, &[0, 9]),
-        bytes(26, at + 4, &[0, 5, 255]),
+        bytes(26, at + 4, &[0, 7, 255]),
         bytes(26, at + 5, &[255]),
         numbers(27, 6, &[0, 4, 1025, 0xffff]),
         numbers(27, 12, &[LIMIT as u32 + 1, u32::MAX]),
@@ -256,17 +256,17 @@ fn ends(_: &mut Random) -> Vec<FileCall> {
 /// different suites.
 fn just_good(_: &mut Random) -> Vec<FileCall> {
     let mut entries = vec![];
-    for (job, suite) in [(0, 3), (1, 1), (0x8000_0000, 4), (0xffff_ffff, 2)] {
+    for (job, suite) in [(0, 3), (1, 1), (3, 5), (0x7fff_ffff, 6), (0x8000_0000, 4), (0xffff_ffff, 2)] {
         entries.push(Entry::new(job, suite, 15, 2, [9; 16], b"edge"));
     }
-    entries[3].ad.resize(1024, 0);
+    entries[5].ad.resize(1024, 0);
     let file = Plan::new(entries).file(&samples::ring());
-    [0, 1, 2, 0x8000_0000, 0xffff_ffff].into_iter().map(|job| call(file.clone(), job, 4)).collect()
+    [0, 1, 2, 3, 0x7fff_ffff, 0x8000_0000, 0xffff_ffff].into_iter().map(|job| call(file.clone(), job, 4)).collect()
 }
 
 /// Two rows, each of suite, key number, sixteenth nonce byte, with fifteen equal nonce bytes before it, and what the
 /// check gives (document 02, W5). The first is the auditor's file.
-const PAIRS: [([(u8, u8, u8); 2], u32, usize); 14] = [
+const PAIRS: [([(u8, u8, u8); 2], u32, usize); 21] = [
     ([(3, 0, 0), (3, 0, 1)], 34, 1),
     ([(3, 0, 1), (3, 0, 0)], 34, 0),
     ([(3, 0, 1), (3, 0, 2)], 34, 0),
@@ -281,6 +281,13 @@ const PAIRS: [([(u8, u8, u8); 2], u32, usize); 14] = [
     ([(1, 0, 7), (1, 15, 7)], 0, 0),
     ([(1, 0, 7), (2, 0, 7)], 0, 0),
     ([(1, 0, 0), (3, 0, 0)], 0, 0),
+    ([(6, 0, 0), (6, 0, 1)], 34, 1),
+    ([(6, 3, 0), (6, 3, 0)], 29, 1),
+    ([(3, 0, 0), (6, 0, 0)], 0, 0),
+    ([(5, 0, 0), (5, 0, 1)], 0, 0),
+    ([(5, 0, 7), (5, 0, 7)], 29, 1),
+    ([(1, 0, 7), (5, 0, 7)], 0, 0),
+    ([(5, 1, 0), (6, 1, 0)], 0, 0),
 ];
 
 /// The nonce rule on pairs of rows, and with a row between them.

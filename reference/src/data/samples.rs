@@ -10,8 +10,8 @@ pub fn ring() -> Vec<u8> {
     Random::new(4).bytes(shift::RING)
 }
 
-/// Six jobs of a day: job, suite, key, unit, and the torque record that is sealed.
-const DAY: [(u32, u8, u8, u8, &str); 6] = [
+/// The jobs of a day: job, suite, key, unit, and the torque record that is sealed.
+const DAY: [(u32, u8, u8, u8, &str); 8] = [
     (
         4101,
         1,
@@ -24,6 +24,8 @@ const DAY: [(u32, u8, u8, u8, &str); 6] = [
     (4105, 4, 3, 2, "gearbox 4105 bolt 10-32 count 4 torque 31 32 31 31"),
     (4110, 3, 2, 1, ""),
     (4200, 1, 15, 1, "gearbox 4200 plug M22 count 1 torque 60.0, refitted after leak test"),
+    (4210, 5, 4, 1, "gearbox 4210 bolt M12x80 count 6 torque 84.1 84.0 84.3 84.2 84.0 84.1"),
+    (4211, 6, 5, 2, "gearbox 4211 bolt 5/16-24 count 3 torque 210 212 211"),
 ];
 
 /// What stands in the associated data after the unit, where a station adds its name.
