@@ -266,7 +266,8 @@ uint32_t shift_to_edition1(const uint8_t *file, size_t file_len,
                            uint32_t *row);
 /* Compares two files. Job numbers are written in rising order from the front of three lists: those only in the first file
  * (only_first), only in the second (only_second), and in both but different in suite, key number, associated data length,
- * nonce or body (differ); offsets do not count. A list's length is in 32-bit places.
+ * nonce, body or station (differ); offsets do not count. Each file is of edition 1, where every station is 0, or 2. A list's
+ * length is in 32-bit places.
  *   20 to 31, 34  the first file is refused (*file is 1), else the second (*file is 2); *row as shift_check gives it
  *   36            a list is longer than its buffer; *file and *row are 0
  *   0             *first_count, *second_count and *differ_count are how many there are; *file and *row are 0
