@@ -2,8 +2,8 @@
 pub mod drafts;
 pub mod file;
 pub mod halving;
-pub mod moves;
 pub mod listing;
+pub mod moves;
 pub mod parts;
 pub mod record;
 pub mod renewal;
