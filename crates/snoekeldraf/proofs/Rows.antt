@@ -128,7 +128,7 @@ resealed-row file ring out₀ =
     then-row (andThen (checkAs edition file) (andThen seen lent)) (wrongAgainFrom file ring (countOf file) 0) 512
     (then-row (checkAs edition file) (andThen seen lent) 512 (check-row edition edition file)
     (λ z. then-row seen lent 512
-    (omega (arith, passes edition edition file z .head .few, first-row (nonceSeen (rowSize edition) (retabled file)) (λ j. 29) (answer 0 0) (countOf file) (omega arith)))
+    (omega (arith, passes edition edition file z .head .few, first-row (nonceSeen (widthOf (retabled file)) (retabled file)) (λ j. 29) (answer 0 0) (countOf file) (omega arith)))
     (λ y. lent-row (length file) (length ring) (length out₀))))
     (λ z. omega (arith, passes edition edition file (both-zero (checkAs edition file) (andThen seen lent) z .0) .head .few, first-row (wrongAgain file ring) (λ j. 8) (answer 0 0) (countOf file) (omega arith)))
 
