@@ -9,7 +9,7 @@ use table::row::count;
 ghost use Prim.Native.Nat.{_≤_};
 
 // The answer, and the output under the name of argument i where its number is 0.
-fn told(a: Answer, out: &[u8], i: usize) {
+fn say(a: Answer, out: &[u8], i: usize) {
     lines::show::number(a.number as u64);
     lines::show::space();
     lines::show::number(a.row as u64);
@@ -25,9 +25,9 @@ fn told(a: Answer, out: &[u8], i: usize) {
 // Argument i names the output.
 fn run(back: bool, file: &[u8], i: usize, out: &mut [u8]) {
     if back {
-        told(editions::to_edition1(file, out).answer(), out, i);
+        say(editions::to_edition1(file, out).answer(), out, i);
     } else {
-        told(editions::to_edition2(file, out).answer(), out, i);
+        say(editions::to_edition2(file, out).answer(), out, i);
     }
 }
 

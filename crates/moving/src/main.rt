@@ -21,7 +21,7 @@ fn call_of(head: &[u8; 9]) -> Call {
     }
 }
 
-fn told(a: Answer, out: &[u8]) {
+fn say(a: Answer, out: &[u8]) {
     lines::show::number(a.number as u64);
     lines::show::space();
     lines::show::number(a.row as u64);
@@ -33,11 +33,11 @@ fn told(a: Answer, out: &[u8]) {
 // Runs a call into an output; false where there is no such op.
 fn line(op: u8, file: &[u8], out: &mut [u8]) -> bool {
     if op == 0 {
-        told(editions::to_edition2(file, out).answer(), out);
+        say(editions::to_edition2(file, out).answer(), out);
         return true;
     }
     if op == 1 {
-        told(editions::to_edition1(file, out).answer(), out);
+        say(editions::to_edition1(file, out).answer(), out);
         return true;
     }
     false

@@ -31,7 +31,7 @@ pub const FOLDERS: [&str; 14] = [
     "crates/comparing",
     "crates/differ",
     "crates/moving",
-    "crates/move",
+    "crates/moves",
 ];
 
 /// What a test program reads and writes.
@@ -57,7 +57,7 @@ pub fn parts(folder: &str) -> Vec<Part> {
         "crates/comparing" => comparing::parts().to_vec(),
         "crates/differ" => comparing::differ_parts().to_vec(),
         "crates/moving" => moving::parts().to_vec(),
-        "crates/move" => moving::move_parts().to_vec(),
+        "crates/moves" => moving::move_parts().to_vec(),
         _ => unreachable!("no data for {folder}"),
     }
 }

@@ -1,4 +1,4 @@
-//! The programs `moving` and `move`: files moved from one edition to the other.
+//! The programs `moving` and `moves`: files moved from one edition to the other.
 
 use super::writing::all_suites;
 use super::{files, parts_of, samples, Part};
@@ -219,7 +219,7 @@ pub fn longest(mut each: impl FnMut(&MoveCall)) {
     }
 }
 
-/// The folder of the program `move`: the sample's day becomes edition 2.
+/// The folder of the program `moves`: the sample's day becomes edition 2.
 pub fn move_parts() -> [Part; 3] {
     let file = samples::day();
     let (number, row) = call(2, rows(&file).len(), file.clone()).answer(&REFERENCE).answer;
