@@ -1,4 +1,4 @@
-//! A second implementation of the four block ciphers, COMET version 1, the plant's shift file and its tools.
+//! A second implementation of the four block ciphers, COMET versions 1 and 2, the plant's shift file and its tools.
 //!
 //! It is written from the papers and documents 01 and 02 alone and shares nothing with the proved crates:
 //! what both say is said twice, by two hands.
@@ -10,6 +10,7 @@ pub mod aes;
 pub mod cham;
 pub mod comet;
 pub mod difference;
+pub mod editions;
 pub mod reseal;
 pub mod search;
 pub mod session;
