@@ -6,7 +6,7 @@ use contract.Lifetimes.{Lfts}
 use borrow.Fn.Kinds.{Dens}
 use Rattle.words.specs.Outcome.{Outcome, OneOutcome}
 use Rattle.table.proofs.Outcomes.{part-one}
-use Rattle.shift.specs.declared.answers.Opened.{Opened}
+use Rattle.shift.specs.declared.answers.JobAnswer.{JobAnswer}
 use Rattle.shift.proofs.Outcomes.{opened-one}
 use Rattle.amend.specs.Amending.{AmendedOpening}
 use Rattle.amend.proofs.locate.Kinds as locate-kinds
@@ -26,6 +26,6 @@ current κs a x y = part-one (x .ensures) (y .ensures)
 pub open-current : OneOutcome open-current-kinds.ps open-current-kinds.r open-current-reads.Pre open-current-reads.Post
 open-current κs a h x y =
     let e = x .ensures ∙ sym (y .ensures) in (
-      ap₂ (λ (k : ℕ) (o : Opened). record { file = k; opened = o }) (ap (λ (z : AmendedOpening). z .file) e) (opened-one (ap (λ (z : AmendedOpening). z .answer) e)),
+      ap₂ (λ (k : ℕ) (o : JobAnswer). record { file = k; opened = o }) (ap (λ (z : AmendedOpening). z .file) e) (opened-one (ap (λ (z : AmendedOpening). z .answer) e)),
       ap (λ (z : AmendedOpening). (tt, (tt, (tt, (tt, (z .out, tt)))))) e,
     )

@@ -1,6 +1,6 @@
 // Amendments: a small file that replaces some jobs of the day's.
 use shift::answers::Entry;
-use shift::answers::Opened;
+use shift::answers::JobAnswer;
 use table::row::stretch;
 ghost use mathlib.Core.Path.{_≡_};
 ghost use Rattle.shift.specs.Answers.{openedAnswer};
@@ -16,7 +16,7 @@ pub struct Amended {
 // What opening the current entry gives, and the file that it speaks of.
 pub struct OpenedIn {
     pub file: u8,
-    pub opened: Opened,
+    pub opened: JobAnswer,
 }
 
 // A lookup's number that refuses the file: neither a row nor 32.
