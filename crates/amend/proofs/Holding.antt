@@ -13,7 +13,7 @@ use Rattle.table.specs.Answers.{answer}
 use Rattle.table.specs.Check.{checkFile}
 use Rattle.table.proofs.Numbered.{check-numbered}
 use Rattle.shift.specs.declared.answers.Entry.{Entry}
-use Rattle.shift.specs.Lookup.{lookupAs, lookupJob}
+use Rattle.shift.specs.Lookup.{lookupJob}
 use Rattle.shift.specs.Entry.{dataStart, dataLength, textStart, textLength, entryOf}
 use Rattle.shift.proofs.Finding.{finds}
 use Rattle.amend.specs.declared.Amended.{Amended}
@@ -37,7 +37,7 @@ module _ (f : List ℕ) (job : ℕ) where
 
   -- the check refuses: its number and row are the lookup's
   pub stands : (checkFile f .number ≡ 0 → ⊥) → lookupJob f job ≡ checkFile f
-  unfolding lookupAs
+  unfolding lookupJob
   stands none = simp (ne-eqb _ _ none)
 
   pub entry-refused : (checkFile f .number ≡ 0 → ⊥) → entryOf f job ≡ noEntry (checkFile f)
