@@ -16,6 +16,11 @@
  * Tag bytes    16          16               8                8
  *
  * Suite 4 is retired: it is opened as before, and sealed no more (number 10).
+ * Suites 1 to 4 are COMET version 1. Version 2:
+ * Suite        5 AES-128   6 Speck-64/128
+ * Key bytes    16          16
+ * Nonce bytes  16          15
+ * Tag bytes    16          8
  *
  * Never seal two records with one key and one nonce.
  */
@@ -33,6 +38,7 @@ extern "C" {
  *   0  done
  *   1  suite is not 1 to 4
  *  10  comet_seal alone: suite is 4
+ *   1  suite is not 1 to 6
  *   2  key_len is not 16
  *   3  nonce_len is not the suite's
  *   4  ad_len is over 65,536
@@ -69,6 +75,7 @@ uint32_t comet_open(uint8_t suite,
  * A session is a plain struct that goes in and comes back by value: each call hands back a step, and its session `next`
  * takes the place of the one that was given. The fields are for the functions alone, and hold what the key makes: keep
  * them as secret as the key. Any value may arrive: one whose suite is not 1 to 3 or whose totals are over 65,536 (as a
+ * them as secret as the key. Any value may arrive: one whose suite is not 1 to 6 or whose totals are over 65,536 (as a
  * session that was refused at the start, or has ended) is answered by 9; any other is taken as what it says. Going on
  * from one session value twice, with different messages, is sealing two records with one key and one nonce.
  */
@@ -90,6 +97,7 @@ typedef struct {
  *   0  done
  *   1  suite is not 1 to 4
  *  10  suite is 4
+ *   1  suite is not 1 to 6
  *   2  key_len is not 16
  *   3  nonce_len is not the suite's
  *   4  more than 65,536 bytes of associated data in all
@@ -135,7 +143,7 @@ comet_step comet_session_end(comet_session session,
  *  23   its total length is not the file's
  *  24   its table of contents runs past its end
  *  25   the row's job number is not above the row before's
- *  26   the row's suite is not 1 to 4, or its key number is over 15
+ *  26   the row's suite is not 1 to 6, or its key number is over 15
  *  27   the row's associated data is not 5 to 1,024 bytes long, or its message is over 65,536
  *  28   the row's body does not start where the one before ends (row 0: after the table), or runs past the file
  *  34   the row's suite has a nonce of 15 bytes, and its 16th nonce byte is not 0
