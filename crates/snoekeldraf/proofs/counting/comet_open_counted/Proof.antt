@@ -16,7 +16,7 @@ same-length : tie.Need-same-length
 same-length c = search needs
 
 returns : tie.Need-returns
-returns c = rw (c .number .ensures) (c .before .before .before .before .before .unseal-counted .ensures)
+returns c = rw (c .number .ensures) (c .before .before .before .unseal-counted .ensures)
 
 pub comet-open-counted-spec : {M : Type 1} → statement M
 comet-open-counted-spec = tie.close (tie.spec unseal-counted-requires number-requires cast-result same-length returns)

@@ -19,7 +19,7 @@ same-length-2 : tie.Need-same-length-2
 same-length-2 c = search needs
 
 returns : tie.Need-returns
-returns c = rw (c .number .ensures) (c .before .before .before .before .before .before .before .seal-counted .ensures)
+returns c = rw (c .number .ensures) (c .before .before .before .before .before .seal-counted .ensures)
 
 pub comet-seal-counted-spec : {M : Type 1} → statement M
 comet-seal-counted-spec =
