@@ -138,7 +138,7 @@ comet_step comet_session_end(comet_session session,
  * and 30 in this order, then 31.
  *   0   done
  *  20   the file is shorter than 8 bytes or longer than 1,048,576
- *  21   its edition is not 1
+ *  21   its edition is not 1 or 2
  *  22   it has more than 512 rows
  *  23   its total length is not the file's
  *  24   its table of contents runs past its end
@@ -242,9 +242,32 @@ uint32_t shift_reseal(const uint8_t *file, size_t file_len,
  */
 uint32_t shift_search(const uint8_t *file, size_t file_len, uint32_t job, uint32_t *row, uint32_t *looked);
 
+/* The moves between editions. Edition 2 has a station number in every row, four bytes more. Numbers, in this order; out
+ * is as it was after every number but 0. *row is written always: the row after 25 to 30, 34 and 35, and 0 after every
+ * other number, 0 too.
+ *  20 to 31, 34   as above, of the file; 21 says that its edition is not the one that is moved from
+ *  35   shift_to_edition1 alone: the row's station is not 0; the first such row
+ *  20   shift_to_edition2: the moved file would be longer than 1,048,576 bytes
+ *   6   out_len is not the moved file's length: file_len and 4 bytes more (shift_to_edition2) or less (shift_to_edition1)
+ *       for each row, whose count is the number in the file's bytes 2 and 3
+ *   0   done: out is written whole
+ */
+
+/* From edition 1 to 2, station 0 in every row. The bodies are kept byte for byte; check, lookup, search and opening give
+ * of out what they give of the file.
+ */
+uint32_t shift_to_edition2(const uint8_t *file, size_t file_len,
+                           uint8_t *out, size_t out_len,
+                           uint32_t *row);
+
+/* From edition 2 to 1. Moving there and back gives the old file. */
+uint32_t shift_to_edition1(const uint8_t *file, size_t file_len,
+                           uint8_t *out, size_t out_len,
+                           uint32_t *row);
 /* Compares two files. Job numbers are written in rising order from the front of three lists: those only in the first file
  * (only_first), only in the second (only_second), and in both but different in suite, key number, associated data length,
- * nonce or body (differ); offsets do not count. A list's length is in 32-bit places.
+ * nonce, body or station (differ); offsets do not count. Each file is of edition 1, where every station is 0, or 2. A list's
+ * length is in 32-bit places.
  *   20 to 31, 34  the first file is refused (*file is 1), else the second (*file is 2); *row as shift_check gives it
  *   36            a list is longer than its buffer; *file and *row are 0
  *   0             *first_count, *second_count and *differ_count are how many there are; *file and *row are 0

@@ -172,6 +172,16 @@ static uint32_t compare(void) {
                          second_count, differ_count, file, row);
 }
 
+static uint32_t to_edition2(void) {
+    bytes file = given(), out = lent();
+    return shift_to_edition2(SLICE(file), SLICE(out), lent_number());
+}
+
+static uint32_t to_edition1(void) {
+    bytes file = given(), out = lent();
+    return shift_to_edition1(SLICE(file), SLICE(out), lent_number());
+}
+
 static uint32_t (*const functions[])(void) = {
     seal, open_record, check, lookup, associated, open_job, entry,
     session_start, session_data, session_part, session_end,
@@ -179,6 +189,7 @@ static uint32_t (*const functions[])(void) = {
     search,
     reseal,
     compare,
+    to_edition2, to_edition1,
 };
 
 int main(void) {

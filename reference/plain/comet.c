@@ -417,45 +417,58 @@ INLINE uint32_t load16(const uint8_t *p) {
     return p[0] | (uint32_t)p[1] << 8;
 }
 
+/* Where a row's fields begin that follow job number and station: 28 bytes, the last of the row's. */
+INLINE const uint8_t *fields(const uint8_t *row, size_t size) {
+    return row + size - 28;
+}
+
 /* Whether an earlier row has this row's suite, key number and nonce; a nonce byte that is not read is 0 in both. */
-static int clashes(const uint8_t *rows, uint32_t i) {
-    const uint8_t *row = rows + 32 * (size_t)i;
-    for (const uint8_t *other = rows; other < row; other += 32)
-        if (memcmp(other + 16, row + 16, 16) == 0 && memcmp(other + 4, row + 4, 2) == 0) return 1;
+INLINE int clashes(const uint8_t *rows, size_t size, uint32_t i) {
+    const uint8_t *first = fields(rows, size), *row = first + size * i;
+    for (const uint8_t *other = first; other < row; other += size)
+        if (memcmp(other + 12, row + 12, 16) == 0 && memcmp(other, row, 2) == 0) return 1;
     return 0;
 }
 
 /* Numbers 25 to 28, 34, 29 and 30 of row i; the body starts at *end, which moves to where it ends. */
-static uint32_t check_row(const uint8_t *file, size_t len, uint32_t i, uint64_t *end) {
-    const uint8_t *rows = file + 8, *row = rows + 32 * (size_t)i;
-    uint32_t job = load32(row), ad = load16(row + 6), offset = load32(row + 8), message = load32(row + 12);
-    if (i > 0 && job <= load32(row - 32)) return 25;
-    if (row[4] < 1 || row[4] > 6 || row[5] > 15) return 26;
+INLINE uint32_t check_row(const uint8_t *file, size_t len, size_t size, uint32_t i, uint64_t *end) {
+    const uint8_t *rows = file + 8, *row = rows + size * i, *rest = fields(row, size);
+    uint32_t job = load32(row), ad = load16(rest + 2), offset = load32(rest + 4), message = load32(rest + 8);
+    if (i > 0 && job <= load32(row - size)) return 25;
+    if (rest[0] < 1 || rest[0] > 6 || rest[1] > 15) return 26;
     if (ad < 5 || ad > 1024 || message > LIMIT) return 27;
     if (offset != *end) return 28;
-    *end += ad + message + (is_wide(row[4]) ? 16 : 8);
+    *end += ad + message + (is_wide(rest[0]) ? 16 : 8);
     if (*end > len) return 28;
-    if (!is_wide(row[4]) && row[31] != 0) return 34;
-    if (clashes(rows, i)) return 29;
+    if (!is_wide(rest[0]) && rest[27] != 0) return 34;
+    if (clashes(rows, size, i)) return 29;
     if (load32(file + offset) != job || file[offset + 4] < 1 || file[offset + 4] > 2) return 30;
     return 0;
 }
 
-uint32_t plain_check(const uint8_t *file, size_t file_len, uint32_t *row) {
-    *row = 0;
-    if (file_len < 8 || file_len > 1048576) return 20;
-    if (load16(file) != 1) return 21;
+/* The check of a file whose rows have this size, from 22 on. */
+INLINE uint32_t check_rows(const uint8_t *file, size_t file_len, size_t size, uint32_t *row) {
     uint32_t n = load16(file + 2);
     if (n > 512) return 22;
     if (load32(file + 4) != file_len) return 23;
-    if (8 + 32 * (size_t)n > file_len) return 24;
-    uint64_t end = 8 + 32 * (uint64_t)n;
+    if (8 + size * n > file_len) return 24;
+    uint64_t end = 8 + size * n;
     for (uint32_t i = 0; i < n; i++) {
-        uint32_t number = check_row(file, file_len, i, &end);
+        uint32_t number = check_row(file, file_len, size, i, &end);
         if (number != 0) {
             *row = i;
             return number;
         }
     }
     return end == file_len ? 0 : 31;
+}
+
+uint32_t plain_check(const uint8_t *file, size_t file_len, uint32_t *row) {
+    *row = 0;
+    if (file_len < 8 || file_len > 1048576) return 20;
+    switch (load16(file)) {
+    case 1: return check_rows(file, file_len, 32, row);
+    case 2: return check_rows(file, file_len, 36, row);
+    default: return 21;
+    }
 }

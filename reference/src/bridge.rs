@@ -215,6 +215,16 @@ fn compare(first: &[u8], second: &[u8], lists: [&mut [u32]; 3]) -> Compared {
     Compared { number, file, row, counts: [a, b, c] }
 }
 
+fn to_edition2(file: &[u8], out: &mut [u8]) -> Answer {
+    let (number, [row]) = ask(16, vec![Given(file), Lent(out)]);
+    (number, row)
+}
+
+fn to_edition1(file: &[u8], out: &mut [u8]) -> Answer {
+    let (number, [row]) = ask(17, vec![Given(file), Lent(out)]);
+    (number, row)
+}
+
 pub const PROVED: Library = Library {
     seal,
     open,
@@ -232,4 +242,6 @@ pub const PROVED: Library = Library {
     search,
     reseal,
     compare,
+    to_edition2,
+    to_edition1,
 };

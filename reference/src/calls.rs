@@ -3,7 +3,7 @@
 use crate::difference::{self, Compared};
 use crate::session::{Session, Step};
 use crate::show::{fold, shown};
-use crate::{comet, reseal, search, session, shift, writer};
+use crate::{comet, editions, reseal, search, session, shift, writer};
 
 /// What lent buffers hold before a call.
 pub const FILLER: u8 = 0xa5;
@@ -36,6 +36,8 @@ pub struct Library {
     pub search: fn(&[u8], u32) -> (shift::Answer, u32),
     pub reseal: Rewrite,
     pub compare: fn(&[u8], &[u8], [&mut [u32]; 3]) -> Compared,
+    pub to_edition2: fn(&[u8], &mut [u8]) -> shift::Answer,
+    pub to_edition1: fn(&[u8], &mut [u8]) -> shift::Answer,
 }
 
 pub const REFERENCE: Library = Library {
@@ -58,6 +60,8 @@ pub const REFERENCE: Library = Library {
     search: search::search,
     reseal: reseal::reseal,
     compare: difference::compare,
+    to_edition2: editions::to_edition2,
+    to_edition1: editions::to_edition1,
 };
 
 /// A call, or a run of calls.

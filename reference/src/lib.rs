@@ -10,6 +10,7 @@ pub mod aes;
 pub mod cham;
 pub mod comet;
 pub mod difference;
+pub mod editions;
 pub mod reseal;
 pub mod search;
 pub mod session;

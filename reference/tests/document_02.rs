@@ -3,6 +3,7 @@
 use reference::comet::{double_120, encipher, open, pad, seal, shuffle, specified, LIMIT};
 use reference::data::{files, samples};
 use reference::difference::{compare, printed, PROGRAM_LONGEST};
+use reference::editions::{to_edition1, to_edition2};
 use reference::plan::{Entry, Plan};
 use reference::reseal::reseal;
 use reference::search::search;
@@ -182,6 +183,8 @@ mod w6 {
         file[8 + 4..40].fill(0xff);
         assert_eq!((check(&file).0, search(&file, 30)), (26, ((0, 3), 2)));
         file[0] = 3;
+        assert_eq!(search(&file, 30), ((21, 0), 0));
+        file[0] = 0;
         assert_eq!(search(&file, 30), ((21, 0), 0));
     }
 }
@@ -439,5 +442,59 @@ mod w9 {
         assert_eq!(check(&file), (34, 1));
         file[8 + 32 + 4] = 7;
         assert_eq!(check(&file), (26, 1));
+    }
+}
+
+mod w10 {
+    use super::*;
+
+    /// The smallest file with a row, in edition 2: four bytes longer, its body four bytes later, its tag the same.
+    #[test]
+    fn the_smallest_file() {
+        let file = files::smallest();
+        let mut out = [7; 57];
+        assert_eq!(to_edition2(&file, &mut out), (0, 0));
+        assert_eq!(out[..8], [2, 0, 1, 0, 57, 0, 0, 0]);
+        assert_eq!(out[8..28], [7, 0, 0, 0, 0, 0, 0, 0, 3, 0, 5, 0, 44, 0, 0, 0, 0, 0, 0, 0]);
+        assert_eq!((&out[28..44], &out[44..]), (&[0; 16][..], &file[40..]));
+        assert_eq!((check(&out), open_job(&out, &samples::ring(), 7, &mut [])), ((0, 0), (0, 0)));
+        let mut back = [7; 53];
+        assert_eq!((to_edition1(&out, &mut back), &back[..]), ((0, 0), &file[..]));
+        out[12] = 1;
+        assert_eq!((check(&out), to_edition1(&out, &mut []), to_edition1(&file, &mut [])), ((0, 0), (35, 0), (21, 0)));
+        assert_eq!((to_edition2(&out, &mut back), to_edition2(&file, &mut back)), ((21, 0), (6, 0)));
+        assert_eq!(back, file[..]);
+    }
+
+    /// What edition 1 answers, edition 2 answers too.
+    #[test]
+    fn the_same_answers() {
+        let [one, two] = [1, 2].map(|edition| files::three_rows().in_edition(edition).file(&samples::ring()));
+        for job in [10, 20, 30, 5, 25] {
+            assert_eq!((lookup(&one, job), search(&one, job)), (lookup(&two, job), search(&two, job)));
+            let (mut message, mut other) = ([0; 11], [0; 11]);
+            let opened = open_job(&one, &samples::ring(), job, &mut message);
+            assert_eq!((opened, message), (open_job(&two, &samples::ring(), job, &mut other), other));
+        }
+        assert_eq!(printed(&one, &two), "first\nsecond\ndiffer\n20\n30\n");
+    }
+
+    /// The writer and the reseal pass take edition 1 alone.
+    #[test]
+    fn earlier_tools() {
+        let ring = samples::ring();
+        let file = files::three_rows().in_edition(2).file(&ring);
+        assert_eq!(unseal_file(&file, &ring, &mut []), (21, 0));
+        assert_eq!(reseal(&file, &ring, &mut []), (21, 0));
+        assert_eq!(seal_file(&file, &ring, &mut []), (21, 0));
+    }
+
+    /// Editions other than 1 and 2 are 21 before their rows are looked at.
+    #[test]
+    fn other_editions() {
+        for edition in [[0, 0], [3, 0], [1, 1], [2, 1], [0, 2]] {
+            assert_eq!(check(&[edition[0], edition[1], 0, 0, 8, 0, 0, 0]), (21, 0));
+        }
+        assert_eq!(check(&[2, 0, 0, 0, 8, 0, 0, 0]), (0, 0));
     }
 }

@@ -15,6 +15,7 @@ use Rattle.shift.proofs.Outcomes as shift
 use Rattle.writer.proofs.Outcomes as writer
 use Rattle.reseal.proofs.Outcomes as resealer
 use Rattle.search.proofs.Outcomes as halving
+use Rattle.editions.proofs.Outcomes as editions
 use Rattle.compare.proofs.Outcomes as comparing
 use Rattle.comet.proofs.Refuse.{refusal-most}
 use Rattle.promises.specs.Demand1.{EntryPoints, SealKeeps, OpenKeeps}
@@ -36,6 +37,8 @@ entry-points =
       associated = shift.associated;
       seal-file = record { asks-nothing = λ κs a. tt; one-outcome = writer.seal-file };
       unseal-file = record { asks-nothing = λ κs a. tt; one-outcome = writer.unseal-file };
+      to-edition2 = record { asks-nothing = λ κs a. tt; one-outcome = editions.to-edition2 };
+      to-edition1 = record { asks-nothing = λ κs a. tt; one-outcome = editions.to-edition1 };
       compare = record { asks-nothing = λ κs a. tt; one-outcome = comparing.compare };
       reseal = record { asks-nothing = λ κs a. tt; one-outcome = resealer.reseal };
     }

@@ -10,9 +10,9 @@ use Rattle.mode.specs.Keys.{textMarks, marks}
 use Rattle.words.specs.Bytes.{value}
 use Rattle.table.specs.Format.{rowSize, rowStart}
 use Rattle.table.specs.Search.{firstOf}
-use Rattle.table.specs.Check.{bodyStart, endAnswer, rowsFrom, headNumber, checkAs}
+use Rattle.table.specs.Check.{bodyStart, endAnswer, rowsFrom, headNumber, checkBetween}
 use Rattle.promises.specs.Values.{StarredValues}
 
 pub starred-values : StarredValues
-unfolding xor xtime multiples _•_ find inverse affine subByte factsOf sizeOf versionOf chopLengths lengths doubleBy pad textMarks marks value rowSize rowStart firstOf bodyStart endAnswer rowsFrom headNumber checkAs
+unfolding xor xtime multiples _•_ find inverse affine subByte factsOf sizeOf versionOf chopLengths lengths doubleBy pad textMarks marks value rowSize rowStart firstOf bodyStart endAnswer rowsFrom headNumber checkBetween
 starred-values = refl

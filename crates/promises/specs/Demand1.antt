@@ -35,6 +35,10 @@ use Rattle.writer.proofs.seal_file.Kinds as seal-file-kinds
 use Rattle.writer.proofs.seal_file.Reads as seal-file-reads
 use Rattle.writer.proofs.unseal_file.Kinds as unseal-file-kinds
 use Rattle.writer.proofs.unseal_file.Reads as unseal-file-reads
+use Rattle.editions.proofs.to_edition2.Kinds as to-edition2-kinds
+use Rattle.editions.proofs.to_edition2.Reads as to-edition2-reads
+use Rattle.editions.proofs.to_edition1.Kinds as to-edition1-kinds
+use Rattle.editions.proofs.to_edition1.Reads as to-edition1-reads
 use Rattle.reseal.proofs.reseal.Kinds as reseal-kinds
 use Rattle.reseal.proofs.reseal.Reads as reseal-reads
 use Rattle.search.proofs.search.Kinds as search-kinds
@@ -68,6 +72,9 @@ pub record EntryPoints : Type 0 where
   -- W4
   pub seal-file : Answers seal-file-kinds.ps seal-file-kinds.r seal-file-reads.Pre seal-file-reads.Post
   pub unseal-file : Answers unseal-file-kinds.ps unseal-file-kinds.r unseal-file-reads.Pre unseal-file-reads.Post
+  -- W10
+  pub to-edition2 : Answers to-edition2-kinds.ps to-edition2-kinds.r to-edition2-reads.Pre to-edition2-reads.Post
+  pub to-edition1 : Answers to-edition1-kinds.ps to-edition1-kinds.r to-edition1-reads.Pre to-edition1-reads.Post
   -- W8
   pub compare : Answers compare-kinds.ps compare-kinds.r compare-reads.Pre compare-reads.Post
   -- W7

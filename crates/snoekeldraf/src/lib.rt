@@ -3,6 +3,7 @@ pub mod drafts;
 pub mod file;
 pub mod halving;
 pub mod listing;
+pub mod moves;
 pub mod parts;
 pub mod record;
 pub mod renewal;

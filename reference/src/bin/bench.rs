@@ -103,7 +103,7 @@ fn growth(repetitions: usize, shorter: &Call, longer: &Call) -> f64 {
 
 /// As many messages of a size under one suite as a file has room for, at most 512.
 fn plan(random: &mut Random, suite: u8, size: usize) -> Plan {
-    let rows = ((shift::LONGEST - shift::HEADER) / (shift::ROW + 5 + size + 16)).min(shift::MOST_ROWS);
+    let rows = ((shift::LONGEST - shift::HEADER) / (shift::row_size(1) + 5 + size + 16)).min(shift::MOST_ROWS);
     let entry = |job| Entry::new(job as u32, suite, 0, 1, random.array(), &vec![0; size]);
     Plan::new((0..rows).map(entry).collect())
 }

@@ -3,6 +3,7 @@
 pub mod cases;
 pub mod comparing;
 pub mod files;
+pub mod moving;
 pub mod resealing;
 pub mod samples;
 pub mod searching;
@@ -16,7 +17,7 @@ use crate::calls::{Case, REFERENCE};
 pub type Part = (&'static str, Vec<u8>);
 
 /// The folders of the repository that are written.
-pub const FOLDERS: [&str; 12] = [
+pub const FOLDERS: [&str; 14] = [
     "samples",
     "crates/vectors",
     "crates/cases",
@@ -29,6 +30,8 @@ pub const FOLDERS: [&str; 12] = [
     "crates/resealing",
     "crates/comparing",
     "crates/differ",
+    "crates/moving",
+    "crates/moves",
 ];
 
 /// What a test program reads and writes.
@@ -53,6 +56,8 @@ pub fn parts(folder: &str) -> Vec<Part> {
         "crates/resealing" => resealing::parts().to_vec(),
         "crates/comparing" => comparing::parts().to_vec(),
         "crates/differ" => comparing::differ_parts().to_vec(),
+        "crates/moving" => moving::parts().to_vec(),
+        "crates/moves" => moving::move_parts().to_vec(),
         _ => unreachable!("no data for {folder}"),
     }
 }

@@ -125,6 +125,7 @@ fn refused_checks(_: &mut Random) -> Vec<RewriteCall> {
         let plan = Plan { edition: Some(edition), ..files::three_rows() };
         calls.push(expected(reseal(&plan), 21, 0));
     }
+    calls.push(expected(reseal(&files::three_rows().in_edition(2)), 21, 0));
     calls
 }
 

@@ -28,6 +28,9 @@ const DAY: [(u32, u8, u8, u8, &str); 8] = [
     (4211, 6, 5, 2, "gearbox 4211 bolt 5/16-24 count 3 torque 210 212 211"),
 ];
 
+/// The stations of the day, in its file of edition 2.
+const STATIONS: [u32; 8] = [207, 207, 207, 208, 0, 311, 207, 208];
+
 /// What stands in the associated data after the unit, where a station adds its name.
 const STATION: &[u8] = b"line 2 station 7";
 
@@ -43,11 +46,18 @@ fn entries() -> Vec<Entry> {
         }
         entry
     };
-    DAY.into_iter().map(entry).collect()
+    let mut entries: Vec<Entry> = DAY.into_iter().map(entry).collect();
+    entries.iter_mut().zip(STATIONS).for_each(|(entry, station)| entry.station = station);
+    entries
 }
 
 pub fn day() -> Vec<u8> {
     Plan::new(entries()).file(&ring())
+}
+
+/// The same day in edition 2, with its stations.
+pub fn stations() -> Vec<u8> {
+    Plan::new(entries()).in_edition(2).file(&ring())
 }
 
 /// The day as it was sent later: job 4105 is gone, 4111 and 4300 have come, 4102 has another record and 4200 another key.
@@ -72,8 +82,8 @@ pub fn draft() -> Vec<u8> {
     Plan::new(entries().into_iter().filter(|entry| entry.suite != 4).collect()).draft()
 }
 
-pub fn parts() -> [Part; 3] {
-    [("day.shift", day()), ("day.draft", draft()), ("ring.keys", ring())]
+pub fn parts() -> [Part; 4] {
+    [("day.shift", day()), ("stations.shift", stations()), ("day.draft", draft()), ("ring.keys", ring())]
 }
 
 /// What `job FILE RING JOB` writes: the opening's number and row and, on 0, unit, associated data and message.

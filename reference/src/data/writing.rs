@@ -140,6 +140,7 @@ fn refused_checks(_: &mut Random) -> Vec<RewriteCall> {
         }
         let other = if pass == Pass::Seal { files::three_rows().file(&samples::ring()) } else { all_suites().draft() };
         calls.push(expected(call(pass, other), 21, 0));
+        calls.push(expected(call(pass, sealable(&all_suites()).in_edition(2).file(&samples::ring())), 21, 0));
     }
     calls
 }
