@@ -37,7 +37,6 @@ extern "C" {
 /* Numbers of comet_seal and comet_open: the first that applies, in this order.
  *   0  done
  *   1  suite is not 1 to 6
- *   1  suite is not 1 to 4
  *  10  comet_seal alone: suite is 4
  *   2  key_len is not 16
  *   3  nonce_len is not the suite's
@@ -74,9 +73,8 @@ uint32_t comet_open(uint8_t suite,
  *
  * A session is a plain struct that goes in and comes back by value: each call hands back a step, and its session `next`
  * takes the place of the one that was given. The fields are for the functions alone, and hold what the key makes: keep
- * them as secret as the key. Any value may arrive: one whose suite is not 1 to 6 or whose totals are over 65,536 (as a
- * them as secret as the key. Any value may arrive: one whose suite is not 1 to 3 or whose totals are over 65,536 (as a
- * session that was refused at the start, or has ended) is answered by 9; any other is taken as what it says. Going on
+ * them as secret as the key. Any value may arrive: one whose suite seals no record (is not 1 to 6, or is 4) or whose
+ * totals are over 65,536 (as a session that was refused at the start, or has ended) is answered by 9; any other is taken as what it says. Going on
  * from one session value twice, with different messages, is sealing two records with one key and one nonce.
  */
 typedef struct {
@@ -96,7 +94,6 @@ typedef struct {
 /* Numbers of a session: the first that applies, in the order that stands with each function.
  *   0  done
  *   1  suite is not 1 to 6
- *   1  suite is not 1 to 4
  *  10  suite is 4
  *   2  key_len is not 16
  *   3  nonce_len is not the suite's
@@ -242,6 +239,28 @@ uint32_t shift_reseal(const uint8_t *file, size_t file_len,
  */
 uint32_t shift_search(const uint8_t *file, size_t file_len, uint32_t job, uint32_t *row, uint32_t *looked);
 
+/* Amendments: a small file that replaces some jobs of the day's. The current entry of a job is the amendment's if it has
+ * the job, else the day's. Numbers, in this order: the full check of the amendment (*file 1, *row as by shift_check), the
+ * full check of the day's file (*file 2), also where the amendment has the job; then 32 (*file 0, *row 0), exactly if
+ * neither has the job. After 0, *file is the file that holds the current entry (1 the amendment, 2 the day's) and *row its
+ * row there; its associated data is *len bytes from amendment + *at or from day + *at. It is not yet shown to be genuine.
+ * All four are written always: *at and *len are 0 after every number but 0.
+ */
+uint32_t shift_amended(const uint8_t *amendment, size_t amendment_len,
+                       const uint8_t *day, size_t day_len,
+                       uint32_t job,
+                       uint32_t *file, uint32_t *row, uint32_t *at, uint32_t *len);
+
+/* Opens the current entry: the numbers of shift_amended, with file and row, and then 2, 6 and 8 of shift_open_job on the
+ * file that holds the entry. After 0, 2, 6 and 8, *file is that file and *row 0. out is as shift_open_job leaves it:
+ * written whole after 0, zeros after 8, as it was after every other number.
+ */
+uint32_t shift_open_amended(const uint8_t *amendment, size_t amendment_len,
+                            const uint8_t *day, size_t day_len,
+                            const uint8_t *ring, size_t ring_len,
+                            uint32_t job,
+                            uint8_t *out, size_t out_len,
+                            uint32_t *file, uint32_t *row);
 /* The moves between editions. Edition 2 has a station number in every row, four bytes more. Numbers, in this order; out
  * is as it was after every number but 0. *row is written always: the row after 25 to 30, 34 and 35, and 0 after every
  * other number, 0 too.

@@ -3,6 +3,7 @@
 //! The archive is for x86-64 alone. On another processor that program is compiled for x86-64 by a cross compiler
 //! and runs under the emulator of the kit that proves the library.
 
+use crate::amendment::Amended;
 use crate::calls::Library;
 use crate::difference::Compared;
 use crate::session::{Session, Step};
@@ -225,6 +226,17 @@ fn to_edition1(file: &[u8], out: &mut [u8]) -> Answer {
     (number, row)
 }
 
+fn amended(amendment: &[u8], day: &[u8], job: u32) -> Amended {
+    let (number, [file, row, at, length]) = ask(18, vec![Given(amendment), Given(day), Number(job.into())]);
+    Amended { number, file, row, at: at as usize, length: length as usize }
+}
+
+fn open_current(amendment: &[u8], day: &[u8], ring: &[u8], job: u32, out: &mut [u8]) -> (u32, u32, u32) {
+    let given = vec![Given(amendment), Given(day), Given(ring), Number(job.into()), Lent(out)];
+    let (number, [file, row]) = ask(19, given);
+    (number, file, row)
+}
+
 pub const PROVED: Library = Library {
     seal,
     open,
@@ -244,4 +256,6 @@ pub const PROVED: Library = Library {
     compare,
     to_edition2,
     to_edition1,
+    amended,
+    open_current,
 };

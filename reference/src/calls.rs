@@ -1,5 +1,6 @@
 //! What is put to an implementation, and what it answers: calls of the sealer, the opener and the shift file.
 
+use crate::amendment::{self, Amended};
 use crate::difference::{self, Compared};
 use crate::session::{Session, Step};
 use crate::show::{fold, shown};
@@ -38,6 +39,8 @@ pub struct Library {
     pub compare: fn(&[u8], &[u8], [&mut [u32]; 3]) -> Compared,
     pub to_edition2: fn(&[u8], &mut [u8]) -> shift::Answer,
     pub to_edition1: fn(&[u8], &mut [u8]) -> shift::Answer,
+    pub amended: fn(&[u8], &[u8], u32) -> Amended,
+    pub open_current: fn(&[u8], &[u8], &[u8], u32, &mut [u8]) -> (u32, u32, u32),
 }
 
 pub const REFERENCE: Library = Library {
@@ -62,6 +65,8 @@ pub const REFERENCE: Library = Library {
     compare: difference::compare,
     to_edition2: editions::to_edition2,
     to_edition1: editions::to_edition1,
+    amended: amendment::amended,
+    open_current: amendment::open_current,
 };
 
 /// A call, or a run of calls.

@@ -7,6 +7,7 @@
 //! compare with, and `trials` and `data` those of the comparison with the proved library.
 
 pub mod aes;
+pub mod amendment;
 pub mod cham;
 pub mod comet;
 pub mod difference;

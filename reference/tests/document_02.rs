@@ -1,5 +1,6 @@
 //! What document 02 says of each request, at its edges.
 
+use reference::amendment::{amended, current, open_current};
 use reference::comet::{double_120, encipher, open, pad, seal, shuffle, specified, LIMIT};
 use reference::data::{files, samples};
 use reference::difference::{compare, printed, PROGRAM_LONGEST};
@@ -496,5 +497,42 @@ mod w10 {
             assert_eq!(check(&[edition[0], edition[1], 0, 0, 8, 0, 0, 0]), (21, 0));
         }
         assert_eq!(check(&[2, 0, 0, 0, 8, 0, 0, 0]), (0, 0));
+    }
+}
+
+mod w11 {
+    use super::*;
+
+    /// The place and the bytes of the part are those of the file that holds the entry.
+    #[test]
+    fn whose_entry() {
+        let (amendment, day) = (samples::amendment(), samples::day());
+        for (job, file, row) in [(4101, 2, 0), (4102, 1, 0), (4110, 1, 1), (4220, 1, 2), (4211, 2, 7)] {
+            let answer = amended(&amendment, &day, job);
+            assert_eq!((answer.number, answer.file, answer.row), (0, file, row));
+            let holds = if file == 1 { &amendment } else { &day };
+            let part = current(&amendment, &day, job);
+            assert_eq!(part.as_ptr(), holds[answer.at..].as_ptr());
+            assert_eq!(part, reference::shift::associated(holds, job));
+        }
+        let answer = amended(&amendment, &day, 4103 + 1);
+        assert_eq!((answer.number, answer.file, answer.row, answer.at, answer.length), (32, 0, 0, 0, 0));
+        let mut message = [0; 41];
+        assert_eq!(open_current(&amendment, &day, &samples::ring(), 4220, &mut message), (0, 1, 0));
+        assert!(message.starts_with(b"gearbox 4220"));
+    }
+
+    /// The day's file is checked though the amendment has the job; what is handed back then is the amendment's.
+    #[test]
+    fn refusals() {
+        let (mut amendment, mut day) = (samples::amendment(), samples::day());
+        day[8 + 32 + 4] = 9;
+        let answer = amended(&amendment, &day, 4102);
+        assert_eq!((answer.number, answer.file, answer.row), (26, 2, 1));
+        let part = current(&amendment, &day, 4102);
+        assert_eq!((part.as_ptr(), part.len()), (amendment.as_ptr(), 0));
+        assert_eq!(open_current(&amendment, &day, &[], 4102, &mut []), (26, 2, 1));
+        amendment[0] = 3;
+        assert_eq!((amended(&amendment, &day, 4102).number, amended(&amendment, &day, 4102).file), (21, 1));
     }
 }

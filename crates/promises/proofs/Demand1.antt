@@ -15,6 +15,7 @@ use Rattle.shift.proofs.Outcomes as shift
 use Rattle.writer.proofs.Outcomes as writer
 use Rattle.reseal.proofs.Outcomes as resealer
 use Rattle.search.proofs.Outcomes as halving
+use Rattle.amend.proofs.Outcomes as amend
 use Rattle.editions.proofs.Outcomes as editions
 use Rattle.compare.proofs.Outcomes as comparing
 use Rattle.comet.proofs.Refuse.{refusal-most}
@@ -37,6 +38,9 @@ entry-points =
       associated = shift.associated;
       seal-file = record { asks-nothing = λ κs a. tt; one-outcome = writer.seal-file };
       unseal-file = record { asks-nothing = λ κs a. tt; one-outcome = writer.unseal-file };
+      locate = record { asks-nothing = λ κs a. tt; one-outcome = amend.locate };
+      current = amend.current;
+      open-current = record { asks-nothing = λ κs a. tt; one-outcome = amend.open-current };
       to-edition2 = record { asks-nothing = λ κs a. tt; one-outcome = editions.to-edition2 };
       to-edition1 = record { asks-nothing = λ κs a. tt; one-outcome = editions.to-edition1 };
       compare = record { asks-nothing = λ κs a. tt; one-outcome = comparing.compare };

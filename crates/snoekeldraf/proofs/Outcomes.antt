@@ -51,6 +51,12 @@ use Rattle.snoekeldraf.proofs.renewal.shift_reseal.Kinds as reseal-kind
 use Rattle.snoekeldraf.proofs.renewal.shift_reseal.Reads as reseal-reads
 use Rattle.snoekeldraf.proofs.halving.shift_search.Kinds as search-kinds
 use Rattle.snoekeldraf.proofs.halving.shift_search.Reads as search-reads
+use Rattle.amend.specs.Amending.{AmendedOpening}
+use Rattle.snoekeldraf.specs.Amended.{Placed}
+use Rattle.snoekeldraf.proofs.amending.shift_amended.Kinds as amended-kinds
+use Rattle.snoekeldraf.proofs.amending.shift_amended.Reads as amended-reads
+use Rattle.snoekeldraf.proofs.amending.shift_open_amended.Kinds as open-amended-kinds
+use Rattle.snoekeldraf.proofs.amending.shift_open_amended.Reads as open-amended-reads
 use Rattle.compare.specs.Comparing.{Comparison}
 use Rattle.snoekeldraf.proofs.listing.shift_compare.Kinds as compare-kinds
 use Rattle.snoekeldraf.proofs.listing.shift_compare.Reads as compare-reads
@@ -154,6 +160,16 @@ pub shift-search : OneOutcome search-kinds.ps search-kinds.r search-reads.Pre se
 shift-search κs a h x y =
     let e = x .ensures .0 ∙ sym (y .ensures .0) in
     (ap (λ (w : Answer). w .number) e, ap₂ (λ (w : Answer) (l : ℕ). (tt, (tt, (w .row, (l, tt))))) e (x .ensures .1 ∙ sym (y .ensures .1)))
+
+pub shift-amended : OneOutcome amended-kinds.ps amended-kinds.r amended-reads.Pre amended-reads.Post
+shift-amended κs a h x y =
+    let e = x .ensures ∙ sym (y .ensures) in
+    (ap (λ (w : Placed). w .number) e, ap (λ (w : Placed). (tt, (tt, (tt, (w .file, (w .row, (w .at, (w .len, tt)))))))) e)
+
+pub shift-open-amended : OneOutcome open-amended-kinds.ps open-amended-kinds.r open-amended-reads.Pre open-amended-reads.Post
+shift-open-amended κs a h x y =
+    let e = x .ensures ∙ sym (y .ensures) in
+    (ap (λ (w : AmendedOpening). w .answer .number) e, ap (λ (w : AmendedOpening). (tt, (tt, (tt, (tt, (w .out, (w .file, (w .answer .row, tt)))))))) e)
 
 pub shift-to-edition2 : OneOutcome to-edition2-kinds.ps to-edition2-kinds.r to-edition2-reads.Pre to-edition2-reads.Post
 shift-to-edition2 κs a h x y =

@@ -5,7 +5,7 @@
 
 use reference::bridge::PROVED;
 use reference::calls::{Case, Library, REFERENCE};
-use reference::data::{cases, comparing, files, moving, resealing, searching, sessions, writing};
+use reference::data::{amending, cases, comparing, files, moving, resealing, searching, sessions, writing};
 use reference::linked::{COLUMNS, PLAIN};
 use reference::random::Random;
 use reference::show::hex;
@@ -139,6 +139,15 @@ fn compare_moves(tally: &mut Tally, random: &mut Random) {
     tally.report("moves around the longest file");
 }
 
+fn compare_amendments(tally: &mut Tally, random: &mut Random) {
+    amending::calls().iter().for_each(|call| tally.proved(call));
+    tally.report("the calls of the program amending");
+    amending::trials(random, 10_000, |call| tally.proved(call));
+    tally.report("random amendments, good and edited");
+    amending::longest(|call| tally.proved(call));
+    tally.report("amendments with the longest file");
+}
+
 fn main() {
     let seed = std::env::args().nth(1).map_or(2026, |seed| seed.parse().expect("SEED is a number"));
     let mut tally = Tally::default();
@@ -151,6 +160,7 @@ fn main() {
     compare_reseal(&mut tally, &mut random);
     compare_compare(&mut tally, &mut random);
     compare_moves(&mut tally, &mut random);
+    compare_amendments(&mut tally, &mut random);
     println!("{} cases, {} differences", tally.cases, tally.differences);
     if tally.differences > 0 {
         std::process::exit(1);

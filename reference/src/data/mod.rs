@@ -1,5 +1,6 @@
 //! The data of the test programs and the samples, the same in every run.
 
+pub mod amending;
 pub mod cases;
 pub mod comparing;
 pub mod files;
@@ -17,7 +18,7 @@ use crate::calls::{Case, REFERENCE};
 pub type Part = (&'static str, Vec<u8>);
 
 /// The folders of the repository that are written.
-pub const FOLDERS: [&str; 14] = [
+pub const FOLDERS: [&str; 15] = [
     "samples",
     "crates/vectors",
     "crates/cases",
@@ -32,6 +33,7 @@ pub const FOLDERS: [&str; 14] = [
     "crates/differ",
     "crates/moving",
     "crates/moves",
+    "crates/amending",
 ];
 
 /// What a test program reads and writes.
@@ -58,6 +60,7 @@ pub fn parts(folder: &str) -> Vec<Part> {
         "crates/differ" => comparing::differ_parts().to_vec(),
         "crates/moving" => moving::parts().to_vec(),
         "crates/moves" => moving::move_parts().to_vec(),
+        "crates/amending" => amending::parts().to_vec(),
         _ => unreachable!("no data for {folder}"),
     }
 }

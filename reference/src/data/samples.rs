@@ -77,13 +77,39 @@ pub fn later_day() -> Vec<u8> {
     Plan::new(entries).file(&ring())
 }
 
+/// What quality sent: jobs 4102 and 4110 anew, and a job that the day did not have.
+pub fn amendment() -> Vec<u8> {
+    let records = [
+        (
+            4102,
+            2,
+            "gearbox 4102 bolt M8x40 count 8 torque 25.0 25.1 25.0 25.2 25.0 25.0 25.1 25.0, bolts 1 5 8 retorqued",
+        ),
+        (4110, 3, "gearbox 4110 bolt M6x20 count 2 torque 9.8 9.9, entered by hand"),
+        (4220, 5, "gearbox 4220 plug M22 count 1 torque 60.2"),
+    ];
+    let mut random = Random::new(16);
+    let entry = |(job, suite, record): (u32, u8, &str)| {
+        let mut entry = Entry::new(job, suite, 7, 1, random.array(), record.as_bytes());
+        entry.ad.extend(b"quality");
+        entry
+    };
+    Plan::new(records.into_iter().map(entry).collect()).file(&ring())
+}
+
 /// The day before it was sealed, but for the job of suite 4.
 pub fn draft() -> Vec<u8> {
     Plan::new(entries().into_iter().filter(|entry| entry.suite != 4).collect()).draft()
 }
 
-pub fn parts() -> [Part; 4] {
-    [("day.shift", day()), ("stations.shift", stations()), ("day.draft", draft()), ("ring.keys", ring())]
+pub fn parts() -> [Part; 5] {
+    [
+        ("day.shift", day()),
+        ("stations.shift", stations()),
+        ("amendment.shift", amendment()),
+        ("day.draft", draft()),
+        ("ring.keys", ring()),
+    ]
 }
 
 /// What `job FILE RING JOB` writes: the opening's number and row and, on 0, unit, associated data and message.
