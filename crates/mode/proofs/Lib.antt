@@ -1,5 +1,6 @@
 pub mod Blocks
 pub mod Words
+pub mod Shuffle
 pub mod Keys
 pub mod Versions
 pub mod Chain

@@ -3,3 +3,4 @@ pub mod Words
 pub mod Keys
 pub mod Mode
 pub mod Walk
+pub mod Slips
