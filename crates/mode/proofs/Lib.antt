@@ -10,3 +10,5 @@ pub mod Start
 pub mod Demand2
 pub mod Demand3
 pub mod LastBlock
+pub mod Meets
+pub mod Slips
