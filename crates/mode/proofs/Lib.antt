@@ -10,5 +10,6 @@ pub mod Start
 pub mod Demand2
 pub mod Demand3
 pub mod LastBlock
+pub mod Calls
 pub mod Meets
 pub mod Slips

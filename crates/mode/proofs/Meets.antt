@@ -15,8 +15,8 @@ use Rattle.words.proofs.Xor.{twice, ones}
 use Rattle.words.proofs.Xors.{length-xors, getD-xors, xors-assoc, xors-comm, xors-middle, xors-inj, xors-zero}
 use Rattle.cipher.specs.Cipher.{Cipher, Lawful, Block}
 use Rattle.mode.specs.Words.{shuffle}
-use Rattle.mode.specs.Mode.{Chain, image, absorbed, masked, message, after}
-use Rattle.mode.specs.Slips.{outputs, Complements, ComplementBytes}
+use Rattle.mode.specs.Mode.{Call, Chain, enciphered, image, absorbed, masked, message, run, after}
+use Rattle.mode.specs.Slips.{Complements, ComplementBytes}
 use Rattle.mode.proofs.Blocks.{AllBlocks, none, more}
 use Rattle.mode.proofs.Words.{pad-full, shuffle-block}
 use Rattle.mode.proofs.Shuffle.{shuffle-xor, two-blocks}
@@ -102,65 +102,71 @@ module _ (κ : Cipher) (L : Lawful κ) where
 
   -- ---- any number of blocks
 
-  -- at some block from number f on the outputs are complements
-  abbrev pub Complemented : ℕ → Chain → Chain → List (List ℕ) → List (List ℕ) → Type 0
-  Complemented f c c′ bs bs′ = (i : ℕ) × (f ≤ i) × (i < length bs) × Complements (κ .size) (getD (outputs κ c bs) i []) (getD (outputs κ c′ bs′) i [])
-
-  -- equal tags exactly then
-  abbrev pub Meets : ℕ → Chain → Chain → List (List ℕ) → List (List ℕ) → Type 0
-  Meets f c c′ bs bs′ = (image κ (after κ true c bs) ≡ image κ (after κ true c′ bs′)) ↔ Complemented f c c′ bs bs′
-
-  -- a block in front, which is not counted
-  in-front : (f : ℕ) (c c′ : Chain) (b b′ : List ℕ) (bs bs′ : List (List ℕ)) → Meets f (next c b) (next c′ b′) bs bs′ → Meets (suc f) c c′ (b ∷ bs) (b′ ∷ bs′)
-  unfolding after outputs
-  in-front f c c′ b b′ bs bs′ m = (
-    λ e. let s = m .0 e in (suc (s .0), omega (arith, s .1), omega (arith, s .2), s .3),
-    λ s. m .1 (back s),
-  )
-    where
-      back : Complemented (suc f) c c′ (b ∷ bs) (b′ ∷ bs′) → Complemented f (next c b) (next c′ b′) bs bs′
-      back (zero, h, l, o) = absurd (not-suc-le-zero h)
-      back (suc i, h, l, o) = (i, le-of-suc-le-suc h, le-of-suc-le-suc l, o)
-
-  -- before the changed block there are others
-  pub changed-at : (c : Chain) (P Q : List (List ℕ)) (b b′ : List ℕ) → Meets 0 (next (after κ true c P) b) (next (after κ true c P) b′) Q Q
-      → Meets (suc (length P)) c c (P ++ (b ∷ Q)) (P ++ (b′ ∷ Q))
-  unfolding after
-  changed-at c [] Q b b′ m = in-front 0 c c b b′ Q Q m
-  changed-at c (p ∷ P) Q b b′ m = in-front (suc (length P)) c c p p (P ++ (b ∷ Q)) (P ++ (b′ ∷ Q)) (changed-at (next c p) P Q b b′ m)
-
   -- blocks that are all full
   abbrev pub Full : List (List ℕ) → Type 0
   Full bs = (i : ℕ) → i < length bs → length (getD bs i []) ≡ κ .size
 
-  -- equal tags come from equal Ys or from complements at some block
-  tags-same : (c c′ : Chain) {bs : List (List ℕ)} → AllBlocks (κ .size) bs → Full bs → Good κ (length bs) c → Good κ (length bs) c′ → c .left ≡ c′ .left
-      → (image κ (after κ true c bs) ≡ image κ (after κ true c′ bs)) ↔ ((c .Y ≡ c′ .Y) ⊎ Complemented 0 c c′ bs bs)
-  unfolding after outputs
-  tags-same c c′ none hf g g′ el = (
-    λ e. inl (image-told κ L 0 c c′ g g′ el e),
-    λ w. elim w [ inl y ↦ ap (image κ) (same-chain c c′ y el) | inr s ↦ absurd (not-suc-le-zero (s .2)) ],
-  )
-  tags-same c c′ (more {b = b} {bs = bs} hb lb hbs) hf g g′ el =
-      let n = next-same (length bs) c c′ b g g′ el hb (hf 0 (omega arith)) in
-      let r = tags-same (next c b) (next c′ b) hbs (λ i h. hf (suc i) (omega arith)) (good-message κ L true (length bs) c b g hb lb) (good-message κ L true (length bs) c′ b g′ hb lb)
-      (absorbed-left κ L c c′ (message κ true c b) (message κ true c′ b) el) in (
-        λ e. elim (r .0 e) [
-          | inl y ↦ elim (n .0 y) [ inl q ↦ inl q | inr o ↦ inr (0, omega arith, omega arith, o) ]
-          | inr s ↦ inr (suc (s .0), omega arith, omega (arith, s .2), s .3)
-        ],
-        λ w. r .1 (back n w),
-      )
-    where
-      back : ((next c b .Y ≡ next c′ b .Y) ↔ ((c .Y ≡ c′ .Y) ⊎ Complements (κ .size) (image κ c) (image κ c′))) → (c .Y ≡ c′ .Y) ⊎ Complemented 0 c c′ (b ∷ bs) (b ∷ bs)
-          → (next c b .Y ≡ next c′ b .Y) ⊎ Complemented 0 (next c b) (next c′ b) bs bs
-      back n (inl y) = inl (n .1 (inl y))
-      back n (inr (zero, z, h, o)) = inl (n .1 (inr o))
-      back n (inr (suc i, z, h, o)) = inr (i, omega arith, le-of-suc-le-suc h, o)
+  -- d stands behind the end of every list of calls
+  module _ (d : Call) where
+    -- the output at block i, by the list of calls
+    abbrev pub outputOf : Chain → List (List ℕ) → ℕ → List ℕ
+    outputOf c bs i = enciphered κ (getD (run κ true c bs .made) i d)
 
-  -- so where the Ys differ
-  pub meets : (c c′ : Chain) {bs : List (List ℕ)} → AllBlocks (κ .size) bs → Full bs → Good κ (length bs) c → Good κ (length bs) c′ → c .left ≡ c′ .left
-      → (c .Y ≡ c′ .Y → ⊥) → Meets 0 c c′ bs bs
-  meets c c′ hbs hf g g′ el ne =
-      let s = tags-same c c′ hbs hf g g′ el in
-      (λ e. elim (s .0 e) [ inl y ↦ absurd (ne y) | inr o ↦ o ], λ o. s .1 (inr o))
+    -- at some block from number f on the outputs are complements
+    abbrev pub Complemented : ℕ → Chain → Chain → List (List ℕ) → List (List ℕ) → Type 0
+    Complemented f c c′ bs bs′ = (i : ℕ) × (f ≤ i) × (i < length bs) × Complements (κ .size) (outputOf c bs i) (outputOf c′ bs′ i)
+
+    -- equal tags exactly then
+    abbrev pub Meets : ℕ → Chain → Chain → List (List ℕ) → List (List ℕ) → Type 0
+    Meets f c c′ bs bs′ = (image κ (after κ true c bs) ≡ image κ (after κ true c′ bs′)) ↔ Complemented f c c′ bs bs′
+
+    -- a block in front, which is not counted
+    in-front : (f : ℕ) (c c′ : Chain) (b b′ : List ℕ) (bs bs′ : List (List ℕ)) → Meets f (next c b) (next c′ b′) bs bs′ → Meets (suc f) c c′ (b ∷ bs) (b′ ∷ bs′)
+    unfolding run
+    in-front f c c′ b b′ bs bs′ m = (
+      λ e. let s = m .0 e in (suc (s .0), omega (arith, s .1), omega (arith, s .2), s .3),
+      λ s. m .1 (back s),
+    )
+      where
+        back : Complemented (suc f) c c′ (b ∷ bs) (b′ ∷ bs′) → Complemented f (next c b) (next c′ b′) bs bs′
+        back (zero, h, l, o) = absurd (not-suc-le-zero h)
+        back (suc i, h, l, o) = (i, le-of-suc-le-suc h, le-of-suc-le-suc l, o)
+
+    -- before the changed block there are others
+    pub changed-at : (c : Chain) (P Q : List (List ℕ)) (b b′ : List ℕ) → Meets 0 (next (after κ true c P) b) (next (after κ true c P) b′) Q Q
+        → Meets (suc (length P)) c c (P ++ (b ∷ Q)) (P ++ (b′ ∷ Q))
+    unfolding run
+    changed-at c [] Q b b′ m = in-front 0 c c b b′ Q Q m
+    changed-at c (p ∷ P) Q b b′ m = in-front (suc (length P)) c c p p (P ++ (b ∷ Q)) (P ++ (b′ ∷ Q)) (changed-at (next c p) P Q b b′ m)
+
+    -- equal tags come from equal Ys or from complements at some block
+    tags-same : (c c′ : Chain) {bs : List (List ℕ)} → AllBlocks (κ .size) bs → Full bs → Good κ (length bs) c → Good κ (length bs) c′ → c .left ≡ c′ .left
+        → (image κ (after κ true c bs) ≡ image κ (after κ true c′ bs)) ↔ ((c .Y ≡ c′ .Y) ⊎ Complemented 0 c c′ bs bs)
+    unfolding run
+    tags-same c c′ none hf g g′ el = (
+      λ e. inl (image-told κ L 0 c c′ g g′ el e),
+      λ w. elim w [ inl y ↦ ap (image κ) (same-chain c c′ y el) | inr s ↦ absurd (not-suc-le-zero (s .2)) ],
+    )
+    tags-same c c′ (more {b = b} {bs = bs} hb lb hbs) hf g g′ el =
+        let n = next-same (length bs) c c′ b g g′ el hb (hf 0 (omega arith)) in
+        let r = tags-same (next c b) (next c′ b) hbs (λ i h. hf (suc i) (omega arith)) (good-message κ L true (length bs) c b g hb lb) (good-message κ L true (length bs) c′ b g′ hb lb)
+        (absorbed-left κ L c c′ (message κ true c b) (message κ true c′ b) el) in (
+          λ e. elim (r .0 e) [
+            | inl y ↦ elim (n .0 y) [ inl q ↦ inl q | inr o ↦ inr (0, omega arith, omega arith, o) ]
+            | inr s ↦ inr (suc (s .0), omega arith, omega (arith, s .2), s .3)
+          ],
+          λ w. r .1 (back n w),
+        )
+      where
+        back : ((next c b .Y ≡ next c′ b .Y) ↔ ((c .Y ≡ c′ .Y) ⊎ Complements (κ .size) (image κ c) (image κ c′))) → (c .Y ≡ c′ .Y) ⊎ Complemented 0 c c′ (b ∷ bs) (b ∷ bs)
+            → (next c b .Y ≡ next c′ b .Y) ⊎ Complemented 0 (next c b) (next c′ b) bs bs
+        back n (inl y) = inl (n .1 (inl y))
+        back n (inr (zero, z, h, o)) = inl (n .1 (inr o))
+        back n (inr (suc i, z, h, o)) = inr (i, omega arith, le-of-suc-le-suc h, o)
+
+    -- so where the Ys differ
+    pub meets : (c c′ : Chain) {bs : List (List ℕ)} → AllBlocks (κ .size) bs → Full bs → Good κ (length bs) c → Good κ (length bs) c′ → c .left ≡ c′ .left
+        → (c .Y ≡ c′ .Y → ⊥) → Meets 0 c c′ bs bs
+    meets c c′ hbs hf g g′ el ne =
+        let s = tags-same c c′ hbs hf g g′ el in
+        (λ e. elim (s .0 e) [ inl y ↦ absurd (ne y) | inr o ↦ o ], λ o. s .1 (inr o))

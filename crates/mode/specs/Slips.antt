@@ -2,7 +2,7 @@
 use mathlib.Core.Path.{_≡_}
 use mathlib.Core.Bool.{true}
 use mathlib.Core.Logic.{_⊎_, _↔_}
-use mathlib.Core.List.{List, [], _∷_}
+use mathlib.Core.List.{List, []}
 use Prim.Native.Nat.{ℕ, suc, _+_, _-_, _*_, _≤_, _<_}
 use lib.ListN.{length, getD, replicate}
 use Rattle.words.specs.Bytes.{AllBytes}
@@ -10,7 +10,7 @@ use Rattle.words.specs.Xors.{xors}
 use Rattle.cipher.specs.Cipher.{Cipher, Lawful, Block}
 use Rattle.mode.specs.Blocks.{blocks}
 use Rattle.mode.specs.Words.{shuffle}
-use Rattle.mode.specs.Mode.{Chain, image, nonceSize, absorbed, message, afterData, tagOut}
+use Rattle.mode.specs.Mode.{enciphered, startCall, nonceSize, tagOut, calls}
 
 -- exactly two blocks go to zero under shuffle XOR identity: all zeros and all ones; n is 16 or 8 bytes
 abbrev pub TwoBlocks : Type 0
@@ -29,14 +29,9 @@ ComplementBytes =
     → Complements n x x′ ↔ ((i : ℕ) → i < n → getD x′ i 0 ≡ 255 - getD x i 0)
 
 module _ (κ : Cipher) where
-  -- the cipher's outputs in an opening, one for each block of ciphertext: X of the chain, which then takes the message's block in
-  unfoldable pub outputs : Chain → List (List ℕ) → List (List ℕ)
-  outputs c [] = []
-  outputs c (b ∷ bs) = image κ c ∷ outputs (absorbed κ c (message κ true c b)) bs
-
-  -- the cipher's output at message block i, counted from 0, where ciphertext c with associated data ad is opened
+  -- the cipher's output at message block i, counted from 0, where ciphertext c with associated data ad is opened: in the list of its calls the start's stands first, then those of the associated data, then those of the message
   unfoldable pub outputAt : List ℕ → List ℕ → List ℕ → List ℕ → ℕ → List ℕ
-  outputAt key nonce ad c i = getD (outputs (afterData κ key nonce ad (length c)) (blocks (κ .size) c)) i []
+  outputAt key nonce ad c i = enciphered κ (getD (calls κ true key nonce ad c) (suc (length (blocks (κ .size) ad) + i)) (startCall κ key nonce))
 
   -- at some message block from number `first` on the outputs of two openings are complements
   abbrev pub ComplementFrom : ℕ → List ℕ → List ℕ → List ℕ → List ℕ → List ℕ → List ℕ → Type 0
