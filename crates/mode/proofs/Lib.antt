@@ -13,3 +13,4 @@ pub mod LastBlock
 pub mod Calls
 pub mod Meets
 pub mod Slips
+pub mod Toy

@@ -5,3 +5,4 @@ pub mod Mode
 pub mod Calls
 pub mod Walk
 pub mod Slips
+pub mod Toy
