@@ -4,7 +4,7 @@ use Rattle.cipher.specs.Cipher.{cipherOf}
 use Rattle.cipher.proofs.Lawful.{lawful}
 use Rattle.mode.proofs.Shuffle.{two-blocks}
 use Rattle.mode.proofs.Meets.{complement-bytes}
-use Rattle.mode.proofs.Slips as mode.{slips-through}
+use Rattle.mode.proofs.Slips as mode
 use Rattle.mode.proofs.Toy.{toy-holds}
 use Rattle.comet.specs.Answers.{Opened}
 use Rattle.promises.specs.Slips.{SlipsThrough, Slips}
