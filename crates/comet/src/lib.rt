@@ -233,15 +233,16 @@ fn unseal_with(
 {
     let t = crypt(tb, true, suite, key, nonce, ad, text, out);
     let g = t.tag;
-    if step::tag::same(g, tag) {
+    let right = step::tag::same(g, tag);
+    if !right {
+        words::zeros::wipe(out);
         return Counted {
-            verdict: Verdict::Done,
+            verdict: Verdict::Forged,
             calls: t.calls,
         };
     }
-    words::zeros::wipe(out);
     Counted {
-        verdict: Verdict::Forged,
+        verdict: Verdict::Done,
         calls: t.calls,
     }
 }

@@ -1,5 +1,6 @@
 -- `comet::unseal_with` meets its contract: a wrong tag wipes the buffer, and otherwise the text is the definition's; the count is either way.
 use denote.Ref.{now}
+use borrow.Author.Tests.{not-true, not-false}
 use lib.ListN.{length, take, drop, replicate}
 use mathlib.Core.Bool.{Bool, true, false}
 use mathlib.Core.List.{List}
@@ -63,25 +64,27 @@ same-requires c κs =
       ap (λ (n : ℕ). drop n (wide (t .result .tag))) e ∙ t .ensures .1 .1 .0 ∙ sym (ap (λ (n : ℕ). replicate (16 - n) 0) e),
     )
 
+wipe-requires : tie.Need-wipe-requires
+wipe-requires c κs = search needs
+
 same-length : tie.Need-same-length
 same-length c = search needs
 
 returns : tie.Need-returns
 returns c =
-    let path : _≡_ {A = Opened} (record { number = 0; out = _ }) (record { number = 0; out = _ }) = λ i. record { number = 0; out = c .before .before .before .before .before .crypt .ensures .0 i } in
-    counting (path ∙ done (c .before) true (c .if1 .taken)) (count-is (c .before))
-
-wipe-requires : tie.Need-wipe-requires
-wipe-requires c κs = search needs
+    let d = c .before .before .before .before .before in
+    let e = c .before .before .wipe .ensures ∙ ap (λ (n : ℕ). replicate n 0) (d .before .before .before .before .crypt .kept .1 .1 .1 .1 .1 .1 .1 .0) in
+    let path : _≡_ {A = Opened} (record { number = 8; out = _ }) (record { number = 8; out = _ }) = λ i. record { number = 8; out = e i } in
+    counting (path ∙ done d false (not-true _ (c .before .before .before .before .if1 .taken))) (count-is d)
 
 same-length-2 : tie.Need-same-length-2
 same-length-2 c = search needs
 
 returns-2 : tie.Need-returns-2
 returns-2 c =
-    let e = c .before .before .wipe .ensures ∙ ap (λ (n : ℕ). replicate n 0) (c .before .before .before .before .before .before .before .before .before .crypt .kept .1 .1 .1 .1 .1 .1 .1 .0) in
-    let path : _≡_ {A = Opened} (record { number = 8; out = _ }) (record { number = 8; out = _ }) = λ i. record { number = 8; out = e i } in
-    counting (path ∙ done (c .before .before .before .before .before) false (c .before .before .before .before .if1 .left)) (count-is (c .before .before .before .before .before))
+    let d = c .before in
+    let path : _≡_ {A = Opened} (record { number = 0; out = _ }) (record { number = 0; out = _ }) = λ i. record { number = 0; out = d .before .before .before .before .crypt .ensures .0 i } in
+    counting (path ∙ done d true (not-false _ (c .if1 .left))) (count-is d)
 
 pub unseal-with-spec : {M : Type 1} → statement M
 unseal-with-spec =
@@ -89,8 +92,8 @@ unseal-with-spec =
     (tie.spec
     crypt-requires
     same-requires
+    wipe-requires
     same-length
     returns
-    wipe-requires
     same-length-2
     returns-2)
