@@ -1,6 +1,6 @@
 -- W12: the list of calls by citation; what is reported goes by the first number that applies.
 use mathlib.Core.Path.{_≡_, refl, sym, ap, ap₂, _∙_}
-use mathlib.Core.Logic.{_⊎_, inl, inr}
+use mathlib.Core.Logic.{_⊎_, inl, inr, ⊎-elim}
 use mathlib.Core.Bool.{Bool, true, false}
 use Prim.Native.Nat.{ℕ, zero, suc, _+_, _<_}
 use native.Mathlib.Nat.{not-suc-le-zero, suc-ne-zero, lt-irrefl}
@@ -42,14 +42,9 @@ open-by (suc j) k b x o h = (none, (λ p q. refl))
 open-reports : OpenReports
 unfolding opening callsOf
 open-reports suite key nonce ad text tag out₀ =
-    open-by (refusal true suite (length key) (length nonce) (length ad) (length text) (length out₀) (length tag)) _ _ _ out₀ never
-  where
-    never : refusal true suite (length key) (length nonce) (length ad) (length text) (length out₀) (length tag) ≡ 8 → ⊥
-    never e = go (refusal-most true suite (length key) (length nonce) (length ad) (length text) (length out₀) (length tag))
-      where
-        go : _ → ⊥
-        go (inl h) = omega (arith, e, h)
-        go (inr h) = omega (arith, e, h .0)
+    let most = refusal-most true suite (length key) (length nonce) (length ad) (length text) (length out₀) (length tag) in
+    open-by (refusal true suite (length key) (length nonce) (length ad) (length text) (length out₀) (length tag)) _ _ _ out₀
+    (λ e. ⊎-elim (λ h. omega (arith, e, h)) (λ h. omega (arith, e, h .0)) most)
 
 sum : CallsSum
 sum suite opening key nonce ad text = calls-count (cipherOf suite) opening key nonce ad text
