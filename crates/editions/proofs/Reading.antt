@@ -17,6 +17,7 @@ use Rattle.table.specs.Format.{editionOf, countOf, edition, newest, rowSize, wi
 use Rattle.table.specs.Answers.{answer}
 use Rattle.table.specs.Check.{checkFile}
 use Rattle.table.proofs.Rows.{row-broad}
+use Rattle.table.proofs.Passed.{passes}
 use Rattle.table.proofs.Kept.{wider}
 use Rattle.shift.specs.Lookup.{lookupJob}
 use Rattle.shift.specs.Entry.{dataStart, dataLength}
