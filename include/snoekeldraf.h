@@ -37,6 +37,7 @@ extern "C" {
 /* Numbers of comet_seal and comet_open: the first that applies, in this order.
  *   0  done
  *   1  suite is not 1 to 4
+ *   1  suite is not 1 to 6
  *  10  comet_seal alone: suite is 4
  *   1  suite is not 1 to 6
  *   2  key_len is not 16
@@ -99,6 +100,8 @@ uint32_t comet_open_counted(uint8_t suite,
  * them as secret as the key. Any value may arrive: one whose suite is not 1 to 3 or whose totals are over 65,536 (as a
  * them as secret as the key. Any value may arrive: one whose suite is not 1 to 6 or whose totals are over 65,536 (as a
  * session that was refused at the start, or has ended) is answered by 9; any other is taken as what it says. Going on
+ * them as secret as the key. Any value may arrive: one whose suite seals no record (is not 1 to 6, or is 4) or whose
+ * totals are over 65,536 (as a session that was refused at the start, or has ended) is answered by 9; any other is taken as what it says. Going on
  * from one session value twice, with different messages, is sealing two records with one key and one nonce.
  */
 typedef struct {
@@ -118,6 +121,7 @@ typedef struct {
 /* Numbers of a session: the first that applies, in the order that stands with each function.
  *   0  done
  *   1  suite is not 1 to 4
+ *   1  suite is not 1 to 6
  *  10  suite is 4
  *   1  suite is not 1 to 6
  *   2  key_len is not 16
