@@ -69,6 +69,28 @@ uint32_t comet_open(uint8_t suite,
                     const uint8_t *tag, size_t tag_len,
                     uint8_t *out, size_t out_len);
 
+/* As comet_seal and comet_open, and *calls is how many block cipher calls were made; it is written always.
+ * With a and m the block counts of associated data and text (16 bytes a block for suites 1, 2 and 5, else 8; the last may
+ * be short, and no bytes are no block) it is a + m + 2 after 0 and after 8, and 0 after 1 to 7 and 10.
+ */
+uint32_t comet_seal_counted(uint8_t suite,
+                            const uint8_t *key, size_t key_len,
+                            const uint8_t *nonce, size_t nonce_len,
+                            const uint8_t *ad, size_t ad_len,
+                            const uint8_t *msg, size_t msg_len,
+                            uint8_t *out, size_t out_len,
+                            uint8_t *tag, size_t tag_len,
+                            uint64_t *calls);
+
+uint32_t comet_open_counted(uint8_t suite,
+                            const uint8_t *key, size_t key_len,
+                            const uint8_t *nonce, size_t nonce_len,
+                            const uint8_t *ad, size_t ad_len,
+                            const uint8_t *text, size_t text_len,
+                            const uint8_t *tag, size_t tag_len,
+                            uint8_t *out, size_t out_len,
+                            uint64_t *calls);
+
 /* Sealing in parts: a session seals a record while its message is still being measured, and comet_open opens it.
  *
  * A session is a plain struct that goes in and comes back by value: each call hands back a step, and its session `next`

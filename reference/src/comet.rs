@@ -1,5 +1,7 @@
 //! COMET versions 1 and 2 over the ciphers: the sealer and the opener, with document 01's numbers.
 
+use std::cell::Cell;
+
 /// The longest associated data, message and ciphertext.
 pub const LIMIT: usize = 65_536;
 
@@ -196,19 +198,29 @@ impl<const N: usize, E: Cipher<N>> State<N, E> {
     }
 }
 
-/// The whole of a record; gives its tag.
+/// The cipher, with a count of its calls.
+fn counting<'a, const N: usize>(encrypt: impl Cipher<N> + 'a, calls: &'a Cell<u64>) -> impl Cipher<N> + 'a {
+    move |key: &[u8; 16], block: &[u8; N]| {
+        calls.set(calls.get() + 1);
+        encrypt(key, block)
+    }
+}
+
+/// The whole of a record; gives its tag, and how often the cipher was called.
 #[rustfmt::skip]
 fn record<const N: usize>(
     encrypt: impl Cipher<N>, version: Version, kind: Text, key: &[u8], nonce: &[u8], ad: &[u8], text: &[u8], out: &mut [u8],
-) -> Vec<u8> {
-    let mut state = State::start(encrypt, version, key, nonce);
+) -> (Vec<u8>, u64) {
+    let calls = Cell::new(0);
+    let mut state = State::start(counting(encrypt, &calls), version, key, nonce);
     state.absorb(true, ad);
     state.crypt(kind, true, text, out);
-    state.tag().to_vec()
+    let tag = state.tag().to_vec();
+    (tag, calls.get())
 }
 
-/// Works on a record whose lengths were checked; gives the tag.
-fn run(suite: u8, kind: Text, key: &[u8], nonce: &[u8], ad: &[u8], text: &[u8], out: &mut [u8]) -> Vec<u8> {
+/// Works on a record whose lengths were checked; gives the tag, and how often the cipher was called.
+fn run(suite: u8, kind: Text, key: &[u8], nonce: &[u8], ad: &[u8], text: &[u8], out: &mut [u8]) -> (Vec<u8>, u64) {
     by_suite!(suite, record(version_of(suite), kind, key, nonce, ad, text, out))
 }
 
@@ -243,44 +255,63 @@ fn refusal(kind: Text, suite: u8, l: Lengths) -> u32 {
 
 /// Seals a message: the ciphertext into `out`, the tag into `tag`. On a refusal both are unchanged.
 pub fn seal(suite: u8, key: &[u8], nonce: &[u8], ad: &[u8], msg: &[u8], out: &mut [u8], tag: &mut [u8]) -> u32 {
+    seal_counted(suite, key, nonce, ad, msg, out, tag).0
+}
+
+/// The same, and how often the cipher was called (document 02, W12): 0 on a refusal.
+#[rustfmt::skip]
+pub fn seal_counted(
+    suite: u8, key: &[u8], nonce: &[u8], ad: &[u8], msg: &[u8], out: &mut [u8], tag: &mut [u8],
+) -> (u32, u64) {
     let number = refusal(
         Text::Message,
         suite,
         Lengths { key: key.len(), nonce: nonce.len(), ad: ad.len(), text: msg.len(), out: out.len(), tag: tag.len() },
     );
-    if number == 0 {
-        tag.copy_from_slice(&run(suite, Text::Message, key, nonce, ad, msg, out));
+    if number != 0 {
+        return (number, 0);
     }
-    number
+    let (made, calls) = run(suite, Text::Message, key, nonce, ad, msg, out);
+    tag.copy_from_slice(&made);
+    (0, calls)
 }
 
 /// Opens a ciphertext into `out`. On 8 every byte of `out` is 0; on another refusal it is unchanged.
 pub fn open(suite: u8, key: &[u8], nonce: &[u8], ad: &[u8], text: &[u8], tag: &[u8], out: &mut [u8]) -> u32 {
+    open_counted(suite, key, nonce, ad, text, tag, out).0
+}
+
+/// The same, and how often the cipher was called: on 8 as on 0, and 0 on another refusal.
+#[rustfmt::skip]
+pub fn open_counted(
+    suite: u8, key: &[u8], nonce: &[u8], ad: &[u8], text: &[u8], tag: &[u8], out: &mut [u8],
+) -> (u32, u64) {
     let number = refusal(
         Text::Ciphertext,
         suite,
         Lengths { key: key.len(), nonce: nonce.len(), ad: ad.len(), text: text.len(), out: out.len(), tag: tag.len() },
     );
     if number != 0 {
-        return number;
+        return (number, 0);
     }
-    if run(suite, Text::Ciphertext, key, nonce, ad, text, out) != tag {
+    let (made, calls) = run(suite, Text::Ciphertext, key, nonce, ad, text, out);
+    if made != tag {
         out.fill(0);
-        return 8;
+        return (8, calls);
     }
-    0
+    (0, calls)
 }
 
 /// The specification's ciphertext and tag of a message, under a retired suite too. Every length is right.
 pub fn specified(suite: u8, key: &[u8], nonce: &[u8], ad: &[u8], msg: &[u8]) -> (Vec<u8>, Vec<u8>) {
     let mut text = vec![0; msg.len()];
-    let tag = run(suite, Text::Message, key, nonce, ad, msg, &mut text);
+    let (tag, _) = run(suite, Text::Message, key, nonce, ad, msg, &mut text);
     (text, tag)
 }
 
 /// The tag that fits a ciphertext, whatever the message behind it. Every length is right.
 pub fn fitting_tag(suite: u8, key: &[u8], nonce: &[u8], ad: &[u8], text: &[u8]) -> Vec<u8> {
-    run(suite, Text::Ciphertext, key, nonce, ad, text, &mut vec![0; text.len()])
+    run(suite, Text::Ciphertext, key, nonce, ad, text, &mut vec![0; text.len()]).0
 }
 
 /// Associated data of two full blocks with another first block and one tag: the second block makes up for

@@ -9,3 +9,4 @@ pub mod Start
 pub mod Demand2
 pub mod Demand3
 pub mod LastBlock
+pub mod Calls

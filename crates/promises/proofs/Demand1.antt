@@ -45,6 +45,8 @@ entry-points =
       to-edition1 = record { asks-nothing = λ κs a. tt; one-outcome = editions.to-edition1 };
       compare = record { asks-nothing = λ κs a. tt; one-outcome = comparing.compare };
       reseal = record { asks-nothing = λ κs a. tt; one-outcome = resealer.reseal };
+      seal-counted = record { asks-nothing = λ κs a. tt; one-outcome = comet.seal-counted };
+      unseal-counted = record { asks-nothing = λ κs a. tt; one-outcome = comet.unseal-counted };
     }
 
 sealed-keeps : (n : ℕ) (x y o t : List ℕ) → (n ≤ 7) ⊎ (n ≡ 10) → ((sealedAs n x y o t .number ≤ 7) ⊎ (sealedAs n x y o t .number ≡ 10)) × (0 < sealedAs n x y o t .number → (sealedAs n x y o t .out ≡ o) × (sealedAs n x y o t .tag ≡ t))

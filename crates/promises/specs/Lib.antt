@@ -15,3 +15,4 @@ pub mod W9
 pub mod Compare
 pub mod Retired
 pub mod Reseal
+pub mod Calls
