@@ -395,4 +395,69 @@ mod tests {
         assert_eq!(marks_64(1, 1), [0, 0x18, 0xe0]);
         assert_eq!(marks_64(24, 17), [0, 0x08, 0, 0, 0x20, 0, 0xc0]);
     }
+
+    /// The cipher outputs of an opening's message blocks, and its tag, under a cipher that does nothing: what is changed
+    /// then goes on unmixed, and slips (document 02, W13) can be made at will.
+    fn opened(ad: &[u8], text: &[u8]) -> (Vec<[u8; 8]>, [u8; 8]) {
+        let seen = RefCell::new(vec![]);
+        let encrypt = |_: &[u8; 16], y: &[u8; 8]| {
+            seen.borrow_mut().push(*y);
+            *y
+        };
+        let mut state = State { y: [5; 8], z: [0; 16], version: Version::One, encrypt };
+        state.absorb(true, ad);
+        let before = seen.borrow().len();
+        state.crypt(Text::Ciphertext, true, text, &mut vec![0; text.len()]);
+        let after = seen.borrow().len();
+        let tag = state.tag();
+        let outputs = seen.borrow()[before..after].to_vec();
+        (outputs, tag)
+    }
+
+    /// Shuffle XOR identity takes two blocks to zero: all zeros and all ones. It is linear; so the blocks that it takes to
+    /// a given one, if any, are one and its complement.
+    fn taken_to(block: u64) -> Option<u64> {
+        let image = |x: u64| x ^ u64::from_le_bytes(shuffle(&x.to_le_bytes()));
+        let mut rows: Vec<(u64, u64)> = vec![];
+        let reduced = |rows: &[(u64, u64)], pair: (u64, u64)| {
+            rows.iter().fold(pair, |(x, y), (from, to)| if y ^ to < y { (x ^ from, y ^ to) } else { (x, y) })
+        };
+        for bit in 0..64 {
+            let (x, y) = reduced(&rows, (1 << bit, image(1 << bit)));
+            if y == 0 {
+                assert_eq!(x, u64::MAX);
+            } else {
+                rows.push((x, y));
+                rows.sort_by_key(|row| std::cmp::Reverse(row.1));
+            }
+        }
+        assert_eq!(rows.len(), 63);
+        let (x, rest) = reduced(&rows, (0, block));
+        (rest == 0).then_some(x)
+    }
+
+    /// A change inside one block of associated data or of ciphertext, with full message blocks behind it, is accepted
+    /// exactly if the cipher's outputs of the two openings are complements at some message block behind it.
+    #[test]
+    fn when_a_change_slips_through() {
+        let mut changes = vec![1, 0x8000_0000_0000_0000, 0x0123_4567_89ab_cdef, u64::MAX];
+        while let Some(before) = taken_to(*changes.last().unwrap()) {
+            changes.push(before);
+        }
+        let (ad, text): (Vec<u8>, Vec<u8>) = ((0..16).collect(), (100..140).collect());
+        let (outputs, tag) = opened(&ad, &text);
+        let mut accepted = 0;
+        for (change, place) in changes.iter().flat_map(|change| (0..7).map(move |place| (change, place))) {
+            let (mut other_ad, mut other_text) = (ad.clone(), text.clone());
+            let block =
+                if place < 2 { &mut other_ad[8 * place..][..8] } else { &mut other_text[8 * (place - 2)..][..8] };
+            block.iter_mut().zip(change.to_le_bytes()).for_each(|(byte, x)| *byte ^= x);
+            let (others, other_tag) = opened(&other_ad, &other_text);
+            let behind = if place < 2 { 0 } else { place - 1 };
+            let are_complements = |t: usize| outputs[t].iter().zip(&others[t]).all(|(x, other)| *x == !*other);
+            assert_eq!(other_tag == tag, (behind..5).any(are_complements));
+            accepted += (other_tag == tag) as u32;
+        }
+        assert!(accepted >= 6);
+    }
 }

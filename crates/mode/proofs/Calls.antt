@@ -8,16 +8,16 @@ use lib.ListN.{length, take, drop, length-append}
 use lib.Dec.{eqb}
 use Rattle.words.specs.Xors.{xors}
 use Rattle.cipher.specs.Cipher.{Cipher}
-use Rattle.mode.specs.Blocks.{blocks, lengths}
+use Rattle.mode.specs.Blocks.{blocks}
 use Rattle.mode.specs.Words.{shuffle, pad}
 use Rattle.mode.specs.Keys.{marks, keys}
 use Rattle.mode.specs.Mode.{Call, Chain, Run, laterKeys, enciphered, startCall, nextCall, image, startY, startZ, start, absorbed, masked, message, run, afterData, textOut, tagOut, calls}
 use Rattle.mode.specs.Calls.{Agree, none, more, other}
-use Rattle.mode.proofs.Blocks.{count-same}
+use Rattle.mode.proofs.Blocks.{as-many}
 
 -- ---- how many
 
-made-count : (κ : Cipher) (d : Bool) (c : Chain) (bs : List (List ℕ)) → length (run κ d c bs .made) ≡ length bs
+pub made-count : (κ : Cipher) (d : Bool) (c : Chain) (bs : List (List ℕ)) → length (run κ d c bs .made) ≡ length bs
 unfolding run
 made-count κ d c [] = refl
 made-count κ d c (b ∷ bs) = ap suc (made-count κ d (absorbed κ c (message κ d c b)) bs)
@@ -43,10 +43,8 @@ pub calls-same : (κ : Cipher) → 0 < κ .size → (d d′ : Bool) (key nonce a
     → length ad ≡ length ad′ → length text ≡ length text′ → length (calls κ d key nonce ad text) ≡ length (calls κ d′ key′ nonce′ ad′ text′)
 calls-same κ pos d d′ key nonce ad text key′ nonce′ ad′ text′ ea et =
     let n = κ .size in
-    let same : (s t : List ℕ) → length s ≡ length t → length (blocks n s) ≡ length (blocks n t) = λ s t e.
-    count-same n pos s ∙ ap (λ (l : ℕ). length (lengths n l)) e ∙ sym (count-same n pos t) in
     calls-count κ d key nonce ad text
-    ∙ ap₂ (λ (x y : ℕ). x + y + 2) (same ad ad′ ea) (same text text′ et)
+    ∙ ap₂ (λ (x y : ℕ). x + y + 2) (as-many n pos ad ad′ ea) (as-many n pos text text′ et)
     ∙ sym (calls-count κ d′ key′ nonce′ ad′ text′)
 
 -- ---- and nothing else is asked of the cipher

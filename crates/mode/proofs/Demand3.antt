@@ -25,7 +25,7 @@ use Rattle.mode.proofs.Start.{good-start-blocks}
 
 module _ (κ : Cipher) (L : Lawful κ) where
   -- two chains with the same keys: what differs in Y still differs after the cipher,
-  image-told : (f : ℕ) (c c′ : Chain) → Good κ f c → Good κ f c′ → c .left ≡ c′ .left → image κ c ≡ image κ c′ → c .Y ≡ c′ .Y
+  pub image-told : (f : ℕ) (c c′ : Chain) → Good κ f c → Good κ f c′ → c .left ≡ c′ .left → image κ c ≡ image κ c′ → c .Y ≡ c′ .Y
   image-told f c c′ g g′ el e =
       L .one-to-one (firstKey (c .left)) (c .Y) (c′ .Y) (enough-first f (c .left) (g .enough)) (g .y) (g′ .y)
       (e ∙ ap (λ (ks : List (List ℕ)). κ .E (firstKey ks) (c′ .Y)) (sym el))
@@ -42,7 +42,7 @@ module _ (κ : Cipher) (L : Lawful κ) where
       image-told (suc f) c c′ g g′ el
       (xors-inj p (image κ c) (image κ c′) (omega arith) (omega arith) (xors-comm p (image κ c) ∙ e ∙ xors-comm (image κ c′) p))
 
-  absorbed-left : (c c′ : Chain) (b b′ : List ℕ) → c .left ≡ c′ .left → absorbed κ c b .left ≡ absorbed κ c′ b′ .left
+  pub absorbed-left : (c c′ : Chain) (b b′ : List ℕ) → c .left ≡ c′ .left → absorbed κ c b .left ≡ absorbed κ c′ b′ .left
   unfolding absorbed
   absorbed-left c c′ b b′ e = ap laterKeys e
 
@@ -56,7 +56,7 @@ module _ (κ : Cipher) (L : Lawful κ) where
       (blocks-told (absorbed κ c b) (absorbed κ c′ b) hbs (good-absorbed κ L (length bs) c b g hb lb) (good-absorbed κ L (length bs) c′ b g′ hb lb) (absorbed-left c c′ b b el) e)
 
   -- two blocks of one length put different Ys
-  block-told : (f : ℕ) (c : Chain) (b b′ : List ℕ) → Good κ (suc f) c → AllBytes b → AllBytes b′ → length b ≡ length b′ → length b ≤ κ .size
+  pub block-told : (f : ℕ) (c : Chain) (b b′ : List ℕ) → Good κ (suc f) c → AllBytes b → AllBytes b′ → length b ≡ length b′ → length b ≤ κ .size
       → absorbed κ c b .Y ≡ absorbed κ c b′ .Y → b ≡ b′
   unfolding absorbed
   block-told f c b b′ g hb hb′ l h e =
@@ -114,7 +114,7 @@ module _ (n j : ℕ) (x y : List ℕ) (l : length x ≡ length y)
       (λ i h. getD-drop (j * n + n) x i 0 ∙ same-at (j * n + n + i) (λ w. omega (arith, w .1)) ∙ sym (getD-drop (j * n + n) y i 0))
 
 -- a list is what stands before, in and behind block j
-parts : (n j : ℕ) (x : List ℕ) → take (j * n) x ++ (take n (drop (j * n) x) ++ drop (j * n + n) x) ≡ x
+pub parts : (n j : ℕ) (x : List ℕ) → take (j * n) x ++ (take n (drop (j * n) x) ++ drop (j * n + n) x) ≡ x
 parts n j x =
     ap (λ (y : List ℕ). take (j * n) x ++ (take n (drop (j * n) x) ++ y)) (sym (drop-drop n (j * n) x))
     ∙ ap (λ (y : List ℕ). take (j * n) x ++ y) (take-append-drop n (drop (j * n) x))

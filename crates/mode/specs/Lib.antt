@@ -4,3 +4,5 @@ pub mod Keys
 pub mod Mode
 pub mod Calls
 pub mod Walk
+pub mod Slips
+pub mod Toy

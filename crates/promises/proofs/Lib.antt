@@ -16,3 +16,4 @@ pub mod Compare
 pub mod Retired
 pub mod Reseal
 pub mod Calls
+pub mod Slips
