@@ -3,11 +3,10 @@ use Prim.Native.Nat.{ℕ, zero, suc, _+_, _≤_, _<_}
 use native.Mathlib.Omega.{arith}
 use native.Mathlib.Numerals.{add-one}
 use mathlib.Core.Path.{_≡_, refl, sym, ap, ap₂, _∙_}
-use mathlib.Core.Bool.{Bool, true, false, _||_}
+use mathlib.Core.Bool.{or-true}
 use mathlib.Core.List.{List, [], _∷_, _++_}
 use lib.ListN.{length, getD, drop, set, length-append, length-drop}
 use lib.Seq.{drop-cons, set-at, append-snoc}
-use lib.Dec.{ltb}
 use borrow.Author.Tests.{lt-ltb, le-ltb, ne-eqb}
 use Rattle.table.specs.declared.answers.Refusal.{Refusal}
 use Rattle.table.specs.Format.{countOf}
@@ -22,10 +21,10 @@ each-length what zero = refl
 each-length what (suc n) = length-append (each what n) (what n ∷ []) ∙ omega (arith, each-length what n)
 
 -- one entry more
-pub front-step : (what : ℕ → ℕ) (n : ℕ) (l₀ l : List ℕ) → n < length l₀ → l ≡ front what n l₀ → set l n (what n) ≡ front what (n + 1) l₀
+pub front-step : (what : ℕ → ℕ) (n v : ℕ) (l₀ l : List ℕ) → n < length l₀ → l ≡ front what n l₀ → v ≡ what n → set l n v ≡ front what (n + 1) l₀
 unfolding each
-front-step what n l₀ l h q =
-    ap (λ (x : List ℕ). set x n (what n)) (q ∙ ap (λ (x : List ℕ). each what n ++ x) (drop-cons l₀ n 0 h))
+front-step what n v l₀ l h q e =
+    ap₂ (λ (x : List ℕ) (y : ℕ). set x n y) (q ∙ ap (λ (x : List ℕ). each what n ++ x) (drop-cons l₀ n 0 h)) e
     ∙ set-at (each what n) (getD l₀ n 0) (drop (suc n) l₀) (what n) n (each-length what n)
     ∙ rw add-one (sym (append-snoc (each what n) (what n) (drop (suc n) l₀)))
 
@@ -62,11 +61,20 @@ module _ (f ring jobs numbers : List ℕ) where
       ring-wrong r = simp (le-ltb longest (length f) short, z, ne-eqb _ _ r)
 
       module _ (r : length ring ≡ 256) where
-        pub no-room : ltb (length jobs) (countOf f) || ltb (length numbers) (countOf f) ≡ true → reporting f ring jobs numbers ≡ stopped (answer 6 0) jobs numbers
+        pub jobs-short : length jobs < countOf f → reporting f ring jobs numbers ≡ stopped (answer 6 0) jobs numbers
         unfolding reporting
-        no-room t = simp (le-ltb longest (length f) short, z, r, t)
+        jobs-short l = simp (le-ltb longest (length f) short, z, r, lt-ltb (length jobs) (countOf f) l)
+
+        pub numbers-short : length numbers < countOf f → reporting f ring jobs numbers ≡ stopped (answer 6 0) jobs numbers
+        unfolding reporting
+        numbers-short l = simp (le-ltb longest (length f) short, z, r, lt-ltb (length numbers) (countOf f) l, or-true)
 
         pub all-said : countOf f ≤ length jobs → countOf f ≤ length numbers
             → reporting f ring jobs numbers ≡ record { said = entries (countOf f); jobs = front (jobOf f) (countOf f) jobs; numbers = front (tagNumber f ring) (countOf f) numbers }
         unfolding reporting
         all-said a b = simp (le-ltb longest (length f) short, z, r, le-ltb (length jobs) (countOf f) a, le-ltb (length numbers) (countOf f) b)
+
+        -- both lists are filled
+        pub all-listed : (n : ℕ) (x y : List ℕ) → n ≡ countOf f → n ≤ length jobs → n ≤ length numbers → x ≡ front (jobOf f) n jobs → y ≡ front (tagNumber f ring) n numbers
+            → _≡_ {A = Report} (record { said = entries n; jobs = x; numbers = y }) (reporting f ring jobs numbers)
+        all-listed n x y q a b p o = rw (p, o, q) (sym (all-said (rw q at a) (rw q at b)))

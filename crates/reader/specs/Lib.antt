@@ -1,4 +1,4 @@
 pub mod Reading
-pub mod Promised
 pub mod Reporting
+pub mod Promised
 pub mod Inside

@@ -24,13 +24,7 @@ fn tag_number(f: &[u8], ring: &[u8], i: usize, row: Row, scratch: &mut [u8]) -> 
 }
 
 // All n entries, from the front of both lists on; a wrong tag stops nothing.
-pub(crate) fn list_all(
-    f: &[u8],
-    ring: &[u8],
-    n: usize,
-    jobs: &mut [u32],
-    numbers: &mut [u8],
-)
+pub(crate) fn list_all(f: &[u8], ring: &[u8], n: usize, jobs: &mut [u32], numbers: &mut [u8])
     requires { ⌜ Listable (now f) (now ring) n (now jobs) (now numbers) ⌝ }
     ensures { λ _. ⌜ (now (jobs .exit) ≡ front (jobOf (now (f .entry))) n (now (jobs .entry))) × (now (numbers .exit) ≡ front (tagNumber (now (f .entry)) (now (ring .entry))) n (now (numbers .entry))) ⌝ }
 {

@@ -1,45 +1,36 @@
+-- Each case by its definition.
+use mathlib.Core.Path.{sym, ap, _∙_}
+use Rattle.reader.specs.Reporting.{saidOf}
 use borrow.Author.Needs.{needs}
 use Rattle.reader.proofs.answers.Reported.said.Statement.{statement}
 use Rattle.reader.proofs.answers.Reported.said.Tie as tie
-use Rattle.reader.proofs.answers.Reported.said.Reads as reads
-use Rattle.reader.proofs.answers.Reported.said.Lts as lts
-use Rattle.reader.proofs.answers.refused.Reads as refused-reads
 
--- src/answers.rt:40:31
 enum-known-self : tie.Need-enum-known-self
 enum-known-self c = search needs
 
--- src/answers.rt:45:31
 enum-known-self-2 : tie.Need-enum-known-self-2
 enum-known-self-2 c = search needs
 
--- src/answers.rt:45:37
 refused-requires : tie.Need-refused-requires
 refused-requires c κs = search needs
 
--- src/answers.rt:46:31
 enum-told : tie.Need-enum-told
 enum-told c = search needs
 
--- src/answers.rt:51:31
 enum-told-2 : tie.Need-enum-told-2
 enum-told-2 c = search needs
 
--- src/answers.rt:36:5
 returns : tie.Need-returns
-returns c = ?
+returns c = ap saidOf (sym (c .before .self .given .1))
 
--- src/answers.rt:36:5
 returns-2 : tie.Need-returns-2
-returns-2 c = ?
+returns-2 c = c .refused .ensures ∙ ap saidOf (sym (c .before .before .self2 .given .1))
 
--- src/answers.rt:36:5
 returns-3 : tie.Need-returns-3
-returns-3 c = ?
+returns-3 c = ap saidOf (sym (c .enum-told .given .1))
 
--- src/answers.rt:36:5
 returns-4 : tie.Need-returns-4
-returns-4 c = ?
+returns-4 c = ap saidOf (sym (c .enum-told2 .given .1))
 
 pub said-spec : {M : Type 1} → statement M
 said-spec =
