@@ -5,3 +5,4 @@ pub mod halving;
 pub mod listing;
 pub mod parts;
 pub mod record;
+pub mod reporting;
