@@ -7,6 +7,7 @@ mod entries;
 use answers::Reported;
 use cursor::Cursor;
 use cursor::Entry;
+use cursor::Step;
 use cursor::ask;
 use cursor::start;
 use entries::list_all;
@@ -16,7 +17,7 @@ use table::check;
 use table::row::count;
 ghost use mathlib.Core.Path.{_≡_};
 ghost use Rattle.reader.specs.declared.Asked.{Asked};
-ghost use Rattle.reader.specs.Reading.{readerOf, nextOf};
+ghost use Rattle.reader.specs.Reading.{askOf, readerOf, nextOf};
 ghost use Rattle.reader.specs.Reporting.{saidOf, Report, reporting};
 
 // The reader: the file, and the place in it.
@@ -55,6 +56,20 @@ impl<'a> Reader<'a> {
             entry: s.entry,
         }
     }
+
+    // The next entry and the place past it, where the reader itself is not needed again.
+    pub fn step(self) -> Step
+        ensures { λ s. ⌜ s ≡ askOf (self .entry .place) (now (self .entry .src)) ⌝ }
+    {
+        ask(self.place, self.src)
+    }
+}
+
+// The entry of a file at a place, and the place past it, by the reader: for callers that hold no reader.
+pub fn step_at(file: &[u8], place: Cursor) -> Step
+    ensures { λ r. ⌜ r ≡ askOf place (now (file .entry)) ⌝ }
+{
+    Reader { src: file, place }.step()
 }
 
 // The same in place: the reader is lent, and its place moves.

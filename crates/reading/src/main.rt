@@ -84,7 +84,8 @@ fn answers(file: &[u8], asks: usize) {
     while k < asks {
         let s = ask(c, file);
         c = s.next;
-        print_entry(s.entry);
+        let e = s.entry;
+        print_entry(e);
         k += 1;
     }
     lines::show::end();

@@ -1,54 +1,45 @@
+-- The place is below n at each turn, and in both lists where it is read.
+use Prim.Native.Nat.{_-_, _≤_}
+use lib.ListN.{length}
+use borrow.Author.Needs.{needs}
 use Rattle.inspect.proofs.print_entries.Statement.{statement}
 use Rattle.inspect.proofs.print_entries.Tie as tie
-use Rattle.inspect.proofs.print_entries.Reads as reads
-use Rattle.inspect.proofs.print_entries.Lts as lts
-use Rattle.inspect.proofs.print_entry.Reads as print-entry-reads
 
 abbrev Inv-loop : tie.InvT-loop
-Inv-loop jobs numbers n i₀ i = ?
+Inv-loop jobs numbers n i₀ i = i ≤ n
 
 abbrev μ-loop : tie.MeasureT-loop
-μ-loop jobs numbers n i₀ i = ?
+μ-loop jobs numbers n i₀ i = n - i
 
--- src/main.rt:18:5
 loop-holds : tie.Need-loop-holds Inv-loop μ-loop
-loop-holds c = ?
+loop-holds c = search needs
 
--- src/main.rt:20:13
 returns : tie.Need-returns Inv-loop μ-loop
-returns c = ?
+returns c = search needs
 
--- src/main.rt:22:21
 mul-print-entry : tie.Need-mul-print-entry Inv-loop μ-loop
-mul-print-entry c = ?
+mul-print-entry c = search needs
 
--- src/main.rt:22:21
 shared-slice-read-print-entry : tie.Need-shared-slice-read-print-entry Inv-loop μ-loop
-shared-slice-read-print-entry c = ?
+shared-slice-read-print-entry c = search needs
 
--- src/main.rt:22:30
 shared-slice-read-print-entry-2 : tie.Need-shared-slice-read-print-entry-2 Inv-loop μ-loop
-shared-slice-read-print-entry-2 c = ?
+shared-slice-read-print-entry-2 c = search needs
 
--- src/main.rt:22:9
 print-entry-requires : tie.Need-print-entry-requires Inv-loop μ-loop
-print-entry-requires c κs = ?
+print-entry-requires c κs = search needs
 
--- src/main.rt:23:9
 add-i : tie.Need-add-i Inv-loop μ-loop
-add-i c = ?
+add-i c = search needs
 
--- src/main.rt:18:5
 loop-less : tie.Need-loop-less Inv-loop μ-loop
-loop-less c = ?
+loop-less c = search needs
 
--- src/main.rt:18:5
 loop-again : tie.Need-loop-again Inv-loop μ-loop
-loop-again c = ?
+loop-again c = search needs
 
--- src/main.rt:16:1
 returns-2 : tie.Need-returns-2 Inv-loop μ-loop
-returns-2 c = ?
+returns-2 c = search needs
 
 pub print-entries-spec : {M : Type 1} → statement M
 print-entries-spec =
