@@ -8,8 +8,8 @@ use libc::STDIN_FILENO;
 use libc::STDOUT_FILENO;
 use reader::answers::Said;
 use reader::cursor::Entry;
-use reader::cursor::ask;
 use reader::cursor::start;
+use reader::step_at;
 use table::row::Row;
 
 // What a call begins with.
@@ -82,7 +82,7 @@ fn answers(file: &[u8], asks: usize) {
     let mut c = start(file);
     let mut k: usize = 0;
     while k < asks {
-        let s = ask(c, file);
+        let s = step_at(file, c);
         c = s.next;
         let e = s.entry;
         print_entry(e);
