@@ -14,6 +14,7 @@ use Rattle.shift.proofs.Outcomes as shift
 use Rattle.writer.proofs.Outcomes as writer
 use Rattle.search.proofs.Outcomes as halving
 use Rattle.compare.proofs.Outcomes as comparing
+use Rattle.reader.proofs.Outcomes as reading
 use Rattle.comet.proofs.Refuse.{refusal-most}
 use Rattle.promises.specs.Demand1.{EntryPoints, SealKeeps, OpenKeeps}
 
@@ -35,6 +36,9 @@ entry-points =
       seal-file = record { asks-nothing = λ κs a. tt; one-outcome = writer.seal-file };
       unseal-file = record { asks-nothing = λ κs a. tt; one-outcome = writer.unseal-file };
       compare = record { asks-nothing = λ κs a. tt; one-outcome = comparing.compare };
+      start = record { asks-nothing = λ κs a. tt; one-outcome = reading.start };
+      ask = record { asks-nothing = λ κs a. tt; one-outcome = reading.ask };
+      report = record { asks-nothing = λ κs a. tt; one-outcome = reading.report };
     }
 
 sealed-keeps : (n : ℕ) (x y o t : List ℕ) → n ≤ 7 → (sealedAs n x y o t .number ≤ 7) × (0 < sealedAs n x y o t .number → (sealedAs n x y o t .out ≡ o) × (sealedAs n x y o t .tag ≡ t))

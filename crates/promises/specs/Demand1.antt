@@ -38,6 +38,12 @@ use Rattle.search.proofs.search.Kinds as search-kinds
 use Rattle.search.proofs.search.Reads as search-reads
 use Rattle.compare.proofs.compare.Kinds as compare-kinds
 use Rattle.compare.proofs.compare.Reads as compare-reads
+use Rattle.reader.proofs.cursor.start.Kinds as start-kinds
+use Rattle.reader.proofs.cursor.start.Reads as start-reads
+use Rattle.reader.proofs.cursor.ask.Kinds as ask-kinds
+use Rattle.reader.proofs.cursor.ask.Reads as ask-reads
+use Rattle.reader.proofs.report.Kinds as report-kinds
+use Rattle.reader.proofs.report.Reads as report-reads
 
 -- of a routine's own signature and contract: it asks nothing of its arguments, and they leave one outcome
 pub record Answers {n : ℕ} (ps : List (PK n)) (r : RK n) (Pre : In n ps) (Post : Out n ps r) : Type 0 where
@@ -67,6 +73,10 @@ pub record EntryPoints : Type 0 where
   pub unseal-file : Answers unseal-file-kinds.ps unseal-file-kinds.r unseal-file-reads.Pre unseal-file-reads.Post
   -- W8
   pub compare : Answers compare-kinds.ps compare-kinds.r compare-reads.Pre compare-reads.Post
+  -- W14: the cursor and the report; of the reader, which holds a reference, it is said of its contract's clauses (`reader/proofs/Held.antt`)
+  pub start : Answers start-kinds.ps start-kinds.r start-reads.Pre start-reads.Post
+  pub ask : Answers ask-kinds.ps ask-kinds.r ask-reads.Pre ask-reads.Post
+  pub report : Answers report-kinds.ps report-kinds.r report-reads.Pre report-reads.Post
 
 -- the sealer gives 0 to 7, and on any but 0 both buffers are as they were
 abbrev pub SealKeeps : Type 0
