@@ -39,23 +39,9 @@ fn said(s: Said) {
     lines::show::number(s.count as u64);
 }
 
-fn place(n: u32) {
-    lines::show::space();
-    lines::show::number(n as u64);
-}
-
-// Every place of a list, a space before each.
-fn places(list: &[u32]) {
-    let mut i: usize = 0;
-    while i < list.len() {
-        place(list[i]);
-        i += 1;
-    }
-}
-
 fn report(file: &[u8], ring: &[u8], jobs: &mut [u32], numbers: &mut [u8]) {
     said(reader::report(file, ring, jobs, numbers).said());
-    places(jobs);
+    lines::show::places(jobs);
     lines::show::space();
     lines::show::bytes(numbers);
     lines::show::end();
@@ -64,7 +50,8 @@ fn report(file: &[u8], ring: &[u8], jobs: &mut [u32], numbers: &mut [u8]) {
 fn print_row(i: usize, row: Row) {
     lines::show::space();
     lines::show::number(i as u64);
-    place(row.job);
+    lines::show::space();
+    lines::show::number(row.job as u64);
 }
 
 fn print_entry(e: Entry) {
