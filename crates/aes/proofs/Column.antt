@@ -17,7 +17,7 @@ use Rattle.fips197.proofs.Field.{xtime-sum, two-product, three-product}
 use Rattle.fips197.proofs.Steps.{from-same}
 use Rattle.fips197.proofs.Schedule.{next-key}
 use Rattle.aes.specs.declared.Columns.{Columns}
-use Rattle.aes.specs.Columns.{told, mixColumn, Follows}
+use Rattle.aes.specs.Columns.{bytesOf, mixColumn, Follows}
 
 -- row k is what is left when the rows below it are shifted out
 pub row-is : (k x : ℕ) → k < 4 → x / 2 ^ (8 * k) % 256 ≡ getD (bytes 4 x) k 0
@@ -65,7 +65,7 @@ same-columns x y p q r s =
 abbrev pub Fit : Columns → Type 0
 Fit x = (x .a < 2 ^ 32) × (x .b < 2 ^ 32) × (x .c < 2 ^ 32) × (x .d < 2 ^ 32)
 
-pub told-only : (x y : Columns) → Fit x → Fit y → told x ≡ told y → x ≡ y
+pub told-only : (x y : Columns) → Fit x → Fit y → bytesOf x ≡ bytesOf y → x ≡ y
 unfolding bytes
 told-only x y f g e =
     same-columns x y
@@ -78,7 +78,7 @@ told-only x y f g e =
 
 pub key-turn : (k n : Columns) (t s rc : ℕ) → bytes 4 t ≡ rotWord (bytes 4 (k .d)) → bytes 4 s ≡ subWord (bytes 4 t)
     → (n .a ≡ xor (k .a) (xor s rc)) × (n .b ≡ xor (k .b) (n .a)) × (n .c ≡ xor (k .c) (n .b)) × (n .d ≡ xor (k .d) (n .c))
-    → Follows (told k) (bytes 4 rc) (told n)
+    → Follows (bytesOf k) (bytes 4 rc) (bytesOf n)
 key-turn k n t s rc f e h key i p q =
     next-key key i (bytes 4 (k .a)) (bytes 4 (k .b)) (bytes 4 (k .c)) (bytes 4 (k .d)) (bytes 4 (n .a)) (bytes 4 (n .b)) (bytes 4 (n .c)) (bytes 4 (n .d))
     (length-bytes 4 (k .a)) (length-bytes 4 (k .b)) (length-bytes 4 (k .c)) p

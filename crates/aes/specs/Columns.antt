@@ -8,8 +8,8 @@ use Rattle.fips197.specs.Cipher.{from, mixed, rcon, roundKey}
 use Rattle.aes.specs.declared.Columns.{Columns}
 
 -- their sixteen bytes, in FIPS 197's order
-abbrev pub told : Columns → List ℕ
-told s = bytes 4 (s .a) ++ bytes 4 (s .b) ++ bytes 4 (s .c) ++ bytes 4 (s .d)
+abbrev pub bytesOf : Columns → List ℕ
+bytesOf s = bytes 4 (s .a) ++ bytes 4 (s .b) ++ bytes 4 (s .c) ++ bytes 4 (s .d)
 
 -- the byte in row k of a column
 abbrev pub row : ℕ → ℕ → ℕ

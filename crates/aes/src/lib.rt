@@ -8,7 +8,7 @@ ghost use Rattle.words.specs.Bytes.{bytes};
 ghost use Rattle.fips197.specs.Field.{xtime};
 ghost use Rattle.fips197.specs.Sbox.{subByte, IsSbox};
 ghost use Rattle.fips197.specs.Cipher.{subBytes, shiftRows, mixColumns, addRoundKey, rotWord, cipher};
-ghost use Rattle.aes.specs.Columns.{told, row, mixColumn, Follows};
+ghost use Rattle.aes.specs.Columns.{bytesOf, row, mixColumn, Follows};
 use words::arx::le32;
 use words::arx::store4_32;
 use words::block::block_of;
@@ -47,7 +47,7 @@ fn shifted(t: &[u8; 256], a: u32, b: u32, c: u32, d: u32) -> u32
 // SubBytes and ShiftRows.
 fn shift_rows(t: &[u8; 256], s: Columns) -> Columns
     requires { ⌜ IsSbox (now t) ⌝ }
-    ensures { λ r. ⌜ told r ≡ shiftRows (subBytes (told s)) ⌝ }
+    ensures { λ r. ⌜ bytesOf r ≡ shiftRows (subBytes (bytesOf s)) ⌝ }
 {
     Columns {
         a: shifted(t, s.a, s.b, s.c, s.d),
@@ -82,7 +82,7 @@ fn mix_column(x: u32) -> u32
 
 // MixColumns.
 fn mix_columns(s: Columns) -> Columns
-    ensures { λ r. ⌜ told r ≡ mixColumns (told s) ⌝ }
+    ensures { λ r. ⌜ bytesOf r ≡ mixColumns (bytesOf s) ⌝ }
 {
     Columns {
         a: mix_column(s.a),
@@ -94,7 +94,7 @@ fn mix_columns(s: Columns) -> Columns
 
 // AddRoundKey.
 pub fn add_round_key(s: Columns, k: Columns) -> Columns
-    ensures { λ r. ⌜ told r ≡ addRoundKey (told s) (told k) ⌝ }
+    ensures { λ r. ⌜ bytesOf r ≡ addRoundKey (bytesOf s) (bytesOf k) ⌝ }
 {
     Columns {
         a: s.a ^ k.a,
@@ -107,7 +107,7 @@ pub fn add_round_key(s: Columns, k: Columns) -> Columns
 // A round; the last one does not mix columns.
 fn round(t: &[u8; 256], s: Columns, k: Columns, mixing: bool) -> Columns
     requires { ⌜ IsSbox (now t) ⌝ }
-    ensures { λ r. ⌜ told r ≡ addRoundKey (cond mixing (mixColumns (shiftRows (subBytes (told s)))) (shiftRows (subBytes (told s)))) (told k) ⌝ }
+    ensures { λ r. ⌜ bytesOf r ≡ addRoundKey (cond mixing (mixColumns (shiftRows (subBytes (bytesOf s)))) (shiftRows (subBytes (bytesOf s)))) (bytesOf k) ⌝ }
 {
     let u = shift_rows(t, s);
     if mixing {
@@ -130,7 +130,7 @@ pub fn chained(k: Columns, x: u32) -> Columns
 // The round key after k; rc is its Rcon.
 fn next_key(t: &[u8; 256], k: Columns, rc: u32) -> Columns
     requires { ⌜ IsSbox (now t) ⌝ }
-    ensures { λ n. ⌜ Follows (told k) (bytes 4 rc) (told n) ⌝ }
+    ensures { λ n. ⌜ Follows (bytesOf k) (bytes 4 rc) (bytesOf n) ⌝ }
 {
     let w = rot_word(k.d);
     chained(k, shifted(t, w, w, w, w) ^ rc)
@@ -146,7 +146,7 @@ pub fn next_rcon(rc: u32) -> u32
 
 // Sixteen bytes as four columns.
 pub fn load(b: [u8; 16]) -> Columns
-    ensures { λ r. ⌜ told r ≡ b ⌝ }
+    ensures { λ r. ⌜ bytesOf r ≡ b ⌝ }
 {
     let x = block_of(b);
     Columns {

@@ -5,7 +5,7 @@ ghost use Prim.Native.Nat.{_<_};
 ghost use Rattle.words.specs.Bytes.{bytes};
 ghost use Rattle.fips197.specs.Sbox.{subByte};
 ghost use Rattle.fips197.specs.Cipher.{subBytes, shiftRows, mixColumns, cipher};
-ghost use Rattle.aes.specs.Columns.{told, row, mixColumn, Follows};
+ghost use Rattle.aes.specs.Columns.{bytesOf, row, mixColumn, Follows};
 ghost use Rattle.columns.specs.Tables.{share, IsTables};
 use aes::Columns;
 use words::arx::le32;
@@ -56,7 +56,7 @@ fn shifted(t: &Tables, a: u32, b: u32, c: u32, d: u32) -> u32
 // SubBytes, ShiftRows and MixColumns.
 fn mix_columns(t: &Tables, s: Columns) -> Columns
     requires { ⌜ IsTables (now t) ⌝ }
-    ensures { λ r. ⌜ told r ≡ mixColumns (shiftRows (subBytes (told s))) ⌝ }
+    ensures { λ r. ⌜ bytesOf r ≡ mixColumns (shiftRows (subBytes (bytesOf s))) ⌝ }
 {
     Columns {
         a: mixed(t, s.a, s.b, s.c, s.d),
@@ -69,7 +69,7 @@ fn mix_columns(t: &Tables, s: Columns) -> Columns
 // SubBytes and ShiftRows, for the last round.
 fn shift_rows(t: &Tables, s: Columns) -> Columns
     requires { ⌜ IsTables (now t) ⌝ }
-    ensures { λ r. ⌜ told r ≡ shiftRows (subBytes (told s)) ⌝ }
+    ensures { λ r. ⌜ bytesOf r ≡ shiftRows (subBytes (bytesOf s)) ⌝ }
 {
     Columns {
         a: shifted(t, s.a, s.b, s.c, s.d),
@@ -82,7 +82,7 @@ fn shift_rows(t: &Tables, s: Columns) -> Columns
 // The round key after k; rc is its Rcon.
 fn next_key(t: &Tables, k: Columns, rc: u32) -> Columns
     requires { ⌜ IsTables (now t) ⌝ }
-    ensures { λ n. ⌜ Follows (told k) (bytes 4 rc) (told n) ⌝ }
+    ensures { λ n. ⌜ Follows (bytesOf k) (bytes 4 rc) (bytesOf n) ⌝ }
 {
     let w = aes::rot_word(k.d);
     aes::chained(k, shifted(t, w, w, w, w) ^ rc)

@@ -3,17 +3,17 @@ use mathlib.Core.Path.{_≡_, refl, sym, ap, ap₂, _∙_}
 use mathlib.Core.List.{List}
 use Prim.Native.Nat.{ℕ, zero, suc}
 use Rattle.words.specs.Outcome.{OneOutcome}
-use Rattle.comet.specs.declared.Answer.{Answer}
-use Rattle.comet.specs.declared.Answer.the-variants.{Done, Suite, Key, Nonce, Data, Text, Room, Tag, Forged}
+use Rattle.comet.specs.declared.Verdict.{Verdict}
+use Rattle.comet.specs.declared.Verdict.the-variants.{Done, Suite, Key, Nonce, Data, Text, Room, Tag, Forged}
 use Rattle.comet.specs.Answers.{numberOf, Sealed, Opened}
-use Rattle.comet.proofs.Answer.number.Kinds as number-kinds
-use Rattle.comet.proofs.Answer.number.Reads as number-reads
+use Rattle.comet.proofs.Verdict.number.Kinds as number-kinds
+use Rattle.comet.proofs.Verdict.number.Reads as number-reads
 use Rattle.comet.proofs.seal.Kinds as seal-kinds
 use Rattle.comet.proofs.seal.Reads as seal-reads
 use Rattle.comet.proofs.unseal.Kinds as unseal-kinds
 use Rattle.comet.proofs.unseal.Reads as unseal-reads
 
-answerOf : ℕ → Answer
+answerOf : ℕ → Verdict
 answerOf zero = Done
 answerOf (suc zero) = Suite
 answerOf (suc (suc zero)) = Key
@@ -24,7 +24,7 @@ answerOf (suc (suc (suc (suc (suc (suc zero)))))) = Room
 answerOf (suc (suc (suc (suc (suc (suc (suc zero))))))) = Tag
 answerOf (suc (suc (suc (suc (suc (suc (suc (suc n)))))))) = Forged
 
-answer-back : (a : Answer) → answerOf (numberOf a) ≡ a
+answer-back : (a : Verdict) → answerOf (numberOf a) ≡ a
 unfolding answerOf
 answer-back Done = refl
 answer-back Suite = refl
@@ -36,7 +36,7 @@ answer-back Room = refl
 answer-back Tag = refl
 answer-back Forged = refl
 
-pub number-tells : (a b : Answer) → numberOf a ≡ numberOf b → a ≡ b
+pub number-tells : (a b : Verdict) → numberOf a ≡ numberOf b → a ≡ b
 number-tells a b e = sym (answer-back a) ∙ ap answerOf e ∙ answer-back b
 
 pub number : OneOutcome number-kinds.ps number-kinds.r number-reads.Pre number-reads.Post

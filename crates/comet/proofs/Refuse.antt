@@ -1,23 +1,24 @@
 -- What the first number that applies tells: 0 that every length is right, any other that the buffers stay.
 use mathlib.Core.Path.{_≡_, refl, sym, ap, ap₂, _∙_}
-use mathlib.Core.Bool.{Bool, true, false, not, cond}
+use mathlib.Core.Bool.{Bool, true, false, not}
 use mathlib.Core.Logic.{inl, inr}
 use Prim.Native.Nat.{ℕ, zero, suc, _≤_, _<_}
-use native.Mathlib.Nat.{not-suc-le-zero, suc-ne-zero}
+use native.Mathlib.Nat.{not-suc-le-zero}
 use native.Mathlib.Omega.{arith}
 use mathlib.Core.List.{List, [], _∷_}
 use lib.ListN.{length}
-use lib.Dec.{ltb, eqb}
+use lib.Dec.{ltb, eqb, lit<}
 use borrow.Author.Tests.{ltb-false, eqb-true, le-ltb, eq-eqb, not-false}
 use denote.Enum.Declared
 use types.Run.{OneOf}
+use Rattle.words.proofs.Ladder.{not-taken, rung}
 use Rattle.words.specs.Bytes.{sameBytes}
 use Rattle.cipher.specs.Cipher.{isSuite, IsSuite, sizeOf, nonceOf, cipherOf}
 use Rattle.mode.specs.Mode.{ciphertext, tag, textOut, tagOut}
 use Rattle.comet.specs.Answers.{numberOf, refusal, Sealed, sealedAs, sealing, Opened, openedAs, opening}
-use Rattle.comet.specs.declared.Answer.{Answer}
-use Rattle.comet.specs.declared.Answer.the-variants.{Done, Suite, Key, Nonce, Data, Text, Room, Tag, Forged}
-use Rattle.comet.proofs.Answer.{the-type}
+use Rattle.comet.specs.declared.Verdict.{Verdict}
+use Rattle.comet.specs.declared.Verdict.the-variants.{Done, Suite, Key, Nonce, Data, Text, Room, Tag, Forged}
+use Rattle.comet.proofs.Verdict.{the-type}
 
 -- the suite and every length are right
 pub record Passed (s k v a t o g : ℕ) : Type 0 where
@@ -29,21 +30,16 @@ pub record Passed (s k v a t o g : ℕ) : Type 0 where
   pub room : o ≡ t
   pub tag : g ≡ sizeOf s
 
--- a rung of the ladder that is not taken
-passes : (b : Bool) (n r : ℕ) → cond b (suc n) r ≡ 0 → (b ≡ false) × (r ≡ 0)
-passes true n r e = absurd (suc-ne-zero n e)
-passes false n r e = (refl, e)
-
 pub passed : (s k v a t o g : ℕ) → refusal s k v a t o g ≡ 0 → Passed s k v a t o g
 unfolding refusal
 passed s k v a t o g e =
-    let p1 = passes (not (isSuite s)) 0 _ e in
-    let p2 = passes (not (eqb k 16)) 1 _ (p1 .1) in
-    let p3 = passes (not (eqb v (nonceOf s))) 2 _ (p2 .1) in
-    let p4 = passes (ltb 65536 a) 3 _ (p3 .1) in
-    let p5 = passes (ltb 65536 t) 4 _ (p4 .1) in
-    let p6 = passes (not (eqb o t)) 5 _ (p5 .1) in
-    let p7 = passes (not (eqb g (sizeOf s))) 6 _ (p6 .1) in
+    let p1 = not-taken (not (isSuite s)) 1 _ (lit< tt) e in
+    let p2 = not-taken (not (eqb k 16)) 2 _ (lit< tt) (p1 .1) in
+    let p3 = not-taken (not (eqb v (nonceOf s))) 3 _ (lit< tt) (p2 .1) in
+    let p4 = not-taken (ltb 65536 a) 4 _ (lit< tt) (p3 .1) in
+    let p5 = not-taken (ltb 65536 t) 5 _ (lit< tt) (p4 .1) in
+    let p6 = not-taken (not (eqb o t)) 6 _ (lit< tt) (p5 .1) in
+    let p7 = not-taken (not (eqb g (sizeOf s))) 7 _ (lit< tt) (p6 .1) in
     record {
       suite = not-false (isSuite s) (p1 .0);
       key = eqb-true k 16 (not-false (eqb k 16) (p2 .0));
@@ -68,23 +64,19 @@ none-bad s k v a t o g p =
     )
 
 -- no number above 7
-rung-most : (b : Bool) (n r : ℕ) → n ≤ 7 → r ≤ 7 → cond b n r ≤ 7
-rung-most true n r h k = h
-rung-most false n r h k = k
-
 pub refusal-most : (s k v a t o g : ℕ) → refusal s k v a t o g ≤ 7
 unfolding refusal
 refusal-most s k v a t o g =
-    rung-most (not (isSuite s)) 1 _ (omega arith)
-    (rung-most (not (eqb k 16)) 2 _ (omega arith)
-    (rung-most (not (eqb v (nonceOf s))) 3 _ (omega arith)
-    (rung-most (ltb 65536 a) 4 _ (omega arith)
-    (rung-most (ltb 65536 t) 5 _ (omega arith)
-    (rung-most (not (eqb o t)) 6 _ (omega arith)
-    (rung-most (not (eqb g (sizeOf s))) 7 _ (omega arith) (omega arith)))))))
+    rung (λ j. j ≤ 7) (not (isSuite s)) 1 _ (omega arith)
+    (rung (λ j. j ≤ 7) (not (eqb k 16)) 2 _ (omega arith)
+    (rung (λ j. j ≤ 7) (not (eqb v (nonceOf s))) 3 _ (omega arith)
+    (rung (λ j. j ≤ 7) (ltb 65536 a) 4 _ (omega arith)
+    (rung (λ j. j ≤ 7) (ltb 65536 t) 5 _ (omega arith)
+    (rung (λ j. j ≤ 7) (not (eqb o t)) 6 _ (omega arith)
+    (rung (λ j. j ≤ 7) (not (eqb g (sizeOf s))) 7 _ (omega arith) (omega arith)))))))
 
 -- the number is the variant's place
-pub place-is : (a : Answer) → Declared.tagOf the-type a ≡ numberOf a
+pub place-is : (a : Verdict) → Declared.tagOf the-type a ≡ numberOf a
 place-is Done = refl
 place-is Suite = refl
 place-is Key = refl
@@ -133,6 +125,11 @@ module _ (s : ℕ) (k v a m o t : List ℕ) (n : ℕ) (e : n ≡ refusal s (leng
 as-was : (j : ℕ) (b : Bool) (x o : List ℕ) → 0 < j → _≡_ {A = Opened} (record { number = j; out = o }) (openedAs j b x o)
 as-was zero b x o h = absurd (not-suc-le-zero h)
 as-was (suc j) b x o h = refl
+
+-- what opens has the right tag
+pub tag-right : (b : Bool) (text out : List ℕ) → openedAs 0 b text out .number ≡ 0 → b ≡ true
+tag-right true text out z = refl
+tag-right false text out z = absurd (omega arith)
 
 module _ (s : ℕ) (k v a c g o : List ℕ) (n : ℕ) (e : n ≡ refusal s (length k) (length v) (length a) (length c) (length o) (length g)) where
   pub opening-kept : 0 < n → _≡_ {A = Opened} (record { number = n; out = o }) (opening s k v a c g o)

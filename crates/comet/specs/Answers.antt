@@ -7,11 +7,11 @@ use lib.Dec.{ltb, eqb}
 use Rattle.words.specs.Bytes.{sameBytes}
 use Rattle.cipher.specs.Cipher.{isSuite, sizeOf, nonceOf, cipherOf}
 use Rattle.mode.specs.Mode.{ciphertext, tag, textOut, tagOut}
-use Rattle.comet.specs.declared.Answer.{Answer}
-use Rattle.comet.specs.declared.Answer.the-variants.{Done, Suite, Key, Nonce, Data, Text, Room, Tag, Forged}
+use Rattle.comet.specs.declared.Verdict.{Verdict}
+use Rattle.comet.specs.declared.Verdict.the-variants.{Done, Suite, Key, Nonce, Data, Text, Room, Tag, Forged}
 
 -- the number of each answer
-abbrev pub numberOf : Answer → ℕ
+abbrev pub numberOf : Verdict → ℕ
 numberOf Done = 0
 numberOf Suite = 1
 numberOf Key = 2

@@ -13,7 +13,7 @@ ghost use Rattle.step.specs.Two.{Clean};
 ghost use Rattle.comet.specs.Answers.{numberOf, refusal, Sealed, sealing, Opened, opening};
 
 // What a call answers: Done, or why it refused.
-pub enum Answer {
+pub enum Verdict {
     Done,
     Suite,
     Key,
@@ -25,21 +25,21 @@ pub enum Answer {
     Forged,
 }
 
-impl Answer {
+impl Verdict {
     // The answer's number in document 01.
     pub fn number(self) -> u8
         ensures { λ r. ⌜ r ≡ numberOf self ⌝ }
     {
         match self {
-            Answer::Done => 0,
-            Answer::Suite => 1,
-            Answer::Key => 2,
-            Answer::Nonce => 3,
-            Answer::Data => 4,
-            Answer::Text => 5,
-            Answer::Room => 6,
-            Answer::Tag => 7,
-            Answer::Forged => 8,
+            Verdict::Done => 0,
+            Verdict::Suite => 1,
+            Verdict::Key => 2,
+            Verdict::Nonce => 3,
+            Verdict::Data => 4,
+            Verdict::Text => 5,
+            Verdict::Room => 6,
+            Verdict::Tag => 7,
+            Verdict::Forged => 8,
         }
     }
 }
@@ -53,33 +53,33 @@ fn refused(
     text: usize,
     out: usize,
     tag: usize,
-) -> Answer
+) -> Verdict
     ensures { λ r. ⌜ numberOf r ≡ refusal suite key nonce ad text out tag ⌝ }
 {
     if !cipher::is_suite(suite) {
-        return Answer::Suite;
+        return Verdict::Suite;
     }
     if key != 16 {
-        return Answer::Key;
+        return Verdict::Key;
     }
     let n = cipher::nonce_size(suite);
     if nonce != n {
-        return Answer::Nonce;
+        return Verdict::Nonce;
     }
     if 65536 < ad {
-        return Answer::Data;
+        return Verdict::Data;
     }
     if 65536 < text {
-        return Answer::Text;
+        return Verdict::Text;
     }
     if out != text {
-        return Answer::Room;
+        return Verdict::Room;
     }
     let b = cipher::size_of(suite);
     if tag != b {
-        return Answer::Tag;
+        return Verdict::Tag;
     }
-    Answer::Done
+    Verdict::Done
 }
 
 // The text that goes out and the tag, once every length is right: the cipher is lent what it needs.
@@ -114,14 +114,14 @@ fn seal_with(
     msg: &[u8],
     out: &mut [u8],
     tag: &mut [u8],
-) -> Answer
+) -> Verdict
     requires { ⌜ Ready suite (now tb) × (refusal suite (length (now key)) (length (now nonce)) (length (now ad)) (length (now msg)) (length (now out)) (length (now tag)) ≡ 0) ⌝ }
     ensures { λ r. ⌜ _≡_ {A = Sealed} (record { number = numberOf r; out = now (out .exit); tag = now (tag .exit) })
         (sealing suite (now (key .entry)) (now (nonce .entry)) (now (ad .entry)) (now (msg .entry)) (now (out .entry)) (now (tag .entry))) ⌝ }
 {
     let t = crypt(tb, false, suite, key, nonce, ad, msg, out);
     words::block::put(t, tag);
-    Answer::Done
+    Verdict::Done
 }
 
 // Seals msg into out, and its tag into tag. Only a suite whose engine is lent tables pays for them.
@@ -133,7 +133,7 @@ pub fn seal(
     msg: &[u8],
     out: &mut [u8],
     tag: &mut [u8],
-) -> Answer
+) -> Verdict
     ensures { λ r. ⌜ _≡_ {A = Sealed} (record { number = numberOf r; out = now (out .exit); tag = now (tag .exit) })
         (sealing suite (now (key .entry)) (now (nonce .entry)) (now (ad .entry)) (now (msg .entry)) (now (out .entry)) (now (tag .entry))) ⌝ }
 {
@@ -146,7 +146,7 @@ pub fn seal(
         out.len(),
         tag.len(),
     );
-    let Answer::Done = a else {
+    let Verdict::Done = a else {
         return a;
     };
     if cipher::lends(suite) {
@@ -166,17 +166,17 @@ fn unseal_with(
     text: &[u8],
     tag: &[u8],
     out: &mut [u8],
-) -> Answer
+) -> Verdict
     requires { ⌜ Ready suite (now tb) × (refusal suite (length (now key)) (length (now nonce)) (length (now ad)) (length (now text)) (length (now out)) (length (now tag)) ≡ 0) ⌝ }
     ensures { λ r. ⌜ _≡_ {A = Opened} (record { number = numberOf r; out = now (out .exit) })
         (opening suite (now (key .entry)) (now (nonce .entry)) (now (ad .entry)) (now (text .entry)) (now (tag .entry)) (now (out .entry))) ⌝ }
 {
     let t = crypt(tb, true, suite, key, nonce, ad, text, out);
     if step::tag::same(t, tag) {
-        return Answer::Done;
+        return Verdict::Done;
     }
     words::zeros::wipe(out);
-    Answer::Forged
+    Verdict::Forged
 }
 
 // Opens text into out, if its tag is right; else every byte of out is 0.
@@ -188,7 +188,7 @@ pub fn unseal(
     text: &[u8],
     tag: &[u8],
     out: &mut [u8],
-) -> Answer
+) -> Verdict
     ensures { λ r. ⌜ _≡_ {A = Opened} (record { number = numberOf r; out = now (out .exit) })
         (opening suite (now (key .entry)) (now (nonce .entry)) (now (ad .entry)) (now (text .entry)) (now (tag .entry)) (now (out .entry))) ⌝ }
 {
@@ -201,7 +201,7 @@ pub fn unseal(
         out.len(),
         tag.len(),
     );
-    let Answer::Done = a else {
+    let Verdict::Done = a else {
         return a;
     };
     if cipher::lends(suite) {

@@ -11,20 +11,20 @@ use Rattle.table.specs.Check.{checkFile}
 use Rattle.table.proofs.Numbers.{refusal-some}
 use Rattle.table.proofs.Searches.{or-false}
 use Rattle.compare.specs.declared.merge.Counts.{Counts}
-use Rattle.compare.specs.Comparing.{toldIn, Comparison, stopped, tooLong, listed, comparison}
+use Rattle.compare.specs.Comparing.{refusedIn, Comparison, stopped, tooLong, listed, comparison}
 use Rattle.compare.specs.Inside.{Sound, Passable, Passed, longer}
 
 module _ (f g x y z : List ℕ) where
-  pub first-refused : (r : Refusal) → checkFile f ≡ refusalAnswer r → comparison f g x y z ≡ stopped (toldIn 1 (refusalAnswer r)) x y z
+  pub first-refused : (r : Refusal) → checkFile f ≡ refusalAnswer r → comparison f g x y z ≡ stopped (refusedIn 1 (refusalAnswer r)) x y z
   unfolding comparison
   first-refused r p = simp (p, ne-eqb _ _ (refusal-some r))
 
-  pub second-refused : (r : Refusal) → checkFile f .number ≡ 0 → checkFile g ≡ refusalAnswer r → comparison f g x y z ≡ stopped (toldIn 2 (refusalAnswer r)) x y z
+  pub second-refused : (r : Refusal) → checkFile f .number ≡ 0 → checkFile g ≡ refusalAnswer r → comparison f g x y z ≡ stopped (refusedIn 2 (refusalAnswer r)) x y z
   unfolding comparison
   second-refused r p q = simp (p, q, ne-eqb _ _ (refusal-some r))
 
   module _ (s : Sound f g) where
-    pub too-long : tooLong f g x y z ≡ true → comparison f g x y z ≡ stopped (toldIn 0 (answer 36 0)) x y z
+    pub too-long : tooLong f g x y z ≡ true → comparison f g x y z ≡ stopped (refusedIn 0 (answer 36 0)) x y z
     unfolding comparison
     too-long t = simp (s .first, s .second, t)
 
@@ -43,7 +43,7 @@ module _ (f g x y z : List ℕ) where
         record { sound = s; first = λ w. ltb-false _ _ (a .0); second = λ w. ltb-false _ _ (b .0); differ = λ w. ltb-false _ _ (b .1) }
 
     pub all-listed : tooLong f g x y z ≡ false → (n : Counts) (x′ y′ z′ : List ℕ) → Passed f g true x y z n x′ y′ z′
-        → _≡_ {A = Comparison} (record { told = record { number = 0; file = 0; row = 0; first = n .first; second = n .second; differ = n .differ }; first = x′; second = y′; differ = z′ }) (comparison f g x y z)
+        → _≡_ {A = Comparison} (record { finding = record { number = 0; file = 0; row = 0; first = n .first; second = n .second; differ = n .differ }; first = x′; second = y′; differ = z′ }) (comparison f g x y z)
     all-listed t n x′ y′ z′ h = simp (lists-fit t, h .counts, h .first, h .second, h .differ)
 
 -- after a pass that only counts: the lists are as they were, and the counts tell whether they are too long

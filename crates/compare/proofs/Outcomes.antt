@@ -8,23 +8,23 @@ use Rattle.words.specs.Outcome.{OneOutcome}
 use Rattle.table.specs.Answers.{answer}
 use Rattle.table.proofs.Numbers.{refusal-some}
 use Rattle.table.proofs.Outcomes.{refusalOf, refusal-back, unlike}
-use Rattle.compare.specs.declared.Told.{Told}
+use Rattle.compare.specs.declared.Finding.{Finding}
 use Rattle.compare.specs.declared.Compared.{Compared}
 use Rattle.compare.specs.declared.Compared.the-variants.{Done, First, Second, Room}
-use Rattle.compare.specs.Comparing.{toldOf, Comparison}
+use Rattle.compare.specs.Comparing.{findingOf, Comparison}
 use Rattle.compare.proofs.compare.Kinds as compare-kinds
 use Rattle.compare.proofs.compare.Reads as compare-reads
-use Rattle.compare.proofs.Compared.told.Kinds as told-kinds
-use Rattle.compare.proofs.Compared.told.Reads as told-reads
+use Rattle.compare.proofs.Compared.finding.Kinds as finding-kinds
+use Rattle.compare.proofs.Compared.finding.Reads as finding-reads
 
--- the case that is told
-abbrev comparedOf : Told → Compared
+-- the case from what it says
+abbrev comparedOf : Finding → Compared
 comparedOf t =
     cond (eqb (t .number) 0) (Done (t .first) (t .second) (t .differ))
     (cond (eqb (t .number) 36) Room
     (cond (eqb (t .file) 1) (First (refusalOf (answer (t .number) (t .row)))) (Second (refusalOf (answer (t .number) (t .row))))))
 
-compared-back : (x : Compared) → comparedOf (toldOf x) ≡ x
+compared-back : (x : Compared) → comparedOf (findingOf x) ≡ x
 compared-back (Done a b c) = refl
 compared-back (First x) = simp (ne-eqb _ _ (refusal-some x), unlike x 36 (inr (lit< tt)) refl) (ap First (refusal-back x))
 compared-back (Second x) = simp (ne-eqb _ _ (refusal-some x), unlike x 36 (inr (lit< tt)) refl) (ap Second (refusal-back x))
@@ -33,9 +33,9 @@ compared-back Room = refl
 pub compare : OneOutcome compare-kinds.ps compare-kinds.r compare-reads.Pre compare-reads.Post
 compare κs a h x y =
     let e = x .ensures ∙ sym (y .ensures) in (
-      sym (compared-back (x .result)) ∙ ap (λ (z : Comparison). comparedOf (z .told)) e ∙ compared-back (y .result),
+      sym (compared-back (x .result)) ∙ ap (λ (z : Comparison). comparedOf (z .finding)) e ∙ compared-back (y .result),
       ap (λ (z : Comparison). (tt, (tt, (z .first, (z .second, (z .differ, tt)))))) e,
     )
 
-pub told : OneOutcome told-kinds.ps told-kinds.r told-reads.Pre told-reads.Post
-told κs a h x y = (x .ensures ∙ sym (y .ensures), refl)
+pub finding : OneOutcome finding-kinds.ps finding-kinds.r finding-reads.Pre finding-reads.Post
+finding κs a h x y = (x .ensures ∙ sym (y .ensures), refl)

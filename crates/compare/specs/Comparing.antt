@@ -12,7 +12,7 @@ use Rattle.table.specs.Format.{countOf, edition, rowSize, rowOf, nonceAt}
 use Rattle.table.specs.Answers.{answer, refusalAnswer}
 use Rattle.table.specs.Check.{checkFile}
 use Rattle.table.specs.Laid.{bodyAt}
-use Rattle.compare.specs.declared.Told.{Told}
+use Rattle.compare.specs.declared.Finding.{Finding}
 use Rattle.compare.specs.declared.Compared.{Compared}
 use Rattle.compare.specs.declared.Compared.the-variants.{Done, First, Second, Room}
 use Rattle.compare.specs.Kept.{kept, onList}
@@ -72,26 +72,26 @@ differing f g = kept (differs f g) (jobAt f) 0 (countOf f)
 -- ---- the answer
 
 -- a number and a row of file k; the counts are 0
-abbrev pub toldIn : ℕ → Answer → Told
-toldIn k x = record { number = x .number; file = k; row = x .row; first = 0; second = 0; differ = 0 }
+abbrev pub refusedIn : ℕ → Answer → Finding
+refusedIn k x = record { number = x .number; file = k; row = x .row; first = 0; second = 0; differ = 0 }
 
 -- number, file, row and counts of every case
-abbrev pub toldOf : Compared → Told
-toldOf (Done a b c) = record { number = 0; file = 0; row = 0; first = a; second = b; differ = c }
-toldOf (First x) = toldIn 1 (refusalAnswer x)
-toldOf (Second x) = toldIn 2 (refusalAnswer x)
-toldOf Room = toldIn 0 (answer 36 0)
+abbrev pub findingOf : Compared → Finding
+findingOf (Done a b c) = record { number = 0; file = 0; row = 0; first = a; second = b; differ = c }
+findingOf (First x) = refusedIn 1 (refusalAnswer x)
+findingOf (Second x) = refusedIn 2 (refusalAnswer x)
+findingOf Room = refusedIn 0 (answer 36 0)
 
 -- what is told, and what is left in the three lists
 pub record Comparison : Type 0 where
-  pub told : Told
+  pub finding : Finding
   pub first : List ℕ
   pub second : List ℕ
   pub differ : List ℕ
 
 -- a refusal leaves the lists unchanged
-abbrev pub stopped : Told → List ℕ → List ℕ → List ℕ → Comparison
-stopped t x y z = record { told = t; first = x; second = y; differ = z }
+abbrev pub stopped : Finding → List ℕ → List ℕ → List ℕ → Comparison
+stopped t x y z = record { finding = t; first = x; second = y; differ = z }
 
 abbrev pub refused : List ℕ → Bool
 refused f = not (eqb (checkFile f .number) 0)
@@ -103,7 +103,7 @@ tooLong f g x y z = ltb (length x) (length (onlyFirst f g)) || (ltb (length y) (
 -- the three lists at the front of their buffers, and their lengths
 abbrev pub listed : List ℕ → List ℕ → List ℕ → List ℕ → List ℕ → Comparison
 listed f g x y z = record {
-  told = record { number = 0; file = 0; row = 0; first = length (onlyFirst f g); second = length (onlySecond f g); differ = length (differing f g) };
+  finding = record { number = 0; file = 0; row = 0; first = length (onlyFirst f g); second = length (onlySecond f g); differ = length (differing f g) };
   first = onList (onlyFirst f g) x;
   second = onList (onlySecond f g) y;
   differ = onList (differing f g) z;
@@ -112,7 +112,7 @@ listed f g x y z = record {
 -- the first file's refusal, the second's, 36, else the lists
 unfoldable pub comparison : List ℕ → List ℕ → List ℕ → List ℕ → List ℕ → Comparison
 comparison f g x y z =
-    cond (refused f) (stopped (toldIn 1 (checkFile f)) x y z)
-    (cond (refused g) (stopped (toldIn 2 (checkFile g)) x y z)
-    (cond (tooLong f g x y z) (stopped (toldIn 0 (answer 36 0)) x y z)
+    cond (refused f) (stopped (refusedIn 1 (checkFile f)) x y z)
+    (cond (refused g) (stopped (refusedIn 2 (checkFile g)) x y z)
+    (cond (tooLong f g x y z) (stopped (refusedIn 0 (answer 36 0)) x y z)
     (listed f g x y z)))

@@ -7,7 +7,7 @@ use lib.ListN.{length, getD}
 use Rattle.table.specs.Format.{countOf, rowOf}
 use Rattle.table.specs.Answers.{answer}
 use Rattle.table.specs.Check.{checkFile}
-use Rattle.compare.specs.Comparing.{nonceOf, bodyOf, onlyFirst, onlySecond, differing, toldIn, stopped, comparison}
+use Rattle.compare.specs.Comparing.{nonceOf, bodyOf, onlyFirst, onlySecond, differing, refusedIn, stopped, comparison}
 
 -- ---- a job is in a list exactly as document 02 words it
 
@@ -65,7 +65,7 @@ ListsRise = (f g : List ℕ) → checkFile f .number ≡ 0 → checkFile g .numb
 
 -- a file compared with itself: three empty lists, so that any buffers do and stay as they were
 abbrev pub WithItself : Type 0
-WithItself = (f x y z : List ℕ) → checkFile f .number ≡ 0 → comparison f f x y z ≡ stopped (toldIn 0 (answer 0 0)) x y z
+WithItself = (f x y z : List ℕ) → checkFile f .number ≡ 0 → comparison f f x y z ≡ stopped (refusedIn 0 (answer 0 0)) x y z
 
 -- the two files exchanged exchange the first two lists, and keep the third
 pub record Exchanged (f g : List ℕ) : Type 0 where

@@ -9,11 +9,11 @@ use table::answers::Refusal;
 use table::check;
 ghost use mathlib.Core.Path.{_≡_};
 ghost use Rattle.table.specs.Answers.{refusalAnswer};
-ghost use Rattle.compare.specs.Comparing.{toldIn, toldOf, Comparison, comparison};
+ghost use Rattle.compare.specs.Comparing.{refusedIn, findingOf, Comparison, comparison};
 ghost use Rattle.compare.specs.Inside.{Sound, longer};
 
 // What a comparison says: a number, the file and the row that it is about, and how long each list is.
-pub struct Told {
+pub struct Finding {
     pub number: u8,
     pub file: u8,
     pub row: usize,
@@ -31,11 +31,11 @@ pub enum Compared {
 }
 
 // A refusal of file k.
-fn told_in(k: u8, x: Refusal) -> Told
-    ensures { λ r. ⌜ r ≡ toldIn k (refusalAnswer x) ⌝ }
+fn refused_in(k: u8, x: Refusal) -> Finding
+    ensures { λ r. ⌜ r ≡ refusedIn k (refusalAnswer x) ⌝ }
 {
     let a = x.answer();
-    Told {
+    Finding {
         number: a.number,
         file: k,
         row: a.row,
@@ -46,11 +46,11 @@ fn told_in(k: u8, x: Refusal) -> Told
 }
 
 impl Compared {
-    pub fn told(self) -> Told
-        ensures { λ r. ⌜ r ≡ toldOf self ⌝ }
+    pub fn finding(self) -> Finding
+        ensures { λ r. ⌜ r ≡ findingOf self ⌝ }
     {
         match self {
-            Compared::Done(a, b, c) => Told {
+            Compared::Done(a, b, c) => Finding {
                 number: 0,
                 file: 0,
                 row: 0,
@@ -58,9 +58,9 @@ impl Compared {
                 second: b,
                 differ: c,
             },
-            Compared::First(x) => told_in(1, x),
-            Compared::Second(x) => told_in(2, x),
-            Compared::Room => Told {
+            Compared::First(x) => refused_in(1, x),
+            Compared::Second(x) => refused_in(2, x),
+            Compared::Room => Finding {
                 number: 36,
                 file: 0,
                 row: 0,
@@ -88,7 +88,7 @@ fn too_long(n: Counts, first: usize, second: usize, differ: usize) -> bool
 // The three lists of two files that pass, or 36: they are counted before any of them is written.
 fn lists(f: &[u8], g: &[u8], first: &mut [u32], second: &mut [u32], differ: &mut [u32]) -> Compared
     requires { ⌜ Sound (now f) (now g) ⌝ }
-    ensures { λ r. ⌜ _≡_ {A = Comparison} (record { told = toldOf r; first = now (first .exit); second = now (second .exit); differ = now (differ .exit) })
+    ensures { λ r. ⌜ _≡_ {A = Comparison} (record { finding = findingOf r; first = now (first .exit); second = now (second .exit); differ = now (differ .exit) })
         (comparison (now (f .entry)) (now (g .entry)) (now (first .entry)) (now (second .entry)) (now (differ .entry))) ⌝ }
 {
     let n = pass(f, g, false, first, second, differ);
@@ -107,7 +107,7 @@ pub fn compare(
     only_second: &mut [u32],
     differ: &mut [u32],
 ) -> Compared
-    ensures { λ r. ⌜ _≡_ {A = Comparison} (record { told = toldOf r; first = now («only_first» .exit); second = now («only_second» .exit); differ = now (differ .exit) })
+    ensures { λ r. ⌜ _≡_ {A = Comparison} (record { finding = findingOf r; first = now («only_first» .exit); second = now («only_second» .exit); differ = now (differ .exit) })
         (comparison (now (first .entry)) (now (second .entry)) (now («only_first» .entry)) (now («only_second» .entry)) (now (differ .entry))) ⌝ }
 {
     match check(first) {

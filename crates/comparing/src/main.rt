@@ -3,7 +3,7 @@
 // A call is the lengths of the two files and how many places the three lists have (4 bytes each, little-endian), then the
 // files. A line is number, file, row, the three counts, and every place of the three lists, which holds 0xa5a5a5a5 before
 // the call.
-use compare::Told;
+use compare::Finding;
 use libc::STDIN_FILENO;
 use libc::STDOUT_FILENO;
 
@@ -26,7 +26,7 @@ fn call_of(head: &[u8; 20]) -> Call {
     }
 }
 
-fn told(t: Told) {
+fn say(t: Finding) {
     lines::show::number(t.number as u64);
     lines::show::space();
     lines::show::number(t.file as u64);
@@ -47,7 +47,7 @@ fn line(
     only_second: &mut [u32],
     differ: &mut [u32],
 ) {
-    told(compare::compare(first, second, only_first, only_second, differ).told());
+    say(compare::compare(first, second, only_first, only_second, differ).finding());
     lines::show::places(only_first);
     lines::show::places(only_second);
     lines::show::places(differ);

@@ -3,7 +3,7 @@
 // Prints the jobs only in the first, only in the second, and in both but different, one number to a line, under the lines
 // "first", "second" and "differ"; on a refusal one line, "refused", file, number and row. A file that cannot be read counts
 // as zero bytes. The program takes files up to 65,280 bytes (longer: 20).
-use compare::Told;
+use compare::Finding;
 use libc::STDOUT_FILENO;
 
 fn print_number(n: u32) {
@@ -23,7 +23,7 @@ fn print_list(list: &[u32], n: usize) {
     }
 }
 
-fn print_refusal(t: Told) {
+fn print_refusal(t: Finding) {
     io::write_all(STDOUT_FILENO, b"refused ");
     lines::show::number(t.file as u64);
     lines::show::space();
@@ -44,7 +44,7 @@ fn run(first: &[u8], second: &[u8]) {
         &mut only_first,
         &mut only_second,
         &mut differ,
-    ).told();
+    ).finding();
     if t.number != 0 {
         print_refusal(t);
         return;

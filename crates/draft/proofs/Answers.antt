@@ -18,7 +18,7 @@ use Rattle.table.specs.Answers.{answer}
 use Rattle.table.specs.Check.{andThen, checkAs}
 use Rattle.table.proofs.Searches.{first-says, first-none, first-at}
 use Rattle.table.proofs.Passed.{both-zero}
-use Rattle.table.proofs.Told.{Told, check-told}
+use Rattle.table.proofs.Numbered.{Numbered, check-numbered}
 use Rattle.draft.specs.Files.{draftEdition, entryTag, sealedFile, draftFile}
 use Rattle.draft.specs.Answers.{tagSet, tagRight, setFrom, wrongFrom, lentAnswer, sealAnswer, openAnswer, unsealAnswer, FileWritten, writes, leaves, fileSealing, fileUnsealing}
 use Rattle.draft.specs.Promised.{ZeroTag, RightTag, Valid, Genuine, SealCases, UnsealCases, Sealing, Unsealing, SealNumbers, UnsealNumbers}
@@ -161,7 +161,7 @@ module _ (file ring out : ℕ) where
 
 -- a refusal of the check is neither 0 nor 8
 not-eight : (e : ℕ) (f : List ℕ) → checkAs e f .number ≡ 8 → ⊥
-not-eight e f q = ⊎-elim (λ z. omega arith) (λ r. ⊎-elim (λ s. omega arith) (λ s. omega arith) r) (check-told e f .number)
+not-eight e f q = ⊎-elim (λ z. omega arith) (λ r. ⊎-elim (λ s. omega arith) (λ s. omega arith) r) (check-numbered e f .number)
 
 -- what a number leaves
 kept : (x : Answer) (done out₀ : List ℕ) → (x .number ≡ 0 → ⊥) → (x .number ≡ 8 → ⊥) → leaves x done out₀ ≡ writes x out₀

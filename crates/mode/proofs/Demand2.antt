@@ -1,17 +1,22 @@
 -- Sealing and opening undo each other, whatever the key: text and tag of one direction come back from the other.
-use mathlib.Core.Path.{_≡_, sym, ap, _∙_, subst}
-use mathlib.Core.Bool.{Bool, not}
+use mathlib.Core.Path.{_≡_, refl, sym, ap, _∙_, subst}
+use mathlib.Core.Bool.{Bool, true, false, not}
 use Prim.Native.Nat.{ℕ}
 use native.Mathlib.Nat.{le-refl, add-zero}
-use mathlib.Core.List.{List}
+use mathlib.Core.List.{List, []}
 use lib.ListN.{length}
 use Rattle.words.specs.Bytes.{AllBytes}
 use Rattle.cipher.specs.Cipher.{Cipher, Lawful, Block}
-use Rattle.mode.specs.Blocks.{blocks}
+use Rattle.mode.specs.Blocks.{blocks, chop}
 use Rattle.mode.specs.Mode.{nonceSize, image, after, crypted, afterData, textOut, tagOut}
 use Rattle.mode.proofs.Blocks.{all-blocks}
 use Rattle.mode.proofs.Chain.{Good, Undone, undone, good-after, image-block, some}
 use Rattle.mode.proofs.Start.{good-data}
+
+-- of an empty text both directions make the same tag
+pub empty-tag : (κ : Cipher) (key nonce ad : List ℕ) → tagOut κ true key nonce ad [] ≡ tagOut κ false key nonce ad []
+unfolding tagOut after blocks chop
+empty-tag κ key nonce ad = refl
 
 module _ (κ : Cipher) (L : Lawful κ) (key nonce ad : List ℕ) where
   whole : (d : Bool) (t : List ℕ) → AllBytes t → Undone κ L d (afterData κ key nonce ad (length t)) t

@@ -2,7 +2,6 @@
 use mathlib.Core.Path.{_≡_, refl, sym, ap, _∙_}
 use mathlib.Core.Bool.{Bool, true, false}
 use Prim.Native.Nat.{ℕ}
-use native.Mathlib.Nat.{suc-ne-zero}
 use mathlib.Core.List.{List}
 use lib.ListN.{length, replicate}
 use Rattle.words.specs.Bytes.{sameBytes}
@@ -11,7 +10,7 @@ use Rattle.cipher.specs.Cipher.{cipherOf, sizeOf}
 use Rattle.mode.specs.Mode.{nonceSize, textOut, tagOut}
 use Rattle.mode.proofs.Start.{suite-nonce}
 use Rattle.comet.specs.Answers.{refusal, Opened, openedAs, opening}
-use Rattle.comet.proofs.Refuse.{none-bad}
+use Rattle.comet.proofs.Refuse.{none-bad, tag-right}
 use Rattle.promises.specs.Input.{Texts, Input}
 
 -- ---- lengths that are right
@@ -48,18 +47,11 @@ module _ (suite : ℕ) (key nonce ad c t out₀ : List ℕ) (i : Input suite key
       ∙ ap (λ (b : Bool). openedAs 0 b (textOut (cipherOf suite) true key nonce ad c) out₀)
       (ap (λ (g : List ℕ). sameBytes g t) e ∙ same-refl t)
 
-  abbrev Shut : Bool → Type 0
-  Shut b = openedAs 0 b (textOut (cipherOf suite) true key nonce ad c) out₀ .number ≡ 0 → b ≡ true
-
-  shut : (b : Bool) → Shut b
-  shut true e = refl
-  shut false e = absurd (suc-ne-zero 7 e)
-
   -- what opens has the right tag
   pub opened-tag : opening suite key nonce ad c t out₀ .number ≡ 0 → tagOut (cipherOf suite) true key nonce ad c ≡ t
   opened-tag e =
       same-true (tagOut (cipherOf suite) true key nonce ad c) t
-      (shut (sameBytes (tagOut (cipherOf suite) true key nonce ad c) t) (sym (ap (λ (r : Opened). r .number) by-tag) ∙ e))
+      (tag-right (sameBytes (tagOut (cipherOf suite) true key nonce ad c) t) (textOut (cipherOf suite) true key nonce ad c) out₀ (sym (ap (λ (r : Opened). r .number) by-tag) ∙ e))
 
   -- any other is refused with 8, and zeros
   pub refuses : (tagOut (cipherOf suite) true key nonce ad c ≡ t → ⊥) → opening suite key nonce ad c t out₀ ≡ record { number = 8; out = replicate (length out₀) 0 }

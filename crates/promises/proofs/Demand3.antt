@@ -1,17 +1,16 @@
 -- Demand 3 by citation: equal tags would make the two inputs equal.
 use mathlib.Core.Path.{_≡_, sym, ap, _∙_}
-use mathlib.Core.Bool.{true, false}
 use mathlib.Core.Logic.{inl, inr}
 use Prim.Native.Nat.{ℕ}
 use mathlib.Core.List.{List, []}
-use Rattle.words.proofs.Lists.{nil-of, all-nil}
+use Rattle.words.proofs.Lists.{all-nil}
 use Rattle.cipher.specs.Cipher.{Block, cipherOf, sizeOf}
 use Rattle.cipher.proofs.Lawful.{lawful}
-use Rattle.mode.specs.Mode.{tag, textOut, tagOut}
-use Rattle.mode.proofs.Demand2.{tag-back, text-length}
+use Rattle.mode.specs.Mode.{tag}
+use Rattle.mode.proofs.Demand2.{empty-tag}
 use Rattle.mode.proofs.Demand3.{same-before, same-behind, message-told, data-told}
 use Rattle.mode.proofs.LastBlock.{last-told}
-use Rattle.comet.specs.declared.Answer.{Answer}
+use Rattle.comet.specs.declared.Verdict.{Verdict}
 use Rattle.comet.specs.Answers.{numberOf, Opened}
 use Rattle.promises.specs.Input.{Texts, Input}
 use Rattle.promises.specs.Demand3.{OneBlock, LastBlock, EmptyMessage}
@@ -35,7 +34,7 @@ one-block suite key nonce ad ad′ msg msg′ j i i′ la lm (inr (em, ne, insid
     (e ∙ ap (tag (cipherOf suite) key nonce ad′) (sym em)))
 
 -- what the contract says of an answer, of a call whose outcome is known
-says : (r : Answer) (out : List ℕ) (w z : Opened) → _≡_ {A = Opened} (record { number = numberOf r; out = out }) w → w ≡ z → (numberOf r ≡ z .number) × (out ≡ z .out)
+says : (r : Verdict) (out : List ℕ) (w z : Opened) → _≡_ {A = Opened} (record { number = numberOf r; out = out }) w → w ≡ z → (numberOf r ≡ z .number) × (out ≡ z .out)
 says r out w z p q = (ap (λ (x : Opened). x .number) (p ∙ q), ap (λ (x : Opened). x .out) (p ∙ q))
 
 pub last-block : LastBlock
@@ -47,14 +46,6 @@ last-block suite key nonce ad c c′ t out₀ out₁ j i i′ lo lo′ lt e l ne
     (key-block suite key nonce ad c (i .texts)) (i .texts .nonce-bytes) (nonce-right suite key nonce ad c (i .texts)) (i .texts .ad-bytes)
     (opened-tag suite key nonce ad c t out₀ i lo lt e ∙ sym q))))
 
--- of an empty text both directions make the same tag
-empty-tag : (suite : ℕ) (key nonce ad : List ℕ) → tagOut (cipherOf suite) true key nonce ad [] ≡ tag (cipherOf suite) key nonce ad []
-empty-tag suite key nonce ad =
-    let κ = cipherOf suite in
-    let L = lawful suite in
-    let z : textOut κ false key nonce ad [] ≡ [] = nil-of _ (text-length κ L key nonce ad false [] all-nil) in
-    sym (ap (tagOut κ true key nonce ad) z) ∙ tag-back κ L key nonce ad false [] all-nil
-
 pub empty-message : EmptyMessage
 empty-message suite key nonce ad ad′ t out₀ out₁ j i i′ lo lo′ lt e l ne differ r out p =
     let n = sizeOf suite in
@@ -63,4 +54,4 @@ empty-message suite key nonce ad ad′ t out₀ out₁ j i i′ lo lo′ lt e l 
     (λ q. ne (data-told (cipherOf suite) (lawful suite) j ad ad′ (i .texts .ad-bytes) (i′ .texts .ad-bytes) l
     (same-before n j ad ad′ l differ) (same-behind n j ad ad′ l differ)
     key nonce [] (key-block suite key nonce ad [] (i .texts)) (i .texts .nonce-bytes) (nonce-right suite key nonce ad [] (i .texts)) all-nil
-    (sym (empty-tag suite key nonce ad) ∙ opened-tag suite key nonce ad [] t out₀ i lo lt e ∙ sym q ∙ empty-tag suite key nonce ad′))))
+    (sym (empty-tag (cipherOf suite) key nonce ad) ∙ opened-tag suite key nonce ad [] t out₀ i lo lt e ∙ sym q ∙ empty-tag (cipherOf suite) key nonce ad′))))

@@ -6,7 +6,7 @@ use mathlib.Core.List.{List, []}
 use lib.ListN.{length, getD, replicate}
 use Rattle.cipher.specs.Cipher.{cipherOf, sizeOf}
 use Rattle.mode.specs.Mode.{tag}
-use Rattle.comet.specs.declared.Answer.{Answer}
+use Rattle.comet.specs.declared.Verdict.{Verdict}
 use Rattle.comet.specs.Answers.{numberOf, Opened, opening}
 use Rattle.promises.specs.Input.{Texts, Input}
 
@@ -28,7 +28,7 @@ LastBlock =
     → length c ≡ length c′ → (c ≡ c′ → ⊥)
     → j * sizeOf suite < length c → length c ≤ j * sizeOf suite + sizeOf suite
     → ((i : ℕ) → (getD c i 0 ≡ getD c′ i 0 → ⊥) → (j * sizeOf suite ≤ i) × (i < j * sizeOf suite + sizeOf suite))
-    → (r : Answer) (out : List ℕ) → _≡_ {A = Opened} (record { number = numberOf r; out = out }) (opening suite key nonce ad c′ t out₁)
+    → (r : Verdict) (out : List ℕ) → _≡_ {A = Opened} (record { number = numberOf r; out = out }) (opening suite key nonce ad c′ t out₁)
     → (numberOf r ≡ 8) × (out ≡ replicate (length out₁) 0)
 
 -- an accepted record with an empty message, one block of whose associated data is altered, is refused with 8
@@ -39,5 +39,5 @@ EmptyMessage =
     → opening suite key nonce ad [] t out₀ .number ≡ 0
     → length ad ≡ length ad′ → (ad ≡ ad′ → ⊥)
     → ((i : ℕ) → (getD ad i 0 ≡ getD ad′ i 0 → ⊥) → (j * sizeOf suite ≤ i) × (i < j * sizeOf suite + sizeOf suite))
-    → (r : Answer) (out : List ℕ) → _≡_ {A = Opened} (record { number = numberOf r; out = out }) (opening suite key nonce ad′ [] t out₁)
+    → (r : Verdict) (out : List ℕ) → _≡_ {A = Opened} (record { number = numberOf r; out = out }) (opening suite key nonce ad′ [] t out₁)
     → (numberOf r ≡ 8) × (out ≡ replicate (length out₁) 0)

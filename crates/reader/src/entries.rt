@@ -1,5 +1,5 @@
 // The entries of a file that passes, one after another: the job of each, and whether its tag is right.
-use comet::Answer;
+use comet::Verdict;
 use shift::lend::open_row;
 use shift::lend::row_of;
 use table::row::Row;
@@ -17,7 +17,7 @@ fn tag_number(f: &[u8], ring: &[u8], i: usize, row: Row, scratch: &mut [u8]) -> 
 {
     let n = row.len as usize;
     let opened = open_row(f, ring, i, row, &mut scratch[0..n]);
-    let Answer::Done = opened else {
+    let Verdict::Done = opened else {
         return 8;
     };
     0

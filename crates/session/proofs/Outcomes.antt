@@ -1,4 +1,4 @@
--- Every public function of `session` leaves one outcome: a session is told by its value, whose lists are the bytes of its numbers.
+-- Every public function of `session` leaves one outcome: a session is asValue by its value, whose lists are the bytes of its numbers.
 use mathlib.Core.Path.{_≡_, refl, sym, ap, ap₂, _∙_}
 use mathlib.Core.List.{List}
 use Prim.Native.Nat.{ℕ, _^_, _<_}
@@ -10,7 +10,7 @@ use Rattle.words.proofs.Blocks.{wide-told}
 use Rattle.session.specs.declared.Session.{Session}
 use Rattle.session.specs.declared.Step.{Step}
 use Rattle.session.specs.Value.{Value, Given}
-use Rattle.session.specs.Told.{told, gives}
+use Rattle.session.specs.Structs.{asValue, gives}
 use Rattle.session.proofs.Session.start.Kinds as start-kinds
 use Rattle.session.proofs.Session.start.Reads as start-reads
 use Rattle.session.proofs.Session.associated.Kinds as associated-kinds
@@ -27,7 +27,7 @@ record Words (s : Session) : Type 0 where
   za : s .z .a < 256 ^ 8
   zb : s .z .b < 256 ^ 8
 
-session-told : (s t : Session) → Words s → Words t → told s ≡ told t → s ≡ t
+session-told : (s t : Session) → Words s → Words t → asValue s ≡ asValue t → s ≡ t
 session-told s t p q e =
     let ey : s .y ≡ t .y = wide-told (s .y) (t .y) (p .ya) (p .yb) (q .ya) (q .yb) (ap (λ (v : Value). v .Y) e) in
     let ez : s .z ≡ t .z = wide-told (s .z) (t .z) (p .za) (p .zb) (q .za) (q .zb) (ap (λ (v : Value). v .Z) e) in

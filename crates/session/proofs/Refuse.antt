@@ -2,18 +2,13 @@
 use mathlib.Core.Path.{_≡_, refl, sym, ap, ap₂, _∙_}
 use mathlib.Core.Bool.{Bool, true, false, not, cond, _&&_}
 use Prim.Native.Nat.{ℕ, zero, suc, _+_, _-_, _≤_, _<_}
-use native.Mathlib.Nat.{suc-ne-zero}
 use mathlib.Core.List.{List, []}
-use lib.Dec.{leb, ltb, eqb}
+use lib.Dec.{leb, ltb, eqb, lit<}
 use borrow.Author.Tests.{leb-true, ltb-false, eqb-true, not-false}
+use Rattle.words.proofs.Ladder.{not-taken}
 use Rattle.words.proofs.Same.{and-true}
 use Rattle.cipher.specs.Cipher.{isSuite, IsSuite, sizeOf, nonceOf}
 use Rattle.session.specs.Value.{Value, Given, sound, Sound, answered, gave, dataNumber, textNumber, endNumber, startNumber}
-
--- a rung of the ladder that is not taken
-pub passes : (b : Bool) (n r : ℕ) → cond b (suc n) r ≡ 0 → (b ≡ false) × (r ≡ 0)
-passes true n r e = absurd (suc-ne-zero n e)
-passes false n r e = (refl, e)
 
 pub sound-told : (s c t : ℕ) → sound s c t ≡ true → Sound s c t
 sound-told s c t e =
@@ -24,9 +19,9 @@ sound-told s c t e =
 pub data-passed : (s c t l : ℕ) → dataNumber s c t l ≡ 0 → Sound s c t × (t ≡ 0) × (l ≤ 65536 - c)
 unfolding dataNumber
 data-passed s c t l e =
-    let p = passes (not (sound s c t && eqb t 0)) 8 (cond (ltb (65536 - c) l) 4 0) e in
+    let p = not-taken (not (sound s c t && eqb t 0)) 9 (cond (ltb (65536 - c) l) 4 0) (lit< tt) e in
     let q = and-true (sound s c t) (eqb t 0) (not-false (sound s c t && eqb t 0) (p .0)) in
-    (sound-told s c t (q .0), eqb-true t 0 (q .1), ltb-false (65536 - c) l (passes (ltb (65536 - c) l) 3 0 (p .1) .0))
+    (sound-told s c t (q .0), eqb-true t 0 (q .1), ltb-false (65536 - c) l (not-taken (ltb (65536 - c) l) 4 0 (lit< tt) (p .1) .0))
 
 -- k is the number
 pub answer-kept : (k j : ℕ) (done : Given) (v : Value) (out tag : List ℕ) → (k ≡ 0 → ⊥) → k ≡ j → gave k 0 v out tag ≡ answered j done v out tag
@@ -55,9 +50,9 @@ module _ (s c t l o : ℕ) where
   pub text-passed : textNumber s c t l o ≡ 0 → Sound s c t × (l ≤ 65536 - t) × (l + (sizeOf s - 1) ≤ o)
   unfolding textNumber
   text-passed e =
-      let p = passes (not (sound s c t)) 8 (cond (ltb (65536 - t) l) 5 (cond (ltb o (l + (sizeOf s - 1))) 6 0)) e in
-      let q = passes (ltb (65536 - t) l) 4 (cond (ltb o (l + (sizeOf s - 1))) 6 0) (p .1) in
-      (sound-told s c t (not-false (sound s c t) (p .0)), ltb-false (65536 - t) l (q .0), ltb-false o (l + (sizeOf s - 1)) (passes (ltb o (l + (sizeOf s - 1))) 5 0 (q .1) .0))
+      let p = not-taken (not (sound s c t)) 9 (cond (ltb (65536 - t) l) 5 (cond (ltb o (l + (sizeOf s - 1))) 6 0)) (lit< tt) e in
+      let q = not-taken (ltb (65536 - t) l) 5 (cond (ltb o (l + (sizeOf s - 1))) 6 0) (lit< tt) (p .1) in
+      (sound-told s c t (not-false (sound s c t) (p .0)), ltb-false (65536 - t) l (q .0), ltb-false o (l + (sizeOf s - 1)) (not-taken (ltb o (l + (sizeOf s - 1))) 6 0 (lit< tt) (q .1) .0))
 
   -- the ladder, its tests given
   pub text-is : (b d f : Bool) → sound s c t ≡ b → ltb (65536 - t) l ≡ d → ltb o (l + (sizeOf s - 1)) ≡ f → textNumber s c t l o ≡ cond (not b) 9 (cond d 5 (cond f 6 0))
@@ -69,9 +64,9 @@ module _ (s c t o g : ℕ) where
   pub end-passed : endNumber s c t o g ≡ 0 → Sound s c t × (sizeOf s ≤ o) × (g ≡ sizeOf s)
   unfolding endNumber
   end-passed e =
-      let p = passes (not (sound s c t)) 8 (cond (ltb o (sizeOf s)) 6 (cond (not (eqb g (sizeOf s))) 7 0)) e in
-      let q = passes (ltb o (sizeOf s)) 5 (cond (not (eqb g (sizeOf s))) 7 0) (p .1) in
-      (sound-told s c t (not-false (sound s c t) (p .0)), ltb-false o (sizeOf s) (q .0), eqb-true g (sizeOf s) (not-false (eqb g (sizeOf s)) (passes (not (eqb g (sizeOf s))) 6 0 (q .1) .0)))
+      let p = not-taken (not (sound s c t)) 9 (cond (ltb o (sizeOf s)) 6 (cond (not (eqb g (sizeOf s))) 7 0)) (lit< tt) e in
+      let q = not-taken (ltb o (sizeOf s)) 6 (cond (not (eqb g (sizeOf s))) 7 0) (lit< tt) (p .1) in
+      (sound-told s c t (not-false (sound s c t) (p .0)), ltb-false o (sizeOf s) (q .0), eqb-true g (sizeOf s) (not-false (eqb g (sizeOf s)) (not-taken (not (eqb g (sizeOf s))) 7 0 (lit< tt) (q .1) .0)))
 
   pub end-is : (b d f : Bool) → sound s c t ≡ b → ltb o (sizeOf s) ≡ d → eqb g (sizeOf s) ≡ f → endNumber s c t o g ≡ cond (not b) 9 (cond d 6 (cond (not f) 7 0))
   unfolding endNumber
@@ -82,9 +77,9 @@ module _ (s k v : ℕ) where
   pub start-passed : startNumber s k v ≡ 0 → IsSuite s × (k ≡ 16) × (v ≡ nonceOf s)
   unfolding startNumber
   start-passed e =
-      let p = passes (not (isSuite s)) 0 _ e in
-      let q = passes (not (eqb k 16)) 1 _ (p .1) in
-      let r = passes (not (eqb v (nonceOf s))) 2 _ (q .1) in
+      let p = not-taken (not (isSuite s)) 1 _ (lit< tt) e in
+      let q = not-taken (not (eqb k 16)) 2 _ (lit< tt) (p .1) in
+      let r = not-taken (not (eqb v (nonceOf s))) 3 _ (lit< tt) (q .1) in
       (not-false (isSuite s) (p .0), eqb-true k 16 (not-false (eqb k 16) (q .0)), eqb-true v (nonceOf s) (not-false (eqb v (nonceOf s)) (r .0)))
 
   pub start-is : (b d f : Bool) → isSuite s ≡ b → eqb k 16 ≡ d → eqb v (nonceOf s) ≡ f → startNumber s k v ≡ cond (not b) 1 (cond (not d) 2 (cond (not f) 3 0))

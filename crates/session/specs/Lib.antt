@@ -1,3 +1,3 @@
 pub mod Value
 pub mod Calls
-pub mod Told
+pub mod Structs

@@ -8,7 +8,7 @@ mod work;
 ghost use mathlib.Core.Path.{_≡_};
 ghost use mathlib.Core.List.{[]};
 ghost use Rattle.session.specs.Value.{dataPart, textPart, ending, starting};
-ghost use Rattle.session.specs.Told.{told, gives};
+ghost use Rattle.session.specs.Structs.{asValue, gives};
 
 // Y and Z, the bytes held back (the first of the sixteen, as many as a total leaves over whole blocks), and how many bytes of associated data and of message have come. Any value may arrive: the methods ask nothing of it.
 pub struct Session {
@@ -45,7 +45,7 @@ impl Session {
 
     // A part of the associated data.
     pub fn associated(self, part: &[u8]) -> Step
-        ensures { λ r. ⌜ gives r [] [] ≡ dataPart (told self) (now (part .entry)) ⌝ }
+        ensures { λ r. ⌜ gives r [] [] ≡ dataPart (asValue self) (now (part .entry)) ⌝ }
     {
         let suite = self.suite;
         let came = self.came;
@@ -67,7 +67,7 @@ impl Session {
 
     // A part of the message.
     pub fn message(self, part: &[u8], out: &mut [u8]) -> Step
-        ensures { λ r. ⌜ gives r (now (out .exit)) [] ≡ textPart (told self) (now (part .entry)) (now (out .entry)) ⌝ }
+        ensures { λ r. ⌜ gives r (now (out .exit)) [] ≡ textPart (asValue self) (now (part .entry)) (now (out .entry)) ⌝ }
     {
         let suite = self.suite;
         let came = self.came;
@@ -96,7 +96,7 @@ impl Session {
 
     // The end: the rest of the ciphertext into out, and the tag.
     pub fn finish(self, out: &mut [u8], tag: &mut [u8]) -> Step
-        ensures { λ r. ⌜ gives r (now (out .exit)) (now (tag .exit)) ≡ ending (told self) (now (out .entry)) (now (tag .entry)) ⌝ }
+        ensures { λ r. ⌜ gives r (now (out .exit)) (now (tag .exit)) ≡ ending (asValue self) (now (out .entry)) (now (tag .entry)) ⌝ }
     {
         let suite = self.suite;
         let came = self.came;

@@ -13,7 +13,7 @@ ghost use Rattle.words.specs.Blocks.{wide};
 ghost use Rattle.cipher.specs.Cipher.{Ready, IsSuite, sizeOf, cipherOf};
 ghost use Rattle.step.specs.Two.{twoOf};
 ghost use Rattle.session.specs.Value.{valueOf, filled, over, gave, firstMark, begun, startNumber, starting, dataNumber, dataPart, textNumber, textPart, endNumber, ending};
-ghost use Rattle.session.specs.Told.{told, gives};
+ghost use Rattle.session.specs.Structs.{asValue, gives};
 
 // The bytes that the suite does not use are zero.
 fn clean(suite: u8, y: Block) -> Block
@@ -27,7 +27,7 @@ fn clean(suite: u8, y: Block) -> Block
 
 // A session of these states, held bytes and totals.
 fn packed(suite: u8, f: Fed, came: usize, text: usize) -> Session
-    ensures { λ r. ⌜ told r ≡ valueOf suite (twoOf suite (f .s)) (f .held) came text ⌝ }
+    ensures { λ r. ⌜ asValue r ≡ valueOf suite (twoOf suite (f .s)) (f .held) came text ⌝ }
 {
     let s = f.s;
     let y0 = s.y;
@@ -46,7 +46,7 @@ fn packed(suite: u8, f: Fed, came: usize, text: usize) -> Session
 
 // A session that is over.
 fn ended() -> Session
-    ensures { λ r. ⌜ told r ≡ over ⌝ }
+    ensures { λ r. ⌜ asValue r ≡ over ⌝ }
 {
     let zero = Block { a: 0, b: 0 };
     Session {
@@ -97,7 +97,7 @@ fn first_mark(suite: u8, m: u8, came: usize) -> u8
 // Associated data goes in.
 pub(crate) fn take_in(tb: &[Lent], s: Session, part: &[u8]) -> Step
     requires { ⌜ Ready (s .suite) (now tb) × (dataNumber (s .suite) (s .came) (s .text) (length (now part)) ≡ 0) ⌝ }
-    ensures { λ r. ⌜ gives r [] [] ≡ dataPart (told s) (now (part .entry)) ⌝ }
+    ensures { λ r. ⌜ gives r [] [] ≡ dataPart (asValue s) (now (part .entry)) ⌝ }
 {
     let suite = s.suite;
     let y = s.y;
@@ -121,7 +121,7 @@ pub(crate) fn take_in(tb: &[Lent], s: Session, part: &[u8]) -> Step
 // The states as the message goes on: where it has not begun, the associated data's last bytes go in first.
 fn begin(tb: &[Lent], s: Session) -> State
     requires { ⌜ Ready (s .suite) (now tb) × IsSuite (s .suite) ⌝ }
-    ensures { λ r. ⌜ twoOf (s .suite) r ≡ begun (cipherOf (s .suite)) (told s) ⌝ }
+    ensures { λ r. ⌜ twoOf (s .suite) r ≡ begun (cipherOf (s .suite)) (asValue s) ⌝ }
 {
     let suite = s.suite;
     let y = s.y;
@@ -145,7 +145,7 @@ fn begin(tb: &[Lent], s: Session) -> State
 // Message goes in, at least one byte of it, and the ciphertext of the blocks that it completes out.
 pub(crate) fn seal_in(tb: &[Lent], s: Session, part: &[u8], out: &mut [u8]) -> Step
     requires { ⌜ Ready (s .suite) (now tb) × (textNumber (s .suite) (s .came) (s .text) (length (now part)) (length (now out)) ≡ 0) × (0 < length (now part)) ⌝ }
-    ensures { λ r. ⌜ gives r (now (out .exit)) [] ≡ textPart (told s) (now (part .entry)) (now (out .entry)) ⌝ }
+    ensures { λ r. ⌜ gives r (now (out .exit)) [] ≡ textPart (asValue s) (now (part .entry)) (now (out .entry)) ⌝ }
 {
     let suite = s.suite;
     let came = s.came;
@@ -169,7 +169,7 @@ pub(crate) fn seal_in(tb: &[Lent], s: Session, part: &[u8], out: &mut [u8]) -> S
 // The end's work: the rest of the ciphertext, and the tag.
 pub(crate) fn close(tb: &[Lent], s: Session, out: &mut [u8], tag: &mut [u8]) -> Step
     requires { ⌜ Ready (s .suite) (now tb) × (endNumber (s .suite) (s .came) (s .text) (length (now out)) (length (now tag)) ≡ 0) ⌝ }
-    ensures { λ r. ⌜ gives r (now (out .exit)) (now (tag .exit)) ≡ ending (told s) (now (out .entry)) (now (tag .entry)) ⌝ }
+    ensures { λ r. ⌜ gives r (now (out .exit)) (now (tag .exit)) ≡ ending (asValue s) (now (out .entry)) (now (tag .entry)) ⌝ }
 {
     let suite = s.suite;
     let text = s.text;

@@ -13,9 +13,9 @@ use Rattle.words.proofs.Same.{same-true}
 use Rattle.words.proofs.Lists.{all-nil, all-take, all-drop}
 use Rattle.cipher.specs.Cipher.{Cipher, Block, cipherOf, sizeOf, nonceOf}
 use Rattle.cipher.proofs.Lawful.{lawful}
-use Rattle.mode.specs.Blocks.{blocks, chop}
-use Rattle.mode.specs.Mode.{nonceSize, after, tagOut}
+use Rattle.mode.specs.Mode.{nonceSize, tagOut}
 use Rattle.mode.proofs.Start.{suite-nonce}
+use Rattle.mode.proofs.Demand2.{empty-tag}
 use Rattle.mode.proofs.Demand3.{same-before, same-behind, data-told}
 use Rattle.mode.proofs.LastBlock.{last-told}
 use Rattle.table.specs.declared.row.Row.{Row}
@@ -43,11 +43,6 @@ nonce-full f ring i h full = nonce-long f ring i h full ∙ sym (suite-nonce (ro
 
 pub key-block : (f ring : List ℕ) (i : ℕ) → EntryIn (rowSize edition) f i → length ring ≡ 256 → AllBytes ring → Block 16 (ringKey ring (rowOf f i .key))
 key-block f ring i h full hr = record { long = key-long f ring i h full; bytes = all-stretch ring (16 * rowOf f i .key) 16 hr }
-
--- of an empty text both directions make the same tag
-empty-tag : (κ : Cipher) (key nonce ad : List ℕ) → tagOut κ true key nonce ad [] ≡ tagOut κ false key nonce ad []
-unfolding tagOut after blocks chop
-empty-tag κ key nonce ad = refl
 
 -- two stretches of files that are alike outside of a to b: every difference lies there
 inside : (f g : List ℕ) (at n a b : ℕ) → ((k : ℕ) → (k < at + a) ⊎ (at + b ≤ k) → getD g k 0 ≡ getD f k 0)

@@ -17,7 +17,7 @@ use Rattle.shift.specs.Opening.{entryOpening, JobOpened, left, rowOpenin
 use Rattle.shift.specs.Promised.{Answered, OpensEntry, OpeningAnswers}
 use Rattle.shift.proofs.Lookups.{found-in}
 use Rattle.shift.proofs.Entries.{entryRight, entryText, entry-opened, row-opens}
-use Rattle.shift.proofs.Told.{lookup-told}
+use Rattle.shift.proofs.Numbered.{lookup-numbered}
 
 pub opens : OpensEntry
 unfolding jobOpening
@@ -49,7 +49,7 @@ answered f ring job out₀ = lookup-case (eqb (lookupJob f job .number) 0) refl
         let i = lookupJob f job .row in
         simp e (row-answered f ring i out₀ (found-in f job i (ap (λ (m : ℕ). answer m i) z)))
     lookup-case false e =
-        let t = lookup-told f job (eqb-false (lookupJob f job .number) 0 e) in
+        let t = lookup-numbered f job (eqb-false (lookupJob f job .number) 0 e) in
         simp e (record {
           number = ⊎-elim (λ z. absurd (eqb-false (lookupJob f job .number) 0 e z)) (λ r. inr (inr (inr (inr r)))) (t .number);
           row = t .row;

@@ -1,7 +1,7 @@
 pub mod Lookups
 pub mod Places
 pub mod Finding
-pub mod Told
+pub mod Numbered
 pub mod Entries
 pub mod Jobs
 pub mod Changed

@@ -15,8 +15,8 @@ use Rattle.table.proofs.Numbers.{refusal-some}
 use Rattle.table.proofs.Outcomes.{refusalOf, refusal-back, unlike, answer-one, part-one}
 use Rattle.shift.specs.declared.answers.Found.{Found}
 use Rattle.shift.specs.declared.answers.Found.the-variants as found
-use Rattle.shift.specs.declared.answers.Opened.{Opened}
-use Rattle.shift.specs.declared.answers.Opened.the-variants as opened
+use Rattle.shift.specs.declared.answers.JobAnswer.{JobAnswer}
+use Rattle.shift.specs.declared.answers.JobAnswer.the-variants as opened
 use Rattle.shift.specs.Answers.{foundAnswer, openedAnswer}
 use Rattle.shift.specs.Opening.{JobOpened}
 use Rattle.shift.proofs.lookup.Kinds as lookup-kinds
@@ -35,8 +35,8 @@ use Rattle.shift.proofs.lend.open_row.Kinds as open-row-kinds
 use Rattle.shift.proofs.lend.open_row.Reads as open-row-reads
 use Rattle.shift.proofs.answers.Found.answer.Kinds as found-kinds
 use Rattle.shift.proofs.answers.Found.answer.Reads as found-reads
-use Rattle.shift.proofs.answers.Opened.answer.Kinds as opened-kinds
-use Rattle.shift.proofs.answers.Opened.answer.Reads as opened-reads
+use Rattle.shift.proofs.answers.JobAnswer.answer.Kinds as opened-kinds
+use Rattle.shift.proofs.answers.JobAnswer.answer.Reads as opened-reads
 
 abbrev foundOf : Answer → Found
 foundOf x = cond (eqb (x .number) 0) (found.At (x .row)) (cond (eqb (x .number) 32) found.Missing (found.Refused (refusalOf x)))
@@ -46,7 +46,7 @@ found-back (found.At i) = refl
 found-back found.Missing = refl
 found-back (found.Refused x) = simp (ne-eqb _ _ (refusal-some x), unlike x 32 (inr (lit< tt)) refl) (ap found.Refused (refusal-back x))
 
-abbrev openedOf : Answer → Opened
+abbrev openedOf : Answer → JobAnswer
 openedOf x =
     cond (eqb (x .number) 0) opened.Done
     (cond (eqb (x .number) 2) opened.Ring
@@ -55,7 +55,7 @@ openedOf x =
     (cond (eqb (x .number) 32) opened.Missing
     (opened.Refused (refusalOf x))))))
 
-opened-back : (x : Opened) → openedOf (openedAnswer x) ≡ x
+opened-back : (x : JobAnswer) → openedOf (openedAnswer x) ≡ x
 opened-back opened.Done = refl
 opened-back opened.Missing = refl
 opened-back (opened.Refused x) =
@@ -68,7 +68,7 @@ opened-back opened.Forged = refl
 pub found-one : {x y : Found} → foundAnswer x ≡ foundAnswer y → x ≡ y
 found-one {x} {y} q = sym (found-back x) ∙ ap foundOf q ∙ found-back y
 
-opened-one : {x y : Opened} → openedAnswer x ≡ openedAnswer y → x ≡ y
+opened-one : {x y : JobAnswer} → openedAnswer x ≡ openedAnswer y → x ≡ y
 opened-one {x} {y} q = sym (opened-back x) ∙ ap openedOf q ∙ opened-back y
 
 -- ---- the routines

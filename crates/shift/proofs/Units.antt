@@ -14,6 +14,7 @@ use Rattle.words.proofs.Lists.{all-set}
 use Rattle.cipher.specs.Cipher.{sizeOf}
 use Rattle.cipher.proofs.Suites.{sizes-two}
 use Rattle.comet.specs.Answers.{Opened, openedAs}
+use Rattle.comet.proofs.Refuse.{tag-right}
 use Rattle.table.specs.declared.row.Row.{Row}
 use Rattle.table.specs.declared.answers.Answer.{Answer}
 use Rattle.table.specs.Format.{countOf, edition, rowSize, nonceAt, rowOf, dataOf, tagOf, bodyEnd, unitOf, isUnit}
@@ -111,11 +112,6 @@ module _ (f ring : List ℕ) (job i v : ℕ) (found : lookupJob f job ≡ answer
       ring-case true e z = eqb-true _ _ e
       ring-case false e z = absurd (omega arith)
 
--- the tag was right
-right-told : (b : Bool) (text : List ℕ) → openedAs 0 b text [] .number ≡ 0 → b ≡ true
-right-told true text z = refl
-right-told false text z = absurd (omega arith)
-
 pub unit-refused : UnitRefused
 unfolding jobOpening
 unit-refused f ring job i v hf hr hv found empty other accepted = unit-case (isUnit v) refl
@@ -126,10 +122,10 @@ unit-refused f ring job i v hf hr hv found empty other accepted = unit-case (isU
         let g = ring-long f ring job i v found accepted in
         let q = lookup-is f ring job i v found true e in
         let is = opened-is f ring job i v found hf hr hv other g empty in
-        let told : Opened → JobOpened = λ y. left (answer (y .number) 0) (y .out) in
-        let right = right-told (entryRight f ring i) (entryText f ring i) (sym (ap (λ (y : Opened). y .number) (is f empty (found-in f job i found))) ∙ sym (ap (λ (y : JobOpened). y .answer .number) (opens f ring job i [] found g)) ∙ accepted) in
+        let handed : Opened → JobOpened = λ y. left (answer (y .number) 0) (y .out) in
+        let right = tag-right (entryRight f ring i) (entryText f ring i) [] (sym (ap (λ (y : Opened). y .number) (is f empty (found-in f job i found))) ∙ sym (ap (λ (y : JobOpened). y .answer .number) (opens f ring job i [] found g)) ∙ accepted) in
         let wrong = other-wrong f ring job i v found hf hr hv other g empty right in
         opens x ring job i [] q g
-        ∙ ap told (is x (ap (λ (r : Row). r .len) (row-is f ring job i v found) ∙ empty) (found-in x job i q))
-        ∙ ap (λ (b : Bool). told (openedAs 0 b (entryText x ring i) [])) wrong
+        ∙ ap handed (is x (ap (λ (r : Row). r .len) (row-is f ring job i v found) ∙ empty) (found-in x job i q))
+        ∙ ap (λ (b : Bool). handed (openedAs 0 b (entryText x ring i) [])) wrong
     unit-case false e = simp (lookup-is f ring job i v found false e)

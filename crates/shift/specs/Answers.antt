@@ -3,8 +3,8 @@ use Rattle.table.specs.declared.answers.Answer.{Answer}
 use Rattle.table.specs.Answers.{answer, refusalAnswer}
 use Rattle.shift.specs.declared.answers.Found.{Found}
 use Rattle.shift.specs.declared.answers.Found.the-variants as found
-use Rattle.shift.specs.declared.answers.Opened.{Opened}
-use Rattle.shift.specs.declared.answers.Opened.the-variants as opened
+use Rattle.shift.specs.declared.answers.JobAnswer.{JobAnswer}
+use Rattle.shift.specs.declared.answers.JobAnswer.the-variants as opened
 
 -- a lookup
 abbrev pub foundAnswer : Found → Answer
@@ -13,7 +13,7 @@ foundAnswer found.Missing = answer 32 0
 foundAnswer (found.Refused x) = refusalAnswer x
 
 -- opening one job
-abbrev pub openedAnswer : Opened → Answer
+abbrev pub openedAnswer : JobAnswer → Answer
 openedAnswer opened.Done = answer 0 0
 openedAnswer opened.Missing = answer 32 0
 openedAnswer (opened.Refused x) = refusalAnswer x

@@ -24,7 +24,7 @@ impl Found {
 }
 
 // What opening one job gives.
-pub enum Opened {
+pub enum JobAnswer {
     Done,
     Missing,
     Refused(Refusal),
@@ -33,17 +33,17 @@ pub enum Opened {
     Forged,
 }
 
-impl Opened {
+impl JobAnswer {
     pub fn answer(self) -> Answer
         ensures { λ r. ⌜ (r .number ≡ openedAnswer self .number) × (r .row ≡ openedAnswer self .row) ⌝ }
     {
         match self {
-            Opened::Done => Answer { number: 0, row: 0 },
-            Opened::Missing => Answer { number: 32, row: 0 },
-            Opened::Refused(x) => x.answer(),
-            Opened::Ring => Answer { number: 2, row: 0 },
-            Opened::Room => Answer { number: 6, row: 0 },
-            Opened::Forged => Answer { number: 8, row: 0 },
+            JobAnswer::Done => Answer { number: 0, row: 0 },
+            JobAnswer::Missing => Answer { number: 32, row: 0 },
+            JobAnswer::Refused(x) => x.answer(),
+            JobAnswer::Ring => Answer { number: 2, row: 0 },
+            JobAnswer::Room => Answer { number: 6, row: 0 },
+            JobAnswer::Forged => Answer { number: 8, row: 0 },
         }
     }
 }

@@ -1,5 +1,5 @@
 // What sealer and opener are lent of a row: the entry's own stretch of the file, and its key.
-use comet::Answer;
+use comet::Verdict;
 use table::body::data_of;
 use table::body::tag_of;
 use table::body::text_of;
@@ -46,7 +46,14 @@ fn nonce_read(f: &[u8], i: usize, suite: u8) -> &[u8]
 }
 
 // Lends row i to the sealer.
-pub fn seal_row(f: &[u8], ring: &[u8], i: usize, row: Row, out: &mut [u8], tag: &mut [u8]) -> Answer
+pub fn seal_row(
+    f: &[u8],
+    ring: &[u8],
+    i: usize,
+    row: Row,
+    out: &mut [u8],
+    tag: &mut [u8],
+) -> Verdict
     requires { ⌜ Lendable (now f) (now ring) i row ⌝ }
     ensures { λ r. ⌜ _≡_ {A = Sealed} (record { number = numberOf r; out = now (out .exit); tag = now (tag .exit) })
         (entrySealing (now (f .entry)) (now (ring .entry)) i (now (out .entry)) (now (tag .entry))) ⌝ }
@@ -65,7 +72,7 @@ pub fn seal_row(f: &[u8], ring: &[u8], i: usize, row: Row, out: &mut [u8], tag: 
 }
 
 // Lends row i to the opener.
-pub fn open_row(f: &[u8], ring: &[u8], i: usize, row: Row, out: &mut [u8]) -> Answer
+pub fn open_row(f: &[u8], ring: &[u8], i: usize, row: Row, out: &mut [u8]) -> Verdict
     requires { ⌜ Lendable (now f) (now ring) i row ⌝ }
     ensures { λ r. ⌜ _≡_ {A = Opened} (record { number = numberOf r; out = now (out .exit) }) (entryOpening (now (f .entry)) (now (ring .entry)) i (now (out .entry))) ⌝ }
 {

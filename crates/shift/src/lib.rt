@@ -6,7 +6,7 @@ mod opening;
 
 use answers::Entry;
 use answers::Found;
-use answers::Opened;
+use answers::JobAnswer;
 use lend::row_of;
 use table::row::EDITION;
 use table::row::stretch;
@@ -60,7 +60,7 @@ pub fn associated(file: &[u8], job: u32) -> &[u8]
 }
 
 // Opens one job into out: the full check, 32, then 2, 6, 8.
-pub fn open_job(file: &[u8], ring: &[u8], job: u32, out: &mut [u8]) -> Opened
+pub fn open_job(file: &[u8], ring: &[u8], job: u32, out: &mut [u8]) -> JobAnswer
     ensures { λ r. ⌜ _≡_ {A = JobOpened} (record { answer = openedAnswer r; out = now (out .exit) }) (jobOpening (now (file .entry)) (now (ring .entry)) job (now (out .entry))) ⌝ }
 {
     let found = lookup(file, job);

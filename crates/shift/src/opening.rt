@@ -1,9 +1,9 @@
 // Opening one entry.
 use crate::answers::Found;
-use crate::answers::Opened;
+use crate::answers::JobAnswer;
 use crate::lend::open_row;
 use crate::lend::row_of;
-use comet::Answer;
+use comet::Verdict;
 ghost use mathlib.Core.Path.{_≡_};
 ghost use Rattle.table.specs.Format.{edition, rowSize};
 ghost use Rattle.table.specs.Inside.{EntryIn};
@@ -11,33 +11,33 @@ ghost use Rattle.shift.specs.Answers.{foundAnswer, openedAnswer};
 ghost use Rattle.shift.specs.Opening.{JobOpened, rowOpening};
 
 // Opens row i: 2, 6, 8.
-pub(crate) fn open_entry(f: &[u8], ring: &[u8], i: usize, out: &mut [u8]) -> Opened
+pub(crate) fn open_entry(f: &[u8], ring: &[u8], i: usize, out: &mut [u8]) -> JobAnswer
     requires { ⌜ EntryIn (rowSize edition) (now f) i ⌝ }
     ensures { λ r. ⌜ _≡_ {A = JobOpened} (record { answer = openedAnswer r; out = now (out .exit) }) (rowOpening (now (f .entry)) (now (ring .entry)) i (now (out .entry))) ⌝ }
 {
     if ring.len() != 256 {
-        return Opened::Ring;
+        return JobAnswer::Ring;
     }
     let row = row_of(f, i);
     let len = row.len as usize;
     if out.len() != len {
-        return Opened::Room;
+        return JobAnswer::Room;
     }
     let opened = open_row(f, ring, i, row, out);
-    let Answer::Done = opened else {
-        return Opened::Forged;
+    let Verdict::Done = opened else {
+        return JobAnswer::Forged;
     };
-    Opened::Done
+    JobAnswer::Done
 }
 
 // A lookup that found no row, as the answer of opening; it is asked of no other.
-pub(crate) fn stopped(x: Found) -> Opened
+pub(crate) fn stopped(x: Found) -> JobAnswer
     requires { ⌜ (foundAnswer x .number ≡ 0 → ⊥) ⌝ }
     ensures { λ r. ⌜ openedAnswer r ≡ foundAnswer x ⌝ }
 {
     match x {
-        Found::At(_) => Opened::Missing,
-        Found::Missing => Opened::Missing,
-        Found::Refused(y) => Opened::Refused(y),
+        Found::At(_) => JobAnswer::Missing,
+        Found::Missing => JobAnswer::Missing,
+        Found::Refused(y) => JobAnswer::Refused(y),
     }
 }

@@ -8,23 +8,23 @@ use borrow.Author.Tests.{eqb-true, not-false}
 use Rattle.table.specs.Format.{edition}
 use Rattle.table.specs.Answers.{answer}
 use Rattle.table.specs.Check.{checkFile}
-use Rattle.compare.specs.declared.Told.{Told}
-use Rattle.compare.specs.Comparing.{toldIn, Comparison, stopped, refused, tooLong, listed, comparison}
+use Rattle.compare.specs.declared.Finding.{Finding}
+use Rattle.compare.specs.Comparing.{refusedIn, Comparison, stopped, refused, tooLong, listed, comparison}
 use Rattle.compare.proofs.Passing.{only-few, differ-few}
 use Rattle.snoekeldraf.proofs.Rows.{check-row}
 
-pub record Low (t : Told) : Type 0 where
+pub record Low (t : Finding) : Type 0 where
   pub row : t .row ≤ 512
   pub first : t .first ≤ 512
   pub second : t .second ≤ 512
   pub differ : t .differ ≤ 512
 
-pub told-low : (f g x y z : List ℕ) → Low (comparison f g x y z .told)
+pub told-low : (f g x y z : List ℕ) → Low (comparison f g x y z .finding)
 unfolding comparison
 told-low f g x y z = on (refused f) (refused g) (tooLong f g x y z) refl refl
   where
     on : (a b c : Bool) → refused f ≡ a → refused g ≡ b
-        → Low (cond a (stopped (toldIn 1 (checkFile f)) x y z) (cond b (stopped (toldIn 2 (checkFile g)) x y z) (cond c (stopped (toldIn 0 (answer 36 0)) x y z) (listed f g x y z))) .told)
+        → Low (cond a (stopped (refusedIn 1 (checkFile f)) x y z) (cond b (stopped (refusedIn 2 (checkFile g)) x y z) (cond c (stopped (refusedIn 0 (answer 36 0)) x y z) (listed f g x y z))) .finding)
     on true b c p q = record { row = check-row edition f; first = lit≤ tt; second = lit≤ tt; differ = lit≤ tt }
     on false true c p q = record { row = check-row edition g; first = lit≤ tt; second = lit≤ tt; differ = lit≤ tt }
     on false false true p q = record { row = lit≤ tt; first = lit≤ tt; second = lit≤ tt; differ = lit≤ tt }
@@ -34,5 +34,5 @@ told-low f g x y z = on (refused f) (refused g) (tooLong f g x y z) refl refl
         record { row = lit≤ tt; first = only-few f g a; second = only-few g f b; differ = differ-few f g a }
 
 -- what is told of a comparison
-pub counted : (t : Told) (r : Comparison) (f g x y z : List ℕ) → t ≡ r .told → r ≡ comparison f g x y z → Low t
-counted t r f g x y z p q = subst Low (sym (p ∙ ap (λ (w : Comparison). w .told) q)) (told-low f g x y z)
+pub counted : (t : Finding) (r : Comparison) (f g x y z : List ℕ) → t ≡ r .finding → r ≡ comparison f g x y z → Low t
+counted t r f g x y z p q = subst Low (sym (p ∙ ap (λ (w : Comparison). w .finding) q)) (told-low f g x y z)

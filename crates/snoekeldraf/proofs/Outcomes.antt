@@ -149,7 +149,7 @@ shift-search κs a h x y =
 pub shift-compare : OneOutcome compare-kinds.ps compare-kinds.r compare-reads.Pre compare-reads.Post
 shift-compare κs a h x y =
     let e = x .ensures ∙ sym (y .ensures) in (
-      ap (λ (w : Comparison). w .told .number) e,
+      ap (λ (w : Comparison). w .finding .number) e,
       ap (λ (w : Comparison).
           (tt, (tt, (w .first, (w .second, (w .differ, (w .told .first, (w .told .second, (w .told .differ, (w .told .file, (w .told .row, tt))))))))))) e,
     )

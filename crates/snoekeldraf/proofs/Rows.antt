@@ -108,7 +108,3 @@ unsealed-row file ring out₀ =
     then-row (andThen (checkAs edition file) lent) (wrongFrom file ring (countOf file) 0) 512
     (then-row (checkAs edition file) lent 512 (check-row edition file) (λ z. lent-row (length file) (length ring) (length out₀)))
     (λ z. omega (arith, passes edition file (both-zero (checkAs edition file) lent z .0) .head .few, first-row (λ j. not (tagRight file ring j)) (λ j. 8) (answer 0 0) (countOf file) (omega arith)))
-
--- an answer is its number and its row
-pub same-answer : {a x : Answer} → (a .number ≡ x .number) × (a .row ≡ x .row) → a ≡ x
-same-answer e = ap₂ answer (e .0) (e .1)

@@ -1,5 +1,5 @@
 // The writer of shift files.
-use crate::file::told;
+use crate::file::say;
 ghost use mathlib.Core.Path.{_≡_};
 ghost use Rattle.table.specs.Answers.{answer};
 ghost use Rattle.draft.specs.Answers.{FileWritten, fileSealing, fileUnsealing};
@@ -10,7 +10,7 @@ pub extern "C" fn shift_seal_file(draft: &[u8], ring: &[u8], out: &mut [u8], row
     ensures { λ r. ⌜ _≡_ {A = FileWritten} (record { answer = answer r (now (row .exit)); out = now (out .exit) })
         (fileSealing (now (draft .entry)) (now (ring .entry)) (now (out .entry))) ⌝ }
 {
-    told(writer::seal_file(draft, ring, out).answer(), row)
+    say(writer::seal_file(draft, ring, out).answer(), row)
 }
 
 // Gives the draft of a file back, into out: the checks, 2, 6, 8.
@@ -19,5 +19,5 @@ pub extern "C" fn shift_unseal_file(file: &[u8], ring: &[u8], out: &mut [u8], ro
     ensures { λ r. ⌜ _≡_ {A = FileWritten} (record { answer = answer r (now (row .exit)); out = now (out .exit) })
         (fileUnsealing (now (file .entry)) (now (ring .entry)) (now (out .entry))) ⌝ }
 {
-    told(writer::unseal_file(file, ring, out).answer(), row)
+    say(writer::unseal_file(file, ring, out).answer(), row)
 }

@@ -11,7 +11,7 @@ ghost use Rattle.shift.specs.Opening.{JobOpened, jobOpening};
 ghost use Rattle.snoekeldraf.specs.Located.{Located, locating};
 
 // Writes the row that an answer carries, and gives its number.
-pub(crate) fn told(a: Answer, row: &mut u32) -> u32
+pub(crate) fn say(a: Answer, row: &mut u32) -> u32
     requires { ⌜ a .row ≤ 512 ⌝ }
     ensures { λ r. ⌜ answer r (now (row .exit)) ≡ a ⌝ }
 {
@@ -24,7 +24,7 @@ pub(crate) fn told(a: Answer, row: &mut u32) -> u32
 pub extern "C" fn shift_check(file: &[u8], row: &mut u32) -> u32
     ensures { λ r. ⌜ answer r (now (row .exit)) ≡ checkFile (now (file .entry)) ⌝ }
 {
-    told(table::check(file).answer(), row)
+    say(table::check(file).answer(), row)
 }
 
 // The full check, and then the row that has the job, or 32.
@@ -32,7 +32,7 @@ pub extern "C" fn shift_check(file: &[u8], row: &mut u32) -> u32
 pub extern "C" fn shift_lookup(file: &[u8], job: u32, row: &mut u32) -> u32
     ensures { λ r. ⌜ answer r (now (row .exit)) ≡ lookupJob (now (file .entry)) job ⌝ }
 {
-    told(shift::lookup(file, job).answer(), row)
+    say(shift::lookup(file, job).answer(), row)
 }
 
 // The lookup's number, and where in the file the job's associated data lies; 0 and 0 where the lookup refuses.
@@ -88,5 +88,5 @@ pub extern "C" fn shift_open_job(
     ensures { λ r. ⌜ _≡_ {A = JobOpened} (record { answer = answer r (now (row .exit)); out = now (out .exit) })
         (jobOpening (now (file .entry)) (now (ring .entry)) job (now (out .entry))) ⌝ }
 {
-    told(shift::open_job(file, ring, job, out).answer(), row)
+    say(shift::open_job(file, ring, job, out).answer(), row)
 }

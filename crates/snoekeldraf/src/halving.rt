@@ -1,5 +1,5 @@
 // Finding a job by halving.
-use crate::file::told;
+use crate::file::say;
 ghost use mathlib.Core.Path.{_≡_};
 ghost use lib.ListN.{length};
 ghost use Rattle.table.specs.Answers.{answer};
@@ -13,5 +13,5 @@ pub extern "C" fn shift_search(file: &[u8], job: u32, row: &mut u32, looked: &mu
     let s = search::search(file, job);
     *looked = s.looked as u32;
     let found = s.found;
-    told(found.answer(), row)
+    say(found.answer(), row)
 }

@@ -5,7 +5,7 @@ use words::block::Block;
 ghost use mathlib.Core.Path.{_≡_};
 ghost use mathlib.Core.List.{[]};
 ghost use Rattle.session.specs.Value.{starting, dataPart, textPart, ending};
-ghost use Rattle.session.specs.Told.{told, gives};
+ghost use Rattle.session.specs.Structs.{asValue, gives};
 ghost use Rattle.snoekeldraf.specs.Flat.{flat, flatGives};
 
 // The C struct comet_session.
@@ -31,7 +31,7 @@ pub struct CometStep {
 
 // The session that a C struct stands for.
 fn raised(s: CometSession) -> Session
-    ensures { λ r. ⌜ told r ≡ flat s ⌝ }
+    ensures { λ r. ⌜ asValue r ≡ flat s ⌝ }
 {
     let held = s.held;
     Session {
@@ -46,7 +46,7 @@ fn raised(s: CometSession) -> Session
 
 // A session as a C struct.
 fn flattened(s: Session) -> CometSession
-    ensures { λ r. ⌜ flat r ≡ told s ⌝ }
+    ensures { λ r. ⌜ flat r ≡ asValue s ⌝ }
 {
     let y = s.y;
     let z = s.z;
@@ -67,7 +67,7 @@ fn flattened(s: Session) -> CometSession
 fn handed(r: Step) -> CometStep
     ensures number { λ f. ⌜ f .number ≡ r .number ⌝ }
     ensures count { λ f. ⌜ f .count ≡ r .count ⌝ }
-    ensures next { λ f. ⌜ flat (f .next) ≡ told (r .next) ⌝ }
+    ensures next { λ f. ⌜ flat (f .next) ≡ asValue (r .next) ⌝ }
 {
     let next = r.next;
     let f = flattened(next);

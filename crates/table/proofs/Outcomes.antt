@@ -18,7 +18,7 @@ use Rattle.table.specs.declared.answers.Refusal.the-variants.{Size, Edit
 use Rattle.table.specs.declared.answers.Checked.{Checked}
 use Rattle.table.specs.declared.answers.Checked.the-variants as checked
 use Rattle.table.specs.Part.{PartOf}
-use Rattle.table.specs.Answers.{refusalAnswer, checkedAnswer}
+use Rattle.table.specs.Answers.{answer, refusalAnswer, checkedAnswer}
 use Rattle.table.proofs.Numbers.{refusal-range, refusal-some}
 use Rattle.table.proofs.check_head.Kinds as check-head-kinds
 use Rattle.table.proofs.check_head.Reads as check-head-reads
@@ -101,8 +101,12 @@ checked-back (checked.Refused x) = simp (ne-eqb _ _ (refusal-some x)) (ap checke
 pub checked-one : {x y : Checked} → checkedAnswer x ≡ checkedAnswer y → x ≡ y
 checked-one {x} {y} q = sym (checked-back x) ∙ ap checkedOf q ∙ checked-back y
 
+-- an answer is its number and its row
+pub same-answer : {a x : Answer} → (a .number ≡ x .number) × (a .row ≡ x .row) → a ≡ x
+same-answer e = ap₂ answer (e .0) (e .1)
+
 pub answer-one : {a x y : Answer} → (x .number ≡ a .number) × (x .row ≡ a .row) → (y .number ≡ a .number) × (y .row ≡ a .row) → x ≡ y
-answer-one p q = ap₂ (λ (m i : ℕ). record { number = m; row = i }) (p .0 ∙ sym (q .0)) (p .1 ∙ sym (q .1))
+answer-one p q = same-answer p ∙ sym (same-answer q)
 
 -- two parts of the same bytes are at the same place; a reference's ghost name belongs to the proof and is no outcome
 pub part-one : {s x y : RefT (List ℕ)} {at len : ℕ} → PartOf s x at len → PartOf s y at len → (now x ≡ now y) × (x .ptr ≡ y .ptr)

@@ -9,3 +9,4 @@ pub mod Table
 pub mod Blocks
 pub mod Outcomes
 pub mod Same
+pub mod Ladder

@@ -8,7 +8,7 @@ use table::answers::Answer;
 ghost use Prim.Native.Nat.{_≤_};
 
 // The answer, and the output under the name of argument i where its number is 0.
-fn told(a: Answer, out: &[u8], i: usize) {
+fn say(a: Answer, out: &[u8], i: usize) {
     lines::show::number(a.number as u64);
     lines::show::space();
     lines::show::number(a.row as u64);
@@ -28,9 +28,9 @@ fn run(back: bool, file: &[u8], i: usize, out: &mut [u8])
     let mut r = [0u8; 257];
     let ring = named::load(i, &mut r);
     if back {
-        told(writer::unseal_file(file, ring, out).answer(), out, i + 1);
+        say(writer::unseal_file(file, ring, out).answer(), out, i + 1);
     } else {
-        told(writer::seal_file(file, ring, out).answer(), out, i + 1);
+        say(writer::seal_file(file, ring, out).answer(), out, i + 1);
     }
 }
 

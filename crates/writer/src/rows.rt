@@ -1,6 +1,6 @@
 // The rows, from the file into the output: text and tag of each are replaced.
 use crate::answers::Written;
-use comet::Answer;
+use comet::Verdict;
 use shift::lend::open_row;
 use shift::lend::row_of;
 use shift::lend::seal_row;
@@ -81,7 +81,7 @@ fn unseal_entry(f: &[u8], ring: &[u8], i: usize, out: &mut [u8]) -> bool
     let b = a + len;
     let e = b + n;
     let opened = open_row(f, ring, i, row, &mut out[a..b]);
-    let Answer::Done = opened else {
+    let Verdict::Done = opened else {
         return false;
     };
     wipe(&mut out[b..e]);

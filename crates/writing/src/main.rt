@@ -23,7 +23,7 @@ fn call_of(head: &[u8; 13]) -> Call {
     }
 }
 
-fn told(a: Answer, out: &[u8]) {
+fn say(a: Answer, out: &[u8]) {
     lines::show::number(a.number as u64);
     lines::show::space();
     lines::show::number(a.row as u64);
@@ -35,11 +35,11 @@ fn told(a: Answer, out: &[u8]) {
 // Runs a call into an output; false where there is no such op.
 fn line(op: u8, file: &[u8], ring: &[u8], out: &mut [u8]) -> bool {
     if op == 0 {
-        told(writer::seal_file(file, ring, out).answer(), out);
+        say(writer::seal_file(file, ring, out).answer(), out);
         return true;
     }
     if op == 1 {
-        told(writer::unseal_file(file, ring, out).answer(), out);
+        say(writer::unseal_file(file, ring, out).answer(), out);
         return true;
     }
     false

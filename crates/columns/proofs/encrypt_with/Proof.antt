@@ -7,14 +7,14 @@ use Prim.Native.Nat.{ℕ, _+_, _≤_, _<_, _-_}
 use native.Mathlib.Omega.{arith}
 use lib.ListN.{length}
 use Rattle.fips197.specs.Cipher.{power}
-use Rattle.aes.specs.Columns.{told}
+use Rattle.aes.specs.Columns.{bytesOf}
 use Rattle.aes.proofs.Rounds.{Tracks, power-lt, power-turn, rcon-is, track-none, track-end}
 use Rattle.columns.proofs.Turns.{track-step}
 use Rattle.columns.proofs.encrypt_with.Statement.{statement}
 use Rattle.columns.proofs.encrypt_with.Tie as tie
 
 abbrev Inv-loop : tie.InvT-loop
-Inv-loop t k₀ s₀ rc₀ i₀ k s rc i = (i ≤ 9) × (rc ≡ power i) × Tracks (told k₀) (told s₀) (told k) (told s) i
+Inv-loop t k₀ s₀ rc₀ i₀ k s rc i = (i ≤ 9) × (rc ≡ power i) × Tracks (bytesOf k₀) (bytesOf s₀) (bytesOf k) (bytesOf s) i
 
 abbrev μ-loop : tie.MeasureT-loop
 μ-loop t k₀ s₀ rc₀ i₀ k s rc i = 9 - i

@@ -30,8 +30,8 @@ enum-known-x-2 c = search needs
 returns-2 : tie.Need-returns-2
 returns-2 c =
     let k = c .before .before .before in
-    let told = k .before in
-    sym (second-refused _ _ _ _ _ (c .before .x2 .given .0 .0) (passed-zero _ _ (told .enum-told .given .1) (told .before .before .check .ensures)) (sym (k .check2 .ensures) ∙ ap checkedAnswer (c .before .x2 .given .1)))
+    let second = k .before in
+    sym (second-refused _ _ _ _ _ (c .before .x2 .given .0 .0) (passed-zero _ _ (second .enum-told .given .1) (second .before .before .check .ensures)) (sym (k .check2 .ensures) ∙ ap checkedAnswer (c .before .x2 .given .1)))
 
 enum-told-2 : tie.Need-enum-told-2
 enum-told-2 c = search needs

@@ -8,7 +8,7 @@ use Prim.Native.Nat.{ℕ}
 use Rattle.cipher.specs.Cipher.{cipherOf}
 use Rattle.cipher.proofs.Suites.{none-ready}
 use Rattle.session.specs.Value.{gave, dataNumber, dataIn, dataPart}
-use Rattle.session.specs.Told.{told}
+use Rattle.session.specs.Structs.{asValue}
 use Rattle.session.proofs.Refuse.{answer-kept}
 use Rattle.session.proofs.Session.associated.Statement.{statement}
 use Rattle.session.proofs.Session.associated.Tie as tie
@@ -20,7 +20,7 @@ returns : tie.Need-returns
 unfolding dataPart
 returns c =
     let x = c .before .before .before .args in
-    let v = told (x .self) in
+    let v = asValue (x .self) in
     let p = now (x .part) in
     answer-kept (c .before .data-number .result) (dataNumber (v .suite) (v .came) (v .text) (length p)) (gave 0 0 (dataIn (cipherOf (v .suite)) v p) [] []) v [] [] (c .if1 .taken) (c .before .data-number .ensures)
 

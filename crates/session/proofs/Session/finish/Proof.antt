@@ -7,7 +7,7 @@ use mathlib.Core.Path.{_≡_, sym, _∙_}
 use Prim.Native.Nat.{ℕ}
 use Rattle.cipher.proofs.Suites.{none-ready}
 use Rattle.session.specs.Value.{endNumber, endDone, ending}
-use Rattle.session.specs.Told.{told}
+use Rattle.session.specs.Structs.{asValue}
 use Rattle.session.proofs.Refuse.{answer-kept}
 use Rattle.session.proofs.Session.finish.Statement.{statement}
 use Rattle.session.proofs.Session.finish.Tie as tie
@@ -19,7 +19,7 @@ returns : tie.Need-returns
 unfolding ending
 returns c =
     let x = c .before .before .before .before .args in
-    let v = told (x .self) in
+    let v = asValue (x .self) in
     let o = now (x .out) in
     let t = now (x .tag) in
     answer-kept (c .before .end-number .result) (endNumber (v .suite) (v .came) (v .text) (length o) (length t)) (endDone v o) v o t (c .if1 .taken) (c .before .end-number .ensures)

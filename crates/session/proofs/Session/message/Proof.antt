@@ -8,7 +8,7 @@ use native.Mathlib.Omega.{arith}
 use Prim.Native.Nat.{ℕ}
 use Rattle.cipher.proofs.Suites.{none-ready}
 use Rattle.session.specs.Value.{textNumber, textDone, textPart}
-use Rattle.session.specs.Told.{told}
+use Rattle.session.specs.Structs.{asValue}
 use Rattle.session.proofs.Refuse.{answer-kept, answer-done}
 use Rattle.session.proofs.Parts.{done-empty}
 use Rattle.session.proofs.Session.message.Statement.{statement}
@@ -21,7 +21,7 @@ returns : tie.Need-returns
 unfolding textPart
 returns c =
     let x = c .before .before .before .before .args in
-    let v = told (x .self) in
+    let v = asValue (x .self) in
     let p = now (x .part) in
     let o = now (x .out) in
     answer-kept (c .before .text-number .result) (textNumber (v .suite) (v .came) (v .text) (length p) (length o)) (textDone v p o) v o [] (c .if1 .taken) (c .before .text-number .ensures)
@@ -30,7 +30,7 @@ returns-2 : tie.Need-returns-2
 unfolding textPart
 returns-2 c =
     let x = c .before .before .before .before .before .args in
-    let v = told (x .self) in
+    let v = asValue (x .self) in
     let p = now (x .part) in
     let o = now (x .out) in
     done-empty v p o (c .if2 .taken)

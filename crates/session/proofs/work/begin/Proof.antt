@@ -16,7 +16,7 @@ use Rattle.mode.specs.Blocks.{blocks}
 use Rattle.mode.specs.Walk.{States, turned, walked}
 use Rattle.session.specs.Value.{Value, states, heldOf, firstMark, begun}
 use Rattle.step.specs.Two.{twoOf}
-use Rattle.session.specs.Told.{told}
+use Rattle.session.specs.Structs.{asValue}
 use Rattle.session.proofs.Flush.{begun-on, begun-none, begun-short}
 use borrow.Author.Needs.{needs}
 use Rattle.session.proofs.work.begin.Statement.{statement}
@@ -25,7 +25,7 @@ use Rattle.session.proofs.work.begin.Tie as tie
 returns : tie.Need-returns
 returns c =
     let s = c .before .before .before .before .args .s in
-    sym (begun-on (cipherOf (s .suite)) (told s) (c .if1 .taken))
+    sym (begun-on (cipherOf (s .suite)) (asValue s) (c .if1 .taken))
 
 size-of-requires : tie.Need-size-of-requires
 size-of-requires c κs = search needs
@@ -37,7 +37,7 @@ returns-2 : tie.Need-returns-2
 returns-2 c =
     let s = c .before .before .before .before .before .before .args .s in
     let n = c .before .size-of in
-    sym (begun-none (cipherOf (s .suite)) (told s) (n .result) (n .ensures .0) (n .ensures .1 .0) (c .before .before .if1 .left) (c .if2 .taken))
+    sym (begun-none (cipherOf (s .suite)) (asValue s) (n .result) (n .ensures .0) (n .ensures .1 .0) (c .before .before .if1 .left) (c .if2 .taken))
 
 first-mark-requires : tie.Need-first-mark-requires
 first-mark-requires c κs = search needs
@@ -73,7 +73,7 @@ returns-3 c =
     let n = c .before .before .before .before .before .size-of in
     let lh : length (s .held) ≡ 16 = search needs in
     c .absorb-short .ensures .two
-    ∙ begun-short (cipherOf (s .suite)) (told s) (n .result) (n .ensures .0) (n .ensures .1 .0) (n .ensures .1 .1) lh (c .before .before .before .before .before .before .if1 .left) (c .before .before .before .before .if2 .left)
+    ∙ begun-short (cipherOf (s .suite)) (asValue s) (n .result) (n .ensures .0) (n .ensures .1 .0) (n .ensures .1 .1) lh (c .before .before .before .before .before .before .if1 .left) (c .before .before .before .before .if2 .left)
     (c .before .before .before .first-mark .result) (c .before .before .before .first-mark .ensures)
 
 pub begin-spec : {M : Type 1} → statement M

@@ -11,7 +11,7 @@ use Rattle.cipher.proofs.Suites.{size-most}
 use Rattle.mode.specs.Walk.{tagged}
 use Rattle.step.specs.Two.{twoOf}
 use Rattle.session.specs.Value.{endNumber, endDone, ending}
-use Rattle.session.specs.Told.{told}
+use Rattle.session.specs.Structs.{asValue}
 use Rattle.session.proofs.Refuse.{end-passed, answer-done}
 use Rattle.session.proofs.Parts.{end-given}
 use Rattle.session.proofs.work.close.Statement.{statement}
@@ -67,7 +67,7 @@ unfolding ending
 returns c =
     let st = c .before .before .before .before .before .before .before .before .before .before .before .before .before .before .before .before in
     let s = st .args .s in
-    let v = told s in
+    let v = asValue s in
     let o = now (st .args .out) in
     let t = now (st .args .tag) in
     let p = end-passed (s .suite) (s .came) (s .text) (length o) (length t) (st .pre .1) in

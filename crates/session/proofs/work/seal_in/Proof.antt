@@ -9,7 +9,7 @@ use native.Mathlib.Omega.{arith}
 use Prim.Native.Nat.{ℕ, _+_, _%_, _≤_, _<_}
 use Rattle.step.specs.Two.{twoOf}
 use Rattle.session.specs.Value.{Sound, textNumber, textDone, textPart}
-use Rattle.session.specs.Told.{told}
+use Rattle.session.specs.Structs.{asValue}
 use Rattle.session.proofs.Refuse.{text-passed, answer-done}
 use Rattle.session.proofs.Parts.{part-given, done-more}
 use Rattle.session.proofs.work.seal_in.Statement.{statement}
@@ -56,7 +56,7 @@ unfolding textPart
 returns c =
     let st = c .before .before .before .before .before .before .before .before .before .before .before .before .before in
     let s = st .args .s in
-    let v = told s in
+    let v = asValue s in
     let p = now (st .args .part) in
     let o = now (st .args .out) in
     let two = c .before .before .before .before .before .before .before .before .before .begin in

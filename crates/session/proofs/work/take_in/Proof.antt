@@ -12,7 +12,7 @@ use Rattle.cipher.specs.Cipher.{sizeOf, cipherOf}
 use Rattle.mode.specs.Blocks.{blocks}
 use Rattle.mode.specs.Walk.{States, whole, rest, walked}
 use Rattle.session.specs.Value.{Value, valueOf, filled, gave, states, dataNumber, dataStates, dataIn, dataPart}
-use Rattle.session.specs.Told.{told}
+use Rattle.session.specs.Structs.{asValue}
 use Rattle.session.proofs.Refuse.{data-passed, answer-done}
 use Rattle.session.proofs.work.take_in.Statement.{statement}
 use Rattle.session.proofs.work.take_in.Tie as tie
@@ -48,7 +48,7 @@ returns : tie.Need-returns
 unfolding dataIn dataStates dataPart
 returns c =
     let st = c .before .before .before .before .before .before .before .before in
-    let v = told (st .args .s) in
+    let v = asValue (st .args .s) in
     let k = cipherOf (st .args .s .suite) in
     let n = sizeOf (st .args .s .suite) in
     let size = c .before .before .before .size-of in

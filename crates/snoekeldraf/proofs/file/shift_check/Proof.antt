@@ -1,6 +1,7 @@
 -- The check answers with a row of the file, which fits, so what it says passes whole.
 use mathlib.Core.Path.{_∙_}
-use Rattle.snoekeldraf.proofs.Rows.{check-row, same-answer}
+use Rattle.table.proofs.Outcomes.{same-answer}
+use Rattle.snoekeldraf.proofs.Rows.{check-row}
 use borrow.Author.Needs.{needs}
 use Rattle.snoekeldraf.proofs.file.shift_check.Statement.{statement}
 use Rattle.snoekeldraf.proofs.file.shift_check.Tie as tie
@@ -11,11 +12,11 @@ check-requires c κs = search needs
 answer-requires : tie.Need-answer-requires
 answer-requires c κs = search needs
 
-told-requires : tie.Need-told-requires
-told-requires c κs = rw (c .before .answer .ensures .1, c .before .before .check .ensures) (check-row _ _)
+say-requires : tie.Need-say-requires
+say-requires c κs = rw (c .before .answer .ensures .1, c .before .before .check .ensures) (check-row _ _)
 
 returns : tie.Need-returns
-returns c = c .told .ensures ∙ same-answer (c .before .before .answer .ensures) ∙ c .before .before .before .check .ensures
+returns c = c .say .ensures ∙ same-answer (c .before .before .answer .ensures) ∙ c .before .before .before .check .ensures
 
 pub shift-check-spec : {M : Type 1} → statement M
-shift-check-spec = tie.close (tie.spec check-requires answer-requires told-requires returns)
+shift-check-spec = tie.close (tie.spec check-requires answer-requires say-requires returns)

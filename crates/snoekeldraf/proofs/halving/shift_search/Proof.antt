@@ -3,7 +3,7 @@ use Prim.Native.Nat.{_≤_}
 use native.Mathlib.Omega.{arith}
 use mathlib.Core.Path.{_∙_}
 use Rattle.search.proofs.Promised.{ten-looks, says-low}
-use Rattle.snoekeldraf.proofs.Rows.{same-answer}
+use Rattle.table.proofs.Outcomes.{same-answer}
 use borrow.Author.Needs.{needs}
 use Rattle.snoekeldraf.proofs.halving.shift_search.Statement.{statement}
 use Rattle.snoekeldraf.proofs.halving.shift_search.Tie as tie
@@ -19,11 +19,11 @@ cast-looked c =
 answer-requires : tie.Need-answer-requires
 answer-requires c κs = search needs
 
-told-requires : tie.Need-told-requires
-told-requires c κs = rw (c .before .answer .ensures .1, c .before .before .before .search .ensures .0) (says-low _ _)
+say-requires : tie.Need-say-requires
+say-requires c κs = rw (c .before .answer .ensures .1, c .before .before .before .search .ensures .0) (says-low _ _)
 
 returns : tie.Need-returns
-returns c = (c .told .ensures ∙ same-answer (c .before .before .answer .ensures) ∙ c .before .before .before .before .search .ensures .0, c .before .before .before .before .search .ensures .1)
+returns c = (c .say .ensures ∙ same-answer (c .before .before .answer .ensures) ∙ c .before .before .before .before .search .ensures .0, c .before .before .before .before .search .ensures .1)
 
 pub shift-search-spec : {M : Type 1} → statement M
-shift-search-spec = tie.close (tie.spec search-requires cast-looked answer-requires told-requires returns)
+shift-search-spec = tie.close (tie.spec search-requires cast-looked answer-requires say-requires returns)

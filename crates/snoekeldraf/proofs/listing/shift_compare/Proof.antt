@@ -8,23 +8,23 @@ use Rattle.snoekeldraf.proofs.listing.shift_compare.Tie as tie
 compare-requires : tie.Need-compare-requires
 compare-requires c κs = search needs
 
-told-requires : tie.Need-told-requires
-told-requires c κs = search needs
+say-requires : tie.Need-say-requires
+say-requires c κs = search needs
 
 cast-first-count : tie.Need-cast-first-count
 cast-first-count c =
     let t = c .before in
-    omega (arith, counted _ _ _ _ _ _ _ (t .told .ensures) (t .before .before .before .before .before .before .before .compare .ensures) .first)
+    omega (arith, counted _ _ _ _ _ _ _ (t .finding .ensures) (t .before .before .before .before .before .before .before .compare .ensures) .first)
 
 cast-second-count : tie.Need-cast-second-count
 cast-second-count c =
     let t = c .before .before in
-    omega (arith, counted _ _ _ _ _ _ _ (t .told .ensures) (t .before .before .before .before .before .before .before .compare .ensures) .second)
+    omega (arith, counted _ _ _ _ _ _ _ (t .finding .ensures) (t .before .before .before .before .before .before .before .compare .ensures) .second)
 
 cast-differ-count : tie.Need-cast-differ-count
 cast-differ-count c =
     let t = c .before .before .before in
-    omega (arith, counted _ _ _ _ _ _ _ (t .told .ensures) (t .before .before .before .before .before .before .before .compare .ensures) .differ)
+    omega (arith, counted _ _ _ _ _ _ _ (t .finding .ensures) (t .before .before .before .before .before .before .before .compare .ensures) .differ)
 
 cast-file : tie.Need-cast-file
 cast-file c = search needs
@@ -32,7 +32,7 @@ cast-file c = search needs
 cast-row : tie.Need-cast-row
 cast-row c =
     let t = c .before .before .before .before .before in
-    omega (arith, counted _ _ _ _ _ _ _ (t .told .ensures) (t .before .before .before .before .before .before .before .compare .ensures) .row)
+    omega (arith, counted _ _ _ _ _ _ _ (t .finding .ensures) (t .before .before .before .before .before .before .before .compare .ensures) .row)
 
 cast-result : tie.Need-cast-result
 cast-result c = search needs
@@ -49,14 +49,14 @@ same-length-3 c = search needs
 returns : tie.Need-returns
 returns c =
     let t = c .before .before .before .before .before .before in
-    rw (t .told .ensures) (t .before .before .before .before .before .before .before .compare .ensures)
+    rw (t .finding .ensures) (t .before .before .before .before .before .before .before .compare .ensures)
 
 pub shift-compare-spec : {M : Type 1} → statement M
 shift-compare-spec =
     tie.close
     (tie.spec
     compare-requires
-    told-requires
+    say-requires
     cast-first-count
     cast-second-count
     cast-differ-count

@@ -10,27 +10,27 @@ use Rattle.table.specs.declared.answers.Answer.{Answer}
 use Rattle.table.specs.Format.{countOf, edition, rowSize}
 use Rattle.table.specs.Check.{checkFile}
 use Rattle.table.proofs.Searches.{first-says}
-use Rattle.table.proofs.Told.{Told, check-told}
+use Rattle.table.proofs.Numbered.{Numbered, check-numbered}
 use Rattle.shift.specs.Lookup.{findFrom, lookupAs, lookupJob}
 
-found-told : (w : ℕ) (f : List ℕ) (n job i : ℕ) → (findFrom w f n job i .number ≡ 0 → ⊥) → Told 32 (findFrom w f n job i)
+found-numbered : (w : ℕ) (f : List ℕ) (n job i : ℕ) → (findFrom w f n job i .number ≡ 0 → ⊥) → Numbered 32 (findFrom w f n job i)
 unfolding findFrom
-found-told w f n job i none =
+found-numbered w f n job i none =
     ⊎-elim
     (λ h. absurd (none (sym (ap (λ (x : Answer). x .number) (h .gives)))))
-    (λ h. subst (Told 32) (h .gives) (record { number = inr (inl (lit≤ tt, lit≤ tt)); row = inl refl }))
+    (λ h. subst (Numbered 32) (h .gives) (record { number = inr (inl (lit≤ tt, lit≤ tt)); row = inl refl }))
     (first-says _ _ _ (n - i) i (findFrom w f n job i) refl)
 
 -- a lookup that refuses
-pub lookup-told : (f : List ℕ) (job : ℕ) → (lookupJob f job .number ≡ 0 → ⊥) → Told 32 (lookupJob f job)
+pub lookup-numbered : (f : List ℕ) (job : ℕ) → (lookupJob f job .number ≡ 0 → ⊥) → Numbered 32 (lookupJob f job)
 unfolding lookupAs
-lookup-told f job none = lookup-case (eqb (checkFile f .number) 0) none
+lookup-numbered f job none = lookup-case (eqb (checkFile f .number) 0) none
   where
     found : Answer
     found = findFrom (rowSize edition) f (countOf f) job 0
 
-    lookup-case : (b : Bool) → (cond b found (checkFile f) .number ≡ 0 → ⊥) → Told 32 (cond b found (checkFile f))
-    lookup-case true n = found-told (rowSize edition) f (countOf f) job 0 n
+    lookup-case : (b : Bool) → (cond b found (checkFile f) .number ≡ 0 → ⊥) → Numbered 32 (cond b found (checkFile f))
+    lookup-case true n = found-numbered (rowSize edition) f (countOf f) job 0 n
     lookup-case false n =
-        let t = check-told edition f in
+        let t = check-numbered edition f in
         record { number = ⊎-elim inl (λ r. inr (⊎-elim (λ s. inl (omega arith)) inr r)) (t .number); row = t .row }

@@ -8,6 +8,7 @@ use mathlib.Core.Logic.{_⊎_, inl, inr, ⊎-elim}
 use lib.ListN.{length}
 use lib.Dec.{eqb, ltb, lit≤}
 use borrow.Author.Tests.{eqb-false, not-true, ne-eqb}
+use Rattle.words.proofs.Ladder.{rung}
 use Rattle.table.specs.declared.answers.Answer.{Answer}
 use Rattle.table.specs.Format.{editionOf, countOf, totalOf, rowSize, rowStart, rowAt}
 use Rattle.table.specs.Answers.{answer, Ranged}
@@ -18,61 +19,56 @@ use Rattle.table.proofs.Searches.{first-says}
 abbrev pub Among : ℕ → ℕ → ℕ → Type 0
 Among low high m = (m ≡ 0) ⊎ Ranged low high m
 
--- a rung of a ladder of numbers
-rung : (low high k rest : ℕ) (b : Bool) → Ranged low high k → Among low high rest → Among low high (cond b k rest)
-rung low high k rest true h r = inr h
-rung low high k rest false h r = r
-
 row-among : (w : ℕ) (f : List ℕ) (n i : ℕ) → Among 25 30 (rowNumber w f n i)
 unfolding rowNumber bodyNumber
 row-among w f n i =
-    rung 25 30 25 _ (notAbove w f i) (inl (lit≤ tt, lit≤ tt))
-    (rung 25 30 26 _ (badSuite (rowAt w f i)) (inl (lit≤ tt, lit≤ tt))
-    (rung 25 30 27 _ (badLength (rowAt w f i)) (inl (lit≤ tt, lit≤ tt))
-    (rung 25 30 28 _ (misplaced w f n i) (inl (lit≤ tt, lit≤ tt))
-    (rung 25 30 34 _ (unreadSet w f i) (inr refl)
-    (rung 25 30 29 _ (nonceSeen w f i) (inl (lit≤ tt, lit≤ tt))
-    (rung 25 30 30 0 (badData f (rowAt w f i)) (inl (lit≤ tt, lit≤ tt)) (inl refl)))))))
+    rung (Among 25 30) (notAbove w f i) 25 _ (inr (inl (lit≤ tt, lit≤ tt)))
+    (rung (Among 25 30) (badSuite (rowAt w f i)) 26 _ (inr (inl (lit≤ tt, lit≤ tt)))
+    (rung (Among 25 30) (badLength (rowAt w f i)) 27 _ (inr (inl (lit≤ tt, lit≤ tt)))
+    (rung (Among 25 30) (misplaced w f n i) 28 _ (inr (inl (lit≤ tt, lit≤ tt)))
+    (rung (Among 25 30) (unreadSet w f i) 34 _ (inr (inr refl))
+    (rung (Among 25 30) (nonceSeen w f i) 29 _ (inr (inl (lit≤ tt, lit≤ tt)))
+    (rung (Among 25 30) (badData f (rowAt w f i)) 30 0 (inr (inl (lit≤ tt, lit≤ tt))) (inl refl)))))))
 
 head-among : (e : ℕ) (f : List ℕ) → Among 20 24 (headNumber e f)
 unfolding headNumber
 head-among e f =
-    rung 20 24 20 _ (ltb (length f) 8 || ltb 1048576 (length f)) (inl (lit≤ tt, lit≤ tt))
-    (rung 20 24 21 _ (not (eqb (editionOf f) e)) (inl (lit≤ tt, lit≤ tt))
-    (rung 20 24 22 _ (ltb 512 (countOf f)) (inl (lit≤ tt, lit≤ tt))
-    (rung 20 24 23 _ (not (eqb (totalOf f) (length f))) (inl (lit≤ tt, lit≤ tt))
-    (rung 20 24 24 0 (ltb (length f) (rowStart (rowSize e) (countOf f))) (inl (lit≤ tt, lit≤ tt)) (inl refl)))))
+    rung (Among 20 24) (ltb (length f) 8 || ltb 1048576 (length f)) 20 _ (inr (inl (lit≤ tt, lit≤ tt)))
+    (rung (Among 20 24) (not (eqb (editionOf f) e)) 21 _ (inr (inl (lit≤ tt, lit≤ tt)))
+    (rung (Among 20 24) (ltb 512 (countOf f)) 22 _ (inr (inl (lit≤ tt, lit≤ tt)))
+    (rung (Among 20 24) (not (eqb (totalOf f) (length f))) 23 _ (inr (inl (lit≤ tt, lit≤ tt)))
+    (rung (Among 20 24) (ltb (length f) (rowStart (rowSize e) (countOf f))) 24 0 (inr (inl (lit≤ tt, lit≤ tt))) (inl refl)))))
 
 -- an answer of 0, 20 to `most` or 34, with a row only where that is 25 to 30 or 34
-pub record Told (most : ℕ) (x : Answer) : Type 0 where
+pub record Numbered (most : ℕ) (x : Answer) : Type 0 where
   pub number : Among 20 most (x .number)
   pub row : (x .row ≡ 0) ⊎ Ranged 25 30 (x .number)
 
-end-told : (w : ℕ) (f : List ℕ) (n : ℕ) → Told 31 (endAnswer w f n)
+end-numbered : (w : ℕ) (f : List ℕ) (n : ℕ) → Numbered 31 (endAnswer w f n)
 unfolding endAnswer
-end-told w f n = end-case (eqb (bodyStart w f n n) (length f))
+end-numbered w f n = end-case (eqb (bodyStart w f n n) (length f))
   where
-    end-case : (b : Bool) → Told 31 (cond b (answer 0 0) (answer 31 0))
+    end-case : (b : Bool) → Numbered 31 (cond b (answer 0 0) (answer 31 0))
     end-case true = record { number = inl refl; row = inl refl }
     end-case false = record { number = inr (inl (lit≤ tt, lit≤ tt)); row = inl refl }
 
-rows-told : (w : ℕ) (f : List ℕ) (n i : ℕ) → Told 31 (rowsFrom w f n i)
+rows-numbered : (w : ℕ) (f : List ℕ) (n i : ℕ) → Numbered 31 (rowsFrom w f n i)
 unfolding rowsFrom
-rows-told w f n i =
+rows-numbered w f n i =
     ⊎-elim
-    (λ h. subst (Told 31) (h .gives)
+    (λ h. subst (Numbered 31) (h .gives)
     (⊎-elim
     (λ z. absurd (eqb-false _ _ (not-true _ (h .hits)) z))
     (λ r. record { number = inr (⊎-elim (λ s. inl (omega arith)) inr r); row = inr r })
     (row-among w f n (h .at))))
-    (λ h. subst (Told 31) (h .gives) (end-told w f n))
+    (λ h. subst (Numbered 31) (h .gives) (end-numbered w f n))
     (first-says _ _ _ (n - i) i (rowsFrom w f n i) refl)
 
-pub check-told : (e : ℕ) (f : List ℕ) → Told 31 (checkAs e f)
+pub check-numbered : (e : ℕ) (f : List ℕ) → Numbered 31 (checkAs e f)
 unfolding checkAs
-check-told e f =
+check-numbered e f =
     ⊎-elim
-    (λ (z : headNumber e f ≡ 0). simp z (rows-told (rowSize e) f (countOf f) 0))
+    (λ (z : headNumber e f ≡ 0). simp z (rows-numbered (rowSize e) f (countOf f) 0))
     (λ (r : Ranged 20 24 (headNumber e f)).
     let n : headNumber e f ≡ 0 → ⊥ = λ z. ⊎-elim (λ s. omega arith) (λ s. omega arith) r in
     simp (ne-eqb _ _ n) (record { number = inr (⊎-elim (λ s. inl (s .0, omega arith)) inr r); row = inl refl }))

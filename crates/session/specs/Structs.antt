@@ -7,9 +7,9 @@ use Rattle.session.specs.declared.Step.{Step}
 use Rattle.session.specs.Value.{Value, Given}
 
 -- a session's value
-abbrev pub told : Session → Value
-told s = record { suite = s .suite; Y = wide (s .y); Z = wide (s .z); held = s .held; came = s .came; text = s .text }
+abbrev pub asValue : Session → Value
+asValue s = record { suite = s .suite; Y = wide (s .y); Z = wide (s .z); held = s .held; came = s .came; text = s .text }
 
 -- what a call gave, with the buffers that it was lent
 abbrev pub gives : Step → List ℕ → List ℕ → Given
-gives r out tag = record { number = r .number; count = r .count; next = told (r .next); out = out; tag = tag }
+gives r out tag = record { number = r .number; count = r .count; next = asValue (r .next); out = out; tag = tag }
