@@ -15,6 +15,8 @@
  * Nonce bytes  16          16               15               15
  * Tag bytes    16          16               8                8
  *
+ * Suite 4 is retired: it is opened as before, and sealed no more (number 10).
+ *
  * Never seal two records with one key and one nonce.
  */
 #ifndef SNOEKELDRAF_H
@@ -30,6 +32,7 @@ extern "C" {
 /* Numbers of comet_seal and comet_open: the first that applies, in this order.
  *   0  done
  *   1  suite is not 1 to 4
+ *  10  comet_seal alone: suite is 4
  *   2  key_len is not 16
  *   3  nonce_len is not the suite's
  *   4  ad_len is over 65,536
@@ -40,7 +43,7 @@ extern "C" {
  */
 
 /* Seals msg with the associated data ad.
- * After 0, out is the ciphertext and tag the tag, both written whole; after 1 to 7, out and tag are as they were.
+ * After 0, out is the ciphertext and tag the tag, both written whole; after 1 to 7 and 10, out and tag are as they were.
  */
 uint32_t comet_seal(uint8_t suite,
                     const uint8_t *key, size_t key_len,
@@ -65,7 +68,7 @@ uint32_t comet_open(uint8_t suite,
  *
  * A session is a plain struct that goes in and comes back by value: each call hands back a step, and its session `next`
  * takes the place of the one that was given. The fields are for the functions alone, and hold what the key makes: keep
- * them as secret as the key. Any value may arrive: one whose suite is not 1 to 4 or whose totals are over 65,536 (as a
+ * them as secret as the key. Any value may arrive: one whose suite is not 1 to 3 or whose totals are over 65,536 (as a
  * session that was refused at the start, or has ended) is answered by 9; any other is taken as what it says. Going on
  * from one session value twice, with different messages, is sealing two records with one key and one nonce.
  */
@@ -86,6 +89,7 @@ typedef struct {
 /* Numbers of a session: the first that applies, in the order that stands with each function.
  *   0  done
  *   1  suite is not 1 to 4
+ *  10  suite is 4
  *   2  key_len is not 16
  *   3  nonce_len is not the suite's
  *   4  more than 65,536 bytes of associated data in all
@@ -97,7 +101,7 @@ typedef struct {
  * count is 0, and out and tag are as they were: the call may be made again.
  */
 
-/* Starts a session: 1, 2, 3. */
+/* Starts a session: 1, 10, 2, 3. */
 comet_step comet_session_start(uint8_t suite,
                                const uint8_t *key, size_t key_len,
                                const uint8_t *nonce, size_t nonce_len);
@@ -178,12 +182,11 @@ uint32_t shift_open_job(const uint8_t *file, size_t file_len,
                         uint32_t *row);
 
 /* The writer. A draft is a shift file with edition 0, plaintext where the ciphertext goes, and zero tags. Numbers, in this
- * order; out is as it was after every number but 0 and 8. *row is written always: the row after 25 to 30, 34, 33 and 8, and
- * 0 after every other number, 0 too.
- * order; out is as it was after every number but 0 and 8. *row is written always: the row after 25 to 30, 34, 33 and
- * 8, and 0 after every other number, 0 too.
+ * order; out is as it was after every number but 0 and 8. *row is written always: the row after 25 to 30, 34, 33, 10
+ * and 8, and 0 after every other number, 0 too.
  *  20 to 31, 34   as above, of the draft or the file; 21 says that a draft's edition is not 0, or a file's is not 1
  *  33   shift_seal_file alone: the row's tag has a byte that is not zero; the first such row
+ *  10   shift_seal_file alone: the row's suite is 4; the first such row
  *   2   the ring is not 256 bytes long
  *   6   out_len is not draft_len (file_len)
  *   8   shift_unseal_file alone: the row's tag differs; the first such row. Every byte of out is 0
@@ -203,6 +206,24 @@ uint32_t shift_unseal_file(const uint8_t *file, size_t file_len,
                            const uint8_t *ring, size_t ring_len,
                            uint8_t *out, size_t out_len,
                            uint32_t *row);
+
+/* Suite 4 is retired: seals the suite 4 entries of a file again as suite 3, with the same key number, nonce, associated
+ * data and message. Their suite byte becomes 3, ciphertext and tag are new, and every other byte of out is the file's,
+ * the length too. Only suite 4 entries are opened; the rest are copied unchecked, wrong tags too. Numbers, in this order;
+ * out is as it was after every number but 0 and 8. *row is written always: the row after 25 to 30, 34 and 8, and 0 after
+ * every other number, 0 too.
+ *  20 to 31, 34   as above, of the file as it is
+ *  29   also where resealing would make two rows clash: the lowest row that would clash with an earlier one
+ *   2   the ring is not 256 bytes long
+ *   6   out_len is not file_len
+ *   8   the tag of a suite 4 row differs; the first such row. Every byte of out is 0
+ *   0   done: out is written whole; it passes shift_check and has no suite 4 row
+ * out may not overlap file or ring. The pass takes some 80 KiB of stack.
+ */
+uint32_t shift_reseal(const uint8_t *file, size_t file_len,
+                      const uint8_t *ring, size_t ring_len,
+                      uint8_t *out, size_t out_len,
+                      uint32_t *row);
 
 /* Finds a job without walking the file: 20 to 24 alone, and then the table is halved. From c rows at row s it looks at
  * row s + c/2, stops if that has the job, and keeps the rows after it if its job is lower, else those before; 32 when

@@ -22,9 +22,12 @@ typedef struct {
 /* A slice as the functions take it. */
 #define SLICE(b) (b).at, (b).len
 
+/* A list of 32-bit numbers. */
+#define LIST(b) (uint32_t *)(b).at, (b).len / 4
+
 static _Alignas(16) uint8_t room[1 << 23];
 static size_t used;
-static bytes written[8];
+static bytes written[16];
 static int count;
 
 static void get(void *to, size_t len) {
@@ -156,11 +159,26 @@ static uint32_t search(void) {
     return shift_search(SLICE(file), job, row, looked);
 }
 
+static uint32_t reseal(void) {
+    bytes file = given(), ring = given(), out = lent();
+    return shift_reseal(SLICE(file), SLICE(ring), SLICE(out), lent_number());
+}
+
+static uint32_t compare(void) {
+    bytes first = given(), second = given(), only_first = lent(), only_second = lent(), differ = lent();
+    uint32_t *first_count = lent_number(), *second_count = lent_number(), *differ_count = lent_number(),
+             *file = lent_number(), *row = lent_number();
+    return shift_compare(SLICE(first), SLICE(second), LIST(only_first), LIST(only_second), LIST(differ), first_count,
+                         second_count, differ_count, file, row);
+}
+
 static uint32_t (*const functions[])(void) = {
     seal, open_record, check, lookup, associated, open_job, entry,
     session_start, session_data, session_part, session_end,
     seal_file, unseal_file,
     search,
+    reseal,
+    compare,
 };
 
 int main(void) {

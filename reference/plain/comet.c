@@ -325,10 +325,11 @@ INLINE void run(cipher128 *aes, uint8_t suite, int opens, const uint8_t *key, co
     }
 }
 
-/* Numbers 1 to 7 in the table's order. */
-static uint32_t refusal(uint8_t suite, size_t key_len, size_t nonce_len, size_t ad_len, size_t len, size_t out_len,
-                        size_t tag_len) {
+/* Numbers 1 to 7 in the table's order; to seal, 10 just after 1. */
+static uint32_t refusal(int opens, uint8_t suite, size_t key_len, size_t nonce_len, size_t ad_len, size_t len,
+                        size_t out_len, size_t tag_len) {
     if (suite < 1 || suite > 4) return 1;
+    if (!opens && suite == 4) return 10;
     if (key_len != 16) return 2;
     if (nonce_len != (suite < 3 ? 16 : 15)) return 3;
     if (ad_len > LIMIT) return 4;
@@ -343,7 +344,7 @@ static uint32_t refusal(uint8_t suite, size_t key_len, size_t nonce_len, size_t 
     uint32_t name(uint8_t suite, const uint8_t *key, size_t key_len, const uint8_t *nonce, size_t nonce_len,           \
                   const uint8_t *ad, size_t ad_len, const uint8_t *msg, size_t msg_len,                                \
                   uint8_t *out, size_t out_len, uint8_t *tag, size_t tag_len) {                                        \
-        uint32_t number = refusal(suite, key_len, nonce_len, ad_len, msg_len, out_len, tag_len);                       \
+        uint32_t number = refusal(0, suite, key_len, nonce_len, ad_len, msg_len, out_len, tag_len);                    \
         if (number == 0) run(aes, suite, 0, key, nonce, ad, ad_len, msg, msg_len, out, tag);                           \
         return number;                                                                                                 \
     }
@@ -353,7 +354,7 @@ static uint32_t refusal(uint8_t suite, size_t key_len, size_t nonce_len, size_t 
                   const uint8_t *ad, size_t ad_len, const uint8_t *text, size_t text_len,                              \
                   const uint8_t *tag, size_t tag_len, uint8_t *out, size_t out_len) {                                  \
         uint8_t made[16];                                                                                              \
-        uint32_t number = refusal(suite, key_len, nonce_len, ad_len, text_len, out_len, tag_len);                      \
+        uint32_t number = refusal(1, suite, key_len, nonce_len, ad_len, text_len, out_len, tag_len);                   \
         if (number != 0) return number;                                                                                \
         run(aes, suite, 1, key, nonce, ad, ad_len, text, text_len, out, made);                                         \
         if (memcmp(made, tag, tag_len) == 0) return 0;                                                                 \

@@ -5,7 +5,7 @@
 #include <stddef.h>
 #include <stdint.h>
 
-/* Document 01's number: 0, or 1 to 7 with out and tag unchanged. */
+/* The number: 0, or 1 to 7 and 10 with out and tag unchanged. */
 uint32_t plain_seal(uint8_t suite, const uint8_t *key, size_t key_len, const uint8_t *nonce, size_t nonce_len,
                     const uint8_t *ad, size_t ad_len, const uint8_t *msg, size_t msg_len,
                     uint8_t *out, size_t out_len, uint8_t *tag, size_t tag_len);

@@ -4,6 +4,7 @@
 //! and runs under the emulator of the kit that proves the library.
 
 use crate::calls::Library;
+use crate::difference::Compared;
 use crate::session::{Session, Step};
 use crate::shift::{Answer, Places};
 use std::env;
@@ -189,6 +190,31 @@ fn search(file: &[u8], job: u32) -> (Answer, u32) {
     ((number, row), looked)
 }
 
+fn reseal(file: &[u8], ring: &[u8], out: &mut [u8]) -> Answer {
+    let (number, [row]) = ask(14, vec![Given(file), Given(ring), Lent(out)]);
+    (number, row)
+}
+
+/// A list of numbers as it lies in memory.
+fn bytes_of(list: &[u32]) -> Vec<u8> {
+    list.iter().flat_map(|number| number.to_le_bytes()).collect()
+}
+
+fn numbers_of(bytes: &[u8]) -> Vec<u32> {
+    bytes.chunks(4).map(|number| u32::from_le_bytes(number.try_into().unwrap())).collect()
+}
+
+fn compare(first: &[u8], second: &[u8], lists: [&mut [u32]; 3]) -> Compared {
+    let mut lent = [bytes_of(lists[0]), bytes_of(lists[1]), bytes_of(lists[2])];
+    let [one, other, both] = &mut lent;
+    let given = vec![Given(first), Given(second), Lent(one), Lent(other), Lent(both)];
+    let (number, [a, b, c, file, row]) = ask(15, given);
+    for (list, bytes) in lists.into_iter().zip(&lent) {
+        list.copy_from_slice(&numbers_of(bytes));
+    }
+    Compared { number, file, row, counts: [a, b, c] }
+}
+
 pub const PROVED: Library = Library {
     seal,
     open,
@@ -204,4 +230,6 @@ pub const PROVED: Library = Library {
     seal_file,
     unseal_file,
     search,
+    reseal,
+    compare,
 };

@@ -1,11 +1,15 @@
 //! What is put to an implementation, and what it answers: calls of the sealer, the opener and the shift file.
 
+use crate::difference::{self, Compared};
 use crate::session::{Session, Step};
 use crate::show::{fold, shown};
-use crate::{comet, search, session, shift, writer};
+use crate::{comet, reseal, search, session, shift, writer};
 
 /// What lent buffers hold before a call.
 pub const FILLER: u8 = 0xa5;
+
+/// What a place of a lent list of numbers holds before a call.
+pub const FILLER_NUMBER: u32 = u32::from_le_bytes([FILLER; 4]);
 
 pub type Seal = fn(u8, &[u8], &[u8], &[u8], &[u8], &mut [u8], &mut [u8]) -> u32;
 pub type Open = fn(u8, &[u8], &[u8], &[u8], &[u8], &[u8], &mut [u8]) -> u32;
@@ -30,6 +34,8 @@ pub struct Library {
     pub seal_file: Rewrite,
     pub unseal_file: Rewrite,
     pub search: fn(&[u8], u32) -> (shift::Answer, u32),
+    pub reseal: Rewrite,
+    pub compare: fn(&[u8], &[u8], [&mut [u32]; 3]) -> Compared,
 }
 
 pub const REFERENCE: Library = Library {
@@ -50,6 +56,8 @@ pub const REFERENCE: Library = Library {
     seal_file: writer::seal_file,
     unseal_file: writer::unseal_file,
     search: search::search,
+    reseal: reseal::reseal,
+    compare: difference::compare,
 };
 
 /// A call, or a run of calls.
@@ -88,11 +96,11 @@ pub struct Outcome {
 }
 
 impl Call {
-    /// The call that opens what this one seals.
+    /// The call that opens what this one seals, or what the specification gives under a suite that is no longer sealed.
     pub fn reopened(&self) -> Call {
-        let sealed = self.answer(&REFERENCE);
-        assert!(!self.opens && sealed.number == 0);
-        Call { opens: true, text: sealed.out, tag: sealed.tag, ..self.clone() }
+        assert!(!self.opens && (self.answer(&REFERENCE).number == 0 || comet::is_retired(self.suite)));
+        let (text, tag) = comet::specified(self.suite, &self.key, &self.nonce, &self.ad, &self.text);
+        Call { opens: true, text, tag, ..self.clone() }
     }
 }
 

@@ -3,6 +3,16 @@
 /// The longest associated data, message and ciphertext.
 pub const LIMIT: usize = 65_536;
 
+pub const SUITES: [u8; 4] = [1, 2, 3, 4];
+
+/// The suites that records are still sealed under: suite 4 is retired (document 02, W7) and is opened alone.
+pub const SEALED: [u8; 3] = [1, 2, 3];
+
+/// A suite whose records are opened and no longer sealed.
+pub fn is_retired(suite: u8) -> bool {
+    SUITES.contains(&suite) && !SEALED.contains(&suite)
+}
+
 /// Bytes of a block, which are also those of the tag; 0 for a suite that is none.
 pub fn block_size(suite: u8) -> usize {
     match suite {
@@ -171,10 +181,11 @@ pub fn first(table: &[(u32, bool)]) -> u32 {
     table.iter().find(|(_, applies)| *applies).map_or(0, |(number, _)| *number)
 }
 
-/// Numbers 1 to 7.
-fn refusal(suite: u8, l: Lengths) -> u32 {
+/// Numbers 1 to 7; for the sealer 10 too, just after 1.
+fn refusal(kind: Text, suite: u8, l: Lengths) -> u32 {
     first(&[
         (1, block_size(suite) == 0),
+        (10, kind == Text::Message && is_retired(suite)),
         (2, l.key != 16),
         (3, l.nonce != nonce_size(suite)),
         (4, l.ad > LIMIT),
@@ -187,6 +198,7 @@ fn refusal(suite: u8, l: Lengths) -> u32 {
 /// Seals a message: the ciphertext into `out`, the tag into `tag`. On a refusal both are unchanged.
 pub fn seal(suite: u8, key: &[u8], nonce: &[u8], ad: &[u8], msg: &[u8], out: &mut [u8], tag: &mut [u8]) -> u32 {
     let number = refusal(
+        Text::Message,
         suite,
         Lengths { key: key.len(), nonce: nonce.len(), ad: ad.len(), text: msg.len(), out: out.len(), tag: tag.len() },
     );
@@ -199,6 +211,7 @@ pub fn seal(suite: u8, key: &[u8], nonce: &[u8], ad: &[u8], msg: &[u8], out: &mu
 /// Opens a ciphertext into `out`. On 8 every byte of `out` is 0; on another refusal it is unchanged.
 pub fn open(suite: u8, key: &[u8], nonce: &[u8], ad: &[u8], text: &[u8], tag: &[u8], out: &mut [u8]) -> u32 {
     let number = refusal(
+        Text::Ciphertext,
         suite,
         Lengths { key: key.len(), nonce: nonce.len(), ad: ad.len(), text: text.len(), out: out.len(), tag: tag.len() },
     );
@@ -210,6 +223,13 @@ pub fn open(suite: u8, key: &[u8], nonce: &[u8], ad: &[u8], text: &[u8], tag: &[
         return 8;
     }
     0
+}
+
+/// The specification's ciphertext and tag of a message, under a retired suite too. Every length is right.
+pub fn specified(suite: u8, key: &[u8], nonce: &[u8], ad: &[u8], msg: &[u8]) -> (Vec<u8>, Vec<u8>) {
+    let mut text = vec![0; msg.len()];
+    let tag = run(suite, Text::Message, key, nonce, ad, msg, &mut text);
+    (text, tag)
 }
 
 /// The tag that fits a ciphertext, whatever the message behind it. Every length is right.

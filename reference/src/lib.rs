@@ -9,6 +9,8 @@
 pub mod aes;
 pub mod cham;
 pub mod comet;
+pub mod difference;
+pub mod reseal;
 pub mod search;
 pub mod session;
 pub mod shift;

@@ -31,10 +31,7 @@ impl Entry {
     fn body(&self, ring: &[u8]) -> Vec<u8> {
         let key = &ring[16 * self.key as usize..][..16];
         let nonce = &self.nonce[..comet::nonce_size(self.suite)];
-        let mut text = vec![0; self.message.len()];
-        let mut tag = vec![0; comet::block_size(self.suite)];
-        let number = comet::seal(self.suite, key, nonce, &self.ad, &self.message, &mut text, &mut tag);
-        assert_eq!(number, 0);
+        let (text, tag) = comet::specified(self.suite, key, nonce, &self.ad, &self.message);
         [self.ad.clone(), text, tag].concat()
     }
 }
@@ -61,6 +58,13 @@ pub fn row_at(row: usize) -> usize {
 impl Plan {
     pub fn new(entries: Vec<Entry>) -> Plan {
         Plan { edition: None, count: None, longer: 0, entries, gaps: vec![], tail: 0, patches: vec![] }
+    }
+
+    /// The same with another suite where a row has this one.
+    pub fn resuited(&self, from: u8, to: u8) -> Plan {
+        let mut plan = self.clone();
+        plan.entries.iter_mut().filter(|entry| entry.suite == from).for_each(|entry| entry.suite = to);
+        plan
     }
 
     /// The sealed file.

@@ -1,6 +1,6 @@
 //! Sealing while measuring (document 02, W2): start, associated data in parts, message in parts, end.
 
-use crate::comet::{block_size, by_suite, first, nonce_size, Cipher, State, Text, LIMIT};
+use crate::comet::{block_size, by_suite, first, is_retired, nonce_size, Cipher, State, Text, LIMIT, SEALED};
 
 /// Y and Z (Y in the first bytes), the bytes that are in no whole block yet, and how many bytes of associated data
 /// and of message have come. The message has begun once a byte of it has come.
@@ -33,9 +33,10 @@ fn filled(bytes: &[u8]) -> [u8; 16] {
 }
 
 impl Session {
-    /// Any value may arrive. One that names no suite or totals over the limits is over; any other is taken at its word.
+    /// Any value may arrive. One that names no suite that can be started, or totals over the limits, is over; any other
+    /// is taken at its word.
     fn is_over(&self) -> bool {
-        block_size(self.suite) == 0 || self.data > LIMIT || self.text > LIMIT
+        !SEALED.contains(&self.suite) || self.data > LIMIT || self.text > LIMIT
     }
 
     /// The bytes held back: of the associated data until the message begins, then of the message.
@@ -107,8 +108,8 @@ fn finish<const N: usize>(encrypt: impl Cipher<N>, session: Session, out: &mut [
 }
 
 pub fn start(suite: u8, key: &[u8], nonce: &[u8]) -> Step {
-    let table = [(1, block_size(suite) == 0), (2, key.len() != 16), (3, nonce.len() != nonce_size(suite))];
-    let number = first(&table);
+    let (key_fits, nonce_fits) = (key.len() == 16, nonce.len() == nonce_size(suite));
+    let number = first(&[(1, block_size(suite) == 0), (10, is_retired(suite)), (2, !key_fits), (3, !nonce_fits)]);
     if number != 0 {
         return OVER.refused(number);
     }

@@ -21,6 +21,7 @@ fn u32_at(file: &[u8], at: usize) -> u32 {
 }
 
 /// A row of the table of contents.
+#[derive(Clone, Copy)]
 pub struct Row {
     pub job: u32,
     pub suite: u8,
@@ -50,6 +51,10 @@ impl Row {
         self.offset + self.ad + self.message + comet::block_size(self.suite)
     }
 
+    pub fn body(&self) -> Range<usize> {
+        self.offset..self.end()
+    }
+
     pub fn associated(&self) -> Range<usize> {
         self.offset..self.offset + self.ad
     }
@@ -68,7 +73,7 @@ impl Row {
     }
 
     /// Two rows clash if suite, key number and the nonce bytes that the suite reads are all equal.
-    fn clashes(&self, other: &Row) -> bool {
+    pub fn clashes(&self, other: &Row) -> bool {
         (self.suite, self.key, self.nonce()) == (other.suite, other.key, other.nonce())
     }
 

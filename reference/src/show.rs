@@ -16,6 +16,11 @@ pub fn fold(bytes: &[u8]) -> String {
     format!("{sum:08x}")
 }
 
+/// Every number of a list, a space before each.
+pub fn list(numbers: &[u32]) -> String {
+    numbers.iter().map(|number| format!(" {number}")).collect()
+}
+
 /// In hex up to 64 bytes, else the length and the fold.
 pub fn shown(bytes: &[u8]) -> String {
     if bytes.len() <= 64 {

@@ -1,7 +1,7 @@
 //! Random and edge inputs for the comparison with the proved library.
 
 use crate::calls::{Call, FileCall, FILLER};
-use crate::comet::{block_size, LIMIT};
+use crate::comet::{block_size, is_retired, LIMIT, SUITES};
 use crate::data::{cases, files, samples};
 use crate::plan::row_at;
 use crate::random::Random;
@@ -9,7 +9,7 @@ use crate::shift;
 
 /// Each pair of lengths from 0 to 3 blocks + 1 under each suite: sealed, opened, and opened with one bit wrong.
 pub fn lengths(random: &mut Random, mut each: impl FnMut(&Call)) {
-    for suite in 1..=4 {
+    for suite in SUITES {
         let all = 3 * block_size(suite) + 2;
         for (ad, message) in (0..all * all).map(|i| (i / all, i % all)) {
             let sealing = cases::sealing(random, suite, ad, message);
@@ -32,9 +32,10 @@ fn damaged(random: &mut Random, mut call: Call) -> Call {
 
 /// Each number's fault alone and in all pairs, in all kinds, for the sealer and the opener of each suite.
 pub fn faults(random: &mut Random, mut each: impl FnMut(&Call)) {
-    for (suite, opens) in (1..=4).flat_map(|suite| [(suite, false), (suite, true)]) {
-        let last = if opens { 8 } else { 7 };
-        for (first, second) in (1..=last).flat_map(|first| (first..=last).map(move |second| (first, second))) {
+    for (suite, opens) in SUITES.into_iter().flat_map(|suite| [(suite, false), (suite, true)]) {
+        let numbers = if opens { [1, 2, 3, 4, 5, 6, 7, 8] } else { [1, 10, 2, 3, 4, 5, 6, 7] };
+        let pairs = (0..8).flat_map(|first| (first..8).map(move |second| (numbers[first], numbers[second])));
+        for (first, second) in pairs {
             for turn in 0..5 {
                 let message = 1 + random.below(40);
                 let sealing = cases::sealing(random, suite, 5, message);
@@ -52,7 +53,7 @@ pub fn faults(random: &mut Random, mut each: impl FnMut(&Call)) {
 /// Lengths around the limit of associated data and message: sealed, opened, and opened with one bit wrong.
 pub fn limits(random: &mut Random, mut each: impl FnMut(&Call)) {
     let around = [LIMIT - 1, LIMIT, LIMIT + 1];
-    for suite in 1..=4 {
+    for suite in SUITES {
         for (ad, message) in around.iter().flat_map(|long| [(*long, 9), (5, *long), (*long, *long)]) {
             let sealing = cases::sealing(random, suite, ad, message);
             each(&sealing);
@@ -80,10 +81,10 @@ fn length(random: &mut Random) -> usize {
 /// Records of random lengths; half of them opened, of these half damaged; one in eight with a fault or two.
 pub fn records(random: &mut Random, count: usize, mut each: impl FnMut(&Call)) {
     for _ in 0..count {
-        let suite = 1 + random.below(4) as u8;
+        let suite = SUITES[random.below(SUITES.len())];
         let (ad, message) = (length(random), length(random));
         let mut call = cases::sealing(random, suite, ad, message);
-        if random.below(2) == 0 {
+        if random.below(2) == 0 || is_retired(suite) {
             call = call.reopened();
             if random.below(2) == 0 {
                 call = damaged(random, call);

@@ -4,11 +4,11 @@ use crate::comet;
 use crate::shift::{check_as, rows, Answer, RING};
 
 /// Numbers 2 and 6: the ring's length, and that of an output that must be as long as the input.
-fn refuse_lengths(ring: &[u8], input: &[u8], out: &[u8]) -> u32 {
+pub(crate) fn refuse_lengths(ring: &[u8], input: &[u8], out: &[u8]) -> u32 {
     comet::first(&[(2, ring.len() != RING), (6, out.len() != input.len())])
 }
 
-/// Seals a draft: the checks with edition 0, 33, 2, 6. On a refusal `out` is unchanged.
+/// Seals a draft: the checks with edition 0, 33, 10 with the first row of a retired suite, 2, 6. On a refusal `out` is unchanged.
 pub fn seal_file(draft: &[u8], ring: &[u8], out: &mut [u8]) -> Answer {
     let (number, row) = check_as(draft, &[0]);
     if number != 0 {
@@ -17,6 +17,9 @@ pub fn seal_file(draft: &[u8], ring: &[u8], out: &mut [u8]) -> Answer {
     let rows = rows(draft);
     if let Some(i) = rows.iter().position(|row| draft[row.tag()].iter().any(|byte| *byte != 0)) {
         return (33, i as u32);
+    }
+    if let Some(i) = rows.iter().position(|row| comet::is_retired(row.suite)) {
+        return (10, i as u32);
     }
     let number = refuse_lengths(ring, draft, out);
     if number != 0 {

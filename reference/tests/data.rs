@@ -1,7 +1,7 @@
 //! The data of the test programs: it provokes every number, and the repository's files are what is generated.
 
 use reference::calls::{Case, REFERENCE};
-use reference::data::{cases, files, parts, searching, sessions, writing, FOLDERS};
+use reference::data::{cases, comparing, files, parts, resealing, searching, sessions, writing, FOLDERS};
 use reference::random::Random;
 use reference::trials;
 use std::collections::BTreeSet;
@@ -13,7 +13,7 @@ fn cases_provoke_every_number() {
         let calls = cases::calls().into_iter().filter(|call| call.opens == opens);
         calls.map(|call| call.answer(&REFERENCE).number).collect()
     };
-    assert_eq!(numbers(false), (0..=7).collect());
+    assert_eq!(numbers(false), [10].into_iter().chain(0..=7).collect());
     assert_eq!(numbers(true), (0..=8).collect());
 }
 
@@ -30,7 +30,7 @@ fn files_provoke_every_number() {
 fn sessions_provoke_every_number() {
     let numbers: BTreeSet<u32> =
         sessions::runs().iter().flat_map(|run| run.answer(&REFERENCE)).map(|step| step.number).collect();
-    assert_eq!(numbers, [9].into_iter().chain(0..=7).collect());
+    assert_eq!(numbers, [9, 10].into_iter().chain(0..=7).collect());
 }
 
 #[test]
@@ -39,7 +39,7 @@ fn writing_provokes_every_number() {
         let calls = writing::calls().into_iter().filter(|call| call.pass == pass);
         calls.map(|call| call.answer(&REFERENCE).answer.0).collect()
     };
-    assert_eq!(numbers(writing::Pass::Seal), [0, 2, 6, 33, 34].into_iter().chain(20..=31).collect());
+    assert_eq!(numbers(writing::Pass::Seal), [0, 2, 6, 10, 33, 34].into_iter().chain(20..=31).collect());
     assert_eq!(numbers(writing::Pass::Unseal), [0, 2, 6, 8, 34].into_iter().chain(20..=31).collect());
 }
 
@@ -49,6 +49,23 @@ fn searching_provokes_every_number() {
     let numbers: BTreeSet<u32> = answers.iter().map(|((number, _), _)| *number).collect();
     assert_eq!(numbers, [0, 32].into_iter().chain(20..=24).collect());
     assert_eq!(answers.iter().map(|(_, looked)| *looked).max(), Some(10));
+}
+
+#[test]
+fn resealing_provokes_every_number() {
+    let numbers: BTreeSet<u32> = resealing::calls().iter().map(|call| call.answer(&REFERENCE).answer.0).collect();
+    assert_eq!(numbers, [0, 2, 6, 8, 34].into_iter().chain(20..=31).collect());
+}
+
+#[test]
+fn comparing_provokes_every_number() {
+    let answers: Vec<_> = comparing::calls().iter().map(|call| call.answer(&REFERENCE).answer).collect();
+    let numbers = |file: u32| -> BTreeSet<u32> {
+        answers.iter().filter(|answer| answer.file == file).map(|answer| answer.number).collect()
+    };
+    assert_eq!(numbers(0), [0, 36].into());
+    assert_eq!(numbers(1), [34].into_iter().chain(20..=31).collect());
+    assert_eq!(numbers(2), numbers(1));
 }
 
 /// The random files of the comparison are of all kinds too.

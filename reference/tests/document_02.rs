@@ -1,11 +1,13 @@
 //! What document 02 says of each request, at its edges.
 
-use reference::comet::seal;
+use reference::comet::{open, seal, specified};
 use reference::data::{files, samples};
+use reference::difference::{compare, printed, PROGRAM_LONGEST};
 use reference::plan::{Entry, Plan};
+use reference::reseal::reseal;
 use reference::search::search;
 use reference::session::{data, end, part, start, OVER};
-use reference::shift::{check, lookup, rows};
+use reference::shift::{check, lookup, open_job, rows};
 use reference::writer::{seal_file, unseal_file};
 
 mod w2 {
@@ -181,5 +183,134 @@ mod w6 {
         assert_eq!((check(&file).0, search(&file, 30)), (26, ((0, 3), 2)));
         file[0] = 3;
         assert_eq!(search(&file, 30), ((21, 0), 0));
+    }
+}
+
+mod w7 {
+    use super::*;
+
+    /// 10 stands just after 1 and writes nothing; the opener takes suite 4 as before.
+    #[test]
+    fn sealing_under_suite_4() {
+        let (mut out, mut tag) = ([7; 9], [7; 8]);
+        assert_eq!(seal(4, &[], &[], &[], &[0; 9], &mut out, &mut tag), 10);
+        assert_eq!(seal(4, &[1; 16], &[2; 15], b"ad", &[3; 9], &mut out, &mut tag), 10);
+        assert_eq!((out, tag), ([7; 9], [7; 8]));
+        let (text, tag) = specified(4, &[1; 16], &[2; 15], b"ad", &[3; 9]);
+        assert_eq!(open(4, &[1; 16], &[2; 15], b"ad", &text, &tag, &mut out), 0);
+        assert_eq!(out, [3; 9]);
+        assert_eq!(open(4, &[1; 15], &[2; 15], b"ad", &text, &tag, &mut out), 2);
+    }
+
+    /// A start under suite 4 is 10, and its session over; so is a session of suite 4 that somebody built.
+    #[test]
+    fn sessions() {
+        let step = start(4, &[], &[]);
+        assert_eq!((step.number, step.next), (10, OVER));
+        let built = reference::session::Session { suite: 4, ..start(3, &[1; 16], &[2; 15]).next };
+        assert_eq!(data(built, b"ad").number, 9);
+        assert_eq!(part(built, b"message", &mut [0; 20]).number, 9);
+        assert_eq!(end(built, &mut [0; 8], &mut [0; 8]).number, 9);
+    }
+
+    /// Jobs 10 and 30 of three rows have suites 3 and 4.
+    #[test]
+    fn a_draft() {
+        let (ring, mut draft) = (samples::ring(), files::three_rows().draft());
+        let mut out = vec![7; draft.len()];
+        assert_eq!(seal_file(&draft, &[], &mut out), (10, 2));
+        assert!(out.iter().all(|byte| *byte == 7));
+        *draft.last_mut().unwrap() = 1;
+        assert_eq!(seal_file(&draft, &ring, &mut out), (33, 2));
+    }
+
+    /// Only the entry of suite 4 changes: its suite, its text and its tag; its message stays.
+    #[test]
+    fn resealing() {
+        let (ring, file) = (samples::ring(), files::three_rows().file(&samples::ring()));
+        let mut out = vec![7; file.len()];
+        assert_eq!(reseal(&file, &ring, &mut out), (0, 0));
+        let row = rows(&file)[2];
+        let mut kept = out.clone();
+        kept[8 + 2 * 32 + 4] = 4;
+        kept[row.text().start..].copy_from_slice(&file[row.text().start..]);
+        assert!(kept == file && check(&out) == (0, 0));
+        let mut message = [0; 11];
+        assert_eq!((open_job(&out, &ring, 30, &mut message), &message), ((0, 0), b"thirty jobs"));
+        let mut again = vec![7; file.len()];
+        assert_eq!(reseal(&out, &ring, &mut again), (0, 0));
+        assert_eq!(again, out);
+    }
+
+    #[test]
+    fn refusals() {
+        let (ring, mut file) = (samples::ring(), files::three_rows().file(&samples::ring()));
+        let mut out = vec![7; file.len()];
+        *file.last_mut().unwrap() ^= 1;
+        let elsewhere = rows(&file)[1].tag().start;
+        file[elsewhere] ^= 1;
+        assert_eq!(reseal(&file, &[], &mut []), (2, 0));
+        assert_eq!(reseal(&file, &ring, &mut []), (6, 0));
+        assert_eq!(reseal(&file, &ring, &mut out), (8, 2));
+        assert!(out.iter().all(|byte| *byte == 0));
+        let clash = [(10, 3), (20, 1), (30, 4)].map(|(job, suite)| Entry::new(job, suite, 0, 1, [9; 16], b""));
+        assert_eq!(reseal(&Plan::new(clash.to_vec()).file(&ring), &[], &mut []), (29, 2));
+    }
+}
+
+mod w8 {
+    use super::*;
+
+    fn of_jobs(jobs: &[u32]) -> Vec<u8> {
+        let entry = |job: &u32| Entry::new(*job, 3, 0, 1, [*job as u8; 16], b"message");
+        Plan::new(jobs.iter().map(entry).collect()).file(&samples::ring())
+    }
+
+    /// Places behind a count stay; a list that is too short is 36, and nothing is written.
+    #[test]
+    fn lists() {
+        let (first, second) = (of_jobs(&[1, 2, 3, 5]), of_jobs(&[2, 3, 4]));
+        let (mut one, mut other, mut both) = ([9; 3], [9; 1], [9; 0]);
+        let answer = compare(&first, &second, [&mut one, &mut other, &mut both]);
+        assert_eq!((answer.number, answer.counts, one, other), (0, [2, 1, 0], [1, 5, 9], [4]));
+        let mut short = [9; 1];
+        let answer = compare(&first, &second, [&mut short, &mut other, &mut both]);
+        assert_eq!((answer.number, answer.file, answer.counts, short), (36, 0, [0; 3], [9]));
+    }
+
+    /// A body that lies elsewhere is the same; one bit of a tag is not.
+    #[test]
+    fn offsets_do_not_count() {
+        let (first, mut second) = (of_jobs(&[1, 2, 3]), of_jobs(&[2, 3]));
+        assert_eq!(printed(&first, &second), "first\n1\nsecond\ndiffer\n");
+        *second.last_mut().unwrap() ^= 1;
+        assert_eq!(printed(&first, &second), "first\n1\nsecond\ndiffer\n3\n");
+    }
+
+    #[test]
+    fn the_program() {
+        let (good, empty) = (of_jobs(&[7]), of_jobs(&[]));
+        assert_eq!(printed(&empty, &empty), "first\nsecond\ndiffer\n");
+        assert_eq!(printed(&[], &good), "refused 1 20 0\n");
+        assert_eq!(printed(&good, &[]), "refused 2 20 0\n");
+        let mut faulty = of_jobs(&[7, 8]);
+        faulty[8 + 32 + 4] = 9;
+        assert_eq!(printed(&good, &faulty), "refused 2 26 1\n");
+        assert_eq!(printed(&faulty, &[]), "refused 1 26 1\n");
+        assert_eq!(printed(&faulty, &vec![0; PROGRAM_LONGEST + 1]), "refused 1 26 1\n");
+        assert_eq!(printed(&good, &vec![0; PROGRAM_LONGEST + 1]), "refused 2 20 0\n");
+    }
+
+    /// 65,280 bytes are taken by the program, one more is 20; the library has the format's own limit.
+    #[test]
+    fn the_programs_limit() {
+        let of_length = |length: usize| {
+            let message = vec![0; length - 8 - 32 - 5 - 8];
+            Plan::new(vec![Entry::new(7, 3, 0, 1, [0; 16], &message)]).file(&samples::ring())
+        };
+        let (longest, longer) = (of_length(PROGRAM_LONGEST), of_length(PROGRAM_LONGEST + 1));
+        assert_eq!(printed(&longest, &longest), "first\nsecond\ndiffer\n");
+        assert_eq!(printed(&longer, &longest), "refused 1 20 0\n");
+        assert_eq!(compare(&longer, &longer, [&mut [], &mut [], &mut []]).number, 0);
     }
 }

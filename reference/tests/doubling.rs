@@ -3,9 +3,14 @@
 
 use std::path::Path;
 use std::process::Command;
+use std::sync::Mutex;
+
+/// The kit works in one folder: it is asked one thing at a time.
+static KIT: Mutex<()> = Mutex::new(());
 
 /// What `tools/branches` counts in a function, or None where there is no kit.
 fn decisions(name: &str, function: &str) -> Option<u32> {
+    let _alone = KIT.lock().unwrap();
     Command::new("rt").arg("version").output().ok()?;
     let script = Path::new(env!("CARGO_MANIFEST_DIR")).join("../tools/branches");
     let output = Command::new(script).args([name, function]).output().expect("tools/branches");

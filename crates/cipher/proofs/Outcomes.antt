@@ -13,6 +13,8 @@ use Rattle.columns.proofs.Table.{table-only}
 use Rattle.cipher.specs.Cipher.{Full, sizeOf}
 use Rattle.cipher.proofs.is_suite.Kinds as is-suite-kinds
 use Rattle.cipher.proofs.is_suite.Reads as is-suite-reads
+use Rattle.cipher.proofs.seals.Kinds as seals-kinds
+use Rattle.cipher.proofs.seals.Reads as seals-reads
 use Rattle.cipher.proofs.size_of.Kinds as size-of-kinds
 use Rattle.cipher.proofs.size_of.Reads as size-of-reads
 use Rattle.cipher.proofs.nonce_size.Kinds as nonce-size-kinds
@@ -38,6 +40,9 @@ same-lent s t p q = ext-getD [] s t (p .0 ∙ sym (q .0)) (λ i h. first i (omeg
 
 pub is-suite : OneOutcome is-suite-kinds.ps is-suite-kinds.r is-suite-reads.Pre is-suite-reads.Post
 is-suite κs a h x y = (x .ensures ∙ sym (y .ensures), refl)
+
+pub seals : OneOutcome seals-kinds.ps seals-kinds.r seals-reads.Pre seals-reads.Post
+seals κs a h x y = (x .ensures ∙ sym (y .ensures), refl)
 
 pub size-of : OneOutcome size-of-kinds.ps size-of-kinds.r size-of-reads.Pre size-of-reads.Post
 size-of κs a h x y = (x .ensures .0 ∙ sym (y .ensures .0), refl)

@@ -1,17 +1,18 @@
 -- The facts of a suite: what every line of the table has, and the line that a test leads to.
 use mathlib.Core.Path.{_≡_, refl, sym, ap, _∙_, subst}
-use mathlib.Core.Bool.{Bool, true, false, cond}
+use mathlib.Core.Bool.{Bool, true, false, cond, not}
 use mathlib.Core.List.{List, []}
 use mathlib.Core.Logic.{_⊎_, inl, inr}
 use Prim.Native.Nat.{ℕ, _≤_, _<_}
 use native.Mathlib.Omega.{arith}
 use native.Mathlib.Decide.{decLe}
-use lib.Dec.{T, leb}
-use borrow.Author.Tests.{leb-true, leb-false, le-leb, lt-leb}
+use lib.Dec.{T, leb, eqb}
+use borrow.Author.Tests.{leb-true, leb-false, le-leb, lt-leb, eqb-true, not-false}
+use Rattle.words.proofs.Same.{and-true}
 use Rattle.fips197.specs.Cipher.{cipher}
 use Rattle.cham.specs.Cham.{cham}
 use Rattle.speck.specs.Speck.{speck}
-use Rattle.cipher.specs.Cipher.{Facts, facts, factsOf, sizeOf, nonceOf, engineOf, lends, Ready}
+use Rattle.cipher.specs.Cipher.{Facts, facts, factsOf, isSuite, IsSuite, retired, seals, Seals, sizeOf, nonceOf, engineOf, lends, Ready}
 
 abbrev pub Engine : Type 0
 Engine = List ℕ → List ℕ → List ℕ
@@ -41,6 +42,17 @@ shaped =
     each Shaped
     (inl (record { block = refl; nonce = refl; tag = refl })) (inl (record { block = refl; nonce = refl; tag = refl }))
     (inr (record { block = refl; nonce = refl; tag = refl })) (inr (record { block = refl; nonce = refl; tag = refl }))
+
+-- ---- a suite that seals
+
+pub seals-has : (s : ℕ) → Seals s → IsSuite s
+unfolding seals
+seals-has s h = and-true (isSuite s) (not (retired s)) h .0
+
+-- of the suites that we have, the fourth alone does not seal
+pub only-four : (s : ℕ) → IsSuite s → seals s ≡ false → s ≡ 4
+unfolding seals retired
+only-four s h e = eqb-true s 4 (not-false (eqb s 4) (sym (simp h) ∙ e))
 
 -- ---- sizes
 

@@ -3,10 +3,10 @@ use mathlib.Core.Path.{_≡_}
 use mathlib.Core.List.{List, []}
 use mathlib.Core.Logic.{_⊎_}
 use Prim.Native.Nat.{ℕ}
-use lib.Dec.{leb}
+use lib.Dec.{leb, eqb}
 use lib.ListN.{length, getD}
 use Rattle.words.specs.Bytes.{AllBytes}
-use mathlib.Core.Bool.{Bool, true, cond, _&&_}
+use mathlib.Core.Bool.{Bool, true, cond, not, _&&_}
 use Rattle.fips197.specs.Cipher.{cipher}
 use Rattle.columns.specs.Tables.{IsTables}
 use Rattle.cham.specs.Cham.{cham}
@@ -52,6 +52,17 @@ isSuite s = leb 1 s && leb s 4
 
 abbrev pub IsSuite : ℕ → Type 0
 IsSuite s = isSuite s ≡ true
+
+-- suite 4 is retired (document 02, W7): it still opens, and seals no more
+unfoldable pub retired : ℕ → Bool
+retired s = eqb s 4
+
+-- a suite that seals: one that we have, and that is not retired
+unfoldable pub seals : ℕ → Bool
+seals s = isSuite s && not (retired s)
+
+abbrev pub Seals : ℕ → Type 0
+Seals s = seals s ≡ true
 
 -- the bytes of a suite's block, and of its nonce
 unfoldable pub sizeOf : ℕ → ℕ

@@ -10,7 +10,7 @@ ghost use Rattle.words.specs.Blocks.{wide};
 ghost use Rattle.fips197.specs.Cipher.{cipher};
 ghost use Rattle.cham.specs.Cham.{cham};
 ghost use Rattle.speck.specs.Speck.{speck};
-ghost use Rattle.cipher.specs.Cipher.{lends, Full, Ready, isSuite, IsSuite, sizeOf, nonceOf, cipherOf};
+ghost use Rattle.cipher.specs.Cipher.{lends, Full, Ready, isSuite, IsSuite, seals, sizeOf, nonceOf, cipherOf};
 
 // Whether we have the suite.
 pub fn is_suite(suite: u8) -> bool
@@ -20,6 +20,16 @@ pub fn is_suite(suite: u8) -> bool
         return false;
     }
     suite <= 4
+}
+
+// Whether the suite seals: suite 4 is retired.
+pub fn seals(suite: u8) -> bool
+    ensures { λ r. ⌜ r ≡ seals suite ⌝ }
+{
+    if !is_suite(suite) {
+        return false;
+    }
+    suite != 4
 }
 
 // The suite's block size.

@@ -4,7 +4,7 @@ use mathlib.Core.List.{List}
 use Prim.Native.Nat.{ℕ, zero, suc}
 use Rattle.words.specs.Outcome.{OneOutcome}
 use Rattle.comet.specs.declared.Verdict.{Verdict}
-use Rattle.comet.specs.declared.Verdict.the-variants.{Done, Suite, Key, Nonce, Data, Text, Room, Tag, Forged}
+use Rattle.comet.specs.declared.Verdict.the-variants.{Done, Suite, Key, Nonce, Data, Text, Room, Tag, Forged, Retired}
 use Rattle.comet.specs.Answers.{numberOf, Sealed, Opened}
 use Rattle.comet.proofs.Verdict.number.Kinds as number-kinds
 use Rattle.comet.proofs.Verdict.number.Reads as number-reads
@@ -22,7 +22,8 @@ answerOf (suc (suc (suc (suc zero)))) = Data
 answerOf (suc (suc (suc (suc (suc zero))))) = Text
 answerOf (suc (suc (suc (suc (suc (suc zero)))))) = Room
 answerOf (suc (suc (suc (suc (suc (suc (suc zero))))))) = Tag
-answerOf (suc (suc (suc (suc (suc (suc (suc (suc n)))))))) = Forged
+answerOf (suc (suc (suc (suc (suc (suc (suc (suc zero)))))))) = Forged
+answerOf (suc (suc (suc (suc (suc (suc (suc (suc (suc n))))))))) = Retired
 
 answer-back : (a : Verdict) → answerOf (numberOf a) ≡ a
 unfolding answerOf
@@ -35,6 +36,7 @@ answer-back Text = refl
 answer-back Room = refl
 answer-back Tag = refl
 answer-back Forged = refl
+answer-back Retired = refl
 
 pub number-tells : (a b : Verdict) → numberOf a ≡ numberOf b → a ≡ b
 number-tells a b e = sym (answer-back a) ∙ ap answerOf e ∙ answer-back b

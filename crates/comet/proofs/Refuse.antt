@@ -1,23 +1,23 @@
 -- What the first number that applies tells: 0 that every length is right, any other that the buffers stay.
 use mathlib.Core.Path.{_≡_, refl, sym, ap, ap₂, _∙_}
-use mathlib.Core.Bool.{Bool, true, false, not}
-use mathlib.Core.Logic.{inl, inr}
+use mathlib.Core.Bool.{Bool, true, false, not, cond}
+use mathlib.Core.Logic.{_⊎_, inl, inr}
 use Prim.Native.Nat.{ℕ, zero, suc, _≤_, _<_}
-use native.Mathlib.Nat.{not-suc-le-zero}
+use native.Mathlib.Nat.{not-suc-le-zero, suc-ne-zero}
 use native.Mathlib.Omega.{arith}
 use mathlib.Core.List.{List, [], _∷_}
 use lib.ListN.{length}
 use lib.Dec.{ltb, eqb, lit<}
 use borrow.Author.Tests.{ltb-false, eqb-true, le-ltb, eq-eqb, not-false}
 use denote.Enum.Declared
-use types.Run.{OneOf}
+use types.Run.{OneOf, miss}
 use Rattle.words.proofs.Ladder.{not-taken, rung}
 use Rattle.words.specs.Bytes.{sameBytes}
 use Rattle.cipher.specs.Cipher.{isSuite, IsSuite, sizeOf, nonceOf, cipherOf}
 use Rattle.mode.specs.Mode.{ciphertext, tag, textOut, tagOut}
-use Rattle.comet.specs.Answers.{numberOf, refusal, Sealed, sealedAs, sealing, Opened, openedAs, opening}
+use Rattle.comet.specs.Answers.{numberOf, takes, refusal, Sealed, sealedAs, sealing, Opened, openedAs, opening}
 use Rattle.comet.specs.declared.Verdict.{Verdict}
-use Rattle.comet.specs.declared.Verdict.the-variants.{Done, Suite, Key, Nonce, Data, Text, Room, Tag, Forged}
+use Rattle.comet.specs.declared.Verdict.the-variants.{Done, Suite, Key, Nonce, Data, Text, Room, Tag, Forged, Retired}
 use Rattle.comet.proofs.Verdict.{the-type}
 
 -- the suite and every length are right
@@ -30,11 +30,12 @@ pub record Passed (s k v a t o g : ℕ) : Type 0 where
   pub room : o ≡ t
   pub tag : g ≡ sizeOf s
 
-pub passed : (s k v a t o g : ℕ) → refusal s k v a t o g ≡ 0 → Passed s k v a t o g
+pub passed : (d : Bool) (s k v a t o g : ℕ) → refusal d s k v a t o g ≡ 0 → Passed s k v a t o g
 unfolding refusal
-passed s k v a t o g e =
+passed d s k v a t o g e =
     let p1 = not-taken (not (isSuite s)) 1 _ (lit< tt) e in
-    let p2 = not-taken (not (eqb k 16)) 2 _ (lit< tt) (p1 .1) in
+    let p10 = not-taken (not (takes d s)) 10 _ (lit< tt) (p1 .1) in
+    let p2 = not-taken (not (eqb k 16)) 2 _ (lit< tt) (p10 .1) in
     let p3 = not-taken (not (eqb v (nonceOf s))) 3 _ (lit< tt) (p2 .1) in
     let p4 = not-taken (ltb 65536 a) 4 _ (lit< tt) (p3 .1) in
     let p5 = not-taken (ltb 65536 t) 5 _ (lit< tt) (p4 .1) in
@@ -50,11 +51,12 @@ passed s k v a t o g e =
       tag = eqb-true g (sizeOf s) (not-false (eqb g (sizeOf s)) (p7 .0));
     }
 
-pub none-bad : (s k v a t o g : ℕ) → Passed s k v a t o g → refusal s k v a t o g ≡ 0
+pub none-bad : (d : Bool) (s k v a t o g : ℕ) → takes d s ≡ true → Passed s k v a t o g → refusal d s k v a t o g ≡ 0
 unfolding refusal
-none-bad s k v a t o g p =
+none-bad d s k v a t o g h p =
     simp (
       p .suite,
+      h,
       eq-eqb k 16 (p .key),
       eq-eqb v (nonceOf s) (p .nonce),
       le-ltb 65536 a (p .extra),
@@ -63,40 +65,50 @@ none-bad s k v a t o g p =
       eq-eqb g (sizeOf s) (p .tag),
     )
 
--- no number above 7
-pub refusal-most : (s k v a t o g : ℕ) → refusal s k v a t o g ≤ 7
+-- no number above 7 but 10, and that for sealing alone, of a suite that does not seal
+abbrev Most : Bool → ℕ → ℕ → Type 0
+Most d s x = (x ≤ 7) ⊎ ((x ≡ 10) × IsSuite s × (takes d s ≡ false))
+
+pub refusal-most : (d : Bool) (s k v a t o g : ℕ) → Most d s (refusal d s k v a t o g)
 unfolding refusal
-refusal-most s k v a t o g =
-    rung (λ j. j ≤ 7) (not (isSuite s)) 1 _ (omega arith)
+refusal-most d s k v a t o g =
+    rungs (isSuite s) (takes d s) refl refl _
     (rung (λ j. j ≤ 7) (not (eqb k 16)) 2 _ (omega arith)
     (rung (λ j. j ≤ 7) (not (eqb v (nonceOf s))) 3 _ (omega arith)
     (rung (λ j. j ≤ 7) (ltb 65536 a) 4 _ (omega arith)
     (rung (λ j. j ≤ 7) (ltb 65536 t) 5 _ (omega arith)
     (rung (λ j. j ≤ 7) (not (eqb o t)) 6 _ (omega arith)
     (rung (λ j. j ≤ 7) (not (eqb g (sizeOf s))) 7 _ (omega arith) (omega arith)))))))
+  where
+    rungs : (b c : Bool) → isSuite s ≡ b → takes d s ≡ c → (r : ℕ) → r ≤ 7 → Most d s (cond (not b) 1 (cond (not c) 10 r))
+    rungs false c eb ec r h = inl (omega arith)
+    rungs true false eb ec r h = inr (refl, eb, ec)
+    rungs true true eb ec r h = inl h
 
--- the number is the variant's place
-pub place-is : (a : Verdict) → Declared.tagOf the-type a ≡ numberOf a
-place-is Done = refl
-place-is Suite = refl
-place-is Key = refl
-place-is Nonce = refl
-place-is Data = refl
-place-is Text = refl
-place-is Room = refl
-place-is Tag = refl
-place-is Forged = refl
+-- Done alone has number 0
+pub done-zero : (a : Verdict) → Declared.tagOf the-type a ≡ 0 → numberOf a ≡ 0
+done-zero Done e = refl
+done-zero Suite e = absurd (suc-ne-zero _ e)
+done-zero Key e = absurd (suc-ne-zero _ e)
+done-zero Nonce e = absurd (suc-ne-zero _ e)
+done-zero Data e = absurd (suc-ne-zero _ e)
+done-zero Text e = absurd (suc-ne-zero _ e)
+done-zero Room e = absurd (suc-ne-zero _ e)
+done-zero Tag e = absurd (suc-ne-zero _ e)
+done-zero Forged e = absurd (suc-ne-zero _ e)
+done-zero Retired e = absurd (suc-ne-zero _ e)
 
--- one of 1 to 8 is above 0
-pub one-of-pos : (x : ℕ) → OneOf (1 ∷ 2 ∷ 3 ∷ 4 ∷ 5 ∷ 6 ∷ 7 ∷ 8 ∷ []) x → 0 < x
-one-of-pos x (inl e) = omega arith
-one-of-pos x (inr (inl e)) = omega arith
-one-of-pos x (inr (inr (inl e))) = omega arith
-one-of-pos x (inr (inr (inr (inl e)))) = omega arith
-one-of-pos x (inr (inr (inr (inr (inl e))))) = omega arith
-one-of-pos x (inr (inr (inr (inr (inr (inl e)))))) = omega arith
-one-of-pos x (inr (inr (inr (inr (inr (inr (inl e))))))) = omega arith
-one-of-pos x (inr (inr (inr (inr (inr (inr (inr e))))))) = omega arith
+pub other-some : (a : Verdict) → OneOf (1 ∷ 2 ∷ 3 ∷ 4 ∷ 5 ∷ 6 ∷ 7 ∷ 8 ∷ 9 ∷ []) (Declared.tagOf the-type a) → 0 < numberOf a
+other-some Done k = absurd (miss (1 ∷ 2 ∷ 3 ∷ 4 ∷ 5 ∷ 6 ∷ 7 ∷ 8 ∷ 9 ∷ []) 0 tt k)
+other-some Suite k = lit< tt
+other-some Key k = lit< tt
+other-some Nonce k = lit< tt
+other-some Data k = lit< tt
+other-some Text k = lit< tt
+other-some Room k = lit< tt
+other-some Tag k = lit< tt
+other-some Forged k = lit< tt
+other-some Retired k = lit< tt
 
 -- ---- the sealer
 
@@ -104,7 +116,7 @@ as-kept : (n : ℕ) (x y o t : List ℕ) → 0 < n → _≡_ {A = Sealed} (recor
 as-kept zero x y o t h = absurd (not-suc-le-zero h)
 as-kept (suc j) x y o t h = refl
 
-module _ (s : ℕ) (k v a m o t : List ℕ) (n : ℕ) (e : n ≡ refusal s (length k) (length v) (length a) (length m) (length o) (length t)) where
+module _ (s : ℕ) (k v a m o t : List ℕ) (n : ℕ) (e : n ≡ refusal false s (length k) (length v) (length a) (length m) (length o) (length t)) where
   abbrev at : ℕ → Sealed
   at j = sealedAs j (ciphertext (cipherOf s) k v a m) (tag (cipherOf s) k v a m) o t
 
@@ -131,7 +143,7 @@ pub tag-right : (b : Bool) (text out : List ℕ) → openedAs 0 b text out .numb
 tag-right true text out z = refl
 tag-right false text out z = absurd (omega arith)
 
-module _ (s : ℕ) (k v a c g o : List ℕ) (n : ℕ) (e : n ≡ refusal s (length k) (length v) (length a) (length c) (length o) (length g)) where
+module _ (s : ℕ) (k v a c g o : List ℕ) (n : ℕ) (e : n ≡ refusal true s (length k) (length v) (length a) (length c) (length o) (length g)) where
   pub opening-kept : 0 < n → _≡_ {A = Opened} (record { number = n; out = o }) (opening s k v a c g o)
   unfolding opening
   opening-kept h =

@@ -1,14 +1,14 @@
--- The numbers that sealer and opener give, and what they leave in every buffer (document 01, "Numbers given by sealer and opener").
-use mathlib.Core.Bool.{Bool, true, false, cond, not}
+-- The numbers that sealer and opener give, and what they leave in every buffer (document 01, "Numbers given by sealer and opener"; document 02, W7 for 10).
+use mathlib.Core.Bool.{Bool, true, false, cond, not, _||_}
 use Prim.Native.Nat.{ℕ, zero, suc}
 use mathlib.Core.List.{List}
 use lib.ListN.{length, replicate}
 use lib.Dec.{ltb, eqb}
 use Rattle.words.specs.Bytes.{sameBytes}
-use Rattle.cipher.specs.Cipher.{isSuite, sizeOf, nonceOf, cipherOf}
+use Rattle.cipher.specs.Cipher.{isSuite, seals, sizeOf, nonceOf, cipherOf}
 use Rattle.mode.specs.Mode.{ciphertext, tag, textOut, tagOut}
 use Rattle.comet.specs.declared.Verdict.{Verdict}
-use Rattle.comet.specs.declared.Verdict.the-variants.{Done, Suite, Key, Nonce, Data, Text, Room, Tag, Forged}
+use Rattle.comet.specs.declared.Verdict.the-variants.{Done, Suite, Key, Nonce, Data, Text, Room, Tag, Forged, Retired}
 
 -- the number of each answer
 abbrev pub numberOf : Verdict → ℕ
@@ -21,18 +21,24 @@ numberOf Text = 5
 numberOf Room = 6
 numberOf Tag = 7
 numberOf Forged = 8
+numberOf Retired = 10
 
--- numbers 1 to 7, from the suite and the lengths of key, nonce, associated data, text, output and tag: the first that applies, 0 where none does
-unfoldable pub refusal : ℕ → ℕ → ℕ → ℕ → ℕ → ℕ → ℕ → ℕ
-refusal suite key nonce ad text out tag =
+-- every suite that we have is opened, and one that seals is sealed
+abbrev pub takes : Bool → ℕ → Bool
+takes opening suite = opening || seals suite
+
+-- numbers 1, 10 and 2 to 7, from the suite and the lengths of key, nonce, associated data, text, output and tag: the first that applies, 0 where none does
+unfoldable pub refusal : Bool → ℕ → ℕ → ℕ → ℕ → ℕ → ℕ → ℕ → ℕ
+refusal opening suite key nonce ad text out tag =
     cond (not (isSuite suite)) 1
+    (cond (not (takes opening suite)) 10
     (cond (not (eqb key 16)) 2
     (cond (not (eqb nonce (nonceOf suite))) 3
     (cond (ltb 65536 ad) 4
     (cond (ltb 65536 text) 5
     (cond (not (eqb out text)) 6
     (cond (not (eqb tag (sizeOf suite))) 7
-    0))))))
+    0)))))))
 
 -- what a call of the sealer gives and leaves
 pub record Sealed : Type 0 where
@@ -47,7 +53,7 @@ sealedAs (suc j) text tag out₀ tag₀ = record { number = suc j; out = out₀;
 
 unfoldable pub sealing : ℕ → List ℕ → List ℕ → List ℕ → List ℕ → List ℕ → List ℕ → Sealed
 sealing s key nonce ad msg out₀ tag₀ =
-    sealedAs (refusal s (length key) (length nonce) (length ad) (length msg) (length out₀) (length tag₀))
+    sealedAs (refusal false s (length key) (length nonce) (length ad) (length msg) (length out₀) (length tag₀))
     (ciphertext (cipherOf s) key nonce ad msg) (tag (cipherOf s) key nonce ad msg) out₀ tag₀
 
 -- what a call of the opener gives and leaves
@@ -63,5 +69,5 @@ openedAs (suc j) right text out₀ = record { number = suc j; out = out₀ }
 
 unfoldable pub opening : ℕ → List ℕ → List ℕ → List ℕ → List ℕ → List ℕ → List ℕ → Opened
 opening s key nonce ad text tag out₀ =
-    openedAs (refusal s (length key) (length nonce) (length ad) (length text) (length out₀) (length tag))
+    openedAs (refusal true s (length key) (length nonce) (length ad) (length text) (length out₀) (length tag))
     (sameBytes (tagOut (cipherOf s) true key nonce ad text) tag) (textOut (cipherOf s) true key nonce ad text) out₀

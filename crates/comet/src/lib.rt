@@ -5,12 +5,14 @@ use words::block::Block;
 mod text;
 
 ghost use mathlib.Core.Path.{_≡_};
+ghost use mathlib.Core.Bool.{true, false, cond, not};
+ghost use lib.Dec.{ltb, eqb};
 ghost use lib.ListN.{length, take};
 ghost use Rattle.words.specs.Blocks.{wide};
 ghost use Rattle.cipher.specs.Cipher.{Ready, IsSuite, sizeOf, nonceOf, cipherOf};
 ghost use Rattle.mode.specs.Mode.{textOut, tagOut};
 ghost use Rattle.step.specs.Two.{Clean};
-ghost use Rattle.comet.specs.Answers.{numberOf, refusal, Sealed, sealing, Opened, opening};
+ghost use Rattle.comet.specs.Answers.{numberOf, takes, refusal, Sealed, sealing, Opened, opening};
 
 // What a call answers: Done, or why it refused.
 pub enum Verdict {
@@ -23,10 +25,11 @@ pub enum Verdict {
     Room,
     Tag,
     Forged,
+    Retired,
 }
 
 impl Verdict {
-    // The answer's number in document 01.
+    // The answer's number in documents 01 and 02.
     pub fn number(self) -> u8
         ensures { λ r. ⌜ r ≡ numberOf self ⌝ }
     {
@@ -40,32 +43,25 @@ impl Verdict {
             Verdict::Room => 6,
             Verdict::Tag => 7,
             Verdict::Forged => 8,
+            Verdict::Retired => 10,
         }
     }
 }
 
-// Numbers 1 to 7 in the order of the table, from the suite and the lengths of key, nonce, associated data, text, output and tag.
-fn refused(
-    suite: u8,
-    key: usize,
-    nonce: usize,
-    ad: usize,
-    text: usize,
-    out: usize,
-    tag: usize,
-) -> Verdict
-    ensures { λ r. ⌜ numberOf r ≡ refusal suite key nonce ad text out tag ⌝ }
+// Whether the suite, one that we have, is taken: it is always opened, and sealed if it seals.
+fn takes(opening: bool, suite: u8) -> bool
+    ensures { λ r. ⌜ r ≡ takes opening suite ⌝ }
 {
-    if !cipher::is_suite(suite) {
-        return Verdict::Suite;
+    if opening {
+        return true;
     }
-    if key != 16 {
-        return Verdict::Key;
-    }
-    let n = cipher::nonce_size(suite);
-    if nonce != n {
-        return Verdict::Nonce;
-    }
+    cipher::seals(suite)
+}
+
+// Numbers 4 to 7 in the order of the table: the ladder's lower half.
+fn texts_refused(suite: u8, ad: usize, text: usize, out: usize, tag: usize) -> Verdict
+    ensures { λ r. ⌜ numberOf r ≡ cond (ltb 65536 ad) 4 (cond (ltb 65536 text) 5 (cond (not (eqb out text)) 6 (cond (not (eqb tag (sizeOf suite))) 7 0))) ⌝ }
+{
     if 65536 < ad {
         return Verdict::Data;
     }
@@ -80,6 +76,37 @@ fn refused(
         return Verdict::Tag;
     }
     Verdict::Done
+}
+
+// Numbers 1, 10 and 2 to 7 in the order of the table, from the suite and the lengths of key, nonce, associated data, text, output and tag.
+fn refused(
+    opening: bool,
+    suite: u8,
+    key: usize,
+    nonce: usize,
+    ad: usize,
+    text: usize,
+    out: usize,
+    tag: usize,
+) -> Verdict
+    ensures { λ r. ⌜ numberOf r ≡ refusal opening suite key nonce ad text out tag ⌝ }
+{
+    let had = cipher::is_suite(suite);
+    let taken = takes(opening, suite);
+    if !had {
+        return Verdict::Suite;
+    }
+    if !taken {
+        return Verdict::Retired;
+    }
+    if key != 16 {
+        return Verdict::Key;
+    }
+    let n = cipher::nonce_size(suite);
+    if nonce != n {
+        return Verdict::Nonce;
+    }
+    texts_refused(suite, ad, text, out, tag)
 }
 
 // The text that goes out and the tag, once every length is right: the cipher is lent what it needs.
@@ -115,7 +142,7 @@ fn seal_with(
     out: &mut [u8],
     tag: &mut [u8],
 ) -> Verdict
-    requires { ⌜ Ready suite (now tb) × (refusal suite (length (now key)) (length (now nonce)) (length (now ad)) (length (now msg)) (length (now out)) (length (now tag)) ≡ 0) ⌝ }
+    requires { ⌜ Ready suite (now tb) × (refusal false suite (length (now key)) (length (now nonce)) (length (now ad)) (length (now msg)) (length (now out)) (length (now tag)) ≡ 0) ⌝ }
     ensures { λ r. ⌜ _≡_ {A = Sealed} (record { number = numberOf r; out = now (out .exit); tag = now (tag .exit) })
         (sealing suite (now (key .entry)) (now (nonce .entry)) (now (ad .entry)) (now (msg .entry)) (now (out .entry)) (now (tag .entry))) ⌝ }
 {
@@ -138,6 +165,7 @@ pub fn seal(
         (sealing suite (now (key .entry)) (now (nonce .entry)) (now (ad .entry)) (now (msg .entry)) (now (out .entry)) (now (tag .entry))) ⌝ }
 {
     let a = refused(
+        false,
         suite,
         key.len(),
         nonce.len(),
@@ -167,7 +195,7 @@ fn unseal_with(
     tag: &[u8],
     out: &mut [u8],
 ) -> Verdict
-    requires { ⌜ Ready suite (now tb) × (refusal suite (length (now key)) (length (now nonce)) (length (now ad)) (length (now text)) (length (now out)) (length (now tag)) ≡ 0) ⌝ }
+    requires { ⌜ Ready suite (now tb) × (refusal true suite (length (now key)) (length (now nonce)) (length (now ad)) (length (now text)) (length (now out)) (length (now tag)) ≡ 0) ⌝ }
     ensures { λ r. ⌜ _≡_ {A = Opened} (record { number = numberOf r; out = now (out .exit) })
         (opening suite (now (key .entry)) (now (nonce .entry)) (now (ad .entry)) (now (text .entry)) (now (tag .entry)) (now (out .entry))) ⌝ }
 {
@@ -193,6 +221,7 @@ pub fn unseal(
         (opening suite (now (key .entry)) (now (nonce .entry)) (now (ad .entry)) (now (text .entry)) (now (tag .entry)) (now (out .entry))) ⌝ }
 {
     let a = refused(
+        true,
         suite,
         key.len(),
         nonce.len(),

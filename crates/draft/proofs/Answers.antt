@@ -10,7 +10,7 @@ use lib.Dec.{eqb, lit<}
 use borrow.Author.Tests.{eq-eqb, ne-eqb, eqb-true, eqb-false, not-false}
 use Rattle.words.specs.Bytes.{sameBytes}
 use Rattle.words.proofs.Same.{same-true, same-refl}
-use Rattle.cipher.specs.Cipher.{sizeOf}
+use Rattle.cipher.specs.Cipher.{seals, Seals, sizeOf}
 use Rattle.table.specs.declared.answers.Answer.{Answer}
 use Rattle.table.specs.Search.{firstOf}
 use Rattle.table.specs.Format.{countOf, edition, rowOf, tagOf}
@@ -20,8 +20,8 @@ use Rattle.table.proofs.Searches.{first-says, first-none, first-at}
 use Rattle.table.proofs.Passed.{both-zero}
 use Rattle.table.proofs.Numbered.{Numbered, check-numbered}
 use Rattle.draft.specs.Files.{draftEdition, entryTag, sealedFile, draftFile}
-use Rattle.draft.specs.Answers.{tagSet, tagRight, setFrom, wrongFrom, lentAnswer, sealAnswer, openAnswer, unsealAnswer, FileWritten, writes, leaves, fileSealing, fileUnsealing}
-use Rattle.draft.specs.Promised.{ZeroTag, RightTag, Valid, Genuine, SealCases, UnsealCases, Sealing, Unsealing, SealNumbers, UnsealNumbers}
+use Rattle.draft.specs.Answers.{tagSet, rowRetired, tagRight, setFrom, retiredFrom, wrongFrom, lentAnswer, sealAnswer, openAnswer, unsealAnswer, FileWritten, writes, leaves, fileSealing, fileUnsealing}
+use Rattle.draft.specs.Promised.{ZeroTag, RightTag, Valid, AllSeal, Genuine, SealCases, UnsealCases, Sealing, Unsealing, SealNumbers, UnsealNumbers}
 
 -- ---- a tag's two tests
 
@@ -53,30 +53,44 @@ module _ (f : List ℕ) (i : ℕ) where
     unfolding tagRight
     right-test q = ap (λ (t : List ℕ). sameBytes t (tagOf f (rowOf f i))) q ∙ same-refl (tagOf f (rowOf f i))
 
-    wrong-test : (RightTag f ring i → ⊥) → tagRight f ring i ≡ false
+    pub wrong-test : (RightTag f ring i → ⊥) → tagRight f ring i ≡ false
     unfolding tagRight
     wrong-test n = told-true _ _ _ refl n
+
+-- ---- a suite's test
+
+told-seals : (b : Bool) (s : ℕ) → seals s ≡ b → (Seals s → ⊥) → b ≡ false
+told-seals true s e n = absurd (n e)
+told-seals false s e n = refl
 
 -- ---- a search that gives number m or 0
 
 module _ (hit : ℕ → Bool) (m : ℕ) (some : 0 < m) (n : ℕ) where
-  abbrev first : Answer
+  abbrev pub first : Answer
   first = firstOf hit (answer m) (answer 0 0) 0 (n - 0)
 
   -- 0: nothing is found
-  found-none : first .number ≡ 0 → (i : ℕ) → i < n → hit i ≡ false
+  pub found-none : first .number ≡ 0 → (i : ℕ) → i < n → hit i ≡ false
   found-none z =
       ⊎-elim
       (λ q. absurd (let w : m ≡ 0 = ap (λ (x : Answer). x .number) (q .gives) ∙ z in omega arith))
       (λ q i l. q .none i (omega arith) (omega arith))
       (first-says _ _ _ (n - 0) 0 first refl)
 
-  found-number : (first ≡ answer 0 0) ⊎ (first .number ≡ m)
+  pub found-number : (first ≡ answer 0 0) ⊎ (first .number ≡ m)
   found-number =
       ⊎-elim
       (λ q. inr (sym (ap (λ (x : Answer). x .number) (q .gives))))
       (λ q. inl (sym (q .gives)))
       (first-says _ _ _ (n - 0) 0 first refl)
+
+-- what 0 and 8 leave depends on the output's length alone
+pub eight-leaves : (x : Answer) → (x ≡ answer 0 0) ⊎ (x .number ≡ 8) → (done a b : List ℕ) → length a ≡ length b → leaves x done a ≡ leaves x done b
+eight-leaves x n done a b q =
+    ⊎-elim
+    (λ h. ap (λ (y : Answer). leaves y done a) h ∙ sym (ap (λ (y : Answer). leaves y done b) h))
+    (λ (h : x .number ≡ 8). simp (eq-eqb (x .number) 8 h) (ap (λ (k : ℕ). writes x (cond (eqb (x .number) 0) done (replicate k 0))) q))
+    n
 
 module _ (f : List ℕ) where
   set-none : ((i : ℕ) → i < countOf f → ZeroTag f i) → setFrom f (countOf f) 0 ≡ answer 0 0
@@ -95,6 +109,22 @@ module _ (f : List ℕ) where
   unfolding setFrom
   set-number = found-number (tagSet f) 33 (lit< tt) (countOf f)
 
+  retired-none : AllSeal f → retiredFrom f (countOf f) 0 ≡ answer 0 0
+  unfolding retiredFrom rowRetired
+  retired-none a = first-none _ _ _ (countOf f) (λ i l. ap not (a i l))
+
+  retired-first : (i : ℕ) → i < countOf f → (Seals (rowOf f i .suite) → ⊥) → ((k : ℕ) → k < i → Seals (rowOf f k .suite)) → retiredFrom f (countOf f) 0 ≡ answer 10 i
+  unfolding retiredFrom rowRetired
+  retired-first i l n a = first-at _ _ _ (countOf f) i l (ap not (told-seals _ _ refl n)) (λ k b. ap not (a k b))
+
+  none-retired : retiredFrom f (countOf f) 0 .number ≡ 0 → AllSeal f
+  unfolding retiredFrom rowRetired
+  none-retired z i l = not-false _ (found-none (rowRetired f) 10 (lit< tt) (countOf f) z i l)
+
+  retired-number : (retiredFrom f (countOf f) 0 ≡ answer 0 0) ⊎ (retiredFrom f (countOf f) 0 .number ≡ 10)
+  unfolding retiredFrom
+  retired-number = found-number (rowRetired f) 10 (lit< tt) (countOf f)
+
   module _ (ring : List ℕ) where
     pub wrong-none : ((i : ℕ) → i < countOf f → RightTag f ring i) → wrongFrom f ring (countOf f) 0 ≡ answer 0 0
     unfolding wrongFrom
@@ -108,14 +138,8 @@ module _ (f : List ℕ) where
     unfolding wrongFrom
     wrong-number = found-number (λ j. not (tagRight f ring j)) 8 (lit< tt) (countOf f)
 
-    -- what 0 and 8 leave depends on the output's length alone
     pub wrong-leaves : (done a b : List ℕ) → length a ≡ length b → leaves (wrongFrom f ring (countOf f) 0) done a ≡ leaves (wrongFrom f ring (countOf f) 0) done b
-    wrong-leaves done a b q =
-        let x = wrongFrom f ring (countOf f) 0 in
-        ⊎-elim
-        (λ h. ap (λ (y : Answer). leaves y done a) h ∙ sym (ap (λ (y : Answer). leaves y done b) h))
-        (λ (h : x .number ≡ 8). simp (eq-eqb (x .number) 8 h) (ap (λ (k : ℕ). writes x (cond (eqb (x .number) 0) done (replicate k 0))) q))
-        wrong-number
+    wrong-leaves = eight-leaves (wrongFrom f ring (countOf f) 0) wrong-number
 
 -- ---- the lengths of what is lent
 
@@ -136,19 +160,19 @@ module _ (file ring out : ℕ) where
       ring-case true e h = record { ring-long = eqb-true _ _ e; out-long = out-case (eqb out file) refl h }
       ring-case false e h = absurd (omega arith)
 
-  room-right : ring ≡ 256 → out ≡ file → lentAnswer file ring out ≡ answer 0 0
+  pub room-right : ring ≡ 256 → out ≡ file → lentAnswer file ring out ≡ answer 0 0
   unfolding lentAnswer
   room-right a b = simp (eq-eqb _ _ a, eq-eqb _ _ b)
 
-  ring-wrong : (ring ≡ 256 → ⊥) → lentAnswer file ring out ≡ answer 2 0
+  pub ring-wrong : (ring ≡ 256 → ⊥) → lentAnswer file ring out ≡ answer 2 0
   unfolding lentAnswer
   ring-wrong a = simp (ne-eqb _ _ a)
 
-  out-wrong : ring ≡ 256 → (out ≡ file → ⊥) → lentAnswer file ring out ≡ answer 6 0
+  pub out-wrong : ring ≡ 256 → (out ≡ file → ⊥) → lentAnswer file ring out ≡ answer 6 0
   unfolding lentAnswer
   out-wrong a b = simp (eq-eqb _ _ a, ne-eqb _ _ b)
 
-  lent-number : (lentAnswer file ring out ≡ answer 0 0) ⊎ (lentAnswer file ring out ≡ answer 2 0) ⊎ (lentAnswer file ring out ≡ answer 6 0)
+  pub lent-number : (lentAnswer file ring out ≡ answer 0 0) ⊎ (lentAnswer file ring out ≡ answer 2 0) ⊎ (lentAnswer file ring out ≡ answer 6 0)
   unfolding lentAnswer
   lent-number = lent-case (eqb ring 256) (eqb out file)
     where
@@ -160,11 +184,11 @@ module _ (file ring out : ℕ) where
 -- ---- one answer after another
 
 -- a refusal of the check is neither 0 nor 8
-not-eight : (e : ℕ) (f : List ℕ) → checkAs e f .number ≡ 8 → ⊥
+pub not-eight : (e : ℕ) (f : List ℕ) → checkAs e f .number ≡ 8 → ⊥
 not-eight e f q = ⊎-elim (λ z. omega arith) (λ r. ⊎-elim (λ s. omega arith) (λ s. omega arith) r) (check-numbered e f .number)
 
 -- what a number leaves
-kept : (x : Answer) (done out₀ : List ℕ) → (x .number ≡ 0 → ⊥) → (x .number ≡ 8 → ⊥) → leaves x done out₀ ≡ writes x out₀
+pub kept : (x : Answer) (done out₀ : List ℕ) → (x .number ≡ 0 → ⊥) → (x .number ≡ 8 → ⊥) → leaves x done out₀ ≡ writes x out₀
 kept x done out₀ a b = simp (ne-eqb _ _ a, ne-eqb _ _ b)
 
 module _ (draft : List ℕ) (ring out : ℕ) where
@@ -177,31 +201,46 @@ module _ (draft : List ℕ) (ring out : ℕ) where
     unfolding sealAnswer
     seal-set x q n = simp (eq-eqb _ _ z, ← q, ne-eqb _ _ n)
 
-    pub seal-lent : setFrom draft (countOf draft) 0 ≡ answer 0 0 → lentAnswer (length draft) ring out ≡ sealAnswer draft ring out
-    unfolding sealAnswer
-    seal-lent q = simp (eq-eqb _ _ z, q)
+    module _ (q : setFrom draft (countOf draft) 0 ≡ answer 0 0) where
+      pub seal-retired : (x : Answer) → x ≡ retiredFrom draft (countOf draft) 0 → (x .number ≡ 0 → ⊥) → x ≡ sealAnswer draft ring out
+      unfolding sealAnswer
+      seal-retired x r n = simp (eq-eqb _ _ z, q, ← r, ne-eqb _ _ n)
+
+      pub seal-lent : retiredFrom draft (countOf draft) 0 ≡ answer 0 0 → lentAnswer (length draft) ring out ≡ sealAnswer draft ring out
+      unfolding sealAnswer
+      seal-lent r = simp (eq-eqb _ _ z, q, r)
 
   -- no other number
-  seal-numbers : let n : ℕ = sealAnswer draft ring out .number in (n ≡ 0) ⊎ (n ≡ 2) ⊎ (n ≡ 6) ⊎ (n ≡ 33) ⊎ (sealAnswer draft ring out ≡ checkAs draftEdition draft)
+  abbrev SealOne : Type 0
+  SealOne =
+      let n : ℕ = sealAnswer draft ring out .number in
+      (n ≡ 0) ⊎ (n ≡ 2) ⊎ (n ≡ 6) ⊎ (n ≡ 10) ⊎ (n ≡ 33) ⊎ (sealAnswer draft ring out ≡ checkAs draftEdition draft)
+
+  seal-numbers : SealOne
   seal-numbers = check-case (eqb (checkAs draftEdition draft .number) 0) refl
     where
-      lent-case : checkAs draftEdition draft .number ≡ 0 → setFrom draft (countOf draft) 0 ≡ answer 0 0
-          → let n : ℕ = sealAnswer draft ring out .number in (n ≡ 0) ⊎ (n ≡ 2) ⊎ (n ≡ 6) ⊎ (n ≡ 33) ⊎ (sealAnswer draft ring out ≡ checkAs draftEdition draft)
-      lent-case z q =
-          let e : sealAnswer draft ring out .number ≡ lentAnswer (length draft) ring out .number = ap (λ (x : Answer). x .number) (sym (seal-lent z q)) in
+      lent-case : checkAs draftEdition draft .number ≡ 0 → setFrom draft (countOf draft) 0 ≡ answer 0 0 → retiredFrom draft (countOf draft) 0 ≡ answer 0 0 → SealOne
+      lent-case z q r =
+          let e : sealAnswer draft ring out .number ≡ lentAnswer (length draft) ring out .number = ap (λ (x : Answer). x .number) (sym (seal-lent z q r)) in
           ⊎-elim
           (λ h. inl (e ∙ ap (λ (x : Answer). x .number) h))
           (⊎-elim (λ h. inr (inl (e ∙ ap (λ (x : Answer). x .number) h))) (λ h. inr (inr (inl (e ∙ ap (λ (x : Answer). x .number) h)))))
           (lent-number (length draft) ring out)
 
-      check-case : (b : Bool) → eqb (checkAs draftEdition draft .number) 0 ≡ b
-          → let n : ℕ = sealAnswer draft ring out .number in (n ≡ 0) ⊎ (n ≡ 2) ⊎ (n ≡ 6) ⊎ (n ≡ 33) ⊎ (sealAnswer draft ring out ≡ checkAs draftEdition draft)
-      check-case false e = inr (inr (inr (inr (seal-checked (eqb-false _ _ e)))))
+      retired-case : checkAs draftEdition draft .number ≡ 0 → setFrom draft (countOf draft) 0 ≡ answer 0 0 → SealOne
+      retired-case z q =
+          ⊎-elim
+          (lent-case z q)
+          (λ r. inr (inr (inr (inl (ap (λ (x : Answer). x .number) (sym (seal-retired z q _ refl (λ w. omega arith))) ∙ r)))))
+          (retired-number draft)
+
+      check-case : (b : Bool) → eqb (checkAs draftEdition draft .number) 0 ≡ b → SealOne
+      check-case false e = inr (inr (inr (inr (inr (seal-checked (eqb-false _ _ e))))))
       check-case true e =
           let z = eqb-true _ _ e in
           ⊎-elim
-          (lent-case z)
-          (λ q. inr (inr (inr (inl (ap (λ (x : Answer). x .number) (sym (seal-set z _ refl (λ w. omega arith))) ∙ q)))))
+          (retired-case z)
+          (λ q. inr (inr (inr (inr (inl (ap (λ (x : Answer). x .number) (sym (seal-set z _ refl (λ w. omega arith))) ∙ q))))))
           (set-number draft)
 
   pub seal-not-eight : sealAnswer draft ring out .number ≡ 8 → ⊥
@@ -210,20 +249,27 @@ module _ (draft : List ℕ) (ring out : ℕ) where
       (⊎-elim (λ h. omega arith)
       (⊎-elim (λ h. omega arith)
       (⊎-elim (λ h. omega arith)
-      (λ h. not-eight draftEdition draft (sym (ap (λ (x : Answer). x .number) h) ∙ q))))) seal-numbers
+      (⊎-elim (λ h. omega arith)
+      (λ h. not-eight draftEdition draft (sym (ap (λ (x : Answer). x .number) h) ∙ q)))))) seal-numbers
 
   -- what 0 says
   pub record Sealable : Type 0 where
     pub passed : checkAs draftEdition draft .number ≡ 0
     pub zeros : (i : ℕ) → i < countOf draft → ZeroTag draft i
+    pub all-seal : AllSeal draft
     pub room : Room (length draft) ring out
 
   pub sealable : sealAnswer draft ring out .number ≡ 0 → Sealable
   unfolding sealAnswer
   sealable z =
-      let a = both-zero (checkAs draftEdition draft) (andThen (setFrom draft (countOf draft) 0) (lentAnswer (length draft) ring out)) z in
-      let b = both-zero (setFrom draft (countOf draft) 0) (lentAnswer (length draft) ring out) (rw (a .1) at z) in
-      record { passed = a .0; zeros = none-set draft (b .0); room = room-told (length draft) ring out (rw (b .1) at (rw (a .1) at z)) }
+      let l = lentAnswer (length draft) ring out in
+      let r = andThen (retiredFrom draft (countOf draft) 0) l in
+      let a = both-zero (checkAs draftEdition draft) (andThen (setFrom draft (countOf draft) 0) r) z in
+      let y = rw (a .1) at z in
+      let b = both-zero (setFrom draft (countOf draft) 0) r y in
+      let x = rw (b .1) at y in
+      let d = both-zero (retiredFrom draft (countOf draft) 0) l x in
+      record { passed = a .0; zeros = none-set draft (b .0); all-seal = none-retired draft (d .0); room = room-told (length draft) ring out (rw (d .1) at x) }
 
 module _ (file : List ℕ) (ring out : ℕ) where
   open-checked : (checkAs edition file .number ≡ 0 → ⊥) → openAnswer file ring out ≡ checkAs edition file
@@ -298,13 +344,16 @@ module _ (draft ring out₀ : List ℕ) where
     tags = λ z i l n b.
         let q = set-first draft i l n b in
         sealing-is (answer 33 i) (seal-set draft (length ring) (length out₀) z (answer 33 i) (sym q) (λ w. omega arith));
-    ring-wrong = λ v n. sealing-is (answer 2 0) (sym (ring-wrong (length draft) (length ring) (length out₀) n) ∙ lent v);
-    room-wrong = λ v r n. sealing-is (answer 6 0) (sym (out-wrong (length draft) (length ring) (length out₀) r n) ∙ lent v);
-    done = λ v r o. sealing-is (answer 0 0) (sym (room-right (length draft) (length ring) (length out₀) r o) ∙ lent v);
+    retired = λ v i l n b.
+        let q = retired-first draft i l n b in
+        sealing-is (answer 10 i) (seal-retired draft (length ring) (length out₀) (ap (λ (x : Answer). x .number) (v .checked)) (set-none draft (v .zeros)) (answer 10 i) (sym q) (λ w. omega arith));
+    ring-wrong = λ v a n. sealing-is (answer 2 0) (sym (ring-wrong (length draft) (length ring) (length out₀) n) ∙ lent v a);
+    room-wrong = λ v a r n. sealing-is (answer 6 0) (sym (out-wrong (length draft) (length ring) (length out₀) r n) ∙ lent v a);
+    done = λ v a r o. sealing-is (answer 0 0) (sym (room-right (length draft) (length ring) (length out₀) r o) ∙ lent v a);
   }
     where
-      lent : Valid draft → lentAnswer (length draft) (length ring) (length out₀) ≡ S
-      lent v = seal-lent draft (length ring) (length out₀) (ap (λ (x : Answer). x .number) (v .checked)) (set-none draft (v .zeros))
+      lent : Valid draft → AllSeal draft → lentAnswer (length draft) (length ring) (length out₀) ≡ S
+      lent v a = seal-lent draft (length ring) (length out₀) (ap (λ (x : Answer). x .number) (v .checked)) (set-none draft (v .zeros)) (retired-none draft a)
 
 module _ (file ring out₀ : List ℕ) where
   abbrev O : Answer

@@ -14,7 +14,7 @@ use Rattle.table.specs.Check.{checkAs}
 use Rattle.table.specs.Inside.{EntryIn}
 use Rattle.draft.specs.Files.{draftEdition, pieceSize, entryOut, entryTag, sealedPiece, draftPiece, rewritten, sealedFile, draftFile}
 use Rattle.draft.specs.Answers.{FileWritten, writes, fileSealing, fileUnsealing}
-use Rattle.draft.specs.Promised.{Valid, Genuine, Lent, SealedBack, UnsealedBack}
+use Rattle.draft.specs.Promised.{Valid, AllSeal, Genuine, Lent, SealedBack, UnsealedBack}
 use Rattle.draft.proofs.Rewritten.{Plain, same-length, same-row, same-nonce, same-data, same-count, parts-are, passes-again, put-back}
 use Rattle.draft.proofs.Pieces.{entry-at, out-long, tag-size, own-piece, out-back, mark-back}
 use Rattle.draft.proofs.Answers.{sealing, unsealing}
@@ -148,6 +148,11 @@ module _ (file ring : List ℕ) (lent : Lent file ring) (z : checkAs edition fil
         ∙ ap (λ (r : Row). replicate (sizeOf (r .suite)) 0) (sym (new-row edition draftEdition plain-file plain-draft true file ring lent z zeros zeros-long i m));
   }
 
+  opened-seals : AllSeal file → AllSeal opened
+  opened-seals a i l =
+      let m : i < countOf file = rw (sym (new-count edition draftEdition plain-file plain-draft true file ring lent z zeros zeros-long)) l in
+      rw (new-row edition draftEdition plain-file plain-draft true file ring lent z zeros zeros-long i m) (a i m)
+
   opened-back : Genuine file ring → sealedFile opened ring ≡ file
   unfolding sealedFile sealedPiece
   opened-back g =
@@ -158,9 +163,9 @@ module _ (file ring : List ℕ) (lent : Lent file ring) (z : checkAs edition fil
 -- ---- the theorems
 
 pub sealed-then-unsealed : SealedBack
-sealed-then-unsealed draft ring out₀ out₁ lent o₀ o₁ v =
+sealed-then-unsealed draft ring out₀ out₁ lent o₀ o₁ v a =
     let z = ap (λ (x : Answer). x .number) (v .checked) in
-    let e = sealing draft ring out₀ .done v (lent .ring-long) o₀ in
+    let e = sealing draft ring out₀ .done v a (lent .ring-long) o₀ in
     let x : fileSealing draft ring out₀ .out ≡ sealed draft ring lent z = ap (λ (w : FileWritten). w .out) e ∙ sealed-is draft ring lent z in
     let g = sealed-genuine draft ring lent z in (
       ap (λ (w : FileWritten). w .answer) e,
@@ -178,7 +183,8 @@ unsealed-then-sealed file ring out₀ out₁ lent o₀ o₁ g =
     let v = opened-valid file ring lent z in (
       ap (λ (w : FileWritten). w .answer) e,
       rw x v,
-      ap (λ (f : List ℕ). fileSealing f ring out₁) x
-          ∙ sealing (opened file ring lent z) ring out₁ .done v (lent .ring-long) (o₁ ∙ sym (opened-length file ring lent z))
+      λ a.
+          ap (λ (f : List ℕ). fileSealing f ring out₁) x
+          ∙ sealing (opened file ring lent z) ring out₁ .done v (opened-seals file ring lent z a) (lent .ring-long) (o₁ ∙ sym (opened-length file ring lent z))
           ∙ ap (writes (answer 0 0)) (opened-back file ring lent z g),
     )

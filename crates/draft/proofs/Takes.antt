@@ -7,7 +7,7 @@ use mathlib.Core.List.{List}
 use mathlib.Core.Logic.{_⊎_, inl, inr}
 use lib.ListN.{length}
 use borrow.Author.Tests.{eq-eqb}
-use Rattle.cipher.specs.Cipher.{sizeOf}
+use Rattle.cipher.specs.Cipher.{Seals, sizeOf}
 use Rattle.comet.specs.Answers.{Sealed, sealedAs, sealing, Opened, openedAs}
 use Rattle.comet.proofs.Refuse.{none-bad}
 use Rattle.table.specs.Format.{edition, rowSize, rowOf}
@@ -21,13 +21,13 @@ use Rattle.draft.proofs.Pieces.{entry-at}
 use Rattle.draft.proofs.Back.{plain-draft, plain-file}
 
 module _ (f ring : List ℕ) (i : ℕ) (h : EntryIn (rowSize edition) f i) (g : length ring ≡ 256) where
-  -- the sealer gives text and tag
-  pub seal-done : (out tag : List ℕ) → length out ≡ rowOf f i .len → length tag ≡ sizeOf (rowOf f i .suite)
+  -- the sealer gives text and tag, where the suite seals
+  pub seal-done : (out tag : List ℕ) → Seals (rowOf f i .suite) → length out ≡ rowOf f i .len → length tag ≡ sizeOf (rowOf f i .suite)
       → entrySealing f ring i out tag ≡ record { number = 0; out = entryOut false f ring i; tag = entryTag false f ring i }
   unfolding entrySealing sealing entryOut entryTag
-  seal-done out tag lo lt =
+  seal-done out tag s lo lt =
       ap (λ (n : ℕ). sealedAs n (entryOut false f ring i) (entryTag false f ring i) out tag)
-      (none-bad _ _ _ _ _ _ _ (record {
+      (none-bad false _ _ _ _ _ _ _ s (record {
         suite = h .suite-is;
         key = key-long f ring i h g;
         nonce = nonce-long f ring i h g;
@@ -43,7 +43,7 @@ module _ (f ring : List ℕ) (i : ℕ) (h : EntryIn (rowSize edition) f i) (g : 
   open-done out l = rw (eq-eqb _ _ l) at (entry-opened f ring i h g out)
 
 pub sealer-takes : SealerTakes
-sealer-takes draft ring out tag i z g l lo lt = ap (λ (x : Sealed). x .number) (seal-done draft ring i (entry-at _ draft plain-draft z i l) g out tag lo lt)
+sealer-takes draft ring out tag i z g l s lo lt = ap (λ (x : Sealed). x .number) (seal-done draft ring i (entry-at _ draft plain-draft z i l) g out tag s lo lt)
 
 pub opener-takes : OpenerTakes
 opener-takes file ring out i z g l lo =

@@ -1,11 +1,11 @@
--- What the writer answers and leaves (document 02, W4): the checks, 33, 2, 6, 8, in this order.
+-- What the writer answers and leaves (document 02, W4; W7 for 10): the checks, 33, 10, 2, 6, 8, in this order.
 use Prim.Native.Nat.{ℕ, _-_}
 use mathlib.Core.Bool.{Bool, true, not, cond}
 use mathlib.Core.List.{List}
 use lib.ListN.{length, replicate}
 use lib.Dec.{eqb}
 use Rattle.words.specs.Bytes.{sameBytes}
-use Rattle.cipher.specs.Cipher.{sizeOf}
+use Rattle.cipher.specs.Cipher.{seals, sizeOf}
 use Rattle.table.specs.declared.answers.Answer.{Answer}
 use Rattle.table.specs.Search.{firstOf}
 use Rattle.table.specs.Format.{countOf, edition, rowOf, tagOf}
@@ -17,6 +17,10 @@ use Rattle.draft.specs.Files.{draftEdition, entryTag, sealedFile, draftF
 unfoldable pub tagSet : List ℕ → ℕ → Bool
 tagSet f i = not (sameBytes (tagOf f (rowOf f i)) (replicate (sizeOf (rowOf f i .suite)) 0))
 
+-- the suite of row i seals no more
+unfoldable pub rowRetired : List ℕ → ℕ → Bool
+rowRetired f i = not (seals (rowOf f i .suite))
+
 -- the tag of row i is the one that goes with its text
 unfoldable pub tagRight : List ℕ → List ℕ → ℕ → Bool
 tagRight f ring i = sameBytes (entryTag true f ring i) (tagOf f (rowOf f i))
@@ -24,6 +28,10 @@ tagRight f ring i = sameBytes (entryTag true f ring i) (tagOf f (rowOf f i))
 -- 33: the first row of n, from row i on, whose tag is set
 unfoldable pub setFrom : List ℕ → ℕ → ℕ → Answer
 setFrom f n i = firstOf (tagSet f) (answer 33) (answer 0 0) i (n - i)
+
+-- 10: the first row of n, from row i on, whose suite seals no more
+unfoldable pub retiredFrom : List ℕ → ℕ → ℕ → Answer
+retiredFrom f n i = firstOf (rowRetired f) (answer 10) (answer 0 0) i (n - i)
 
 -- 8: the first row of n, from row i on, whose tag is wrong
 unfoldable pub wrongFrom : List ℕ → List ℕ → ℕ → ℕ → Answer
@@ -33,9 +41,13 @@ wrongFrom f ring n i = firstOf (λ j. not (tagRight f ring j)) (answer 8) (answe
 unfoldable pub lentAnswer : ℕ → ℕ → ℕ → Answer
 lentAnswer file ring out = cond (not (eqb ring 256)) (answer 2 0) (cond (not (eqb out file)) (answer 6 0) (answer 0 0))
 
--- sealing a draft: the checks with 0 for the edition, 33, 2, 6
+-- sealing a draft: the checks with 0 for the edition, 33, 10, 2, 6
 unfoldable pub sealAnswer : List ℕ → ℕ → ℕ → Answer
-sealAnswer draft ring out = andThen (checkAs draftEdition draft) (andThen (setFrom draft (countOf draft) 0) (lentAnswer (length draft) ring out))
+sealAnswer draft ring out =
+    andThen (checkAs draftEdition draft)
+    (andThen (setFrom draft (countOf draft) 0)
+    (andThen (retiredFrom draft (countOf draft) 0)
+    (lentAnswer (length draft) ring out)))
 
 -- unsealing a file: the checks, 2, 6
 unfoldable pub openAnswer : List ℕ → ℕ → ℕ → Answer

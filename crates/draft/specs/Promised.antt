@@ -1,4 +1,4 @@
--- What is promised of the writer (document 02, W4). The statements speak of the definitions; the contracts of `writer` say that the code does what they say.
+-- What is promised of the writer (document 02, W4; W7 for the suite that seals no more). The statements speak of the definitions; the contracts of `writer` say that the code does what they say.
 use Prim.Native.Nat.{ℕ, _+_, _*_, _≤_, _<_}
 use mathlib.Core.Path.{_≡_}
 use mathlib.Core.Bool.{true, false}
@@ -6,7 +6,7 @@ use mathlib.Core.List.{List}
 use mathlib.Core.Logic.{_⊎_}
 use lib.ListN.{length, getD, replicate}
 use Rattle.words.specs.Bytes.{AllBytes}
-use Rattle.cipher.specs.Cipher.{sizeOf}
+use Rattle.cipher.specs.Cipher.{Seals, sizeOf}
 use Rattle.table.specs.Format.{countOf, edition, rowOf, tagOf}
 use Rattle.table.specs.Answers.{answer}
 use Rattle.table.specs.Check.{badData, checkAs}
@@ -27,6 +27,10 @@ pub record Valid (draft : List ℕ) : Type 0 where
   pub checked : checkAs draftEdition draft ≡ answer 0 0
   pub zeros : (i : ℕ) → i < countOf draft → ZeroTag draft i
 
+-- every entry has a suite that seals: none has suite 4
+abbrev pub AllSeal : List ℕ → Type 0
+AllSeal f = (i : ℕ) → i < countOf f → Seals (rowOf f i .suite)
+
 -- a genuine file passes the checks, and every tag of it is right under the ring
 pub record Genuine (file ring : List ℕ) : Type 0 where
   pub checked : checkAs edition file ≡ answer 0 0
@@ -40,30 +44,32 @@ pub record Lent (file ring : List ℕ) : Type 0 where
 
 -- ---- there and back
 
--- a valid draft is sealed, the sealed file is genuine, and unsealing it gives the draft
+-- a valid draft without an entry of suite 4 is sealed, the sealed file is genuine, and unsealing it gives the draft
 abbrev pub SealedBack : Type 0
 SealedBack =
-    (draft ring out₀ out₁ : List ℕ) → Lent draft ring → length out₀ ≡ length draft → length out₁ ≡ length draft → Valid draft →
+    (draft ring out₀ out₁ : List ℕ) → Lent draft ring → length out₀ ≡ length draft → length out₁ ≡ length draft → Valid draft → AllSeal draft →
     let sealed : FileWritten = fileSealing draft ring out₀ in
     (sealed .answer ≡ answer 0 0) × Genuine (sealed .out) ring × (fileUnsealing (sealed .out) ring out₁ ≡ writes (answer 0 0) draft)
 
--- a genuine file is unsealed, what comes out is a valid draft, and sealing it gives the file
+-- a genuine file is unsealed, what comes out is a valid draft, and sealing it gives the file, where no entry has suite 4
 abbrev pub UnsealedBack : Type 0
 UnsealedBack =
     (file ring out₀ out₁ : List ℕ) → Lent file ring → length out₀ ≡ length file → length out₁ ≡ length file → Genuine file ring →
     let unsealed : FileWritten = fileUnsealing file ring out₀ in
-    (unsealed .answer ≡ answer 0 0) × Valid (unsealed .out) × (fileSealing (unsealed .out) ring out₁ ≡ writes (answer 0 0) file)
+    (unsealed .answer ≡ answer 0 0) × Valid (unsealed .out) × (AllSeal file → fileSealing (unsealed .out) ring out₁ ≡ writes (answer 0 0) file)
 
 -- ---- every outcome, and when it is given
 
--- what sealing gives: the check's refusal; 33 with the first row whose tag has a byte that is not zero, whatever ring and output are; 2; 6; 0
+-- what sealing gives: the check's refusal; 33 with the first row whose tag has a byte that is not zero, 10 with the first row whose suite seals no more, whatever ring and output are; 2; 6; 0
 pub record SealCases (draft ring out₀ : List ℕ) : Type 0 where
   pub checked : (checkAs draftEdition draft .number ≡ 0 → ⊥) → fileSealing draft ring out₀ ≡ writes (checkAs draftEdition draft) out₀
   pub tags : checkAs draftEdition draft .number ≡ 0 → (i : ℕ) → i < countOf draft → (ZeroTag draft i → ⊥) → ((k : ℕ) → k < i → ZeroTag draft k)
       → fileSealing draft ring out₀ ≡ writes (answer 33 i) out₀
-  pub ring-wrong : Valid draft → (length ring ≡ 256 → ⊥) → fileSealing draft ring out₀ ≡ writes (answer 2 0) out₀
-  pub room-wrong : Valid draft → length ring ≡ 256 → (length out₀ ≡ length draft → ⊥) → fileSealing draft ring out₀ ≡ writes (answer 6 0) out₀
-  pub done : Valid draft → length ring ≡ 256 → length out₀ ≡ length draft → fileSealing draft ring out₀ ≡ writes (answer 0 0) (sealedFile draft ring)
+  pub retired : Valid draft → (i : ℕ) → i < countOf draft → (Seals (rowOf draft i .suite) → ⊥) → ((k : ℕ) → k < i → Seals (rowOf draft k .suite))
+      → fileSealing draft ring out₀ ≡ writes (answer 10 i) out₀
+  pub ring-wrong : Valid draft → AllSeal draft → (length ring ≡ 256 → ⊥) → fileSealing draft ring out₀ ≡ writes (answer 2 0) out₀
+  pub room-wrong : Valid draft → AllSeal draft → length ring ≡ 256 → (length out₀ ≡ length draft → ⊥) → fileSealing draft ring out₀ ≡ writes (answer 6 0) out₀
+  pub done : Valid draft → AllSeal draft → length ring ≡ 256 → length out₀ ≡ length draft → fileSealing draft ring out₀ ≡ writes (answer 0 0) (sealedFile draft ring)
 
 -- what unsealing gives: the check's refusal; 2; 6; 8 with the first row whose tag is wrong, and zeros all over; 0
 pub record UnsealCases (file ring out₀ : List ℕ) : Type 0 where
@@ -83,11 +89,11 @@ Unsealing = (file ring out₀ : List ℕ) → UnsealCases file ring out₀
 
 -- ---- no other number
 
--- of a draft that passes, the sealer takes every row: it answers 0, and 1 to 7 cannot come out
+-- of a draft that passes, the sealer takes every row whose suite seals: it answers 0, and 1 to 7 and 10 cannot come out
 abbrev pub SealerTakes : Type 0
 SealerTakes =
     (draft ring out tag : List ℕ) (i : ℕ) → checkAs draftEdition draft .number ≡ 0 → length ring ≡ 256 → i < countOf draft
-    → length out ≡ rowOf draft i .len → length tag ≡ sizeOf (rowOf draft i .suite)
+    → Seals (rowOf draft i .suite) → length out ≡ rowOf draft i .len → length tag ≡ sizeOf (rowOf draft i .suite)
     → entrySealing draft ring i out tag .number ≡ 0
 
 -- of a file that passes, the opener takes every row: it answers 0 or 8
@@ -96,12 +102,12 @@ OpenerTakes =
     (file ring out : List ℕ) (i : ℕ) → checkAs edition file .number ≡ 0 → length ring ≡ 256 → i < countOf file → length out ≡ rowOf file i .len
     → (entryOpening file ring i out .number ≡ 0) ⊎ (entryOpening file ring i out .number ≡ 8)
 
--- so sealing gives the check's numbers, 33, 2, 6 and 0, and unsealing the check's, 2, 6, 8 and 0
+-- so sealing gives the check's numbers, 33, 10, 2, 6 and 0, and unsealing the check's, 2, 6, 8 and 0
 abbrev pub SealNumbers : Type 0
 SealNumbers =
     (draft ring out₀ : List ℕ) →
     let n : ℕ = fileSealing draft ring out₀ .answer .number in
-    (n ≡ 0) ⊎ (n ≡ 2) ⊎ (n ≡ 6) ⊎ (n ≡ 33) ⊎ (fileSealing draft ring out₀ .answer ≡ checkAs draftEdition draft)
+    (n ≡ 0) ⊎ (n ≡ 2) ⊎ (n ≡ 6) ⊎ (n ≡ 10) ⊎ (n ≡ 33) ⊎ (fileSealing draft ring out₀ .answer ≡ checkAs draftEdition draft)
 
 abbrev pub UnsealNumbers : Type 0
 UnsealNumbers =

@@ -9,8 +9,8 @@ use Rattle.words.proofs.Same.{same-refl, same-true}
 use Rattle.cipher.specs.Cipher.{cipherOf, sizeOf}
 use Rattle.mode.specs.Mode.{nonceSize, textOut, tagOut}
 use Rattle.mode.proofs.Start.{suite-nonce}
-use Rattle.comet.specs.Answers.{refusal, Opened, openedAs, opening}
-use Rattle.comet.proofs.Refuse.{none-bad, tag-right}
+use Rattle.comet.specs.Answers.{Opened, openedAs, opening}
+use Rattle.comet.proofs.Refuse.{Passed, none-bad, tag-right}
 use Rattle.promises.specs.Input.{Texts, Input}
 
 -- ---- lengths that are right
@@ -19,11 +19,10 @@ use Rattle.promises.specs.Input.{Texts, Input}
 pub nonce-right : (suite : ℕ) (key nonce ad text : List ℕ) → Texts suite key nonce ad text → length nonce ≡ nonceSize (cipherOf suite)
 nonce-right suite key nonce ad text i = i .nonce-length ∙ sym (suite-nonce suite)
 
-pub right : (suite : ℕ) (key nonce ad text out tag : List ℕ) → Input suite key nonce ad text → length out ≡ length text → length tag ≡ sizeOf suite
-    → refusal suite (length key) (length nonce) (length ad) (length text) (length out) (length tag) ≡ 0
-right suite key nonce ad text out tag i lo lt =
-    none-bad suite (length key) (length nonce) (length ad) (length text) (length out) (length tag)
-    (record {
+pub fits : (suite : ℕ) (key nonce ad text out tag : List ℕ) → Input suite key nonce ad text → length out ≡ length text → length tag ≡ sizeOf suite
+    → Passed suite (length key) (length nonce) (length ad) (length text) (length out) (length tag)
+fits suite key nonce ad text out tag i lo lt =
+    record {
       suite = i .texts .suite-is;
       key = i .texts .key-length;
       nonce = i .texts .nonce-length;
@@ -31,14 +30,14 @@ right suite key nonce ad text out tag i lo lt =
       text = i .text-most;
       room = lo;
       tag = lt;
-    })
+    }
 
 module _ (suite : ℕ) (key nonce ad c t out₀ : List ℕ) (i : Input suite key nonce ad c) (lo : length out₀ ≡ length c) (lt : length t ≡ sizeOf suite) where
   pub by-tag : opening suite key nonce ad c t out₀ ≡ openedAs 0 (sameBytes (tagOut (cipherOf suite) true key nonce ad c) t) (textOut (cipherOf suite) true key nonce ad c) out₀
   unfolding opening
   by-tag =
       ap (λ (n : ℕ). openedAs n (sameBytes (tagOut (cipherOf suite) true key nonce ad c) t) (textOut (cipherOf suite) true key nonce ad c) out₀)
-      (right suite key nonce ad c out₀ t i lo lt)
+      (none-bad true suite (length key) (length nonce) (length ad) (length c) (length out₀) (length t) refl (fits suite key nonce ad c out₀ t i lo lt))
 
   -- the right tag opens
   pub opens : tagOut (cipherOf suite) true key nonce ad c ≡ t → opening suite key nonce ad c t out₀ ≡ record { number = 0; out = textOut (cipherOf suite) true key nonce ad c }

@@ -1,6 +1,7 @@
 -- A contract that says what the outcome equals leaves one outcome, since each answer has a number of its own.
 use mathlib.Core.Path.{_≡_, refl, sym, ap, _∙_}
-use mathlib.Core.Bool.{Bool, true, false}
+use mathlib.Core.Bool.{Bool, true, false, true≢false}
+use mathlib.Core.Logic.{_⊎_, inl, inr, ⊎-elim}
 use Prim.Native.Nat.{ℕ, zero, suc, _≤_, _<_}
 use native.Mathlib.Nat.{not-suc-le-zero, suc-ne-zero, lt-irrefl}
 use native.Mathlib.Omega.{arith}
@@ -12,6 +13,7 @@ use Rattle.session.proofs.Outcomes as session
 use Rattle.table.proofs.Outcomes as table
 use Rattle.shift.proofs.Outcomes as shift
 use Rattle.writer.proofs.Outcomes as writer
+use Rattle.reseal.proofs.Outcomes as resealer
 use Rattle.search.proofs.Outcomes as halving
 use Rattle.compare.proofs.Outcomes as comparing
 use Rattle.reader.proofs.Outcomes as reading
@@ -39,17 +41,18 @@ entry-points =
       start = record { asks-nothing = λ κs a. tt; one-outcome = reading.start };
       ask = record { asks-nothing = λ κs a. tt; one-outcome = reading.ask };
       report = record { asks-nothing = λ κs a. tt; one-outcome = reading.report };
+      reseal = record { asks-nothing = λ κs a. tt; one-outcome = resealer.reseal };
     }
 
-sealed-keeps : (n : ℕ) (x y o t : List ℕ) → n ≤ 7 → (sealedAs n x y o t .number ≤ 7) × (0 < sealedAs n x y o t .number → (sealedAs n x y o t .out ≡ o) × (sealedAs n x y o t .tag ≡ t))
-sealed-keeps zero x y o t h = (omega arith, λ p. absurd (not-suc-le-zero p))
+sealed-keeps : (n : ℕ) (x y o t : List ℕ) → (n ≤ 7) ⊎ (n ≡ 10) → ((sealedAs n x y o t .number ≤ 7) ⊎ (sealedAs n x y o t .number ≡ 10)) × (0 < sealedAs n x y o t .number → (sealedAs n x y o t .out ≡ o) × (sealedAs n x y o t .tag ≡ t))
+sealed-keeps zero x y o t h = (inl (omega arith), λ p. absurd (not-suc-le-zero p))
 sealed-keeps (suc n) x y o t h = (h, λ p. (refl, refl))
 
 pub seal-keeps : SealKeeps
 unfolding sealing
 seal-keeps suite key nonce ad msg out₀ tag₀ =
-    sealed-keeps (refusal suite (length key) (length nonce) (length ad) (length msg) (length out₀) (length tag₀)) _ _ out₀ tag₀
-    (refusal-most suite (length key) (length nonce) (length ad) (length msg) (length out₀) (length tag₀))
+    sealed-keeps (refusal false suite (length key) (length nonce) (length ad) (length msg) (length out₀) (length tag₀)) _ _ out₀ tag₀
+    (⊎-elim inl (λ h. inr (h .0)) (refusal-most false suite (length key) (length nonce) (length ad) (length msg) (length out₀) (length tag₀)))
 
 opened-keeps : (n : ℕ) (b : Bool) (x o : List ℕ) → n ≤ 7
     → (openedAs n b x o .number ≤ 8) × (0 < openedAs n b x o .number → openedAs n b x o .number < 8 → openedAs n b x o .out ≡ o)
@@ -61,5 +64,5 @@ opened-keeps (suc n) b x o h = (omega arith, (λ p q. refl), (λ e. absurd (lt-i
 pub open-keeps : OpenKeeps
 unfolding opening
 open-keeps suite key nonce ad text tag out₀ =
-    opened-keeps (refusal suite (length key) (length nonce) (length ad) (length text) (length out₀) (length tag)) _ _ out₀
-    (refusal-most suite (length key) (length nonce) (length ad) (length text) (length out₀) (length tag))
+    opened-keeps (refusal true suite (length key) (length nonce) (length ad) (length text) (length out₀) (length tag)) _ _ out₀
+    (⊎-elim (λ h. h) (λ h. absurd (true≢false (h .2))) (refusal-most true suite (length key) (length nonce) (length ad) (length text) (length out₀) (length tag)))

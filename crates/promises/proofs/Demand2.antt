@@ -9,15 +9,16 @@ use Rattle.cipher.proofs.Lawful.{lawful}
 use Rattle.mode.specs.Mode.{ciphertext, tag, textOut, tagOut}
 use Rattle.mode.proofs.Demand2.{text-length, text-bytes, text-back, tag-back, tag-block}
 use Rattle.comet.specs.Answers.{sealedAs, sealing, Opened}
+use Rattle.comet.proofs.Refuse.{none-bad}
 use Rattle.promises.specs.Input.{Input}
 use Rattle.promises.specs.Demand2.{Sealing, Accepting, Returning, RoundTrip}
-use Rattle.promises.proofs.Answers.{right, nonce-right, opens, opened-tag}
+use Rattle.promises.proofs.Answers.{fits, nonce-right, opens, opened-tag}
 
 pub sealing-is : Sealing
 unfolding sealing
-sealing-is suite key nonce ad msg out₀ tag₀ i lo lt =
+sealing-is suite key nonce ad msg out₀ tag₀ i s lo lt =
     ap (λ (n : ℕ). sealedAs n (ciphertext (cipherOf suite) key nonce ad msg) (tag (cipherOf suite) key nonce ad msg) out₀ tag₀)
-    (right suite key nonce ad msg out₀ tag₀ i lo lt)
+    (none-bad false suite (length key) (length nonce) (length ad) (length msg) (length out₀) (length tag₀) s (fits suite key nonce ad msg out₀ tag₀ i lo lt))
 
 pub returning : Returning
 returning suite key nonce ad c t out₀ m i lo lt hm ec et =

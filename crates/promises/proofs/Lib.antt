@@ -11,3 +11,5 @@ pub mod Nonces
 pub mod Search
 pub mod Compare
 pub mod Reading
+pub mod Retired
+pub mod Reseal

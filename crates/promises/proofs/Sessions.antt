@@ -5,6 +5,7 @@ use mathlib.Core.List.{List, [], _∷_}
 use lib.ListN.{length}
 use Rattle.words.specs.Bytes.{AllBytes}
 use Rattle.cipher.specs.Cipher.{cipherOf}
+use Rattle.cipher.proofs.Suites.{seals-has}
 use Rattle.comet.specs.Answers.{Sealed, opening}
 use Rattle.session.specs.Value.{Value, Given, answered, gave, starting, dataNumber, dataIn, dataPart, textNumber, textDone, textPart, endNumber, endDone, ending}
 use Rattle.session.specs.Calls.{Call, AllLent, Run, runOf}
@@ -22,7 +23,7 @@ input suite key nonce cs out₀ tag₀ hk hv hc e0 e1 =
     let s = finished suite key nonce cs out₀ tag₀ hk hv hc e0 e1 .1 in
     record {
       texts = record {
-        suite-is = f .0;
+        suite-is = seals-has suite (f .0);
         key-bytes = hk;
         key-length = f .1;
         nonce-bytes = hv;
@@ -38,7 +39,7 @@ pub as-one-call : AsOneCall
 as-one-call suite key nonce cs out₀ tag₀ hk hv hc e0 e1 out₁ tag₁ lo lt =
     let r = runOf suite key nonce cs in
     let w = finished suite key nonce cs out₀ tag₀ hk hv hc e0 e1 .0 in
-    sealing-is suite key nonce (r .ad) (r .msg) out₁ tag₁ (input suite key nonce cs out₀ tag₀ hk hv hc e0 e1) lo lt
+    sealing-is suite key nonce (r .ad) (r .msg) out₁ tag₁ (input suite key nonce cs out₀ tag₀ hk hv hc e0 e1) (facts suite key nonce e0 .0) lo lt
     ∙ sym (ap₂ (λ (o t : List ℕ). record { number = 0; out = o; tag = t }) (w .0) (w .1))
 
 pub opens-whole : OpensWhole

@@ -1,5 +1,6 @@
 -- Demand 1: every entry point answers on any bytes and any lengths, with one outcome; a refused length or suite changes nothing, a wrong tag leaves zeros.
 use mathlib.Core.Path.{_≡_}
+use mathlib.Core.Logic.{_⊎_}
 use Prim.Native.Nat.{ℕ, _≤_, _<_}
 use mathlib.Core.List.{List}
 use lib.ListN.{length, replicate}
@@ -34,6 +35,8 @@ use Rattle.writer.proofs.seal_file.Kinds as seal-file-kinds
 use Rattle.writer.proofs.seal_file.Reads as seal-file-reads
 use Rattle.writer.proofs.unseal_file.Kinds as unseal-file-kinds
 use Rattle.writer.proofs.unseal_file.Reads as unseal-file-reads
+use Rattle.reseal.proofs.reseal.Kinds as reseal-kinds
+use Rattle.reseal.proofs.reseal.Reads as reseal-reads
 use Rattle.search.proofs.search.Kinds as search-kinds
 use Rattle.search.proofs.search.Reads as search-reads
 use Rattle.compare.proofs.compare.Kinds as compare-kinds
@@ -77,13 +80,15 @@ pub record EntryPoints : Type 0 where
   pub start : Answers start-kinds.ps start-kinds.r start-reads.Pre start-reads.Post
   pub ask : Answers ask-kinds.ps ask-kinds.r ask-reads.Pre ask-reads.Post
   pub report : Answers report-kinds.ps report-kinds.r report-reads.Pre report-reads.Post
+  -- W7
+  pub reseal : Answers reseal-kinds.ps reseal-kinds.r reseal-reads.Pre reseal-reads.Post
 
--- the sealer gives 0 to 7, and on any but 0 both buffers are as they were
+-- the sealer gives 0 to 7 and 10, and on any but 0 both buffers are as they were
 abbrev pub SealKeeps : Type 0
 SealKeeps =
     (suite : ℕ) (key nonce ad msg out₀ tag₀ : List ℕ) →
     let r : Sealed = sealing suite key nonce ad msg out₀ tag₀ in
-    (r .number ≤ 7) × (0 < r .number → (r .out ≡ out₀) × (r .tag ≡ tag₀))
+    ((r .number ≤ 7) ⊎ (r .number ≡ 10)) × (0 < r .number → (r .out ≡ out₀) × (r .tag ≡ tag₀))
 
 -- the opener gives 0 to 8; on 1 to 7 the buffer is as it was, on 8 every byte of it is 0
 abbrev pub OpenKeeps : Type 0

@@ -1,22 +1,22 @@
--- Demand 2: sealing gives exactly COMET's ciphertext and tag; opening accepts exactly the pairs that sealing makes from some message, and returns that message.
+-- Demand 2: for a suite that seals, sealing gives exactly COMET's ciphertext and tag; for every suite that we have, opening accepts exactly the specification's pairs, those that sealing makes from some message, and returns that message. Of suite 4, which seals no more, it speaks of opening alone (document 02, W7).
 use mathlib.Core.Path.{_≡_}
 use mathlib.Core.Logic.{_↔_}
 use Prim.Native.Nat.{ℕ}
 use mathlib.Core.List.{List}
 use lib.ListN.{length}
 use Rattle.words.specs.Bytes.{AllBytes}
-use Rattle.cipher.specs.Cipher.{cipherOf, sizeOf}
+use Rattle.cipher.specs.Cipher.{Seals, cipherOf, sizeOf}
 use Rattle.mode.specs.Mode.{ciphertext, tag}
 use Rattle.comet.specs.Answers.{sealing, opening}
 use Rattle.promises.specs.Input.{Input}
 
--- the sealer's outputs are the specification's
+-- the sealer's outputs are the specification's, where the suite seals
 abbrev pub Sealing : Type 0
 Sealing =
-    (suite : ℕ) (key nonce ad msg out₀ tag₀ : List ℕ) → Input suite key nonce ad msg → length out₀ ≡ length msg → length tag₀ ≡ sizeOf suite
+    (suite : ℕ) (key nonce ad msg out₀ tag₀ : List ℕ) → Input suite key nonce ad msg → Seals suite → length out₀ ≡ length msg → length tag₀ ≡ sizeOf suite
     → sealing suite key nonce ad msg out₀ tag₀ ≡ record { number = 0; out = ciphertext (cipherOf suite) key nonce ad msg; tag = tag (cipherOf suite) key nonce ad msg }
 
--- a pair (c, t) is accepted exactly if some message seals to it
+-- a pair (c, t) is accepted exactly if it is the specification's for some message
 abbrev pub Accepting : Type 0
 Accepting =
     (suite : ℕ) (key nonce ad c t out₀ : List ℕ) → Input suite key nonce ad c → length out₀ ≡ length c → length t ≡ sizeOf suite

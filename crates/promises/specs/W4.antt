@@ -2,10 +2,10 @@
 use Rattle.draft.specs.Promised.{SealedBack, UnsealedBack, Sealing, Unsealing, SealerTakes, OpenerTakes, SealNumbers, UnsealNumbers, TextAltered, DataAltered}
 
 pub record Writer : Type 0 where
-  -- sealing then unsealing a valid draft gives the draft; unsealing then sealing a genuine file gives the file
+  -- where no entry has suite 4: sealing then unsealing a valid draft gives the draft; unsealing then sealing a genuine file gives the file
   pub sealed-back : SealedBack
   pub unsealed-back : UnsealedBack
-  -- every outcome, and when it is given: the checks, 33, 2, 6, 8, 0
+  -- every outcome, and when it is given: the checks, 33, 10, 2, 6, 8, 0
   pub sealing : Sealing
   pub unsealing : Unsealing
   -- no other number comes out

@@ -9,7 +9,7 @@ use lib.ListN.{length, replicate, length-append, length-replicate}
 use lib.Dec.{leb, ltb, eqb}
 use borrow.Author.Tests.{le-leb, le-ltb, eq-eqb, ne-eqb}
 use Rattle.words.proofs.Lists.{nil-of}
-use Rattle.cipher.specs.Cipher.{IsSuite, sizeOf, cipherOf}
+use Rattle.cipher.specs.Cipher.{Seals, sizeOf, cipherOf}
 use Rattle.cipher.proofs.Lawful.{lawful}
 use Rattle.cipher.proofs.Suites.{size-most}
 use Rattle.mode.specs.Walk.{rest}
@@ -24,7 +24,7 @@ use Rattle.session.proofs.Count.{part-count, end-count}
 filled-long : (l : List ℕ) → length l ≤ 16 → length (filled l) ≡ 16
 filled-long l h = length-append l (replicate (16 - length l) 0) ∙ ap (λ (k : ℕ). length l + k) (length-replicate (16 - length l) 0) ∙ omega arith
 
-module _ (suite : ℕ) (key nonce : List ℕ) (known : IsSuite suite) (a m : List ℕ) (ha : length a ≤ 65536) (hm : length m ≤ 65536) where
+module _ (suite : ℕ) (key nonce : List ℕ) (still : Seals suite) (a m : List ℕ) (ha : length a ≤ 65536) (hm : length m ≤ 65536) where
   abbrev n : ℕ
   n = sizeOf suite
 
@@ -35,7 +35,7 @@ module _ (suite : ℕ) (key nonce : List ℕ) (known : IsSuite suite) (a m : Lis
   at = soFar suite key nonce a m
 
   goes-on : sound suite (length a) (length m) ≡ true
-  goes-on = simp (known, le-leb (length a) 65536 ha, le-leb (length m) 65536 hm)
+  goes-on = simp (still, le-leb (length a) 65536 ha, le-leb (length m) 65536 hm)
 
   -- ---- associated data
 

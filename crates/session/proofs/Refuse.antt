@@ -7,14 +7,15 @@ use lib.Dec.{leb, ltb, eqb, lit<}
 use borrow.Author.Tests.{leb-true, ltb-false, eqb-true, not-false}
 use Rattle.words.proofs.Ladder.{not-taken}
 use Rattle.words.proofs.Same.{and-true}
-use Rattle.cipher.specs.Cipher.{isSuite, IsSuite, sizeOf, nonceOf}
+use Rattle.cipher.proofs.Suites.{seals-has}
+use Rattle.cipher.specs.Cipher.{isSuite, seals, Seals, sizeOf, nonceOf}
 use Rattle.session.specs.Value.{Value, Given, sound, Sound, answered, gave, dataNumber, textNumber, endNumber, startNumber}
 
 pub sound-told : (s c t : ℕ) → sound s c t ≡ true → Sound s c t
 sound-told s c t e =
-    let p = and-true (isSuite s) (leb c 65536 && leb t 65536) e in
+    let p = and-true (seals s) (leb c 65536 && leb t 65536) e in
     let r = and-true (leb c 65536) (leb t 65536) (p .1) in
-    record { known = p .0; data-most = leb-true c 65536 (r .0); text-most = leb-true t 65536 (r .1) }
+    record { known = seals-has s (p .0); data-most = leb-true c 65536 (r .0); text-most = leb-true t 65536 (r .1) }
 
 pub data-passed : (s c t l : ℕ) → dataNumber s c t l ≡ 0 → Sound s c t × (t ≡ 0) × (l ≤ 65536 - c)
 unfolding dataNumber
@@ -74,15 +75,18 @@ module _ (s c t o g : ℕ) where
       ap₂ (λ (x y : Bool). cond (not x) 9 (cond y 6 (cond (not (eqb g (sizeOf s))) 7 0))) eb ed ∙ ap (λ (z : Bool). cond (not b) 9 (cond d 6 (cond (not z) 7 0))) ef
 
 module _ (s k v : ℕ) where
-  pub start-passed : startNumber s k v ≡ 0 → IsSuite s × (k ≡ 16) × (v ≡ nonceOf s)
+  pub start-passed : startNumber s k v ≡ 0 → Seals s × (k ≡ 16) × (v ≡ nonceOf s)
   unfolding startNumber
   start-passed e =
       let p = not-taken (not (isSuite s)) 1 _ (lit< tt) e in
-      let q = not-taken (not (eqb k 16)) 2 _ (lit< tt) (p .1) in
+      let w = not-taken (not (seals s)) 10 _ (lit< tt) (p .1) in
+      let q = not-taken (not (eqb k 16)) 2 _ (lit< tt) (w .1) in
       let r = not-taken (not (eqb v (nonceOf s))) 3 _ (lit< tt) (q .1) in
-      (not-false (isSuite s) (p .0), eqb-true k 16 (not-false (eqb k 16) (q .0)), eqb-true v (nonceOf s) (not-false (eqb v (nonceOf s)) (r .0)))
+      (not-false (seals s) (w .0), eqb-true k 16 (not-false (eqb k 16) (q .0)), eqb-true v (nonceOf s) (not-false (eqb v (nonceOf s)) (r .0)))
 
-  pub start-is : (b d f : Bool) → isSuite s ≡ b → eqb k 16 ≡ d → eqb v (nonceOf s) ≡ f → startNumber s k v ≡ cond (not b) 1 (cond (not d) 2 (cond (not f) 3 0))
+  pub start-is : (b w d f : Bool) → isSuite s ≡ b → seals s ≡ w → eqb k 16 ≡ d → eqb v (nonceOf s) ≡ f
+      → startNumber s k v ≡ cond (not b) 1 (cond (not w) 10 (cond (not d) 2 (cond (not f) 3 0)))
   unfolding startNumber
-  start-is b d f eb ed ef =
-      ap₂ (λ (x y : Bool). cond (not x) 1 (cond (not y) 2 (cond (not (eqb v (nonceOf s))) 3 0))) eb ed ∙ ap (λ (z : Bool). cond (not b) 1 (cond (not d) 2 (cond (not z) 3 0))) ef
+  start-is b w d f eb ew ed ef =
+      ap₂ (λ (x y : Bool). cond (not x) 1 (cond (not y) 10 (cond (not (eqb k 16)) 2 (cond (not (eqb v (nonceOf s))) 3 0)))) eb ew
+      ∙ ap₂ (λ (y z : Bool). cond (not b) 1 (cond (not w) 10 (cond (not y) 2 (cond (not z) 3 0)))) ed ef

@@ -11,7 +11,8 @@ use borrow.Author.Tests.{eq-eqb}
 use lib.Seq.{take-append-seam}
 use Rattle.words.specs.Bytes.{AllBytes}
 use Rattle.words.proofs.Lists.{nil-of, all-append, all-nil}
-use Rattle.cipher.specs.Cipher.{Block, isSuite, IsSuite, cipherOf, sizeOf, nonceOf}
+use Rattle.cipher.proofs.Suites.{seals-has}
+use Rattle.cipher.specs.Cipher.{Block, isSuite, seals, Seals, cipherOf, sizeOf, nonceOf}
 use Rattle.mode.specs.Mode.{ciphertext, tag}
 use Rattle.session.specs.Value.{Value, Given, over, answered, gave, written, startNumber, starting, dataNumber, dataPart, textNumber, textDone, textPart, endNumber, endDone, ending, dataIn, partOut, endOut, fresh}
 use Rattle.session.proofs.Joined.{outSoFar, soFar}
@@ -36,19 +37,19 @@ pub data Kept (suite : ℕ) (key nonce : List ℕ) (r : Run) : Type 0 where
 -- ---- a session that is over stays so
 
 over-data : (p : List ℕ) → dataPart over p .next ≡ over
-unfolding dataPart dataNumber isSuite
+unfolding dataPart dataNumber seals isSuite
 over-data p = refl
 
 over-text : (p out : List ℕ) → textPart over p out .next ≡ over
-unfolding textPart textNumber isSuite
+unfolding textPart textNumber seals isSuite
 over-text p out = refl
 
 over-end : (out tag : List ℕ) → ending over out tag .next ≡ over
-unfolding ending endNumber isSuite
+unfolding ending endNumber seals isSuite
 over-end out tag = refl
 
 over-shut : Shut over
-unfolding dataPart dataNumber textPart textNumber ending endNumber isSuite
+unfolding dataPart dataNumber textPart textNumber ending endNumber seals isSuite
 over-shut = ((λ p. refl), (λ p out. refl), (λ out tag. refl))
 
 module _ (suite : ℕ) (key nonce : List ℕ) (hk : Block 16 key) (hv : AllBytes nonce) (lv : length nonce ≡ nonceOf suite) where
@@ -213,7 +214,7 @@ module _ (suite : ℕ) (key nonce : List ℕ) (hk : Block 16 key) (hv : AllBytes
 -- ---- the start
 
 record Started (suite : ℕ) (key nonce : List ℕ) : Type 0 where
-  known : IsSuite suite
+  still : Seals suite
   key16 : length key ≡ 16
   nonceRight : length nonce ≡ nonceOf suite
   next : starting suite key nonce .next ≡ fresh suite key nonce
@@ -227,7 +228,7 @@ unfolding starting
 started suite key nonce e =
     let g = start-go (startNumber suite (length key) (length nonce)) (fresh suite key nonce) over e in
     let n = start-passed suite (length key) (length nonce) (g .0) in
-    record { known = n .0; key16 = n .1; nonceRight = n .2; next = g .1 }
+    record { still = n .0; key16 = n .1; nonceRight = n .2; next = g .1 }
 
 -- ---- what a start gives
 
@@ -235,7 +236,7 @@ pub starts : Starts
 unfolding starting
 starts suite key nonce hs hk hv =
     ap (λ (k : ℕ). answered k (gave 0 0 (fresh suite key nonce) [] []) over [] [] .number)
-    (start-is suite (length key) (length nonce) true true true hs (eq-eqb (length key) 16 hk) (eq-eqb (length nonce) (nonceOf suite) hv))
+    (start-is suite (length key) (length nonce) true true true true (seals-has suite hs) hs (eq-eqb (length key) 16 hk) (eq-eqb (length nonce) (nonceOf suite) hv))
 
 shut-go : (k : ℕ) (done : Value) → (answered k (gave 0 0 done [] []) over [] [] .number ≡ 0 → ⊥) → Shut (answered k (gave 0 0 done [] []) over [] [] .next)
 shut-go zero done h = absurd (h refl)
@@ -280,7 +281,7 @@ module _ (suite : ℕ) (key nonce : List ℕ) (cs : List Call) (hk : AllBytes ke
   going (closed e t) f = absurd (not-both t f)
   going (stands s eb) f =
       subst (λ (v : Value). Next suite (record { now = v; ad = all .ad; msg = all .msg; out = all .out; ended = all .ended })) (sym (s .at))
-      (next-is suite key nonce (st .known) (all .ad) (all .msg) (s .dataSmall) (s .textSmall) (all .out) (all .ended))
+      (next-is suite key nonce (st .still) (all .ad) (all .msg) (s .dataSmall) (s .textSmall) (all .out) (all .ended))
 
   shut : Kept suite key nonce all → all .ended ≡ true → Shut (all .now)
   shut (closed e t) f = subst Shut (sym e) over-shut
@@ -305,7 +306,7 @@ whatever suite key nonce cs out₀ tag₀ hk hv hc e0 e1 =
     (f .0 .0, f .0 .1, f .1 .dataSmall, f .1 .textSmall)
 
 -- the start's facts, for what follows from the run
-pub facts : (suite : ℕ) (key nonce : List ℕ) → starting suite key nonce .number ≡ 0 → IsSuite suite × (length key ≡ 16) × (length nonce ≡ nonceOf suite)
+pub facts : (suite : ℕ) (key nonce : List ℕ) → starting suite key nonce .number ≡ 0 → Seals suite × (length key ≡ 16) × (length nonce ≡ nonceOf suite)
 facts suite key nonce e =
     let t = started suite key nonce e in
-    (t .known, t .key16, t .nonceRight)
+    (t .still, t .key16, t .nonceRight)

@@ -5,7 +5,7 @@ use mathlib.Core.Bool.{Bool, true, false}
 use mathlib.Core.List.{List, [], _∷_, _++_}
 use lib.ListN.{length, take}
 use Rattle.words.specs.Bytes.{AllBytes}
-use Rattle.cipher.specs.Cipher.{IsSuite, cipherOf, sizeOf, nonceOf}
+use Rattle.cipher.specs.Cipher.{Seals, cipherOf, sizeOf, nonceOf}
 use Rattle.mode.specs.Mode.{ciphertext, tag}
 use Rattle.session.specs.Value.{Value, Given, starting, dataPart, textPart, ending}
 
@@ -66,9 +66,9 @@ runOf suite key nonce cs = run (record { now = starting suite key nonce .next; a
 abbrev pub joined : Run → Given → List ℕ
 joined r e = r .out ++ take (e .count) (e .out)
 
--- key and nonce of the right lengths start a session of every suite that we have
+-- key and nonce of the right lengths start a session of every suite that seals
 abbrev pub Starts : Type 0
-Starts = (suite : ℕ) (key nonce : List ℕ) → IsSuite suite → length key ≡ 16 → length nonce ≡ nonceOf suite → starting suite key nonce .number ≡ 0
+Starts = (suite : ℕ) (key nonce : List ℕ) → Seals suite → length key ≡ 16 → length nonce ≡ nonceOf suite → starting suite key nonce .number ≡ 0
 
 -- a refused start hands back a session that answers 9 to every call
 abbrev pub Shut : Value → Type 0

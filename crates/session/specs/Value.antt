@@ -4,7 +4,7 @@ use mathlib.Core.Bool.{Bool, false, cond, not, _&&_}
 use mathlib.Core.List.{List, [], _∷_, _++_}
 use lib.ListN.{length, take, drop, replicate}
 use lib.Dec.{leb, ltb, eqb}
-use Rattle.cipher.specs.Cipher.{Cipher, isSuite, IsSuite, cipherOf, sizeOf, nonceOf}
+use Rattle.cipher.specs.Cipher.{Cipher, isSuite, IsSuite, seals, cipherOf, sizeOf, nonceOf}
 use Rattle.mode.specs.Blocks.{blocks}
 use Rattle.mode.specs.Walk.{States, whole, rest, walked, covered, tagged, origin}
 
@@ -29,11 +29,11 @@ valueOf suite s held came text = record { suite = suite; Y = filled (s .Y); Z = 
 abbrev pub over : Value
 over = record { suite = 0; Y = replicate 16 0; Z = replicate 16 0; held = replicate 16 0; came = 0; text = 0 }
 
--- a session that goes on, by its suite and its totals: a suite that we have, and totals within the limit. No other value is one that a run of ours gives
+-- a session that goes on, by its suite and its totals: a suite that seals, and totals within the limit. No other value is one that a run of ours gives
 abbrev pub sound : ℕ → ℕ → ℕ → Bool
-sound suite came text = isSuite suite && (leb came 65536 && leb text 65536)
+sound suite came text = seals suite && (leb came 65536 && leb text 65536)
 
--- the same as facts
+-- what the work needs of that, as facts
 pub record Sound (suite came text : ℕ) : Type 0 where
   pub known : IsSuite suite
   pub data-most : came ≤ 65536
@@ -110,9 +110,10 @@ written new out = new ++ drop (length new) out
 unfoldable pub startNumber : ℕ → ℕ → ℕ → ℕ
 startNumber suite key nonce =
     cond (not (isSuite suite)) 1
+    (cond (not (seals suite)) 10
     (cond (not (eqb key 16)) 2
     (cond (not (eqb nonce (nonceOf suite))) 3
-    0))
+    0)))
 
 abbrev pub fresh : ℕ → List ℕ → List ℕ → Value
 fresh suite key nonce = valueOf suite (origin (cipherOf suite) key nonce) (replicate 16 0) 0 0

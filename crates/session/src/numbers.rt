@@ -10,6 +10,10 @@ pub(crate) fn start_number(suite: u8, k: usize, v: usize) -> u8
     if !b {
         return 1;
     }
+    let s = cipher::seals(suite);
+    if !s {
+        return 10;
+    }
     if k != 16 {
         return 2;
     }
@@ -24,7 +28,7 @@ pub(crate) fn start_number(suite: u8, k: usize, v: usize) -> u8
 fn goes_on(suite: u8, came: usize, text: usize) -> bool
     ensures { λ r. ⌜ r ≡ sound suite came text ⌝ }
 {
-    let b = cipher::is_suite(suite);
+    let b = cipher::seals(suite);
     if !b {
         return false;
     }

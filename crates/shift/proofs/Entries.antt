@@ -17,7 +17,7 @@ use Rattle.table.specs.Format.{edition, rowSize, nonceAt, rowOf, dataOf, textOf
 use Rattle.table.specs.Answers.{answer}
 use Rattle.table.specs.Inside.{EntryIn}
 use Rattle.table.proofs.Rows.{stretch-length, nonce-length}
-use Rattle.shift.specs.Opening.{ringKey, nonceRead, entrySealing, entryOpening, left, rowOpening}
+use Rattle.shift.specs.Opening.{ringKey, nonceRead, entrySealingAs, entrySealing, entryOpening, left, rowOpening}
 use Rattle.shift.specs.Inside.{Lendable}
 
 -- lent the entry's own bytes, the opener gives and leaves what the definition says
@@ -27,12 +27,17 @@ pub lent : (f ring : List ℕ) (i : ℕ) (r : Row) (x : Opened) (key nonce ad te
 unfolding entryOpening
 lent f ring i r x key nonce ad text tag out e q ek en ea et eg = e ∙ simp (ek, en, ea, et, eg, q)
 
--- and so does the sealer
-pub lent-sealer : (f ring : List ℕ) (i : ℕ) (r : Row) (x : Sealed) (key nonce ad text out tag : List ℕ) → x ≡ sealing (r .suite) key nonce ad text out tag → r ≡ rowOf f i
-    → key ≡ ringKey ring (r .key) → nonce ≡ take (nonceOf (r .suite)) (nonceAt (rowSize edition) f i)
-    → ad ≡ dataOf f r → text ≡ textOf f r → x ≡ entrySealing f ring i out tag
+-- and so does the sealer, of any text under any suite
+pub lent-sealer : (f ring : List ℕ) (i suite : ℕ) (r : Row) (x : Sealed) (key nonce ad text out tag : List ℕ) → x ≡ sealing suite key nonce ad text out tag → r ≡ rowOf f i
+    → key ≡ ringKey ring (r .key) → nonce ≡ take (nonceOf suite) (nonceAt (rowSize edition) f i)
+    → ad ≡ dataOf f r → x ≡ entrySealingAs f ring i suite text out tag
+lent-sealer f ring i suite r x key nonce ad text out tag e q ek en ea = e ∙ simp (ek, en, ea, q)
+
+-- the entry's own text, under its own suite
+pub own-sealer : (f ring : List ℕ) (i : ℕ) (r : Row) (x : Sealed) (text out tag : List ℕ) → x ≡ entrySealingAs f ring i (r .suite) text out tag → r ≡ rowOf f i
+    → text ≡ textOf f r → x ≡ entrySealing f ring i out tag
 unfolding entrySealing
-lent-sealer f ring i r x key nonce ad text out tag e q ek en ea et = e ∙ simp (ek, en, ea, et, q)
+own-sealer f ring i r x text out tag e q et = e ∙ simp (et, q)
 
 -- what the opener compares and recovers on the own bytes of row i
 abbrev pub entryRight : List ℕ → List ℕ → ℕ → Bool
@@ -67,7 +72,7 @@ module _ (f ring : List ℕ) (i : ℕ) (h : EntryIn (rowSize edition) f i) (g : 
   tag-long = stretch-length f (rowOf f i .at + rowOf f i .ad + rowOf f i .len) (sizeOf (rowOf f i .suite)) (h .body-in)
 
   -- suite and lengths are right but for the output's, which is what it is
-  entry-lengths : (out : List ℕ) → refusal (rowOf f i .suite) (length (ringKey ring (rowOf f i .key))) (length (nonceRead f i)) (length (dataOf f (rowOf f i)))
+  entry-lengths : (out : List ℕ) → refusal true (rowOf f i .suite) (length (ringKey ring (rowOf f i .key))) (length (nonceRead f i)) (length (dataOf f (rowOf f i)))
       (length (textOf f (rowOf f i))) (length out) (length (tagOf f (rowOf f i))) ≡ cond (not (eqb (length out) (rowOf f i .len))) 6 0
   unfolding refusal
   entry-lengths out =

@@ -29,6 +29,8 @@ use Rattle.shift.proofs.open_job.Kinds as open-job-kinds
 use Rattle.shift.proofs.open_job.Reads as open-job-reads
 use Rattle.shift.proofs.lend.row_of.Kinds as row-of-kinds
 use Rattle.shift.proofs.lend.row_of.Reads as row-of-reads
+use Rattle.shift.proofs.lend.seal_as.Kinds as seal-as-kinds
+use Rattle.shift.proofs.lend.seal_as.Reads as seal-as-reads
 use Rattle.shift.proofs.lend.seal_row.Kinds as seal-row-kinds
 use Rattle.shift.proofs.lend.seal_row.Reads as seal-row-reads
 use Rattle.shift.proofs.lend.open_row.Kinds as open-row-kinds
@@ -96,6 +98,11 @@ opened-answer κs a h x y = (answer-one (x .ensures) (y .ensures), refl)
 
 pub row-of : OneOutcome row-of-kinds.ps row-of-kinds.r row-of-reads.Pre row-of-reads.Post
 row-of κs a h x y = (x .ensures ∙ sym (y .ensures), refl)
+
+pub seal-as : OneOutcome seal-as-kinds.ps seal-as-kinds.r seal-as-reads.Pre seal-as-reads.Post
+seal-as κs a h x y =
+    let e = x .ensures ∙ sym (y .ensures) in
+    (number-tells _ _ (ap (λ (z : comet.Sealed). z .number) e), ap (λ (z : comet.Sealed). (tt, (tt, (tt, (tt, (tt, (tt, (z .out, (z .tag, tt))))))))) e)
 
 pub seal-row : OneOutcome seal-row-kinds.ps seal-row-kinds.r seal-row-reads.Pre seal-row-reads.Post
 seal-row κs a h x y =

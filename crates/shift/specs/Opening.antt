@@ -2,12 +2,13 @@
 use Prim.Native.Nat.{ℕ, _*_}
 use mathlib.Core.Bool.{not, cond}
 use mathlib.Core.List.{List}
-use lib.ListN.{length}
+use lib.ListN.{length, take}
 use lib.Dec.{eqb}
+use Rattle.cipher.specs.Cipher.{nonceOf}
 use Rattle.comet.specs.Answers as comet
 use Rattle.table.specs.declared.answers.Answer.{Answer}
 use Rattle.table.specs.Part.{stretch}
-use Rattle.table.specs.Format.{edition, rowSize, nonceReadAt, rowOf, dataOf, textOf, tagOf}
+use Rattle.table.specs.Format.{edition, rowSize, nonceAt, nonceReadAt, rowOf, dataOf, textOf, tagOf}
 use Rattle.table.specs.Answers.{answer}
 use Rattle.shift.specs.Lookup.{lookupJob}
 
@@ -19,11 +20,15 @@ ringKey ring k = stretch ring (16 * k) 16
 abbrev pub nonceRead : List ℕ → ℕ → List ℕ
 nonceRead f i = nonceReadAt (rowSize edition) f i
 
+-- what the sealer gives and leaves of a text, with the entry's key, nonce and associated data, under a suite
+abbrev pub entrySealingAs : List ℕ → List ℕ → ℕ → ℕ → List ℕ → List ℕ → List ℕ → comet.Sealed
+entrySealingAs f ring i suite text out₀ tag₀ =
+    let r = rowOf f i in
+    comet.sealing suite (ringKey ring (r .key)) (take (nonceOf suite) (nonceAt (rowSize edition) f i)) (dataOf f r) text out₀ tag₀
+
 -- what the sealer and the opener give and leave on the entry's own stretch of the file, and its key
 unfoldable pub entrySealing : List ℕ → List ℕ → ℕ → List ℕ → List ℕ → comet.Sealed
-entrySealing f ring i out₀ tag₀ =
-    let r = rowOf f i in
-    comet.sealing (r .suite) (ringKey ring (r .key)) (nonceRead f i) (dataOf f r) (textOf f r) out₀ tag₀
+entrySealing f ring i out₀ tag₀ = entrySealingAs f ring i (rowOf f i .suite) (textOf f (rowOf f i)) out₀ tag₀
 
 unfoldable pub entryOpening : List ℕ → List ℕ → ℕ → List ℕ → comet.Opened
 entryOpening f ring i out₀ =

@@ -16,7 +16,7 @@ ghost use Rattle.cipher.specs.Cipher.{nonceOf};
 ghost use Rattle.comet.specs.Answers.{numberOf, Sealed, Opened};
 ghost use Rattle.table.specs.Format.{edition, rowSize, rowOf, nonceAt};
 ghost use Rattle.table.specs.Inside.{RowIn};
-ghost use Rattle.shift.specs.Opening.{ringKey, entrySealing, entryOpening};
+ghost use Rattle.shift.specs.Opening.{ringKey, entrySealingAs, entrySealing, entryOpening};
 ghost use Rattle.shift.specs.Inside.{Lendable};
 
 // Row i of a shift file.
@@ -45,6 +45,26 @@ fn nonce_read(f: &[u8], i: usize, suite: u8) -> &[u8]
     stretch(nonce, 0, cipher::nonce_size(suite))
 }
 
+// Lends row i to the sealer, under a suite and with a text that the caller names.
+pub fn seal_as(
+    f: &[u8],
+    ring: &[u8],
+    i: usize,
+    row: Row,
+    suite: u8,
+    text: &[u8],
+    out: &mut [u8],
+    tag: &mut [u8],
+) -> Verdict
+    requires { ⌜ Lendable (now f) (now ring) i row ⌝ }
+    ensures { λ r. ⌜ _≡_ {A = Sealed} (record { number = numberOf r; out = now (out .exit); tag = now (tag .exit) })
+        (entrySealingAs (now (f .entry)) (now (ring .entry)) i suite (now (text .entry)) (now (out .entry)) (now (tag .entry))) ⌝ }
+{
+    let key = ring_key(ring, row.key);
+    let nonce = nonce_read(f, i, suite);
+    comet::seal(suite, key, nonce, data_of(f, row), text, out, tag)
+}
+
 // Lends row i to the sealer.
 pub fn seal_row(
     f: &[u8],
@@ -58,17 +78,7 @@ pub fn seal_row(
     ensures { λ r. ⌜ _≡_ {A = Sealed} (record { number = numberOf r; out = now (out .exit); tag = now (tag .exit) })
         (entrySealing (now (f .entry)) (now (ring .entry)) i (now (out .entry)) (now (tag .entry))) ⌝ }
 {
-    let key = ring_key(ring, row.key);
-    let nonce = nonce_read(f, i, row.suite);
-    comet::seal(
-        row.suite,
-        key,
-        nonce,
-        data_of(f, row),
-        text_of(f, row),
-        out,
-        tag,
-    )
+    seal_as(f, ring, i, row, row.suite, text_of(f, row), out, tag)
 }
 
 // Lends row i to the opener.

@@ -21,7 +21,7 @@ pub record Low (t : Finding) : Type 0 where
 
 pub told-low : (f g x y z : List ℕ) → Low (comparison f g x y z .finding)
 unfolding comparison
-told-low f g x y z = on (refused f) (refused g) (tooLong f g x y z) refl refl
+finding-low f g x y z = on (refused f) (refused g) (tooLong f g x y z) refl refl
   where
     on : (a b c : Bool) → refused f ≡ a → refused g ≡ b
         → Low (cond a (stopped (refusedIn 1 (checkFile f)) x y z) (cond b (stopped (refusedIn 2 (checkFile g)) x y z) (cond c (stopped (refusedIn 0 (answer 36 0)) x y z) (listed f g x y z))) .finding)

@@ -42,6 +42,8 @@ use Rattle.snoekeldraf.proofs.drafts.shift_seal_file.Kinds as seal-file
 use Rattle.snoekeldraf.proofs.drafts.shift_seal_file.Reads as seal-file-reads
 use Rattle.snoekeldraf.proofs.drafts.shift_unseal_file.Kinds as unseal-file-kinds
 use Rattle.snoekeldraf.proofs.drafts.shift_unseal_file.Reads as unseal-file-reads
+use Rattle.snoekeldraf.proofs.renewal.shift_reseal.Kinds as reseal-kinds
+use Rattle.snoekeldraf.proofs.renewal.shift_reseal.Reads as reseal-reads
 use Rattle.snoekeldraf.proofs.halving.shift_search.Kinds as search-kinds
 use Rattle.snoekeldraf.proofs.halving.shift_search.Reads as search-reads
 use Rattle.compare.specs.Comparing.{Comparison}
@@ -141,6 +143,11 @@ shift-unseal-file κs a h x y =
     let e = x .ensures ∙ sym (y .ensures) in
     (ap (λ (w : FileWritten). w .answer .number) e, ap (λ (w : FileWritten). (tt, (tt, (w .out, (w .answer .row, tt))))) e)
 
+pub shift-reseal : OneOutcome reseal-kinds.ps reseal-kinds.r reseal-reads.Pre reseal-reads.Post
+shift-reseal κs a h x y =
+    let e = x .ensures ∙ sym (y .ensures) in
+    (ap (λ (w : FileWritten). w .answer .number) e, ap (λ (w : FileWritten). (tt, (tt, (w .out, (w .answer .row, tt))))) e)
+
 pub shift-search : OneOutcome search-kinds.ps search-kinds.r search-reads.Pre search-reads.Post
 shift-search κs a h x y =
     let e = x .ensures .0 ∙ sym (y .ensures .0) in
@@ -151,7 +158,7 @@ shift-compare κs a h x y =
     let e = x .ensures ∙ sym (y .ensures) in (
       ap (λ (w : Comparison). w .finding .number) e,
       ap (λ (w : Comparison).
-          (tt, (tt, (w .first, (w .second, (w .differ, (w .told .first, (w .told .second, (w .told .differ, (w .told .file, (w .told .row, tt))))))))))) e,
+          (tt, (tt, (w .first, (w .second, (w .differ, (w .finding .first, (w .finding .second, (w .finding .differ, (w .finding .file, (w .finding .row, tt))))))))))) e,
     )
 
 pub shift-report : OneOutcome report-kinds.ps report-kinds.r report-reads.Pre report-reads.Post

@@ -19,7 +19,10 @@ use Rattle.table.proofs.Passed.{passes, both-zero}
 use Rattle.shift.specs.Lookup.{findFrom, lookupAs, lookupJob}
 use Rattle.shift.specs.Opening.{entryOpening, left, rowOpening, jobOpening}
 use Rattle.draft.specs.Files.{draftEdition}
-use Rattle.draft.specs.Answers.{tagSet, tagRight, setFrom, wrongFrom, lentAnswer, sealAnswer, openAnswer, unsealAnswer, fileSealing, fileUnsealing}
+use Rattle.draft.specs.Answers.{tagSet, rowRetired, tagRight, setFrom, retiredFrom, wrongFrom, lentAnswer, sealAnswer, openAnswer, unsealAnswer, fileSealing, fileUnsealing}
+use Rattle.reseal.specs.Files.{retabled}
+use Rattle.reseal.specs.Answers.{seenFrom, wrongAgain, wrongAgainFrom, takeAnswer, resealAnswer, fileResealing}
+use Rattle.table.specs.Check.{nonceSeen}
 
 -- the first of n rows, or what no row gives
 first-row : (hit : ℕ → Bool) (num : ℕ → ℕ) (rest : Answer) (n : ℕ) → rest .row ≤ n → firstOf hit (λ j. answer (num j) j) rest 0 (n - 0) .row ≤ n
@@ -94,12 +97,17 @@ lent-row file ring out = go (eqb ring 256) (eqb out file)
     go true true = omega arith
 
 pub sealed-row : (draft ring out₀ : List ℕ) → fileSealing draft ring out₀ .answer .row ≤ 512
-unfolding fileSealing sealAnswer setFrom
+unfolding fileSealing sealAnswer setFrom retiredFrom
 sealed-row draft ring out₀ =
-    then-row (checkAs draftEdition draft) (andThen (setFrom draft (countOf draft) 0) (lentAnswer (length draft) (length ring) (length out₀))) 512 (check-row draftEdition draft)
-    (λ z. then-row (setFrom draft (countOf draft) 0) (lentAnswer (length draft) (length ring) (length out₀)) 512
+    let lent = lentAnswer (length draft) (length ring) (length out₀) in
+    let retired = retiredFrom draft (countOf draft) 0 in
+    let set = setFrom draft (countOf draft) 0 in
+    then-row (checkAs draftEdition draft) (andThen set (andThen retired lent)) 512 (check-row draftEdition draft)
+    (λ z. then-row set (andThen retired lent) 512
     (omega (arith, passes draftEdition draft z .head .few, first-row (tagSet draft) (λ j. 33) (answer 0 0) (countOf draft) (omega arith)))
-    (λ y. lent-row (length draft) (length ring) (length out₀)))
+    (λ y. then-row retired lent 512
+    (omega (arith, passes draftEdition draft z .head .few, first-row (rowRetired draft) (λ j. 10) (answer 0 0) (countOf draft) (omega arith)))
+    (λ x. lent-row (length draft) (length ring) (length out₀))))
 
 pub unsealed-row : (file ring out₀ : List ℕ) → fileUnsealing file ring out₀ .answer .row ≤ 512
 unfolding fileUnsealing unsealAnswer openAnswer wrongFrom
@@ -108,3 +116,16 @@ unsealed-row file ring out₀ =
     then-row (andThen (checkAs edition file) lent) (wrongFrom file ring (countOf file) 0) 512
     (then-row (checkAs edition file) lent 512 (check-row edition file) (λ z. lent-row (length file) (length ring) (length out₀)))
     (λ z. omega (arith, passes edition file (both-zero (checkAs edition file) lent z .0) .head .few, first-row (λ j. not (tagRight file ring j)) (λ j. 8) (answer 0 0) (countOf file) (omega arith)))
+
+-- the reseal pass's
+pub resealed-row : (file ring out₀ : List ℕ) → fileResealing file ring out₀ .answer .row ≤ 512
+unfolding fileResealing resealAnswer takeAnswer seenFrom wrongAgainFrom
+resealed-row file ring out₀ =
+    let lent = lentAnswer (length file) (length ring) (length out₀) in
+    let seen = seenFrom (retabled file) (countOf file) 0 in
+    then-row (andThen (checkAs edition file) (andThen seen lent)) (wrongAgainFrom file ring (countOf file) 0) 512
+    (then-row (checkAs edition file) (andThen seen lent) 512 (check-row edition file)
+    (λ z. then-row seen lent 512
+    (omega (arith, passes edition file z .head .few, first-row (nonceSeen (rowSize edition) (retabled file)) (λ j. 29) (answer 0 0) (countOf file) (omega arith)))
+    (λ y. lent-row (length file) (length ring) (length out₀))))
+    (λ z. omega (arith, passes edition file (both-zero (checkAs edition file) (andThen seen lent) z .0) .head .few, first-row (wrongAgain file ring) (λ j. 8) (answer 0 0) (countOf file) (omega arith)))

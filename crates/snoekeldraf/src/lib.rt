@@ -6,3 +6,4 @@ pub mod listing;
 pub mod parts;
 pub mod record;
 pub mod reporting;
+pub mod renewal;

@@ -17,7 +17,7 @@ use Rattle.table.specs.Format.{editionOf, countOf, totalOf, rowSize, row
 use Rattle.table.specs.Check.{notAbove, badSuite, badLength, bodyStart, misplaced, unreadSet, clash, nonceSeen, badData, bodyNumber, rowNumber, headNumber}
 use Rattle.table.proofs.Rows.{row-below, row-late}
 
-any-same : (p q : ℕ → Bool) (n : ℕ) → ((k : ℕ) → k < n → p k ≡ q k) → anyBelow p n ≡ anyBelow q n
+pub any-same : (p q : ℕ → Bool) (n : ℕ) → ((k : ℕ) → k < n → p k ≡ q k) → anyBelow p n ≡ anyBelow q n
 unfolding anyBelow
 any-same p q zero h = refl
 any-same p q (suc n) h = ap₂ (λ (a b : Bool). a || b) (h n (omega arith)) (any-same p q n (λ k l. h k (omega arith)))

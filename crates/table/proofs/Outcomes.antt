@@ -30,6 +30,12 @@ use Rattle.table.proofs.row.count.Kinds as count-kinds
 use Rattle.table.proofs.row.count.Reads as count-reads
 use Rattle.table.proofs.row.row_size.Kinds as row-size-kinds
 use Rattle.table.proofs.row.row_size.Reads as row-size-reads
+use Rattle.table.proofs.row.row_start.Kinds as row-start-kinds
+use Rattle.table.proofs.row.row_start.Reads as row-start-reads
+use Rattle.table.proofs.row.set_suite.Kinds as set-suite-kinds
+use Rattle.table.proofs.row.set_suite.Reads as set-suite-reads
+use Rattle.table.proofs.rules.nonce_seen.Kinds as nonce-seen-kinds
+use Rattle.table.proofs.rules.nonce_seen.Reads as nonce-seen-reads
 use Rattle.table.proofs.row.row_at.Kinds as row-at-kinds
 use Rattle.table.proofs.row.row_at.Reads as row-at-reads
 use Rattle.table.proofs.row.stretch.Kinds as stretch-kinds
@@ -128,6 +134,15 @@ count κs a h x y = (x .ensures ∙ sym (y .ensures), refl)
 
 pub row-size : OneOutcome row-size-kinds.ps row-size-kinds.r row-size-reads.Pre row-size-reads.Post
 row-size κs a h x y = (x .ensures ∙ sym (y .ensures), refl)
+
+pub row-start : OneOutcome row-start-kinds.ps row-start-kinds.r row-start-reads.Pre row-start-reads.Post
+row-start κs a h x y = (x .ensures ∙ sym (y .ensures), refl)
+
+pub set-suite : OneOutcome set-suite-kinds.ps set-suite-kinds.r set-suite-reads.Pre set-suite-reads.Post
+set-suite κs a h x y = (refl, ap (λ (l : List ℕ). (tt, (l, (tt, (tt, tt))))) (x .ensures ∙ sym (y .ensures)))
+
+pub nonce-seen : OneOutcome nonce-seen-kinds.ps nonce-seen-kinds.r nonce-seen-reads.Pre nonce-seen-reads.Post
+nonce-seen κs a h x y = (x .ensures ∙ sym (y .ensures), refl)
 
 pub row-at : OneOutcome row-at-kinds.ps row-at-kinds.r row-at-reads.Pre row-at-reads.Post
 row-at κs a h x y = (x .ensures ∙ sym (y .ensures), refl)

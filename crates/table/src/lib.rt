@@ -2,7 +2,7 @@
 pub mod answers;
 pub mod body;
 pub mod row;
-mod rules;
+pub mod rules;
 
 use answers::Checked;
 use answers::Refusal;

@@ -2,7 +2,7 @@
 use words::block::Block;
 ghost use mathlib.Core.Path.{_≡_};
 ghost use Prim.Native.Nat.{_+_, _≤_, _<_};
-ghost use lib.ListN.{length, take};
+ghost use lib.ListN.{length, take, set};
 ghost use Rattle.words.specs.Bytes.{word};
 ghost use Rattle.words.specs.Blocks.{wide};
 ghost use Rattle.cipher.specs.Cipher.{nonceOf};
@@ -55,7 +55,7 @@ pub fn row_size(e: u16) -> usize
 }
 
 // Where row i starts; of n rows, where the bodies do: row_start(w, n).
-pub(crate) fn row_start(w: usize, i: usize) -> usize
+pub fn row_start(w: usize, i: usize) -> usize
     requires { ⌜ rowStart w i < 0x1_0000_0000_0000_0000 ⌝ }
     ensures { λ r. ⌜ r ≡ rowStart w i ⌝ }
 {
@@ -85,6 +85,14 @@ pub fn row_at(w: usize, f: &[u8], i: usize) -> Row
         at: get32(f, q + 4),
         len: get32(f, q + 8),
     }
+}
+
+// Another suite for row i.
+pub fn set_suite(w: usize, f: &mut [u8], i: usize, suite: u8)
+    requires { ⌜ RowIn w (now f) i ⌝ }
+    ensures { λ _. ⌜ now (f .exit) ≡ set (now (f .entry)) (restStart w i) suite ⌝ }
+{
+    f[rest_start(w, i)] = suite;
 }
 
 // The len bytes from `at`, as a part of the file.

@@ -116,7 +116,7 @@ fn clashes(w: usize, f: &[u8], n: usize, i: usize, j: usize) -> bool
 }
 
 // 29: the row clashes with an earlier one.
-fn nonce_seen(w: usize, f: &[u8], n: usize, i: usize) -> bool
+pub fn nonce_seen(w: usize, f: &[u8], n: usize, i: usize) -> bool
     requires { ⌜ TableIn w (now f) n × ((i < n) × Spared w (now f) (i + 1)) ⌝ }
     ensures { λ r. ⌜ r ≡ nonceSeen w (now (f .entry)) i ⌝ }
 {

@@ -1,4 +1,5 @@
-// Writes a shift file: write DRAFT RING OUT seals a draft, write back FILE RING OUT gives the draft of a file back.
+// Writes a shift file: write DRAFT RING OUT seals a draft, write back FILE RING OUT gives the draft of a file back,
+// write reseal FILE RING OUT seals its suite 4 entries again as suite 3.
 //
 // Prints number and row on one line; the file OUT is made where the number is 0, and else left alone. A file that cannot
 // be read counts as zero bytes. The program takes files up to 524,288 bytes, half the format's limit (longer: 20): the
@@ -21,39 +22,46 @@ fn say(a: Answer, out: &[u8], i: usize) {
     }
 }
 
+// What is asked for.
+enum Way {
+    Seal,
+    Back,
+    Reseal,
+}
+
 // Argument i names the ring, the next one the output.
-fn run(back: bool, file: &[u8], i: usize, out: &mut [u8])
+fn run(way: Way, file: &[u8], i: usize, out: &mut [u8])
     requires { ⌜ i ≤ 3 ⌝ }
 {
     let mut r = [0u8; 257];
     let ring = named::load(i, &mut r);
-    if back {
-        say(writer::unseal_file(file, ring, out).answer(), out, i + 1);
-    } else {
-        say(writer::seal_file(file, ring, out).answer(), out, i + 1);
+    match way {
+        Way::Seal => say(writer::seal_file(file, ring, out).answer(), out, i + 1),
+        Way::Back => say(writer::unseal_file(file, ring, out).answer(), out, i + 1),
+        Way::Reseal => say(reseal::reseal(file, ring, out).answer(), out, i + 1),
     }
 }
 
 // An output of the file's length, in a buffer that has room for it.
-fn run_in(back: bool, file: &[u8], i: usize, out: &mut [u8])
+fn run_in(way: Way, file: &[u8], i: usize, out: &mut [u8])
     requires { ⌜ i ≤ 3 ⌝ }
 {
     let n = file.len();
     if n < out.len() {
-        run(back, file, i, &mut out[0..n]);
+        run(way, file, i, &mut out[0..n]);
     } else {
         io::write_all(STDOUT_FILENO, b"20 0\n");
     }
 }
 
 // Argument i names the file.
-fn write(back: bool, i: usize)
+fn write(way: Way, i: usize)
     requires { ⌜ i ≤ 2 ⌝ }
 {
     let mut f = lines::read::file_room();
     let mut o = lines::read::file_room();
     let file = named::load(i, &mut f);
-    run_in(back, file, i + 1, &mut o);
+    run_in(way, file, i + 1, &mut o);
 }
 
 // Whether the first argument is "back".
@@ -63,15 +71,30 @@ fn is_back() -> bool {
     n == 4 && word[0] == 98 && word[1] == 97 && word[2] == 99 && word[3] == 107
 }
 
+// Whether it is "reseal".
+fn is_reseal() -> bool {
+    let mut word = [0u8; 7];
+    let n = os::arg(1, &mut word);
+    n == 6
+        && word[0] == 114
+        && word[1] == 101
+        && word[2] == 115
+        && word[3] == 101
+        && word[4] == 97
+        && word[5] == 108
+}
+
 fn main() {
     if os::arg_count() == 4 {
-        write(false, 1);
+        write(Way::Seal, 1);
     } else if os::arg_count() == 5 && is_back() {
-        write(true, 2);
+        write(Way::Back, 2);
+    } else if os::arg_count() == 5 && is_reseal() {
+        write(Way::Reseal, 2);
     } else {
         io::write_all(
             STDOUT_FILENO,
-            b"write DRAFT RING OUT\nwrite back FILE RING OUT\n",
+            b"write DRAFT RING OUT\nwrite back FILE RING OUT\nwrite reseal FILE RING OUT\n",
         );
     }
 }

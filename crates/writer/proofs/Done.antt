@@ -21,10 +21,11 @@ use Rattle.writer.specs.Answers.{writtenAnswer}
 use Rattle.writer.specs.Inside.{RowsIn, Writable}
 use Rattle.writer.proofs.answers.Written.{the-type}
 
-pub not-done : (x : Written) → OneOf (1 ∷ 2 ∷ 3 ∷ 4 ∷ 5 ∷ []) (tagOf the-type x) → writtenAnswer x .number ≡ 0 → ⊥
-not-done written.Done k q = miss (1 ∷ 2 ∷ 3 ∷ 4 ∷ 5 ∷ []) 0 tt k
+pub not-done : (x : Written) → OneOf (1 ∷ 2 ∷ 3 ∷ 4 ∷ 5 ∷ 6 ∷ []) (tagOf the-type x) → writtenAnswer x .number ≡ 0 → ⊥
+not-done written.Done k q = miss (1 ∷ 2 ∷ 3 ∷ 4 ∷ 5 ∷ 6 ∷ []) 0 tt k
 not-done (written.Refused x) k q = refusal-some x q
 not-done (written.Tag i) k q = omega arith
+not-done (written.Retired i) k q = omega arith
 not-done written.Ring k q = omega arith
 not-done written.Room k q = omega arith
 not-done (written.Forged i) k q = omega arith

@@ -7,7 +7,7 @@ use mathlib.Core.List.{List, _++_, append-assoc}
 use lib.ListN.{length, take, drop, replicate, length-append}
 use lib.Seq.{take-at, drop-at, drop-drop, length-take-le}
 use borrow.Rule.Slice.PartMut.{putMid}
-use Rattle.cipher.specs.Cipher.{sizeOf}
+use Rattle.cipher.specs.Cipher.{Seals, sizeOf}
 use Rattle.comet.specs.Answers.{Sealed, Opened, openedAs}
 use Rattle.table.specs.declared.row.Row.{Row}
 use Rattle.table.specs.Format.{edition, rowSize, rowOf, bodyEnd}
@@ -25,11 +25,11 @@ body-fits f i r h q = rw q (h .body-in)
 
 module _ (f ring : List ℕ) (i : ℕ) (h : EntryIn (rowSize edition) f i) (g : length ring ≡ 256) where
   -- the sealer left text and tag
-  pub seal-told : (r : Row) → r ≡ rowOf f i → (m : ℕ) (x y out tag : List ℕ) → length out ≡ r .len → length tag ≡ sizeOf (r .suite)
+  pub seal-told : (r : Row) → r ≡ rowOf f i → Seals (r .suite) → (m : ℕ) (x y out tag : List ℕ) → length out ≡ r .len → length tag ≡ sizeOf (r .suite)
       → _≡_ {A = Sealed} (record { number = m; out = x; tag = y }) (entrySealing f ring i out tag)
       → (x ≡ entryOut false f ring i) × (y ≡ entryTag false f ring i)
-  seal-told r q m x y out tag lo lt e =
-      let p = e ∙ seal-done f ring i h g out tag (rw q at lo) (rw q at lt) in
+  seal-told r q s m x y out tag lo lt e =
+      let p = e ∙ seal-done f ring i h g out tag (rw q at s) (rw q at lo) (rw q at lt) in
       (ap (λ (w : Sealed). w .out) p, ap (λ (w : Sealed). w .tag) p)
 
   -- the opener said whether the tag is right, and left the text where it is

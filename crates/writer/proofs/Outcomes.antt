@@ -16,6 +16,8 @@ use Rattle.writer.specs.declared.answers.Written.{Written}
 use Rattle.writer.specs.declared.answers.Written.the-variants as written
 use Rattle.writer.specs.Answers.{writtenAnswer}
 use Rattle.draft.specs.Answers.{FileWritten}
+use Rattle.writer.proofs.lent_refused.Kinds as lent-kinds
+use Rattle.writer.proofs.lent_refused.Reads as lent-reads
 use Rattle.writer.proofs.seal_file.Kinds as seal-kinds
 use Rattle.writer.proofs.seal_file.Reads as seal-reads
 use Rattle.writer.proofs.unseal_file.Kinds as unseal-kinds
@@ -29,21 +31,26 @@ writtenOf x =
     (cond (eqb (x .number) 2) written.Ring
     (cond (eqb (x .number) 6) written.Room
     (cond (eqb (x .number) 8) (written.Forged (x .row))
+    (cond (eqb (x .number) 10) (written.Retired (x .row))
     (cond (eqb (x .number) 33) (written.Tag (x .row))
-    (written.Refused (refusalOf x))))))
+    (written.Refused (refusalOf x)))))))
 
 written-back : (x : Written) → writtenOf (writtenAnswer x) ≡ x
 written-back written.Done = refl
 written-back (written.Refused x) =
-    simp (ne-eqb _ _ (refusal-some x), unlike x 2 (inl (lit< tt)), unlike x 6 (inl (lit< tt)), unlike x 8 (inl (lit< tt)), unlike x 33 (inr (lit< tt)))
+    simp (ne-eqb _ _ (refusal-some x), unlike x 2 (inl (lit< tt)), unlike x 6 (inl (lit< tt)), unlike x 8 (inl (lit< tt)), unlike x 10 (inl (lit< tt)), unlike x 33 (inr (lit< tt)))
     (ap written.Refused (refusal-back x))
 written-back (written.Tag i) = refl
+written-back (written.Retired i) = refl
 written-back written.Ring = refl
 written-back written.Room = refl
 written-back (written.Forged i) = refl
 
-written-one : {x y : Written} → writtenAnswer x ≡ writtenAnswer y → x ≡ y
+pub written-one : {x y : Written} → writtenAnswer x ≡ writtenAnswer y → x ≡ y
 written-one {x} {y} q = sym (written-back x) ∙ ap writtenOf q ∙ written-back y
+
+pub lent-refused : OneOutcome lent-kinds.ps lent-kinds.r lent-reads.Pre lent-reads.Post
+lent-refused κs a h x y = (written-one (x .ensures ∙ sym (y .ensures)), refl)
 
 pub seal-file : OneOutcome seal-kinds.ps seal-kinds.r seal-reads.Pre seal-reads.Post
 seal-file κs a h x y =

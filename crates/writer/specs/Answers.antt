@@ -1,4 +1,4 @@
--- Number and row of each case of the writer's answer: 25 to 30, 33 and 8 carry their row, every other number 0.
+-- Number and row of each case of the writer's answer: 25 to 30, 33, 10 and 8 carry their row, every other number 0.
 use Rattle.table.specs.declared.answers.Answer.{Answer}
 use Rattle.table.specs.Answers.{answer, refusalAnswer}
 use Rattle.writer.specs.declared.answers.Written.{Written}
@@ -8,6 +8,7 @@ abbrev pub writtenAnswer : Written → Answer
 writtenAnswer written.Done = answer 0 0
 writtenAnswer (written.Refused x) = refusalAnswer x
 writtenAnswer (written.Tag i) = answer 33 i
+writtenAnswer (written.Retired i) = answer 10 i
 writtenAnswer written.Ring = answer 2 0
 writtenAnswer written.Room = answer 6 0
 writtenAnswer (written.Forged i) = answer 8 i

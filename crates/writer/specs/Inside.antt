@@ -3,6 +3,7 @@ use Prim.Native.Nat.{ℕ, _<_}
 use mathlib.Core.Path.{_≡_}
 use mathlib.Core.List.{List}
 use lib.ListN.{length}
+use Rattle.cipher.specs.Cipher.{Seals}
 use Rattle.table.specs.declared.row.Row.{Row}
 use Rattle.table.specs.Format.{edition, rowSize, rowOf}
 use Rattle.table.specs.Inside.{EntryIn}
@@ -11,7 +12,11 @@ use Rattle.table.specs.Inside.{EntryIn}
 pub record RowsIn (f : List ℕ) (n : ℕ) : Type 0 where
   pub entries : (i : ℕ) → i < n → EntryIn (rowSize edition) f i
 
--- and the ring and the output are as long as they have to be
+-- every row below n has a suite that seals
+pub record RowsSeal (f : List ℕ) (n : ℕ) : Type 0 where
+  pub still : (i : ℕ) → i < n → Seals (rowOf f i .suite)
+
+-- every row below n is one that they take, and the ring and the output are as long as they have to be
 pub record Writable (f : List ℕ) (n : ℕ) (ring out : List ℕ) : Type 0 where
   pub entries : (i : ℕ) → i < n → EntryIn (rowSize edition) f i
   pub ring-long : length ring ≡ 256
@@ -25,5 +30,6 @@ pub record RowWritable (f : List ℕ) (i : ℕ) (ring out : List ℕ) : Type 0 w
 pub record TextWritable (f ring : List ℕ) (i : ℕ) (r : Row) (out : List ℕ) : Type 0 where
   pub is-row : r ≡ rowOf f i
   pub entry : EntryIn (rowSize edition) f i
+  pub still : Seals (r .suite)
   pub ring-long : length ring ≡ 256
   pub out-long : length out ≡ r .len

@@ -1,12 +1,14 @@
 // The writer of shift files: a draft is sealed, and a sealed file gives its draft back.
 pub mod answers;
 mod rows;
+mod suites;
 mod tags;
 
 use answers::Written;
 use rows::put_edition;
 use rows::seal_rows;
 use rows::unseal_rows;
+use suites::first_retired;
 use table::answers::Checked;
 use table::check_as;
 use table::row::EDITION;
@@ -21,7 +23,7 @@ ghost use Rattle.writer.specs.Answers.{writtenAnswer};
 const DRAFT: u16 = 0;
 
 // 2 and 6, from the lengths of file, ring and output.
-fn lent_refused(file: usize, ring: usize, out: usize) -> Written
+pub fn lent_refused(file: usize, ring: usize, out: usize) -> Written
     ensures { λ r. ⌜ writtenAnswer r ≡ lentAnswer file ring out ⌝ }
 {
     if ring != 256 {
@@ -33,7 +35,7 @@ fn lent_refused(file: usize, ring: usize, out: usize) -> Written
     Written::Done
 }
 
-// The refusals of sealing: the checks, 33, 2, 6.
+// The refusals of sealing: the checks, 33, 10, 2, 6.
 fn seal_refused(draft: &[u8], ring: usize, out: usize) -> Written
     ensures { λ r. ⌜ writtenAnswer r ≡ sealAnswer (now (draft .entry)) ring out ⌝ }
 {
@@ -43,9 +45,14 @@ fn seal_refused(draft: &[u8], ring: usize, out: usize) -> Written
         }
         Checked::Passed => {}
     }
-    let set = first_set(draft, count(draft));
+    let n = count(draft);
+    let set = first_set(draft, n);
     let Written::Done = set else {
         return set;
+    };
+    let retired = first_retired(draft, n);
+    let Written::Done = retired else {
+        return retired;
     };
     lent_refused(draft.len(), ring, out)
 }
@@ -63,7 +70,7 @@ fn unseal_refused(file: &[u8], ring: usize, out: usize) -> Written
     lent_refused(file.len(), ring, out)
 }
 
-// Seals a draft into an output of its length: the checks, 33, 2, 6.
+// Seals a draft into an output of its length: the checks, 33, 10, 2, 6.
 pub fn seal_file(draft: &[u8], ring: &[u8], out: &mut [u8]) -> Written
     ensures { λ r. ⌜ _≡_ {A = FileWritten} (record { answer = writtenAnswer r; out = now (out .exit) }) (fileSealing (now (draft .entry)) (now (ring .entry)) (now (out .entry))) ⌝ }
 {

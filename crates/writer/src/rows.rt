@@ -12,12 +12,13 @@ ghost use mathlib.Core.Path.{_≡_};
 ghost use mathlib.Core.Bool.{true, false};
 ghost use Prim.Native.Nat.{_≤_};
 ghost use lib.ListN.{length, take};
-ghost use Rattle.cipher.specs.Cipher.{sizeOf};
+ghost use Rattle.cipher.specs.Cipher.{Seals, sizeOf};
+ghost use Rattle.table.specs.Format.{rowOf};
 ghost use Rattle.draft.specs.Put.{put, putAll};
 ghost use Rattle.draft.specs.Files.{inEdition, pieceStart, entryOut, entryTag, sealedPiece, draftPiece};
 ghost use Rattle.draft.specs.Answers.{tagRight, wrongFrom, leaves, FileWritten};
 ghost use Rattle.writer.specs.Answers.{writtenAnswer};
-ghost use Rattle.writer.specs.Inside.{Writable, RowWritable, TextWritable};
+ghost use Rattle.writer.specs.Inside.{RowsSeal, Writable, RowWritable, TextWritable};
 
 // The edition, in the first two bytes.
 pub(crate) fn put_edition(e: u16, out: &mut [u8])
@@ -43,7 +44,7 @@ fn seal_text(f: &[u8], ring: &[u8], i: usize, row: Row, out: &mut [u8]) -> [u8; 
 
 // Seals row i of a draft into the output.
 fn seal_entry(f: &[u8], ring: &[u8], i: usize, out: &mut [u8])
-    requires { ⌜ RowWritable (now f) i (now ring) (now out) ⌝ }
+    requires { ⌜ RowWritable (now f) i (now ring) (now out) × Seals (rowOf (now f) i .suite) ⌝ }
     ensures { λ _. ⌜ now (out .exit) ≡ put (now (out .entry)) (pieceStart (now (f .entry)) i) (sealedPiece (now (f .entry)) (now (ring .entry)) i) ⌝ }
 {
     let row = row_of(f, i);
@@ -58,7 +59,7 @@ fn seal_entry(f: &[u8], ring: &[u8], i: usize, out: &mut [u8])
 
 // Seals the n rows of a draft into the output.
 pub(crate) fn seal_rows(f: &[u8], n: usize, ring: &[u8], out: &mut [u8])
-    requires { ⌜ Writable (now f) n (now ring) (now out) ⌝ }
+    requires { ⌜ Writable (now f) n (now ring) (now out) × RowsSeal (now f) n ⌝ }
     ensures { λ _. ⌜ now (out .exit) ≡ putAll (pieceStart (now (f .entry))) (sealedPiece (now (f .entry)) (now (ring .entry))) n (now (out .entry)) ⌝ }
 {
     let mut i: usize = 0;

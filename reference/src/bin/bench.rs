@@ -4,6 +4,7 @@
 //!     bench [REPETITIONS]
 
 use reference::calls::{Call, Library, REFERENCE};
+use reference::comet::{is_retired, SEALED, SUITES};
 use reference::data::{cases, samples};
 use reference::linked::{COLUMNS, PLAIN, PROVED};
 use reference::plan::{Entry, Plan};
@@ -205,9 +206,10 @@ fn main() {
     let (mut missed, mut growths) = (vec![], vec![]);
     println!("| suite | what | message bytes | ours, ns | ns a byte | ours / reference | ours / plain C |");
     println!("|---|---|---|---|---|---|---|");
-    for suite in 1..=4 {
+    for suite in SUITES {
         let calls = SIZES.map(|size| cases::sealing(&mut random, suite, 5, size));
-        for (what, calls) in [("seal", calls.clone()), ("open", calls.map(|call| call.reopened()))] {
+        let both = [("seal", calls.clone()), ("open", calls.map(|call| call.reopened()))];
+        for (what, calls) in both.into_iter().skip(is_retired(suite) as usize) {
             missed.extend(measure_sizes(repetitions, what, &calls, &LIBRARIES, &[(1, 0.9), (2, 1.0), (3, 1.0)]));
             if suite == 1 {
                 let what = format!("{what}, C by tables");
@@ -228,7 +230,7 @@ fn main() {
     }
     println!("\nA byte at 65536 over a byte at 1024: {}", growths.join("; "));
     println!("\nA session over the one-call sealer, 65536 bytes in parts of 64, 1024 and 4099:");
-    for suite in 1..=4 {
+    for suite in SEALED {
         let call = cases::sealing(&mut random, suite, 5, 65_536);
         let ratios = [64, 1_024, 4_099].map(|length| session_ratio(repetitions, &call, length));
         println!("suite {suite}: {:.2} {:.2} {:.2}", ratios[0], ratios[1], ratios[2]);
@@ -237,7 +239,7 @@ fn main() {
         }
     }
     println!("\nThe writer over the sealer on the bodies alone, messages of 1024 and of 65536 bytes:");
-    for suite in 1..=4 {
+    for suite in SEALED {
         let ratios = [1_024, 65_536].map(|size| writer_ratio(repetitions, &plan(&mut random, suite, size).draft()));
         println!("suite {suite}: {:.2} {:.2}", ratios[0], ratios[1]);
         if ratios[0].min(ratios[1]) < 0.9 {

@@ -5,7 +5,7 @@
 
 use reference::bridge::PROVED;
 use reference::calls::{Case, Library, REFERENCE};
-use reference::data::{cases, files, searching, sessions, writing};
+use reference::data::{cases, comparing, files, resealing, searching, sessions, writing};
 use reference::linked::{COLUMNS, PLAIN};
 use reference::random::Random;
 use reference::show::hex;
@@ -112,6 +112,24 @@ fn compare_search(tally: &mut Tally, random: &mut Random) {
     tally.report("jobs looked for in the longest file, and in one too long");
 }
 
+fn compare_reseal(tally: &mut Tally, random: &mut Random) {
+    resealing::calls().iter().for_each(|call| tally.proved(call));
+    tally.report("the calls of the program resealing");
+    resealing::single_bytes(|call| tally.proved(call));
+    tally.report("single-byte changes of a file to reseal");
+    resealing::trials(random, 10_000, |call| tally.proved(call));
+    tally.report("random files to reseal, good and edited");
+}
+
+fn compare_compare(tally: &mut Tally, random: &mut Random) {
+    comparing::calls().iter().for_each(|call| tally.proved(call));
+    tally.report("the calls of the program comparing");
+    comparing::trials(random, 10_000, |call| tally.proved(call));
+    tally.report("random pairs of files, good and edited");
+    comparing::longest(|call| tally.proved(call));
+    tally.report("pairs of the longest files");
+}
+
 fn main() {
     let seed = std::env::args().nth(1).map_or(2026, |seed| seed.parse().expect("SEED is a number"));
     let mut tally = Tally::default();
@@ -121,6 +139,8 @@ fn main() {
     compare_sessions(&mut tally, &mut random);
     compare_writer(&mut tally, &mut random);
     compare_search(&mut tally, &mut random);
+    compare_reseal(&mut tally, &mut random);
+    compare_compare(&mut tally, &mut random);
     println!("{} cases, {} differences", tally.cases, tally.differences);
     if tally.differences > 0 {
         std::process::exit(1);

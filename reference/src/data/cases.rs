@@ -2,10 +2,10 @@
 
 use super::{parts_of, Part};
 use crate::calls::{Call, Case, FILLER, REFERENCE};
-use crate::comet::{block_size, fitting_tag, made_up, nonce_size, LIMIT};
+use crate::comet::{block_size, fitting_tag, is_retired, made_up, nonce_size, LIMIT, SEALED, SUITES};
 use crate::random::Random;
 
-/// A call that seals, with every length right.
+/// A call that seals, with every length right. Under a retired suite it is refused.
 pub fn sealing(random: &mut Random, suite: u8, ad: usize, message: usize) -> Call {
     Call {
         opens: false,
@@ -31,24 +31,33 @@ fn lengths(suite: u8) -> Vec<(usize, usize)> {
     alone.chain(walks).chain(pairs).collect()
 }
 
-/// Every length, sealed and opened.
+/// Every length, sealed and opened; under a retired suite the specification's pairs are opened.
 pub fn by_length(random: &mut Random) -> Vec<Call> {
     let mut calls = vec![];
-    for suite in 1..=4 {
+    for suite in SUITES {
         for (ad, message) in lengths(suite) {
             let call = sealing(random, suite, ad, message);
             let reopened = call.reopened();
-            calls.extend([call, reopened]);
+            if !is_retired(suite) {
+                calls.push(call);
+            }
+            calls.push(reopened);
         }
     }
     calls
+}
+
+/// Sealing under the retired suite: 10 at every length.
+pub fn retired(random: &mut Random) -> Vec<Call> {
+    let lengths = [(0, 0), (5, 0), (0, 1), (8, 8), (17, 23), (0, LIMIT)];
+    lengths.map(|(ad, message)| expected(sealing(random, 4, ad, message), 10)).to_vec()
 }
 
 /// Opening with one bit wrong, in each byte of tag, text, associated data, nonce and key; and with the
 /// border between associated data and text moved.
 pub fn damaged(random: &mut Random) -> Vec<Call> {
     let mut calls = vec![];
-    for suite in 1..=4 {
+    for suite in SUITES {
         let block = block_size(suite);
         let good = sealing(random, suite, block + 1, 2 * block + 3).reopened();
         let parts: [fn(&mut Call) -> &mut Vec<u8>; 5] =
@@ -94,6 +103,7 @@ pub fn fault(call: &mut Call, number: u32, turn: usize) {
         6 => call.out = other(call.out, &[call.out + 1, call.out.max(1) - 1, 0, LIMIT, LIMIT + 4]),
         7 => resize(&mut call.tag, &[8, 16, 0, block.max(1) - 1, block + 1, 40]),
         8 => call.tag[turn % block] ^= 0x80,
+        10 => call.suite = 4,
         _ => unreachable!("no fault {number}"),
     }
 }
@@ -115,14 +125,15 @@ fn expected(call: Call, number: u32) -> Call {
     call
 }
 
-const SMALL_FAULTS: [u32; 6] = [1, 2, 3, 6, 7, 8];
+/// The sealer's numbers and the opener's in their order, but for those of a long input.
+const FAULTS: [[u32; 6]; 2] = [[1, 10, 2, 3, 6, 7], [1, 2, 3, 6, 7, 8]];
 
 /// Each number alone in all its kinds, and in pairs with each other; but for those of a long input.
 pub fn refused(random: &mut Random) -> Vec<Call> {
     let mut calls = vec![];
-    for suite in 1..=4 {
-        for opens in [false, true] {
-            let faults: Vec<u32> = SMALL_FAULTS.into_iter().filter(|number| opens || *number != 8).collect();
+    for suite in SUITES {
+        for opens in [false, true].into_iter().filter(|opens| *opens || !is_retired(suite)) {
+            let faults = FAULTS[opens as usize];
             for (i, first) in faults.iter().enumerate() {
                 for turn in 0..6 {
                     let mut call = subject(random, suite, opens);
@@ -145,7 +156,7 @@ pub fn refused(random: &mut Random) -> Vec<Call> {
 /// Over the limits by one byte: 4 and 5 alone, with each earlier number, and with all later ones at once
 /// (a long input is costly here, and who looks at any later one first gives that).
 pub fn too_long(random: &mut Random) -> Vec<Call> {
-    let groups: [(bool, &[u32]); 10] = [
+    let groups: [(bool, &[u32]); 12] = [
         (false, &[4]),
         (false, &[5]),
         (true, &[4, 5, 6, 7, 8]),
@@ -156,10 +167,13 @@ pub fn too_long(random: &mut Random) -> Vec<Call> {
         (false, &[2, 5]),
         (false, &[3, 4]),
         (true, &[3, 5]),
+        (false, &[10, 4]),
+        (false, &[10, 5]),
     ];
     let mut calls = vec![];
     for (turn, (opens, faults)) in groups.into_iter().enumerate() {
-        let mut call = sealing(random, 1 + (turn % 4) as u8, 5, 0);
+        let suite = if opens { SUITES[turn % SUITES.len()] } else { SEALED[turn % SEALED.len()] };
+        let mut call = sealing(random, suite, 5, 0);
         if opens {
             call = call.reopened();
         }
@@ -175,14 +189,17 @@ pub fn too_long(random: &mut Random) -> Vec<Call> {
 /// first record opens with the second one's associated data.
 pub fn two_blocks(random: &mut Random) -> Vec<Call> {
     let mut calls = vec![];
-    for suite in 1..=4 {
+    for suite in SUITES {
         let call = sealing(random, suite, 2 * block_size(suite), 5);
         let ad = made_up(suite, &call.key, &call.nonce, &call.ad);
         assert_ne!(ad, call.ad);
         let other = Call { ad: ad.clone(), ..call.clone() };
         assert_eq!(call.answer(&REFERENCE), other.answer(&REFERENCE));
         let opened = Call { ad, ..call.reopened() };
-        calls.extend([call, other, expected(opened, 0)]);
+        if !is_retired(suite) {
+            calls.extend([call, other]);
+        }
+        calls.push(expected(opened, 0));
     }
     calls
 }
@@ -196,10 +213,12 @@ fn pattern(length: usize) -> Vec<u8> {
 /// under the tag that fits them), 65,536 of associated data.
 pub fn longest(random: &mut Random) -> Vec<Call> {
     let mut calls = vec![];
-    for suite in 1..=4 {
+    for suite in SUITES {
         let mut call = sealing(random, suite, 5, 0);
         (call.text, call.out) = (pattern(LIMIT), LIMIT);
-        calls.push(call.clone());
+        if !is_retired(suite) {
+            calls.push(call.clone());
+        }
         call.opens = true;
         call.text = vec![0; LIMIT];
         call.tag = fitting_tag(suite, &call.key, &call.nonce, &call.ad, &call.text);
@@ -214,7 +233,7 @@ pub fn longest(random: &mut Random) -> Vec<Call> {
 /// All calls of the program.
 pub fn calls() -> Vec<Call> {
     let mut random = Random::new(2);
-    let groups = [by_length, damaged, refused, too_long, two_blocks, longest];
+    let groups = [by_length, damaged, retired, refused, too_long, two_blocks, longest];
     groups.into_iter().flat_map(|group| group(&mut random)).collect()
 }
 

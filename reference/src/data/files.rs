@@ -2,7 +2,7 @@
 
 use super::{parts_of, samples, Part};
 use crate::calls::{Case, FileCall, REFERENCE};
-use crate::comet::{block_size, fitting_tag, nonce_size, LIMIT};
+use crate::comet::{block_size, fitting_tag, nonce_size, LIMIT, SUITES};
 use crate::plan::{row_at, Entry, Plan};
 use crate::random::Random;
 use crate::shift;
@@ -341,7 +341,8 @@ pub fn random_plan(random: &mut Random, rows: usize, longest: usize) -> Plan {
     for _ in 0..rows {
         let message_length = random.below(longest + 1);
         let message = random.bytes(message_length);
-        let (suite, key, unit) = (1 + random.below(4) as u8, random.below(16) as u8, 1 + random.below(2) as u8);
+        let suite = SUITES[random.below(SUITES.len())];
+        let (key, unit) = (random.below(16) as u8, 1 + random.below(2) as u8);
         let mut entry = Entry::new(job, suite, key, unit, random.array(), &message);
         let more = random.below(40);
         entry.ad.extend(random.bytes(more));

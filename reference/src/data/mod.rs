@@ -1,7 +1,9 @@
 //! The data of the test programs and the samples, the same in every run.
 
 pub mod cases;
+pub mod comparing;
 pub mod files;
+pub mod resealing;
 pub mod samples;
 pub mod searching;
 pub mod sessions;
@@ -14,7 +16,7 @@ use crate::calls::{Case, REFERENCE};
 pub type Part = (&'static str, Vec<u8>);
 
 /// The folders of the repository that are written.
-pub const FOLDERS: [&str; 9] = [
+pub const FOLDERS: [&str; 12] = [
     "samples",
     "crates/vectors",
     "crates/cases",
@@ -24,6 +26,9 @@ pub const FOLDERS: [&str; 9] = [
     "crates/writing",
     "crates/write",
     "crates/searching",
+    "crates/resealing",
+    "crates/comparing",
+    "crates/differ",
 ];
 
 /// What a test program reads and writes.
@@ -45,6 +50,9 @@ pub fn parts(folder: &str) -> Vec<Part> {
         "crates/writing" => writing::parts().to_vec(),
         "crates/write" => writing::write_parts().to_vec(),
         "crates/searching" => searching::parts().to_vec(),
+        "crates/resealing" => resealing::parts().to_vec(),
+        "crates/comparing" => comparing::parts().to_vec(),
+        "crates/differ" => comparing::differ_parts().to_vec(),
         _ => unreachable!("no data for {folder}"),
     }
 }

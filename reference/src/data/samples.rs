@@ -48,6 +48,23 @@ pub fn day() -> Vec<u8> {
     Plan::new(entries()).file(&ring())
 }
 
+/// The day as it was sent later: job 4105 is gone, 4111 and 4300 have come, 4102 has another record and 4200 another key.
+pub fn later_day() -> Vec<u8> {
+    let mut entries = entries();
+    entries[1].message.extend(b" retorqued");
+    entries[5].key = 14;
+    let [mut inserted, mut last] = [entries[4].clone(), entries[0].clone()];
+    (inserted.job, last.job) = (4111, 4300);
+    for entry in [&mut inserted, &mut last] {
+        entry.nonce[0] ^= 0x55;
+        entry.ad[..4].copy_from_slice(&entry.job.to_le_bytes());
+    }
+    entries.push(last);
+    entries.insert(5, inserted);
+    entries.remove(3);
+    Plan::new(entries).file(&ring())
+}
+
 /// The day before it was sealed, but for the job of suite 4.
 pub fn draft() -> Vec<u8> {
     Plan::new(entries().into_iter().filter(|entry| entry.suite != 4).collect()).draft()

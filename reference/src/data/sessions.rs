@@ -2,7 +2,7 @@
 
 use super::{parts_of, Part};
 use crate::calls::{Case, Library, FILLER, REFERENCE};
-use crate::comet::{self, block_size, nonce_size, LIMIT};
+use crate::comet::{self, block_size, nonce_size, LIMIT, SEALED};
 use crate::random::Random;
 use crate::session::{Session, Step, OVER};
 use crate::show::shown;
@@ -155,7 +155,7 @@ fn pieces<'a>(random: &mut Random, bytes: &'a [u8], count: usize) -> Vec<&'a [u8
 /// Lengths around the blocks' borders, cut at random into up to four parts; no part at all where nothing comes.
 fn cuttings(random: &mut Random) -> Vec<Run> {
     let mut runs = vec![];
-    for suite in 1..=4 {
+    for suite in SEALED {
         let block = block_size(suite);
         let lengths = [0, 1, block - 1, block, block + 1, 2 * block + 3];
         for (a, m) in lengths.iter().flat_map(|a| lengths.iter().map(move |m| (*a, *m))) {
@@ -188,8 +188,12 @@ fn small_parts(random: &mut Random) -> Vec<Run> {
 /// Each refusal of start alone and beside later ones; the session so refused answers 9 to every call.
 fn refused_starts(random: &mut Random) -> Vec<Run> {
     let mut runs = vec![];
-    for faults in 1..8 {
-        let suite = if faults & 1 != 0 { [0, 7, 255][faults / 2 % 3] } else { 1 + (faults % 4) as u8 };
+    for faults in 1..16 {
+        let suite = match faults & 9 {
+            0 => SEALED[faults % 3],
+            8 => 4,
+            _ => [0, 7, 255][faults / 2 % 3],
+        };
         let key = random.bytes(if faults & 2 != 0 { [15, 17, 0][faults % 3] } else { 16 });
         let nonce = random.bytes(if faults & 4 != 0 { [14, 17, 0][faults % 3] } else { nonce_size(suite) });
         let mut calls = vec![Start { suite, key, nonce }];
@@ -225,7 +229,7 @@ fn probes(suite: u8) -> Vec<SessionCall> {
 /// Each probe in each phase, and then the run goes on to its end, so that what a refusal leaves is seen.
 fn phases(random: &mut Random) -> Vec<Run> {
     let mut runs = vec![];
-    for suite in [1, 3, 2, 4] {
+    for suite in [1, 3, 2] {
         let begins = start(random, suite);
         let prefixes = [
             vec![begins.clone()],
@@ -293,7 +297,7 @@ fn longest(random: &mut Random) -> Vec<Run> {
     vec![run]
 }
 
-/// Values that no run gives: no suite, totals over the limits. Every call is 9; then the old value goes on.
+/// Values that no run gives: no suite, one that no start takes, totals over the limits. Every call is 9; then the old value goes on.
 fn forged(random: &mut Random) -> Vec<Run> {
     let mut runs = vec![];
     for suite in [1, 3] {
@@ -302,6 +306,8 @@ fn forged(random: &mut Random) -> Vec<Run> {
             (0, 3, 0),
             (7, 3, 0),
             (255, 0, 9),
+            (4, 3, 0),
+            (4, 0, 9),
             (suite, over, 0),
             (suite, 3, over),
             (suite, u32::MAX as usize, 0),
@@ -331,7 +337,7 @@ pub fn parts() -> [Part; 2] {
 /// Every cutting into three parts, empty ones among them, of a text of up to three blocks: of the associated data,
 /// and of the message.
 pub fn all_cuttings(random: &mut Random, mut each: impl FnMut(&Run)) {
-    for suite in 1..=4 {
+    for suite in SEALED {
         let bytes = random.bytes(3 * block_size(suite));
         for length in 0..=bytes.len() {
             for (one, two) in (0..=length).flat_map(|one| (one..=length).map(move |two| (one, two))) {
@@ -346,7 +352,7 @@ pub fn all_cuttings(random: &mut Random, mut each: impl FnMut(&Run)) {
 /// Runs with long texts in many parts, and among their calls some that are refused.
 pub fn long_runs(random: &mut Random, count: usize, mut each: impl FnMut(&Run)) {
     for _ in 0..count {
-        let suite = 1 + random.below(4) as u8;
+        let suite = SEALED[random.below(SEALED.len())];
         let lengths = [random.below(3000), random.below(3000)];
         let (ad, msg) = (random.bytes(lengths[0]), random.bytes(lengths[1]));
         let counts = [1 + random.below(8), 1 + random.below(8)];

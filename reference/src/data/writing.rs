@@ -2,6 +2,7 @@
 
 use super::{files, parts_of, samples, Part};
 use crate::calls::{Case, Library, FILLER, REFERENCE};
+use crate::comet;
 use crate::plan::{row_at, Entry, Plan};
 use crate::random::Random;
 use crate::shift::{self, rows};
@@ -13,6 +14,7 @@ use crate::trials::{edit, misuse_ring};
 pub enum Pass {
     Seal,
     Unseal,
+    Reseal,
 }
 
 #[derive(Clone)]
@@ -37,13 +39,19 @@ impl Case for RewriteCall {
         let rewrite = match self.pass {
             Pass::Seal => by.seal_file,
             Pass::Unseal => by.unseal_file,
+            Pass::Reseal => by.reseal,
         };
         RewriteOutcome { answer: rewrite(&self.file, &self.ring, &mut out), out }
     }
 
     fn record(&self) -> Vec<u8> {
+        let op: &[u8] = match self.pass {
+            Pass::Seal => &[0],
+            Pass::Unseal => &[1],
+            Pass::Reseal => &[],
+        };
         let lengths = [self.file.len(), self.ring.len(), self.out].map(|length| (length as u32).to_le_bytes());
-        [&[self.pass as u8], &lengths.concat()[..], &self.file, &self.ring].concat()
+        [op, &lengths.concat(), &self.file, &self.ring].concat()
     }
 
     fn lines(&self, by: &Library) -> String {
@@ -63,17 +71,26 @@ pub fn expected(call: RewriteCall, number: u32, row: usize) -> RewriteCall {
     call
 }
 
-/// A draft sealed and its file unsealed; the one gives the other.
+/// A draft sealed and its file unsealed; the one gives the other, but that a draft with suite 4 is not sealed.
 fn both_ways(plan: &Plan) -> [RewriteCall; 2] {
     let (draft, file) = (plan.draft(), plan.file(&samples::ring()));
     let (seal, unseal) = (call(Pass::Seal, draft.clone()), call(Pass::Unseal, file.clone()));
-    assert!(seal.answer(&REFERENCE) == RewriteOutcome { answer: (0, 0), out: file });
+    let sealed = match plan.entries.iter().position(|entry| comet::is_retired(entry.suite)) {
+        None => RewriteOutcome { answer: (0, 0), out: file },
+        Some(row) => RewriteOutcome { answer: (10, row as u32), out: vec![FILLER; file.len()] },
+    };
+    assert!(seal.answer(&REFERENCE) == sealed);
     assert!(unseal.answer(&REFERENCE) == RewriteOutcome { answer: (0, 0), out: draft });
     [seal, unseal]
 }
 
+/// The plan with suite 3 where it has suite 4: its draft can be sealed.
+fn sealable(plan: &Plan) -> Plan {
+    plan.resuited(4, 3)
+}
+
 /// Four rows, one of each suite, with longer messages.
-fn four_rows() -> Plan {
+pub fn four_rows() -> Plan {
     let mut random = Random::new(9);
     let entry = |i: u32| {
         let length = [0, 5, 16, 40][i as usize];
@@ -82,15 +99,18 @@ fn four_rows() -> Plan {
     Plan::new((0..4).map(entry).collect())
 }
 
-/// No rows, one, three, four, as many as there can be; and random ones.
+/// No rows, one, three, four, as many as there can be; and random ones. Then those with suite 4 among them.
 fn good(random: &mut Random) -> Vec<RewriteCall> {
     let smallest = Plan::new(vec![Entry::new(7, 3, 0, 1, [0; 16], b"")]);
-    let mut plans = vec![Plan::new(vec![]), smallest, files::three_rows(), four_rows(), files::many_rows_plan(512)];
+    let mut plans = vec![files::three_rows(), four_rows(), files::many_rows_plan(512)];
     plans.extend((0..10).map(|rows| files::random_plan(random, rows, 100)));
-    plans.iter().flat_map(both_ways).collect()
+    let current = [Plan::new(vec![]), smallest].into_iter().chain(plans.iter().map(sealable));
+    let current: Vec<RewriteCall> = current.flat_map(|plan| both_ways(&plan)).collect();
+    plans.remove(2);
+    [current, plans.iter().flat_map(both_ways).collect()].concat()
 }
 
-/// A plan's input of either pass.
+/// A plan's input of a pass.
 fn input(pass: Pass, plan: &Plan) -> Vec<u8> {
     if pass == Pass::Seal {
         plan.draft()
@@ -128,7 +148,8 @@ fn refused_checks(_: &mut Random) -> Vec<RewriteCall> {
 fn refused(_: &mut Random) -> Vec<RewriteCall> {
     let mut calls = vec![];
     for pass in [Pass::Seal, Pass::Unseal] {
-        let good = call(pass, input(pass, &four_rows()));
+        let plan = if pass == Pass::Seal { sealable(&four_rows()) } else { four_rows() };
+        let good = call(pass, input(pass, &plan));
         let length = good.file.len();
         let with = |ring: usize, out: usize| {
             let mut call = RewriteCall { out, ..good.clone() };
@@ -163,6 +184,28 @@ fn refused(_: &mut Random) -> Vec<RewriteCall> {
     calls
 }
 
+/// 10 of a draft: the first row of suite 4, before 2 and 6; and behind 33, in whatever row that is.
+fn retired(_: &mut Random) -> Vec<RewriteCall> {
+    let mut calls = vec![];
+    for (suites, row) in [([4, 1, 3, 2], 0), ([1, 4, 4, 3], 1), ([3, 1, 2, 4], 3), ([4, 4, 4, 4], 0)] {
+        let mut plan = four_rows();
+        for (entry, suite) in plan.entries.iter_mut().zip(suites) {
+            (entry.suite, entry.nonce[15]) = (suite, 0);
+        }
+        let good = call(Pass::Seal, plan.draft());
+        calls.push(expected(good.clone(), 10, row));
+        calls.push(expected(RewriteCall { ring: vec![], ..good.clone() }, 10, row));
+        calls.push(expected(RewriteCall { out: 3, ..good.clone() }, 10, row));
+        calls.push(expected(RewriteCall { ring: vec![0; 257], out: 0, ..good.clone() }, 10, row));
+        for (i, of_draft) in rows(&good.file).iter().enumerate() {
+            let mut dirty = good.clone();
+            dirty.file[of_draft.tag().start] = 1;
+            calls.push(expected(dirty, 33, i));
+        }
+    }
+    calls
+}
+
 /// Files with a byte altered that a tag covers: in the associated data, the text, the nonce, the key number, and in
 /// the ring. In a draft the same bytes are no fault.
 fn altered(_: &mut Random) -> Vec<RewriteCall> {
@@ -181,7 +224,7 @@ fn altered(_: &mut Random) -> Vec<RewriteCall> {
         let mut other_ring = call(Pass::Unseal, file.clone());
         other_ring.ring[16 * row.key as usize] ^= 1;
         calls.push(expected(other_ring, 8, i));
-        let mut draft = call(Pass::Seal, four_rows().draft());
+        let mut draft = call(Pass::Seal, sealable(&four_rows()).draft());
         draft.file[row.offset + 4] ^= 3;
         draft.file[row.text().start] ^= 1;
         calls.push(expected(draft, 0, 0));
@@ -192,7 +235,7 @@ fn altered(_: &mut Random) -> Vec<RewriteCall> {
 /// All calls of the program.
 pub fn calls() -> Vec<RewriteCall> {
     let mut random = Random::new(8);
-    let groups = [good, refused_checks, refused, altered];
+    let groups = [good, refused_checks, refused, retired, altered];
     groups.into_iter().flat_map(|group| group(&mut random)).collect()
 }
 
@@ -205,7 +248,10 @@ pub fn trials(random: &mut Random, count: usize, mut each: impl FnMut(&RewriteCa
     for _ in 0..count {
         let pass = [Pass::Seal, Pass::Unseal][random.below(2)];
         let (row_count, longest) = (random.below(9), [0, 20, 100][random.below(3)]);
-        let plan = files::random_plan(random, row_count, longest);
+        let mut plan = files::random_plan(random, row_count, longest);
+        if random.below(4) > 0 {
+            plan = sealable(&plan);
+        }
         let mut call = call(pass, input(pass, &plan));
         for _ in 0..random.below(3) {
             edit(random, &mut call.file, row_count);
@@ -219,7 +265,7 @@ pub fn trials(random: &mut Random, count: usize, mut each: impl FnMut(&RewriteCa
 /// Whether each byte of a file's table and of its tags matters as it should: every single-byte change of a draft and
 /// of a file.
 pub fn single_bytes(mut each: impl FnMut(&RewriteCall)) {
-    for call in both_ways(&files::three_rows()) {
+    for call in [sealable(&files::three_rows()), files::three_rows()].iter().flat_map(both_ways) {
         for (place, x) in (0..call.file.len()).flat_map(|place| [1, 2, 4, 0x80, 0xff].map(|x| (place, x))) {
             let mut changed = call.clone();
             changed.file[place] ^= x;

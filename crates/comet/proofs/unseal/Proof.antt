@@ -1,11 +1,11 @@
 -- `comet::unseal` meets its contract: a refusal leaves the buffer; else the suite's cipher is lent what it asks for, or nothing.
 use denote.Ref.{now}
+use mathlib.Core.Bool.{true}
 use lib.ListN.{length}
-use mathlib.Core.Path.{_≡_, sym, _∙_, subst}
-use Prim.Native.Nat.{ℕ, _<_}
+use mathlib.Core.Path.{_≡_, sym, _∙_}
 use Rattle.cipher.proofs.Suites.{none-ready}
 use Rattle.comet.specs.Answers.{numberOf, refusal}
-use Rattle.comet.proofs.Refuse.{place-is, one-of-pos, opening-kept}
+use Rattle.comet.proofs.Refuse.{done-zero, other-some, opening-kept}
 use borrow.Author.Needs.{needs}
 use Rattle.comet.proofs.unseal.Statement.{statement}
 use Rattle.comet.proofs.unseal.Tie as tie
@@ -13,9 +13,9 @@ use Rattle.comet.proofs.unseal.Tie as tie
 -- nothing was refused
 zero : (c : tie.At-match-keys1) →
     let st : tie.Start = c .before .before .before .before .before .before .before .before in
-    refusal (st .args .suite) (length (now (st .args .key))) (length (now (st .args .nonce))) (length (now (st .args .ad)))
+    refusal true (st .args .suite) (length (now (st .args .key))) (length (now (st .args .nonce))) (length (now (st .args .ad)))
     (length (now (st .args .text))) (length (now (st .args .out))) (length (now (st .args .tag))) ≡ 0
-zero c = sym (c .before .refused .ensures) ∙ sym (place-is (c .before .refused .result)) ∙ c .match .keys1
+zero c = sym (c .before .refused .ensures) ∙ done-zero (c .before .refused .result) (c .match .keys1)
 
 refused-requires : tie.Need-refused-requires
 refused-requires c κs = search needs
@@ -28,7 +28,7 @@ returns c =
     let x = c .before .before .before .before .before .before .before .before .args in
     let a = c .before .refused .result in
     opening-kept (x .suite) (now (x .key)) (now (x .nonce)) (now (x .ad)) (now (x .text)) (now (x .tag)) (now (x .out)) (numberOf a) (c .before .refused .ensures)
-    (subst (λ (j : ℕ). 0 < j) (place-is a) (one-of-pos _ (c .match .keys2)))
+    (other-some a (c .match .keys2))
 
 lends-requires : tie.Need-lends-requires
 lends-requires c κs = search needs

@@ -19,7 +19,7 @@ use Rattle.comet.proofs.unseal_with.Tie as tie
 -- every length is right
 ok : (st : tie.Start) → Passed (st .args .suite) (length (now (st .args .key))) (length (now (st .args .nonce))) (length (now (st .args .ad)))
     (length (now (st .args .text))) (length (now (st .args .out))) (length (now (st .args .tag)))
-ok st = passed _ _ _ _ _ _ _ (st .pre .1)
+ok st = passed _ _ _ _ _ _ _ _ (st .pre .1)
 
 module _ (d : tie.After-same) where
   abbrev x : tie.Start

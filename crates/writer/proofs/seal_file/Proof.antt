@@ -48,8 +48,11 @@ seal-rows-requires : tie.Need-seal-rows-requires
 seal-rows-requires c κs =
     let s = c .before .before .before .before .before .before .before .before .before .before .before .before .before .before .before .before .args in
     let q = seal-can (now (s .draft)) _ _ _ (c .before .before .before .before .before .before .before .before .before .before .before .before .seal-refused .ensures) (c .before .before .before .before .before .before .before .before .before .before .enum-told .given .1) in
-    writable draftEdition (now (s .draft)) plain-draft (q .passed) _ _ _ (c .before .count .ensures) (q .room .ring-long)
-    (c .before .before .before .before .put-edition .kept .1 .0 ∙ c .before .before .before .before .before .before .before .before .copy .kept .1 .0 ∙ q .room .out-long)
+    let k = c .before .count .ensures in (
+      writable draftEdition (now (s .draft)) plain-draft (q .passed) _ _ _ k (q .room .ring-long)
+          (c .before .before .before .before .put-edition .kept .1 .0 ∙ c .before .before .before .before .before .before .before .before .copy .kept .1 .0 ∙ q .room .out-long),
+      record { still = λ i l. q .all-seal i (rw k at l) },
+    )
 
 same-length : tie.Need-same-length
 same-length c = search needs

@@ -5,6 +5,7 @@ use lib.ListN.{length, replicate}
 use mathlib.Core.List.{List, []}
 use mathlib.Core.Path.{_≡_, refl, sym, ap, ap₂, _∙_, subst}
 use Prim.Native.Nat.{ℕ}
+use Rattle.cipher.proofs.Suites.{seals-has}
 use Rattle.mode.specs.Walk.{States}
 use Rattle.session.specs.Value.{Value, Given, valueOf, over, gave, fresh, startNumber, starting}
 use Rattle.session.proofs.Refuse.{start-passed, answer-done}
@@ -15,7 +16,7 @@ start-requires : tie.Need-start-requires
 start-requires c κs =
     let st = c .before .before in
     let p = start-passed (st .args .suite) (length (now (st .args .key))) (length (now (st .args .nonce))) (st .pre .1) in
-    (st .pre .0, p .0, p .1, p .2)
+    (st .pre .0, seals-has (st .args .suite) (p .0), p .1, p .2)
 
 packed-requires : tie.Need-packed-requires
 packed-requires c κs = search needs

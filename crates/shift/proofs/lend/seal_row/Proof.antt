@@ -1,24 +1,15 @@
--- What the sealer is lent is the entry's own bytes, so its answer is the definition's.
+-- The text is the entry's own, and so is the suite.
 use borrow.Author.Needs.{needs}
 use denote.Ref.{now}
-use Rattle.shift.proofs.Entries.{lent-sealer}
+use Rattle.shift.proofs.Entries.{own-sealer}
 use Rattle.shift.proofs.lend.seal_row.Statement.{statement}
 use Rattle.shift.proofs.lend.seal_row.Tie as tie
-
-ring-key-requires : tie.Need-ring-key-requires
-ring-key-requires c κs = search needs
-
-nonce-read-requires : tie.Need-nonce-read-requires
-nonce-read-requires c κs = search needs
-
-data-of-requires : tie.Need-data-of-requires
-data-of-requires c κs = search needs
 
 text-of-requires : tie.Need-text-of-requires
 text-of-requires c κs = search needs
 
-seal-requires : tie.Need-seal-requires
-seal-requires c κs = search needs
+seal-as-requires : tie.Need-seal-as-requires
+seal-as-requires c κs = search needs
 
 same-length : tie.Need-same-length
 same-length c = search needs
@@ -29,22 +20,8 @@ same-length-2 c = search needs
 returns : tie.Need-returns
 returns c =
     let text = c .before .before .before .before .before .before .before in
-    let ad = text .before in
-    let nonce = ad .before in
-    let key = nonce .before in
-    let s = key .before .before .before .before .before in
-    lent-sealer (now (s .args .f)) (now (s .args .ring)) (s .args .i) (s .args .row) _ _ _ _ _ (now (s .args .out)) (now (s .args .tag)) (c .before .before .before .before .seal .ensures) (s .pre .is-row)
-    (key .ring-key .ensures) (nonce .nonce-read .ensures) (ad .data-of .ensures .bytes) (text .text-of .ensures .bytes)
+    let s = text .before .before .before .before .before in
+    own-sealer (now (s .args .f)) (now (s .args .ring)) (s .args .i) (s .args .row) _ _ (now (s .args .out)) (now (s .args .tag)) (c .before .before .before .before .seal-as .ensures) (s .pre .is-row) (text .text-of .ensures .bytes)
 
 pub seal-row-spec : {M : Type 1} → statement M
-seal-row-spec =
-    tie.close
-    (tie.spec
-    ring-key-requires
-    nonce-read-requires
-    data-of-requires
-    text-of-requires
-    seal-requires
-    same-length
-    same-length-2
-    returns)
+seal-row-spec = tie.close (tie.spec text-of-requires seal-as-requires same-length same-length-2 returns)

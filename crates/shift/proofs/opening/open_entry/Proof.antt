@@ -2,7 +2,7 @@
 use mathlib.Core.Path.{ap, _∙_}
 use borrow.Author.Tests.{ne-eqb, eq-eqb}
 use denote.Ref.{now}
-use Rattle.comet.proofs.Refuse.{place-is, one-of-pos}
+use Rattle.comet.proofs.Refuse.{other-some}
 use Rattle.table.specs.declared.row.Row.{Row}
 use Rattle.shift.specs.Opening.{rowOpening}
 use Rattle.shift.proofs.Entries.{lendable, row-told, row-eight}
@@ -47,7 +47,7 @@ returns-3 c =
     let ring = now (s .args .ring) in
     let out = now (s .args .out) in
     let o = u .before .before .if2 .left ∙ ap (λ (r : Row). r .len) (row .row-of .ensures) in
-    let some = rw (place-is (u .open-row .result)) at (one-of-pos _ (c .match .keys2)) in
+    let some = other-some (u .open-row .result) (c .match .keys2) in
     let m = row-eight f ring (s .args .i) (s .pre) (row .before .if1 .left) _ _ out o (u .open-row .ensures) some in
     row-told f ring (s .args .i) (s .pre) (row .before .if1 .left) 8 _ out (rw m at (u .open-row .ensures))
 

@@ -7,7 +7,7 @@ use mathlib.Core.Path.{_≡_, ap, _∙_}
 use native.Mathlib.Omega.{arith}
 use Prim.Native.Nat.{ℕ, _+_, _-_, _≤_}
 use borrow.Rule.Slice.PartMut.{putMid, same-len-mid}
-use Rattle.cipher.specs.Cipher.{sizeOf}
+use Rattle.cipher.specs.Cipher.{Seals, sizeOf}
 use Rattle.table.specs.Part.{stretch}
 use Rattle.table.proofs.Rows.{stretch-length}
 use Rattle.draft.specs.Put.{put}
@@ -40,10 +40,13 @@ part-seal-text-start : tie.Need-part-seal-text-start
 part-seal-text-start c = search needs
 
 part-seal-text-end : tie.Need-part-seal-text-end
-part-seal-text-end c = omega (arith, body-fits (now (c .before .before .before .before .before .before .before .args .f)) (c .before .before .before .before .before .before .before .args .i) _ (c .before .before .before .before .before .before .before .pre .entry) (c .before .before .before .row-of .ensures), c .before .before .before .before .before .before .before .pre .out-long, c .text-start .ensures)
+part-seal-text-end c = omega (arith, body-fits (now (c .before .before .before .before .before .before .before .args .f)) (c .before .before .before .before .before .before .before .args .i) _ (c .before .before .before .before .before .before .before .pre .0 .entry) (c .before .before .before .row-of .ensures), c .before .before .before .before .before .before .before .pre .0 .out-long, c .text-start .ensures)
 
 seal-text-requires : tie.Need-seal-text-requires
-seal-text-requires c κs = search needs
+seal-text-requires c κs =
+    let row = c .before .before .before .before .row-of in
+    let still : Seals (row .result .suite) = rw (row .ensures) (c .before .before .before .before .before .before .before .before .pre .1) in
+    search (needs, still)
 
 sub-copy : tie.Need-sub-copy
 sub-copy c = search needs
@@ -67,7 +70,7 @@ part-copy-end-2 c =
     let call = c .before .before .before .before .seal-text in
     let b = a + c .before .before .before .before .before .before .before .before .before .row-of .result .len in
     let l = same-len-mid a (b - a) (now (s .args .out)) (call .last .1 .1 .1 .1 .0) (call .kept .1 .1 .1 .1 .0) in
-    omega (arith, l, body-fits (now (c .before .before .before .before .before .before .before .before .before .before .before .before .before .args .f)) (c .before .before .before .before .before .before .before .before .before .before .before .before .before .args .i) _ (c .before .before .before .before .before .before .before .before .before .before .before .before .before .pre .entry) (c .before .before .before .before .before .before .before .before .before .row-of .ensures), s .pre .out-long, c .before .before .before .before .before .before .before .size-of .ensures .0, c .before .before .before .before .before .before .text-start .ensures)
+    omega (arith, l, body-fits (now (c .before .before .before .before .before .before .before .before .before .before .before .before .before .args .f)) (c .before .before .before .before .before .before .before .before .before .before .before .before .before .args .i) _ (c .before .before .before .before .before .before .before .before .before .before .before .before .before .pre .0 .entry) (c .before .before .before .before .before .before .before .before .before .row-of .ensures), s .pre .0 .out-long, c .before .before .before .before .before .before .before .size-of .ensures .0, c .before .before .before .before .before .before .text-start .ensures)
 
 copy-requires : tie.Need-copy-requires
 copy-requires c κs = search needs
@@ -86,11 +89,11 @@ returns c =
     let f = now (s .args .f) in
     let ring = now (s .args .ring) in
     let out = now (s .args .out) in
-    let fits = body-fits f (s .args .i) r (s .pre .entry) rq in
+    let fits = body-fits f (s .args .i) r (s .pre .0 .entry) rq in
     let a = start .result in
     let b = a + r .len in
     let e = b + size .result in
-    let inside : e ≤ length out = omega (arith, fits, s .pre .out-long, size .ensures .0, start .ensures) in
+    let inside : e ≤ length out = omega (arith, fits, s .pre .0 .out-long, size .ensures .0, start .ensures) in
     let x = call .last .1 .1 .1 .1 .0 in
     let lo : length (stretch out a (b - a)) ≡ r .len = stretch-length out a (b - a) (omega (arith, inside)) ∙ omega arith in
     let lx : length x ≡ b - a = call .kept .1 .1 .1 .1 .0 ∙ lo ∙ omega arith in

@@ -43,7 +43,7 @@ returns c =
     let z : List ℕ = take (n - 0) (replicate 16 0) in
     let lz : length z ≡ n = length-take (n - 0) (replicate 16 0) ∙ omega (arith, size .ensures .1 .1) in
     let ly : length y ≡ n = call .kept .1 .1 .1 .1 .1 .0 ∙ lz in
-    let q = seal-told (now (s .args .f)) (now (s .args .ring)) (s .args .i) (s .pre .entry) (s .pre .ring-long) (s .args .row) (s .pre .is-row) _ _ y (now (s .args .out)) z (s .pre .out-long) (lz ∙ size .ensures .0) (call .ensures) in
+    let q = seal-told (now (s .args .f)) (now (s .args .ring)) (s .args .i) (s .pre .entry) (s .pre .ring-long) (s .args .row) (s .pre .is-row) (s .pre .still) _ _ y (now (s .args .out)) z (s .pre .out-long) (lz ∙ size .ensures .0) (call .ensures) in
     (q .0, take-at y _ (sizeOf (s .args .row .suite)) (ly ∙ size .ensures .0) ∙ q .1)
 
 pub seal-text-spec : {M : Type 1} → statement M

@@ -15,7 +15,7 @@ use Rattle.table.proofs.Rows.{stretch-length}
 use Rattle.draft.specs.Put.{put}
 use Rattle.shift.proofs.Entries.{lendable}
 use Rattle.comet.specs.Answers.{numberOf}
-use Rattle.comet.proofs.Refuse.{place-is, one-of-pos}
+use Rattle.comet.proofs.Refuse.{other-some}
 use Rattle.writer.proofs.Lent.{body-fits, open-told, put-two, row-opened}
 use Rattle.writer.proofs.rows.unseal_entry.Statement.{statement}
 use Rattle.writer.proofs.rows.unseal_entry.Tie as tie
@@ -69,7 +69,7 @@ returns c =
     let out = now (s .args .out) in
     let fits = body-fits (now (s .args .f)) (s .args .i) r (s .pre .entry) (row .ensures) in
     let lo : length (stretch out a (b - a)) ≡ r .len = stretch-length out a (b - a) (omega (arith, fits, s .pre .out-long, c .before .before .before .before .before .text-start .ensures)) ∙ omega arith in
-    let some = rw (place-is (call .result)) at (one-of-pos _ (c .match .keys2)) in
+    let some = other-some (call .result) (c .match .keys2) in
     let t = open-told (now (s .args .f)) (now (s .args .ring)) (s .args .i) (s .pre .entry) (s .pre .ring-long) _ _ (stretch out a (b - a)) (lo ∙ ap (λ (q : Row). q .len) (row .ensures)) (call .ensures) in
     (t .wrong some, λ e. absurd (true≢false (sym e)))
 

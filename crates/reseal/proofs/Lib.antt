@@ -1,0 +1,7 @@
+pub mod Retabled
+pub mod Pieces
+pub mod Answers
+pub mod Resealed
+pub mod Promised
+pub mod Lent
+pub mod Outcomes

@@ -1,0 +1,305 @@
+-- The resealed file is the file with the new suites, its suite 4 pieces put anew: it passes, no suite 4 row is left, and each resealed entry opens to the message that the old one opened to.
+use Prim.Native.Nat.{ℕ, zero, suc, _+_, _-_, _*_, _≤_, _<_}
+use native.Mathlib.Decide.{decLt}
+use native.Mathlib.Omega.{arith}
+use mathlib.Core.Path.{_≡_, refl, sym, ap, ap₂, _∙_}
+use mathlib.Core.Bool.{Bool, true, false, not, cond}
+use mathlib.Core.List.{List, [], _∷_, _++_}
+use mathlib.Core.Logic.{_⊎_, inl, inr, ⊎-elim}
+use lib.ListN.{length, getD, take, drop, length-append}
+use lib.Dec.{eqb}
+use borrow.Author.Tests.{eq-eqb, ne-eqb, eqb-true, eqb-false}
+use Rattle.words.specs.Bytes.{AllBytes}
+use Rattle.cipher.specs.Cipher.{cipherOf, sizeOf, nonceOf}
+use Rattle.cipher.proofs.Lawful.{lawful}
+use Rattle.mode.specs.Mode.{textOut, tagOut}
+use Rattle.mode.proofs.Demand2.{text-length, text-bytes, text-back, tag-back, tag-block}
+use Rattle.mode.proofs.Start.{suite-nonce}
+use Rattle.table.specs.declared.row.Row.{Row}
+use Rattle.table.specs.declared.answers.Answer.{Answer}
+use Rattle.table.specs.Part.{stretch}
+use Rattle.table.specs.Format.{countOf, edition, rowSize, rowStart, restStart, nonceAt, rowOf, dataOf, textOf, tagOf}
+use Rattle.table.specs.Answers.{answer}
+use Rattle.table.specs.Check.{checkAs}
+use Rattle.table.specs.Inside.{EntryIn}
+use Rattle.table.proofs.Rows.{stretch-length}
+use Rattle.table.proofs.Passed.{passes}
+use Rattle.table.proofs.Alike.{stretch-same}
+use Rattle.shift.specs.Opening.{ringKey, nonceRead}
+use Rattle.shift.proofs.Changed.{all-stretch, nonce-bytes, nonce-full, key-block}
+use Rattle.draft.specs.Put.{putAll}
+use Rattle.draft.specs.Files.{inEdition, pieceStart, pieceSize, entryOut, entryTag, rewritten}
+use Rattle.draft.specs.Promised.{RightTag}
+use Rattle.draft.proofs.Puts.{Apart, all-outside}
+use Rattle.draft.proofs.Rewritten.{piece-in, piece-end, start-is, body-late, bodies-apart, pieces-apart, same-length, same-row, same-nonce, same-data, same-count, parts-are, passes-again, edition-same, pair-low, pair-high}
+use Rattle.draft.proofs.Pieces.{entry-at, text-all, out-long}
+use Rattle.draft.proofs.Back.{plain-file}
+use Rattle.reseal.specs.Files.{retiredSuite, successor, newSuite, resuited, retabled, againText, againTag, againPiece, resealedFile}
+use Rattle.reseal.specs.Promised.{HasFour, Elsewhere, Calm}
+use Rattle.reseal.proofs.Retabled.{withSuite, size-new, nonce-new, new-four, new-not, t-length, t-row, t-nonce, t-head, t-body, t-count, t-kept, t-same, clash-of-check}
+use Rattle.reseal.proofs.Pieces.{put-places, put-empty, put-alike}
+use Rattle.reseal.proofs.Answers.{seen-none}
+
+-- the nonce bytes that suite 3 reads of row i
+abbrev nonceAgain : List ℕ → ℕ → List ℕ
+nonceAgain f i = take (nonceOf successor) (nonceAt (rowSize edition) f i)
+
+-- a suite 4 entry's message, sealed as suite 3: how long text and tag are
+module _ (f ring : List ℕ) (hf : AllBytes f) (hr : AllBytes ring) (full : length ring ≡ 256) (i : ℕ) (e : EntryIn (rowSize edition) f i) (four : HasFour f i) where
+  abbrev msg : List ℕ
+  msg = entryOut true f ring i
+
+  msg-all : AllBytes msg
+  unfolding entryOut
+  msg-all = let r = rowOf f i in text-bytes (cipherOf (r .suite)) (lawful (r .suite)) (ringKey ring (r .key)) (nonceRead f i) (dataOf f r) true (textOf f r) (text-all f ring i e full hf hr)
+
+  nonce-four : nonceRead f i ≡ nonceAgain f i
+  nonce-four = ap (λ (k : ℕ). take k (nonceAt (rowSize edition) f i)) (sym (nonce-new (rowOf f i .suite)) ∙ ap nonceOf (new-four (rowOf f i .suite) four))
+
+  size-four : sizeOf (rowOf f i .suite) ≡ sizeOf successor
+  size-four = sym (size-new (rowOf f i .suite)) ∙ ap sizeOf (new-four (rowOf f i .suite) four)
+
+  text-long : length (againText f ring i msg) ≡ rowOf f i .len
+  unfolding againText
+  text-long =
+      let r = rowOf f i in
+      text-length (cipherOf successor) (lawful successor) (ringKey ring (r .key)) (nonceAgain f i) (dataOf f r) false msg msg-all ∙ out-long f ring i e full hf hr true
+
+  nonce-fit : length (nonceAgain f i) ≡ nonceOf successor
+  nonce-fit =
+      let s = rowOf f i .suite in
+      ap length (sym nonce-four) ∙ nonce-full f ring i e full ∙ suite-nonce s ∙ sym (nonce-new s) ∙ ap nonceOf (new-four s four)
+
+  tag-long : length (againTag f ring i msg) ≡ sizeOf successor
+  unfolding againTag
+  tag-long =
+      let r = rowOf f i in
+      tag-block (cipherOf successor) (lawful successor) (ringKey ring (r .key)) (nonceAgain f i) (dataOf f r) false msg
+      (key-block f ring i e full hr) (all-nonce (nonce-bytes f i hf)) (nonce-fit ∙ sym (suite-nonce successor)) (all-stretch f (r .at) (r .ad) hf) msg-all .long
+    where
+      all-nonce : AllBytes (nonceRead f i) → AllBytes (nonceAgain f i)
+      all-nonce h = rw nonce-four at h
+
+module _ (f ring : List ℕ) (hf : AllBytes f) (hr : AllBytes ring) (c : Calm f) (full : length ring ≡ 256) where
+  abbrev n : ℕ
+  n = countOf f
+
+  abbrev T : List ℕ
+  T = retabled f
+
+  z : checkAs edition f .number ≡ 0
+  z = c .checked
+
+  -- the theorem of the table: with the new suites it passes too
+  t-passes : checkAs edition T .number ≡ 0
+  t-passes = ap (λ (x : Answer). x .number) (clash-of-check f z ∙ seen-none T n (c .calm))
+
+  taken : (i : ℕ) → i < n → EntryIn (rowSize edition) f i
+  taken = entry-at edition f plain-file z
+
+  t-start : (i : ℕ) → i < n → pieceStart T i ≡ pieceStart f i
+  unfolding pieceStart
+  t-start i l = ap (λ (r : Row). r .at + r .ad) (t-row f z i l)
+
+  t-size : (i : ℕ) → i < n → pieceSize T i ≡ pieceSize f i
+  t-size i l = ap (λ (r : Row). r .len + sizeOf (r .suite)) (t-row f z i l) ∙ ap (λ (k : ℕ). rowOf f i .len + k) (size-new (rowOf f i .suite))
+
+  t-edition : inEdition edition T ≡ T
+  t-edition =
+      let h = passes edition f z .head in
+      edition-same edition T (omega (arith, t-length f z, h .long))
+      (t-head f z 0 (omega arith) ∙ pair-low f edition hf (plain-file .1) (h .edition))
+      (t-head f z 1 (omega arith) ∙ pair-high f edition hf (plain-file .1) (h .edition))
+
+  -- ---- with a piece for every row: where nothing is put, what stands there
+
+  whole : ℕ → List ℕ
+  whole i = cond (eqb (rowOf f i .suite) retiredSuite) (againPiece f ring i) (stretch T (pieceStart T i) (pieceSize T i))
+
+  whole-four : (i : ℕ) → HasFour f i → whole i ≡ againText f ring i (entryOut true f ring i) ++ againTag f ring i (entryOut true f ring i)
+  unfolding whole againPiece
+  whole-four i q = simp (eq-eqb _ _ q)
+
+  whole-other : (i : ℕ) → (HasFour f i → ⊥) → whole i ≡ stretch T (pieceStart T i) (pieceSize T i)
+  unfolding whole
+  whole-other i q = simp (ne-eqb _ _ q)
+
+  pub again-other : (i : ℕ) → (HasFour f i → ⊥) → againPiece f ring i ≡ []
+  unfolding againPiece
+  again-other i q = simp (ne-eqb _ _ q)
+
+  again-four : (i : ℕ) → HasFour f i → againPiece f ring i ≡ againText f ring i (entryOut true f ring i) ++ againTag f ring i (entryOut true f ring i)
+  unfolding againPiece
+  again-four i q = simp (eq-eqb _ _ q)
+
+  four-or : (i : ℕ) → HasFour f i ⊎ (HasFour f i → ⊥)
+  four-or i = suite-case (eqb (rowOf f i .suite) retiredSuite) refl
+    where
+      suite-case : (b : Bool) → eqb (rowOf f i .suite) retiredSuite ≡ b → HasFour f i ⊎ (HasFour f i → ⊥)
+      suite-case true e = inl (eqb-true _ _ e)
+      suite-case false e = inr (eqb-false _ _ e)
+
+  four-long : (i : ℕ) → i < n → HasFour f i → length (againText f ring i (entryOut true f ring i) ++ againTag f ring i (entryOut true f ring i)) ≡ pieceSize f i
+  four-long i l q =
+      length-append (againText f ring i (entryOut true f ring i)) (againTag f ring i (entryOut true f ring i))
+      ∙ ap₂ (λ (a b : ℕ). a + b) (text-long f ring hf hr full i (taken i l) q) (tag-long f ring hf hr full i (taken i l) q ∙ sym (size-four f ring hf hr full i (taken i l) q))
+
+  whole-long : (i : ℕ) → i < countOf T → length (whole i) ≡ pieceSize T i
+  whole-long i l =
+      let m : i < n = rw (sym (t-count f z)) l in
+      ⊎-elim
+      (λ q. ap length (whole-four i q) ∙ four-long i m q ∙ sym (t-size i m))
+      (λ q. ap length (whole-other i q) ∙ stretch-length T (pieceStart T i) (pieceSize T i) (piece-in edition T plain-file t-passes i l))
+      (four-or i)
+
+  abbrev R : List ℕ
+  R = rewritten edition whole T
+
+  resealed-is : resealedFile f ring ≡ R
+  unfolding resealedFile
+  resealed-is =
+      put-places (pieceStart f) (pieceStart T) (againPiece f ring) n T (λ i l. sym (t-start i l))
+      ∙ ap (λ (k : ℕ). putAll (pieceStart T) (againPiece f ring) k T) (sym (t-count f z))
+      ∙ put-alike (pieceStart T) whole (againPiece f ring) (countOf T) T t-apart (λ i l. alike i l) (countOf T) (omega arith)
+      ∙ ap (putAll (pieceStart T) whole (countOf T)) (sym t-edition)
+    where
+      t-apart : Apart (pieceStart T) whole (countOf T) T
+      t-apart = rw t-edition at (pieces-apart edition T plain-file t-passes edition plain-file whole whole-long)
+
+      alike : (i : ℕ) → i < countOf T → (againPiece f ring i ≡ whole i) ⊎ ((againPiece f ring i ≡ []) × (whole i ≡ stretch T (pieceStart T i) (length (whole i))))
+      alike i l =
+          ⊎-elim
+          (λ q. inl (again-four i q ∙ sym (whole-four i q)))
+          (λ q. inr (again-other i q, whole-other i q ∙ ap (stretch T (pieceStart T i)) (sym (whole-long i l))))
+          (four-or i)
+
+  pub resealed-passes : checkAs edition (resealedFile f ring) ≡ answer 0 0
+  resealed-passes = ap (checkAs edition) resealed-is ∙ passes-again edition T plain-file t-passes edition plain-file whole whole-long
+
+  pub resealed-length : length (resealedFile f ring) ≡ length f
+  resealed-length = ap length resealed-is ∙ same-length edition T plain-file t-passes edition plain-file whole whole-long ∙ t-length f z
+
+  pub resealed-count : countOf (resealedFile f ring) ≡ n
+  resealed-count = ap countOf resealed-is ∙ same-count edition T plain-file t-passes edition plain-file whole whole-long ∙ t-count f z
+
+  pub resealed-row : (i : ℕ) → i < n → rowOf (resealedFile f ring) i ≡ withSuite (rowOf f i)
+  resealed-row i l =
+      ap (λ (x : List ℕ). rowOf x i) resealed-is
+      ∙ same-row edition T plain-file t-passes edition plain-file whole whole-long i (rw (t-count f z) l)
+      ∙ t-row f z i l
+
+  pub none-left : (i : ℕ) → i < countOf (resealedFile f ring) → HasFour (resealedFile f ring) i → ⊥
+  none-left i l q = new-not (rowOf f i .suite) (sym (ap (λ (r : Row). r .suite) (resealed-row i (rw resealed-count at l))) ∙ q)
+
+  pub resealed-nonce : (i : ℕ) → i < n → nonceAt (rowSize edition) (resealedFile f ring) i ≡ nonceAt (rowSize edition) f i
+  resealed-nonce i l =
+      ap (λ (x : List ℕ). nonceAt (rowSize edition) x i) resealed-is
+      ∙ same-nonce edition T plain-file t-passes edition plain-file whole whole-long i (rw (t-count f z) l)
+      ∙ t-nonce f z i l
+
+  -- ---- a suite 4 entry, resealed
+
+  module _ (i : ℕ) (l : i < n) (four : HasFour f i) where
+    abbrev F : List ℕ
+    F = resealedFile f ring
+
+    abbrev r : Row
+    r = rowOf f i
+
+    abbrev msg₄ : List ℕ
+    msg₄ = entryOut true f ring i
+
+    -- the row, with suite 3
+    abbrev three : Row
+    three = record { job = r .job; suite = successor; key = r .key; ad = r .ad; at = r .at; len = r .len }
+
+    new-three : withSuite r ≡ three
+    new-three = ap (λ (s : ℕ). record { job = r .job; suite = s; key = r .key; ad = r .ad; at = r .at; len = r .len }) (new-four (r .suite) four)
+
+    pub row-three : rowOf F i ≡ three
+    row-three = resealed-row i l ∙ new-three
+
+    in-t : i < countOf T
+    in-t = rw (t-count f z) l
+
+    row-t : rowOf T i ≡ three
+    row-t = t-row f z i l ∙ new-three
+
+    pub data-three : dataOf F three ≡ dataOf f r
+    data-three =
+        ap (λ (x : List ℕ). dataOf x three) resealed-is
+        ∙ ap (dataOf R) (sym row-t)
+        ∙ same-data edition T plain-file t-passes edition plain-file whole whole-long i in-t
+        ∙ ap (dataOf T) row-t
+        ∙ stretch-same T f (t-length f z) (r .at) (r .ad) (λ k a b. t-body f z k (omega (arith, body-late edition f plain-file z i l)))
+
+    parts-three : (textOf F three ≡ againText f ring i msg₄) × (tagOf F three ≡ againTag f ring i msg₄)
+    parts-three =
+        let p = parts-are edition T plain-file t-passes edition plain-file whole whole-long i in-t (againText f ring i msg₄) (againTag f ring i msg₄) (whole-four i four)
+        (text-long f ring hf hr full i (taken i l) four ∙ ap (λ (q : Row). q .len) (sym row-t)) in (
+          ap (λ (x : List ℕ). textOf x three) resealed-is ∙ ap (textOf R) (sym row-t) ∙ p .0,
+          ap (λ (x : List ℕ). tagOf x three) resealed-is ∙ ap (tagOf R) (sym row-t) ∙ p .1,
+        )
+
+    pub same-message : entryOut true F ring i ≡ msg₄
+    unfolding entryOut againText
+    same-message =
+        let key = ringKey ring (r .key) in
+        let row = row-three in
+        let nonce = resealed-nonce i l in
+        (λ t. textOut (cipherOf (row t .suite)) true (ringKey ring (row t .key)) (take (nonceOf (row t .suite)) (nonce t)) (dataOf F (row t)) (textOf F (row t)))
+        ∙ ap₂ (λ (a b : List ℕ). textOut (cipherOf successor) true key (nonceAgain f i) a b) data-three (parts-three .0)
+        ∙ text-back (cipherOf successor) (lawful successor) key (nonceAgain f i) (dataOf f r) false msg₄ (msg-all f ring hf hr full i (taken i l) four)
+
+    pub right-again : RightTag F ring i
+    unfolding entryTag againText againTag
+    right-again =
+        let key = ringKey ring (r .key) in
+        let row = row-three in
+        let nonce = resealed-nonce i l in
+        (λ t. tagOut (cipherOf (row t .suite)) true (ringKey ring (row t .key)) (take (nonceOf (row t .suite)) (nonce t)) (dataOf F (row t)) (textOf F (row t)))
+        ∙ ap₂ (λ (a b : List ℕ). tagOut (cipherOf successor) true key (nonceAgain f i) a b) data-three (parts-three .0)
+        ∙ tag-back (cipherOf successor) (lawful successor) key (nonceAgain f i) (dataOf f r) false msg₄ (msg-all f ring hf hr full i (taken i l) four)
+        ∙ sym (ap (tagOf F) row-three ∙ parts-three .1)
+
+  -- ---- every other byte
+
+  again-long : (i : ℕ) → i < n → HasFour f i → length (againPiece f ring i) ≡ pieceSize f i
+  again-long i l q = ap length (again-four i q) ∙ four-long i l q
+
+  again-most : (i : ℕ) → i < n → length (againPiece f ring i) ≤ pieceSize f i
+  again-most i l =
+      ⊎-elim
+      (λ q. omega (arith, again-long i l q))
+      (λ q. let e : length (againPiece f ring i) ≡ 0 = ap length (again-other i q) in omega arith)
+      (four-or i)
+
+  again-apart : Apart (pieceStart f) (againPiece f ring) n T
+  again-apart = record {
+    fits = λ i l. omega (arith, again-most i l, piece-in edition f plain-file z i l, t-length f z);
+    after = λ i j l m. omega (arith, again-most i (omega arith), piece-end edition f plain-file z i, bodies-apart edition f plain-file z i j l m, start-is edition f plain-file z j);
+  }
+
+  pub kept-else : (k : ℕ) → ((i : ℕ) → i < n → HasFour f i → Elsewhere f i k) → getD (resealedFile f ring) k 0 ≡ getD f k 0
+  unfolding resealedFile
+  kept-else k o =
+      all-outside (pieceStart f) (againPiece f ring) n T again-apart n (omega arith) k beside
+      ∙ t-kept f z k (λ i l q. o i l q .suite)
+    where
+      beside : (i : ℕ) → i < n → (k < pieceStart f i) ⊎ (pieceStart f i + length (againPiece f ring i) ≤ k)
+      beside i l =
+          ⊎-elim
+          (λ q. ⊎-elim (λ a. inl a) (λ a. inr (omega (arith, again-long i l q))) (o i l q .piece))
+          (λ q.
+          let e : length (againPiece f ring i) ≡ 0 = ap length (again-other i q) in
+          elim (decLt k (pieceStart f i)) [
+            | yes a ↦ inl a
+            | no a ↦ inr (omega arith)
+          ])
+          (four-or i)
+
+-- ---- no suite 4 row: nothing changes
+
+pub unchanged : (f ring : List ℕ) → checkAs edition f .number ≡ 0 → ((i : ℕ) → i < countOf f → HasFour f i → ⊥) → resealedFile f ring ≡ f
+unfolding resealedFile againPiece
+unchanged f ring z none = put-empty (pieceStart f) (againPiece f ring) (countOf f) (retabled f) (λ i l. simp (ne-eqb _ _ (none i l))) ∙ t-same f z none

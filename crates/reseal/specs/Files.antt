@@ -1,0 +1,51 @@
+-- Every byte of what the reseal pass writes (document 02, W7): suite 4 entries are sealed again as suite 3, and every other byte is kept.
+use Prim.Native.Nat.{ℕ}
+use mathlib.Core.Bool.{true, false, cond}
+use mathlib.Core.List.{List, [], _∷_, _++_}
+use lib.ListN.{take}
+use lib.Dec.{eqb}
+use Rattle.cipher.specs.Cipher.{nonceOf, cipherOf}
+use Rattle.mode.specs.Mode.{textOut, tagOut}
+use Rattle.table.specs.Format.{countOf, edition, rowSize, restStart, nonceAt, rowOf, dataOf}
+use Rattle.shift.specs.Opening.{ringKey}
+use Rattle.draft.specs.Put.{putAll}
+use Rattle.draft.specs.Files.{pieceStart, entryOut}
+
+-- the suite that is retired, and the one that follows it
+abbrev pub retiredSuite : ℕ
+retiredSuite = 4
+
+abbrev pub successor : ℕ
+successor = 3
+
+unfoldable pub newSuite : ℕ → ℕ
+newSuite s = cond (eqb s retiredSuite) successor s
+
+-- a list of bytes with the new suites of the file's first n rows in its table
+unfoldable pub resuited : List ℕ → ℕ → List ℕ → List ℕ
+resuited f n l = putAll (restStart (rowSize edition)) (λ i. newSuite (rowOf f i .suite) ∷ []) n l
+
+-- the file with the table as it would be
+abbrev pub retabled : List ℕ → List ℕ
+retabled f = resuited f (countOf f) f
+
+-- a message sealed as suite 3 with key number, nonce and associated data of row i: ciphertext and tag
+unfoldable pub againText : List ℕ → List ℕ → ℕ → List ℕ → List ℕ
+againText f ring i msg =
+    let r = rowOf f i in
+    textOut (cipherOf successor) false (ringKey ring (r .key)) (take (nonceOf successor) (nonceAt (rowSize edition) f i)) (dataOf f r) msg
+
+unfoldable pub againTag : List ℕ → List ℕ → ℕ → List ℕ → List ℕ
+againTag f ring i msg =
+    let r = rowOf f i in
+    tagOut (cipherOf successor) false (ringKey ring (r .key)) (take (nonceOf successor) (nonceAt (rowSize edition) f i)) (dataOf f r) msg
+
+-- what is put where text and tag of row i stand: of a suite 4 entry its message sealed as suite 3, of any other nothing
+unfoldable pub againPiece : List ℕ → List ℕ → ℕ → List ℕ
+againPiece f ring i =
+    let msg = entryOut true f ring i in
+    cond (eqb (rowOf f i .suite) retiredSuite) (againText f ring i msg ++ againTag f ring i msg) []
+
+-- the resealed file
+unfoldable pub resealedFile : List ℕ → List ℕ → List ℕ
+resealedFile f ring = putAll (pieceStart f) (againPiece f ring) (countOf f) (retabled f)

@@ -1,0 +1,51 @@
+//! The pass that reseals the entries of suite 4 as suite 3 (document 02, W7).
+
+use crate::comet;
+use crate::shift::{check_as, rows, Answer, Row, HEADER, ROW};
+use crate::writer::refuse_lengths;
+
+const FROM: u8 = 4;
+const TO: u8 = 3;
+
+/// A row as it will stand in the table.
+fn resealed(row: &Row) -> Row {
+    Row { suite: if row.suite == FROM { TO } else { row.suite }, ..*row }
+}
+
+/// The lowest row that would clash with an earlier one.
+fn first_clash(rows: &[Row]) -> Option<usize> {
+    let rows: Vec<Row> = rows.iter().map(resealed).collect();
+    (0..rows.len()).find(|later| rows[..*later].iter().any(|earlier| earlier.clashes(&rows[*later])))
+}
+
+/// Reseals a file's entries of suite 4, and copies every other byte: the checks with edition 1; 29 with the lowest later
+/// row where resealing would make two rows clash; 2, 6, 8 with the first such entry whose tag is wrong. No other entry
+/// is opened. On 8 every byte of `out` is 0, on another refusal it is unchanged.
+pub fn reseal(file: &[u8], ring: &[u8], out: &mut [u8]) -> Answer {
+    let (number, row) = check_as(file, &[1]);
+    if number != 0 {
+        return (number, row);
+    }
+    let rows = rows(file);
+    if let Some(later) = first_clash(&rows) {
+        return (29, later as u32);
+    }
+    let number = refuse_lengths(ring, file, out);
+    if number != 0 {
+        return (number, 0);
+    }
+    out.copy_from_slice(file);
+    for (i, row) in rows.iter().enumerate().filter(|(_, row)| row.suite == FROM) {
+        let mut message = vec![0; row.message];
+        if row.open(file, ring, &mut message) != 0 {
+            out.fill(0);
+            return (8, i as u32);
+        }
+        let ad = &file[row.associated()];
+        let (text, tag) = comet::specified(TO, row.key(ring), resealed(row).nonce(), ad, &message);
+        out[row.text()].copy_from_slice(&text);
+        out[row.tag()].copy_from_slice(&tag);
+        out[HEADER + ROW * i + 4] = TO;
+    }
+    (0, 0)
+}
