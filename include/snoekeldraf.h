@@ -15,6 +15,11 @@
  * Nonce bytes  16          16               15               15
  * Tag bytes    16          16               8                8
  *
+ * Suites 1 to 4 are COMET version 1. Version 2:
+ * Suite        5 AES-128   6 Speck-64/128
+ * Key bytes    16          16
+ * Nonce bytes  16          15
+ * Tag bytes    16          8
  * Suite 4 is retired: it is opened as before, and sealed no more (number 10).
  *
  * Never seal two records with one key and one nonce.
@@ -31,6 +36,7 @@ extern "C" {
 
 /* Numbers of comet_seal and comet_open: the first that applies, in this order.
  *   0  done
+ *   1  suite is not 1 to 6
  *   1  suite is not 1 to 4
  *  10  comet_seal alone: suite is 4
  *   2  key_len is not 16
@@ -68,6 +74,7 @@ uint32_t comet_open(uint8_t suite,
  *
  * A session is a plain struct that goes in and comes back by value: each call hands back a step, and its session `next`
  * takes the place of the one that was given. The fields are for the functions alone, and hold what the key makes: keep
+ * them as secret as the key. Any value may arrive: one whose suite is not 1 to 6 or whose totals are over 65,536 (as a
  * them as secret as the key. Any value may arrive: one whose suite is not 1 to 3 or whose totals are over 65,536 (as a
  * session that was refused at the start, or has ended) is answered by 9; any other is taken as what it says. Going on
  * from one session value twice, with different messages, is sealing two records with one key and one nonce.
@@ -88,6 +95,7 @@ typedef struct {
 
 /* Numbers of a session: the first that applies, in the order that stands with each function.
  *   0  done
+ *   1  suite is not 1 to 6
  *   1  suite is not 1 to 4
  *  10  suite is 4
  *   2  key_len is not 16
@@ -130,12 +138,12 @@ comet_step comet_session_end(comet_session session,
  * and 30 in this order, then 31.
  *   0   done
  *  20   the file is shorter than 8 bytes or longer than 1,048,576
- *  21   its edition is not 1
+ *  21   its edition is not 1 or 2
  *  22   it has more than 512 rows
  *  23   its total length is not the file's
  *  24   its table of contents runs past its end
  *  25   the row's job number is not above the row before's
- *  26   the row's suite is not 1 to 4, or its key number is over 15
+ *  26   the row's suite is not 1 to 6, or its key number is over 15
  *  27   the row's associated data is not 5 to 1,024 bytes long, or its message is over 65,536
  *  28   the row's body does not start where the one before ends (row 0: after the table), or runs past the file
  *  34   the row's suite has a nonce of 15 bytes, and its 16th nonce byte is not 0
@@ -234,9 +242,54 @@ uint32_t shift_reseal(const uint8_t *file, size_t file_len,
  */
 uint32_t shift_search(const uint8_t *file, size_t file_len, uint32_t job, uint32_t *row, uint32_t *looked);
 
+/* Amendments: a small file that replaces some jobs of the day's. The current entry of a job is the amendment's if it has
+ * the job, else the day's. Numbers, in this order: the full check of the amendment (*file 1, *row as by shift_check), the
+ * full check of the day's file (*file 2), also where the amendment has the job; then 32 (*file 0, *row 0), exactly if
+ * neither has the job. After 0, *file is the file that holds the current entry (1 the amendment, 2 the day's) and *row its
+ * row there; its associated data is *len bytes from amendment + *at or from day + *at. It is not yet shown to be genuine.
+ * All four are written always: *at and *len are 0 after every number but 0.
+ */
+uint32_t shift_amended(const uint8_t *amendment, size_t amendment_len,
+                       const uint8_t *day, size_t day_len,
+                       uint32_t job,
+                       uint32_t *file, uint32_t *row, uint32_t *at, uint32_t *len);
+
+/* Opens the current entry: the numbers of shift_amended, with file and row, and then 2, 6 and 8 of shift_open_job on the
+ * file that holds the entry. After 0, 2, 6 and 8, *file is that file and *row 0. out is as shift_open_job leaves it:
+ * written whole after 0, zeros after 8, as it was after every other number.
+ */
+uint32_t shift_open_amended(const uint8_t *amendment, size_t amendment_len,
+                            const uint8_t *day, size_t day_len,
+                            const uint8_t *ring, size_t ring_len,
+                            uint32_t job,
+                            uint8_t *out, size_t out_len,
+                            uint32_t *file, uint32_t *row);
+/* The moves between editions. Edition 2 has a station number in every row, four bytes more. Numbers, in this order; out
+ * is as it was after every number but 0. *row is written always: the row after 25 to 30, 34 and 35, and 0 after every
+ * other number, 0 too.
+ *  20 to 31, 34   as above, of the file; 21 says that its edition is not the one that is moved from
+ *  35   shift_to_edition1 alone: the row's station is not 0; the first such row
+ *  20   shift_to_edition2: the moved file would be longer than 1,048,576 bytes
+ *   6   out_len is not the moved file's length: file_len and 4 bytes more (shift_to_edition2) or less (shift_to_edition1)
+ *       for each row, whose count is the number in the file's bytes 2 and 3
+ *   0   done: out is written whole
+ */
+
+/* From edition 1 to 2, station 0 in every row. The bodies are kept byte for byte; check, lookup, search and opening give
+ * of out what they give of the file.
+ */
+uint32_t shift_to_edition2(const uint8_t *file, size_t file_len,
+                           uint8_t *out, size_t out_len,
+                           uint32_t *row);
+
+/* From edition 2 to 1. Moving there and back gives the old file. */
+uint32_t shift_to_edition1(const uint8_t *file, size_t file_len,
+                           uint8_t *out, size_t out_len,
+                           uint32_t *row);
 /* Compares two files. Job numbers are written in rising order from the front of three lists: those only in the first file
  * (only_first), only in the second (only_second), and in both but different in suite, key number, associated data length,
- * nonce or body (differ); offsets do not count. A list's length is in 32-bit places.
+ * nonce, body or station (differ); offsets do not count. Each file is of edition 1, where every station is 0, or 2. A list's
+ * length is in 32-bit places.
  *   20 to 31, 34  the first file is refused (*file is 1), else the second (*file is 2); *row as shift_check gives it
  *   36            a list is longer than its buffer; *file and *row are 0
  *   0             *first_count, *second_count and *differ_count are how many there are; *file and *row are 0

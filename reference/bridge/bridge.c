@@ -172,6 +172,31 @@ static uint32_t compare(void) {
                          second_count, differ_count, file, row);
 }
 
+static uint32_t to_edition2(void) {
+    bytes file = given(), out = lent();
+    return shift_to_edition2(SLICE(file), SLICE(out), lent_number());
+}
+
+static uint32_t to_edition1(void) {
+    bytes file = given(), out = lent();
+    return shift_to_edition1(SLICE(file), SLICE(out), lent_number());
+}
+
+static uint32_t amended(void) {
+    bytes amendment = given(), day = given();
+    uint32_t job = (uint32_t)number(), *file = lent_number(), *row = lent_number(), *at = lent_number(),
+             *len = lent_number();
+    return shift_amended(SLICE(amendment), SLICE(day), job, file, row, at, len);
+}
+
+static uint32_t open_amended(void) {
+    bytes amendment = given(), day = given(), ring = given();
+    uint32_t job = (uint32_t)number();
+    bytes out = lent();
+    uint32_t *file = lent_number(), *row = lent_number();
+    return shift_open_amended(SLICE(amendment), SLICE(day), SLICE(ring), job, SLICE(out), file, row);
+}
+
 static uint32_t (*const functions[])(void) = {
     seal, open_record, check, lookup, associated, open_job, entry,
     session_start, session_data, session_part, session_end,
@@ -179,6 +204,8 @@ static uint32_t (*const functions[])(void) = {
     search,
     reseal,
     compare,
+    to_edition2, to_edition1,
+    amended, open_amended,
 };
 
 int main(void) {

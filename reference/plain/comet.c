@@ -191,11 +191,30 @@ static uint64_t speck64(block key, uint64_t in) {
     return x0 | (uint64_t)x1 << 32;
 }
 
-/* ---- the mode: next block key, shuffle; then once for each block size ---- */
+/* ---- the mode: marks, next block key, shuffle; then once for each block size ---- */
 
-INLINE void next_key(block *z, uint64_t mark) {
-    z->lo = z->lo << 1 ^ (z->lo >> 63) * 0x1b;
+INLINE void put_mark(block *z, uint64_t mark) {
     z->hi ^= mark << 56;
+}
+
+/* A block's mark comes before its call in version 1, and behind it in version 2. */
+INLINE void mark_before(int version, block *z, uint64_t mark) {
+    if (version == 1) put_mark(z, mark);
+}
+
+INLINE void mark_behind(int version, block *z, uint64_t mark) {
+    if (version == 2) put_mark(z, mark);
+}
+
+/* Version 1 doubles the low 64 bits, version 2 the low 120. */
+INLINE void next_key(int version, block *z) {
+    if (version == 1) {
+        z->lo = z->lo << 1 ^ (z->lo >> 63) * 0x1b;
+        return;
+    }
+    uint64_t kept = z->hi & 0xff00000000000000, high = z->hi ^ kept, dropped = high >> 55;
+    z->hi = kept | (high << 1 & 0x00ffffffffffffff) | z->lo >> 63;
+    z->lo = z->lo << 1 ^ dropped * 0x245;
 }
 
 INLINE block shuffle128(block x) {
@@ -212,35 +231,43 @@ typedef block cipher128(block key, block in);
 typedef uint64_t cipher64(block key, uint64_t in);
 
 /* Absorbs the associated data of COMET-128. */
-INLINE void absorb128(cipher128 *encrypt, block *y, block *z, const uint8_t *ad, size_t len) {
+INLINE void absorb128(cipher128 *encrypt, int version, block *y, block *z, const uint8_t *ad, size_t len) {
     uint64_t mark = 0x08;
     for (; len >= 16; ad += 16, len -= 16, mark = 0) {
-        next_key(z, mark);
+        mark_before(version, z, mark);
+        next_key(version, z);
         *y = xor128(encrypt(*z, *y), load128(ad));
+        mark_behind(version, z, mark);
     }
     if (len > 0) {
         uint8_t last[16] = {0};
         memcpy(last, ad, len);
         last[len] = 1;
-        next_key(z, mark | 0x10);
+        mark_before(version, z, mark | 0x10);
+        next_key(version, z);
         *y = xor128(encrypt(*z, *y), load128(last));
+        mark_behind(version, z, mark | 0x10);
     }
 }
 
 /* Seals or opens the text of COMET-128. */
-INLINE void crypt128(cipher128 *encrypt, int opens, block *y, block *z, const uint8_t *text, size_t len,
+INLINE void crypt128(cipher128 *encrypt, int version, int opens, block *y, block *z, const uint8_t *text, size_t len,
                      uint8_t *out) {
     uint64_t mark = 0x20;
     for (; len >= 16; text += 16, out += 16, len -= 16, mark = 0) {
-        next_key(z, mark);
+        mark_before(version, z, mark);
+        next_key(version, z);
         block x = encrypt(*z, *y), in = load128(text), done = xor128(in, shuffle128(x));
+        mark_behind(version, z, mark);
         store128(out, done);
         *y = xor128(x, opens ? done : in);
     }
     if (len > 0) {
         uint8_t stream[16], last[16] = {0};
-        next_key(z, mark | 0x40);
+        mark_before(version, z, mark | 0x40);
+        next_key(version, z);
         block x = encrypt(*z, *y);
+        mark_behind(version, z, mark | 0x40);
         store128(stream, shuffle128(x));
         for (size_t i = 0; i < len; i++) {
             uint8_t in = text[i];
@@ -253,44 +280,53 @@ INLINE void crypt128(cipher128 *encrypt, int opens, block *y, block *z, const ui
 }
 
 /* A whole record of COMET-128; the tag goes into tag. */
-INLINE void run128(cipher128 *encrypt, int opens, block key, const uint8_t *nonce, const uint8_t *ad, size_t ad_len,
+INLINE void run128(cipher128 *encrypt, int version, int opens, block key, const uint8_t *nonce, const uint8_t *ad, size_t ad_len,
                    const uint8_t *text, size_t len, uint8_t *out, uint8_t *tag) {
     block y = key, z = encrypt(key, load128(nonce));
-    absorb128(encrypt, &y, &z, ad, ad_len);
-    crypt128(encrypt, opens, &y, &z, text, len, out);
-    next_key(&z, 0x80);
+    absorb128(encrypt, version, &y, &z, ad, ad_len);
+    crypt128(encrypt, version, opens, &y, &z, text, len, out);
+    put_mark(&z, 0x80);
+    next_key(version, &z);
     store128(tag, encrypt(z, y));
 }
 
 /* The same three for COMET-64. */
-INLINE void absorb64(cipher64 *encrypt, uint64_t *y, block *z, const uint8_t *ad, size_t len) {
+INLINE void absorb64(cipher64 *encrypt, int version, uint64_t *y, block *z, const uint8_t *ad, size_t len) {
     uint64_t mark = 0x08;
     for (; len >= 8; ad += 8, len -= 8, mark = 0) {
-        next_key(z, mark);
+        mark_before(version, z, mark);
+        next_key(version, z);
         *y = encrypt(*z, *y) ^ load64(ad);
+        mark_behind(version, z, mark);
     }
     if (len > 0) {
         uint8_t last[8] = {0};
         memcpy(last, ad, len);
         last[len] = 1;
-        next_key(z, mark | 0x10);
+        mark_before(version, z, mark | 0x10);
+        next_key(version, z);
         *y = encrypt(*z, *y) ^ load64(last);
+        mark_behind(version, z, mark | 0x10);
     }
 }
 
-INLINE void crypt64(cipher64 *encrypt, int opens, uint64_t *y, block *z, const uint8_t *text, size_t len,
+INLINE void crypt64(cipher64 *encrypt, int version, int opens, uint64_t *y, block *z, const uint8_t *text, size_t len,
                     uint8_t *out) {
     uint64_t mark = 0x20;
     for (; len >= 8; text += 8, out += 8, len -= 8, mark = 0) {
-        next_key(z, mark);
+        mark_before(version, z, mark);
+        next_key(version, z);
         uint64_t x = encrypt(*z, *y), in = load64(text), done = in ^ shuffle64(x);
+        mark_behind(version, z, mark);
         store64(out, done);
         *y = x ^ (opens ? done : in);
     }
     if (len > 0) {
         uint8_t stream[8], last[8] = {0};
-        next_key(z, mark | 0x40);
+        mark_before(version, z, mark | 0x40);
+        next_key(version, z);
         uint64_t x = encrypt(*z, *y);
+        mark_behind(version, z, mark | 0x40);
         store64(stream, shuffle64(x));
         for (size_t i = 0; i < len; i++) {
             uint8_t in = text[i];
@@ -302,15 +338,16 @@ INLINE void crypt64(cipher64 *encrypt, int opens, uint64_t *y, block *z, const u
     }
 }
 
-INLINE void run64(cipher64 *encrypt, int opens, block key, const uint8_t *nonce, const uint8_t *ad, size_t ad_len,
+INLINE void run64(cipher64 *encrypt, int version, int opens, block key, const uint8_t *nonce, const uint8_t *ad, size_t ad_len,
                   const uint8_t *text, size_t len, uint8_t *out, uint8_t *tag) {
     uint8_t wide[16] = {0};
     memcpy(wide, nonce, 15);
     block z = xor128(key, load128(wide));
     uint64_t y = encrypt(key, 0);
-    absorb64(encrypt, &y, &z, ad, ad_len);
-    crypt64(encrypt, opens, &y, &z, text, len, out);
-    next_key(&z, 0x80);
+    absorb64(encrypt, version, &y, &z, ad, ad_len);
+    crypt64(encrypt, version, opens, &y, &z, text, len, out);
+    put_mark(&z, 0x80);
+    next_key(version, &z);
     store64(tag, encrypt(z, y));
 }
 
@@ -318,24 +355,31 @@ INLINE void run(cipher128 *aes, uint8_t suite, int opens, const uint8_t *key, co
                 size_t ad_len, const uint8_t *text, size_t len, uint8_t *out, uint8_t *tag) {
     block k = load128(key);
     switch (suite) {
-    case 1: run128(aes, opens, k, nonce, ad, ad_len, text, len, out, tag); break;
-    case 2: run128(cham128, opens, k, nonce, ad, ad_len, text, len, out, tag); break;
-    case 3: run64(speck64, opens, k, nonce, ad, ad_len, text, len, out, tag); break;
-    default: run64(cham64, opens, k, nonce, ad, ad_len, text, len, out, tag); break;
+    case 1: run128(aes, 1, opens, k, nonce, ad, ad_len, text, len, out, tag); break;
+    case 2: run128(cham128, 1, opens, k, nonce, ad, ad_len, text, len, out, tag); break;
+    case 3: run64(speck64, 1, opens, k, nonce, ad, ad_len, text, len, out, tag); break;
+    case 4: run64(cham64, 1, opens, k, nonce, ad, ad_len, text, len, out, tag); break;
+    case 5: run128(aes, 2, opens, k, nonce, ad, ad_len, text, len, out, tag); break;
+    default: run64(speck64, 2, opens, k, nonce, ad, ad_len, text, len, out, tag); break;
     }
+}
+
+/* Whether a block has 16 bytes; else it has 8, and the nonce 15. */
+INLINE int is_wide(uint8_t suite) {
+    return suite < 3 || suite == 5;
 }
 
 /* Numbers 1 to 7 in the table's order; to seal, 10 just after 1. */
 static uint32_t refusal(int opens, uint8_t suite, size_t key_len, size_t nonce_len, size_t ad_len, size_t len,
                         size_t out_len, size_t tag_len) {
-    if (suite < 1 || suite > 4) return 1;
+    if (suite < 1 || suite > 6) return 1;
     if (!opens && suite == 4) return 10;
     if (key_len != 16) return 2;
-    if (nonce_len != (suite < 3 ? 16 : 15)) return 3;
+    if (nonce_len != (is_wide(suite) ? 16 : 15)) return 3;
     if (ad_len > LIMIT) return 4;
     if (len > LIMIT) return 5;
     if (out_len != len) return 6;
-    if (tag_len != (suite < 3 ? 16 : 8)) return 7;
+    if (tag_len != (is_wide(suite) ? 16 : 8)) return 7;
     return 0;
 }
 
@@ -373,45 +417,58 @@ INLINE uint32_t load16(const uint8_t *p) {
     return p[0] | (uint32_t)p[1] << 8;
 }
 
+/* Where a row's fields begin that follow job number and station: 28 bytes, the last of the row's. */
+INLINE const uint8_t *fields(const uint8_t *row, size_t size) {
+    return row + size - 28;
+}
+
 /* Whether an earlier row has this row's suite, key number and nonce; a nonce byte that is not read is 0 in both. */
-static int clashes(const uint8_t *rows, uint32_t i) {
-    const uint8_t *row = rows + 32 * (size_t)i;
-    for (const uint8_t *other = rows; other < row; other += 32)
-        if (memcmp(other + 16, row + 16, 16) == 0 && memcmp(other + 4, row + 4, 2) == 0) return 1;
+INLINE int clashes(const uint8_t *rows, size_t size, uint32_t i) {
+    const uint8_t *first = fields(rows, size), *row = first + size * i;
+    for (const uint8_t *other = first; other < row; other += size)
+        if (memcmp(other + 12, row + 12, 16) == 0 && memcmp(other, row, 2) == 0) return 1;
     return 0;
 }
 
 /* Numbers 25 to 28, 34, 29 and 30 of row i; the body starts at *end, which moves to where it ends. */
-static uint32_t check_row(const uint8_t *file, size_t len, uint32_t i, uint64_t *end) {
-    const uint8_t *rows = file + 8, *row = rows + 32 * (size_t)i;
-    uint32_t job = load32(row), ad = load16(row + 6), offset = load32(row + 8), message = load32(row + 12);
-    if (i > 0 && job <= load32(row - 32)) return 25;
-    if (row[4] < 1 || row[4] > 4 || row[5] > 15) return 26;
+INLINE uint32_t check_row(const uint8_t *file, size_t len, size_t size, uint32_t i, uint64_t *end) {
+    const uint8_t *rows = file + 8, *row = rows + size * i, *rest = fields(row, size);
+    uint32_t job = load32(row), ad = load16(rest + 2), offset = load32(rest + 4), message = load32(rest + 8);
+    if (i > 0 && job <= load32(row - size)) return 25;
+    if (rest[0] < 1 || rest[0] > 6 || rest[1] > 15) return 26;
     if (ad < 5 || ad > 1024 || message > LIMIT) return 27;
     if (offset != *end) return 28;
-    *end += ad + message + (row[4] < 3 ? 16 : 8);
+    *end += ad + message + (is_wide(rest[0]) ? 16 : 8);
     if (*end > len) return 28;
-    if (row[4] > 2 && row[31] != 0) return 34;
-    if (clashes(rows, i)) return 29;
+    if (!is_wide(rest[0]) && rest[27] != 0) return 34;
+    if (clashes(rows, size, i)) return 29;
     if (load32(file + offset) != job || file[offset + 4] < 1 || file[offset + 4] > 2) return 30;
     return 0;
 }
 
-uint32_t plain_check(const uint8_t *file, size_t file_len, uint32_t *row) {
-    *row = 0;
-    if (file_len < 8 || file_len > 1048576) return 20;
-    if (load16(file) != 1) return 21;
+/* The check of a file whose rows have this size, from 22 on. */
+INLINE uint32_t check_rows(const uint8_t *file, size_t file_len, size_t size, uint32_t *row) {
     uint32_t n = load16(file + 2);
     if (n > 512) return 22;
     if (load32(file + 4) != file_len) return 23;
-    if (8 + 32 * (size_t)n > file_len) return 24;
-    uint64_t end = 8 + 32 * (uint64_t)n;
+    if (8 + size * n > file_len) return 24;
+    uint64_t end = 8 + size * n;
     for (uint32_t i = 0; i < n; i++) {
-        uint32_t number = check_row(file, file_len, i, &end);
+        uint32_t number = check_row(file, file_len, size, i, &end);
         if (number != 0) {
             *row = i;
             return number;
         }
     }
     return end == file_len ? 0 : 31;
+}
+
+uint32_t plain_check(const uint8_t *file, size_t file_len, uint32_t *row) {
+    *row = 0;
+    if (file_len < 8 || file_len > 1048576) return 20;
+    switch (load16(file)) {
+    case 1: return check_rows(file, file_len, 32, row);
+    case 2: return check_rows(file, file_len, 36, row);
+    default: return 21;
+    }
 }

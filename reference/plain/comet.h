@@ -1,4 +1,4 @@
-/* The yardstick: COMET version 1 under the four suites and the shift file's check, in plain C. */
+/* The yardstick: COMET under the six suites and the shift file's check, in plain C. */
 #ifndef PLAIN_COMET_H
 #define PLAIN_COMET_H
 

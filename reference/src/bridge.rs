@@ -3,6 +3,7 @@
 //! The archive is for x86-64 alone. On another processor that program is compiled for x86-64 by a cross compiler
 //! and runs under the emulator of the kit that proves the library.
 
+use crate::amendment::Amended;
 use crate::calls::Library;
 use crate::difference::Compared;
 use crate::session::{Session, Step};
@@ -215,6 +216,27 @@ fn compare(first: &[u8], second: &[u8], lists: [&mut [u32]; 3]) -> Compared {
     Compared { number, file, row, counts: [a, b, c] }
 }
 
+fn to_edition2(file: &[u8], out: &mut [u8]) -> Answer {
+    let (number, [row]) = ask(16, vec![Given(file), Lent(out)]);
+    (number, row)
+}
+
+fn to_edition1(file: &[u8], out: &mut [u8]) -> Answer {
+    let (number, [row]) = ask(17, vec![Given(file), Lent(out)]);
+    (number, row)
+}
+
+fn amended(amendment: &[u8], day: &[u8], job: u32) -> Amended {
+    let (number, [file, row, at, length]) = ask(18, vec![Given(amendment), Given(day), Number(job.into())]);
+    Amended { number, file, row, at: at as usize, length: length as usize }
+}
+
+fn open_current(amendment: &[u8], day: &[u8], ring: &[u8], job: u32, out: &mut [u8]) -> (u32, u32, u32) {
+    let given = vec![Given(amendment), Given(day), Given(ring), Number(job.into()), Lent(out)];
+    let (number, [file, row]) = ask(19, given);
+    (number, file, row)
+}
+
 pub const PROVED: Library = Library {
     seal,
     open,
@@ -232,4 +254,8 @@ pub const PROVED: Library = Library {
     search,
     reseal,
     compare,
+    to_edition2,
+    to_edition1,
+    amended,
+    open_current,
 };

@@ -1,9 +1,10 @@
 //! What is put to an implementation, and what it answers: calls of the sealer, the opener and the shift file.
 
+use crate::amendment::{self, Amended};
 use crate::difference::{self, Compared};
 use crate::session::{Session, Step};
 use crate::show::{fold, shown};
-use crate::{comet, reseal, search, session, shift, writer};
+use crate::{comet, editions, reseal, search, session, shift, writer};
 
 /// What lent buffers hold before a call.
 pub const FILLER: u8 = 0xa5;
@@ -36,6 +37,10 @@ pub struct Library {
     pub search: fn(&[u8], u32) -> (shift::Answer, u32),
     pub reseal: Rewrite,
     pub compare: fn(&[u8], &[u8], [&mut [u32]; 3]) -> Compared,
+    pub to_edition2: fn(&[u8], &mut [u8]) -> shift::Answer,
+    pub to_edition1: fn(&[u8], &mut [u8]) -> shift::Answer,
+    pub amended: fn(&[u8], &[u8], u32) -> Amended,
+    pub open_current: fn(&[u8], &[u8], &[u8], u32, &mut [u8]) -> (u32, u32, u32),
 }
 
 pub const REFERENCE: Library = Library {
@@ -58,6 +63,10 @@ pub const REFERENCE: Library = Library {
     search: search::search,
     reseal: reseal::reseal,
     compare: difference::compare,
+    to_edition2: editions::to_edition2,
+    to_edition1: editions::to_edition1,
+    amended: amendment::amended,
+    open_current: amendment::open_current,
 };
 
 /// A call, or a run of calls.

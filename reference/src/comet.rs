@@ -1,12 +1,12 @@
-//! COMET version 1 over the four ciphers: the sealer and the opener, with document 01's numbers.
+//! COMET versions 1 and 2 over the ciphers: the sealer and the opener, with document 01's numbers.
 
 /// The longest associated data, message and ciphertext.
 pub const LIMIT: usize = 65_536;
 
-pub const SUITES: [u8; 4] = [1, 2, 3, 4];
+pub const SUITES: [u8; 6] = [1, 2, 3, 4, 5, 6];
 
 /// The suites that records are still sealed under: suite 4 is retired (document 02, W7) and is opened alone.
-pub const SEALED: [u8; 3] = [1, 2, 3];
+pub const SEALED: [u8; 5] = [1, 2, 3, 5, 6];
 
 /// A suite whose records are opened and no longer sealed.
 pub fn is_retired(suite: u8) -> bool {
@@ -16,9 +16,26 @@ pub fn is_retired(suite: u8) -> bool {
 /// Bytes of a block, which are also those of the tag; 0 for a suite that is none.
 pub fn block_size(suite: u8) -> usize {
     match suite {
-        1 | 2 => 16,
-        3 | 4 => 8,
+        1 | 2 | 5 => 16,
+        3 | 4 | 6 => 8,
         _ => 0,
+    }
+}
+
+/// Version 2 (source 004, section 7.2) differs from version 1 in two things: how the next block key is made (Psi), and
+/// when the marks come (Delta).
+#[derive(Clone, Copy, PartialEq)]
+pub enum Version {
+    One,
+    Two,
+}
+
+/// Suites 5 and 6 are version 2 over AES-128 and Speck-64/128 (document 02, W9).
+pub fn version_of(suite: u8) -> Version {
+    if [5, 6].contains(&suite) {
+        Version::Two
+    } else {
+        Version::One
     }
 }
 
@@ -33,6 +50,11 @@ pub fn nonce_size(suite: u8) -> usize {
 /// Doubling in GF(2^64): a plain left shift; where the dropped bit was 1, XOR 0x1b.
 pub fn double(x: u64) -> u64 {
     (x << 1) ^ ((x >> 63) * 0x1b)
+}
+
+/// Doubling in GF(2^120) modulo x^120 + x^9 + x^6 + x^2 + 1, for numbers below 2^120.
+pub fn double_120(x: u128) -> u128 {
+    ((x << 1) & ((1 << 120) - 1)) ^ ((x >> 119) * 0x245)
 }
 
 /// A short block gets byte 01 and then zero bytes; a full block gets nothing.
@@ -79,9 +101,9 @@ impl<const N: usize, E: Fn(&[u8; 16], &[u8; N]) -> [u8; N]> Cipher<N> for E {}
 macro_rules! by_suite {
     ($suite:expr, $function:ident($($argument:expr),*)) => {
         match $suite {
-            1 => $function($crate::aes::encrypt, $($argument),*),
+            1 | 5 => $function($crate::aes::encrypt, $($argument),*),
             2 => $function($crate::cham::cham128::encrypt, $($argument),*),
-            3 => $function($crate::speck::encrypt, $($argument),*),
+            3 | 6 => $function($crate::speck::encrypt, $($argument),*),
             4 => $function($crate::cham::cham64::encrypt, $($argument),*),
             suite => panic!("no suite {suite}"),
         }
@@ -90,34 +112,58 @@ macro_rules! by_suite {
 
 pub(crate) use by_suite;
 
-/// Y, Z and the cipher.
+/// Y, Z, the version and the cipher.
 pub(crate) struct State<const N: usize, E> {
     pub y: [u8; N],
     pub z: [u8; 16],
+    pub version: Version,
     pub encrypt: E,
 }
 
 impl<const N: usize, E: Cipher<N>> State<N, E> {
     /// COMET-128: Y is the key and Z the nonce's image. COMET-64: Y is the image of zeros and Z the key XOR the nonce.
-    pub fn start(encrypt: E, key: &[u8], nonce: &[u8]) -> Self {
+    pub fn start(encrypt: E, version: Version, key: &[u8], nonce: &[u8]) -> Self {
         let mut z: [u8; 16] = key.try_into().unwrap();
         if N == 16 {
             let image = encrypt(&z, nonce.try_into().unwrap());
-            return State { y: key.try_into().unwrap(), z: image[..].try_into().unwrap(), encrypt };
+            return State { y: key.try_into().unwrap(), z: image[..].try_into().unwrap(), version, encrypt };
         }
         let y = encrypt(&z, &[0; N]);
         for (byte, n) in z.iter_mut().zip(nonce) {
             *byte ^= n;
         }
-        State { y, z, encrypt }
+        State { y, z, version, encrypt }
     }
 
-    /// One cipher call: the mark into byte 15 of Z, the low half of Z doubled and kept, then E(Z, Y).
+    /// The next block key: version 1 doubles the low half of Z, version 2 all but byte 15. The new Z is kept.
+    fn next_key(&mut self) {
+        match self.version {
+            Version::One => {
+                let low = u64::from_le_bytes(self.z[..8].try_into().unwrap());
+                self.z[..8].copy_from_slice(&double(low).to_le_bytes());
+            }
+            Version::Two => {
+                let all = u128::from_le_bytes(self.z);
+                let low = all & ((1 << 120) - 1);
+                self.z = (all ^ low ^ double_120(low)).to_le_bytes();
+            }
+        }
+    }
+
+    /// One cipher call: the mark into byte 15 of Z, the next block key, then E(Z, Y).
     fn call(&mut self, mark: u8) -> [u8; N] {
         self.z[15] ^= mark;
-        let low = u64::from_le_bytes(self.z[..8].try_into().unwrap());
-        self.z[..8].copy_from_slice(&double(low).to_le_bytes());
+        self.next_key();
         (self.encrypt)(&self.z, &self.y)
+    }
+
+    /// The call of a block that has a mark: in version 1 the mark comes before this call, in version 2 behind it, so that
+    /// the next call is the first under it.
+    fn marked_call(&mut self, mark: u8) -> [u8; N] {
+        let (before, behind) = if self.version == Version::One { (mark, 0) } else { (0, mark) };
+        let x = self.call(before);
+        self.z[15] ^= behind;
+        x
     }
 
     /// Blocks of associated data; `begins` where the first of them is the first of all.
@@ -125,7 +171,7 @@ impl<const N: usize, E: Cipher<N>> State<N, E> {
         for (place, piece) in ad.chunks(N).enumerate() {
             let first = if begins && place == 0 { 0x08 } else { 0 };
             let short = if piece.len() < N { 0x10 } else { 0 };
-            let x = self.call(first ^ short);
+            let x = self.marked_call(first ^ short);
             self.y = xor(x, pad(piece));
         }
     }
@@ -135,7 +181,7 @@ impl<const N: usize, E: Cipher<N>> State<N, E> {
         for (place, (piece, to)) in text.chunks(N).zip(out.chunks_mut(N)).enumerate() {
             let first = if begins && place == 0 { 0x20 } else { 0 };
             let short = if piece.len() < N { 0x40 } else { 0 };
-            let x = self.call(first ^ short);
+            let x = self.marked_call(first ^ short);
             let stream = shuffle(&x);
             for i in 0..piece.len() {
                 to[i] = piece[i] ^ stream[i];
@@ -153,9 +199,9 @@ impl<const N: usize, E: Cipher<N>> State<N, E> {
 /// The whole of a record; gives its tag.
 #[rustfmt::skip]
 fn record<const N: usize>(
-    encrypt: impl Cipher<N>, kind: Text, key: &[u8], nonce: &[u8], ad: &[u8], text: &[u8], out: &mut [u8],
+    encrypt: impl Cipher<N>, version: Version, kind: Text, key: &[u8], nonce: &[u8], ad: &[u8], text: &[u8], out: &mut [u8],
 ) -> Vec<u8> {
-    let mut state = State::start(encrypt, key, nonce);
+    let mut state = State::start(encrypt, version, key, nonce);
     state.absorb(true, ad);
     state.crypt(kind, true, text, out);
     state.tag().to_vec()
@@ -163,7 +209,7 @@ fn record<const N: usize>(
 
 /// Works on a record whose lengths were checked; gives the tag.
 fn run(suite: u8, kind: Text, key: &[u8], nonce: &[u8], ad: &[u8], text: &[u8], out: &mut [u8]) -> Vec<u8> {
-    by_suite!(suite, record(kind, key, nonce, ad, text, out))
+    by_suite!(suite, record(version_of(suite), kind, key, nonce, ad, text, out))
 }
 
 /// The lengths of a call, as the table of numbers looks at them.
@@ -240,20 +286,26 @@ pub fn fitting_tag(suite: u8, key: &[u8], nonce: &[u8], ad: &[u8], text: &[u8]) 
 /// Associated data of two full blocks with another first block and one tag: the second block makes up for
 /// the change. Who knows the key can do this, so nothing is promised of changes in two blocks.
 pub fn made_up(suite: u8, key: &[u8], nonce: &[u8], ad: &[u8]) -> Vec<u8> {
-    by_suite!(suite, made_up_with(key, nonce, ad))
+    by_suite!(suite, made_up_with(version_of(suite), key, nonce, ad))
 }
 
 /// The first block changed in one bit, and the second so that Y is the same after it.
-fn made_up_with<const N: usize>(encrypt: impl Cipher<N>, key: &[u8], nonce: &[u8], ad: &[u8]) -> Vec<u8> {
+fn made_up_with<const N: usize>(
+    encrypt: impl Cipher<N>,
+    version: Version,
+    key: &[u8],
+    nonce: &[u8],
+    ad: &[u8],
+) -> Vec<u8> {
     let first: [u8; N] = ad[..N].try_into().unwrap();
     let mut other = first;
     other[0] ^= 1;
-    let mut state = State::start(encrypt, key, nonce);
-    let x = state.call(0x08);
+    let mut state = State::start(encrypt, version, key, nonce);
+    let x = state.marked_call(0x08);
     let z = state.z;
     let seconds = [first, other].map(|block| {
         (state.y, state.z) = (xor(x, block), z);
-        state.call(0)
+        state.marked_call(0)
     });
     let second = xor(ad[N..].try_into().unwrap(), xor(seconds[0], seconds[1]));
     [other, second].concat()
@@ -274,14 +326,14 @@ mod tests {
     use std::cell::RefCell;
 
     /// What each cipher call finds in byte 15 of Z, under a cipher whose images are zeros.
-    fn marks<const N: usize>(ad: usize, message: usize) -> Vec<u8> {
+    fn marks<const N: usize>(version: Version, ad: usize, message: usize) -> Vec<u8> {
         let seen = RefCell::new(vec![]);
         let encrypt = |z: &[u8; 16], _: &[u8; N]| {
             let before: u8 = seen.borrow().iter().fold(0, |sum, mark| sum ^ mark);
             seen.borrow_mut().push(before ^ z[15]);
             [0; N]
         };
-        let mut state = State { y: [0; N], z: [0; 16], encrypt };
+        let mut state = State { y: [0; N], z: [0; 16], version, encrypt };
         state.absorb(true, &vec![0; ad]);
         state.crypt(Text::Message, true, &vec![0; message], &mut vec![0; message]);
         state.tag();
@@ -290,10 +342,26 @@ mod tests {
 
     #[test]
     fn marks_by_length() {
-        assert_eq!(marks::<16>(17, 0), [0x08, 0x10, 0x80]);
-        assert_eq!(marks::<16>(0, 0), [0x80]);
-        assert_eq!(marks::<16>(16, 16), [0x08, 0x20, 0x80]);
-        assert_eq!(marks::<8>(1, 1), [0x18, 0x60, 0x80]);
-        assert_eq!(marks::<8>(24, 17), [0x08, 0, 0, 0x20, 0, 0x40, 0x80]);
+        let marks_128 = |ad, message| marks::<16>(Version::One, ad, message);
+        let marks_64 = |ad, message| marks::<8>(Version::One, ad, message);
+        assert_eq!(marks_128(17, 0), [0x08, 0x10, 0x80]);
+        assert_eq!(marks_128(0, 0), [0x80]);
+        assert_eq!(marks_128(16, 16), [0x08, 0x20, 0x80]);
+        assert_eq!(marks_64(1, 1), [0x18, 0x60, 0x80]);
+        assert_eq!(marks_64(24, 17), [0x08, 0, 0, 0x20, 0, 0x40, 0x80]);
+    }
+
+    /// Version 2: each mark but the tag's one call later.
+    #[test]
+    fn marks_of_version_2() {
+        let marks_128 = |ad, message| marks::<16>(Version::Two, ad, message);
+        let marks_64 = |ad, message| marks::<8>(Version::Two, ad, message);
+        assert_eq!(marks_128(17, 0), [0, 0x08, 0x90]);
+        assert_eq!(marks_128(0, 0), [0x80]);
+        assert_eq!(marks_128(16, 0), [0, 0x88]);
+        assert_eq!(marks_128(5, 0), [0, 0x98]);
+        assert_eq!(marks_128(16, 16), [0, 0x08, 0xa0]);
+        assert_eq!(marks_64(1, 1), [0, 0x18, 0xe0]);
+        assert_eq!(marks_64(24, 17), [0, 0x08, 0, 0, 0x20, 0, 0xc0]);
     }
 }

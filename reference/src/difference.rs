@@ -16,10 +16,10 @@ fn refused(number: u32, file: u32, row: u32) -> Compared {
     Compared { number, file, row, counts: [0; 3] }
 }
 
-/// Whether two entries of one job differ in suite, key number, associated data length, nonce or body. Offsets do not
-/// count.
+/// Whether two entries of one job differ in station (document 02, W10), suite, key number, associated data length, nonce
+/// or body. Offsets do not count.
 fn differ((first, one): (&[u8], &Row), (second, other): (&[u8], &Row)) -> bool {
-    let facts = |row: &Row| (row.suite, row.key, row.ad, row.nonce);
+    let facts = |row: &Row| (row.station, row.suite, row.key, row.ad, row.nonce);
     facts(one) != facts(other) || first[one.body()] != second[other.body()]
 }
 

@@ -1,4 +1,4 @@
-//! A second implementation of the four block ciphers, COMET version 1, the plant's shift file and its tools.
+//! A second implementation of the four block ciphers, COMET versions 1 and 2, the plant's shift file and its tools.
 //!
 //! It is written from the papers and documents 01 and 02 alone and shares nothing with the proved crates:
 //! what both say is said twice, by two hands.
@@ -7,9 +7,11 @@
 //! compare with, and `trials` and `data` those of the comparison with the proved library.
 
 pub mod aes;
+pub mod amendment;
 pub mod cham;
 pub mod comet;
 pub mod difference;
+pub mod editions;
 pub mod reseal;
 pub mod search;
 pub mod session;

@@ -6,6 +6,7 @@ use crate::{comet, shift};
 #[derive(Clone)]
 pub struct Entry {
     pub job: u32,
+    pub station: u32,
     pub suite: u8,
     pub key: u8,
     pub nonce: [u8; 16],
@@ -14,12 +15,12 @@ pub struct Entry {
 }
 
 impl Entry {
-    /// A nonce byte that the suite does not read becomes 0.
+    /// At station 0. A nonce byte that the suite does not read becomes 0.
     pub fn new(job: u32, suite: u8, key: u8, unit: u8, mut nonce: [u8; 16], message: &[u8]) -> Entry {
         nonce[comet::nonce_size(suite)..].fill(0);
         let mut ad = job.to_le_bytes().to_vec();
         ad.push(unit);
-        Entry { job, suite, key, nonce, ad, message: message.to_vec() }
+        Entry { job, station: 0, suite, key, nonce, ad, message: message.to_vec() }
     }
 
     /// The body of a draft: associated data, message, a tag of zeros.
@@ -27,37 +28,42 @@ impl Entry {
         [&self.ad[..], &self.message, &vec![0; comet::block_size(self.suite)]].concat()
     }
 
-    /// The body: associated data, ciphertext, tag.
+    /// The body: associated data, ciphertext, tag. A key number that no ring has is taken modulo 16.
     fn body(&self, ring: &[u8]) -> Vec<u8> {
-        let key = &ring[16 * self.key as usize..][..16];
+        let key = &ring[16 * (self.key % 16) as usize..][..16];
         let nonce = &self.nonce[..comet::nonce_size(self.suite)];
         let (text, tag) = comet::specified(self.suite, key, nonce, &self.ad, &self.message);
         [self.ad.clone(), text, tag].concat()
     }
 }
 
-/// A file in the making. `edition` and `count` replace the edition and the row count, `longer` is added to the total length that the
-/// header gives, a byte stands before the body of each row that `gaps` names, `tail` bytes after the last
-/// body, and each patch is a place in the file with its byte.
+/// A file in the making, laid out as edition 1 or 2. `edition` and `count` replace the header's edition and row count,
+/// `longer` is added to the total length that the header gives, a byte stands before the body of each row that `gaps`
+/// names, and `tail` bytes after the last body.
 #[derive(Clone)]
 pub struct Plan {
+    pub layout: usize,
     pub edition: Option<u16>,
     pub count: Option<u16>,
     pub longer: u32,
     pub entries: Vec<Entry>,
     pub gaps: Vec<usize>,
     pub tail: usize,
-    pub patches: Vec<(usize, u8)>,
 }
 
-/// Where a row starts.
+/// Where a row of edition 1 starts.
 pub fn row_at(row: usize) -> usize {
-    shift::HEADER + shift::ROW * row
+    shift::row_at(1, row)
 }
 
 impl Plan {
     pub fn new(entries: Vec<Entry>) -> Plan {
-        Plan { edition: None, count: None, longer: 0, entries, gaps: vec![], tail: 0, patches: vec![] }
+        Plan { layout: 1, edition: None, count: None, longer: 0, entries, gaps: vec![], tail: 0 }
+    }
+
+    /// The same in another edition.
+    pub fn in_edition(&self, layout: usize) -> Plan {
+        Plan { layout, ..self.clone() }
     }
 
     /// The same with another suite where a row has this one.
@@ -67,9 +73,16 @@ impl Plan {
         plan
     }
 
+    /// The same with no station.
+    pub fn without_stations(&self) -> Plan {
+        let mut plan = self.clone();
+        plan.entries.iter_mut().for_each(|entry| entry.station = 0);
+        plan
+    }
+
     /// The sealed file.
     pub fn file(&self, ring: &[u8]) -> Vec<u8> {
-        self.lay(1, |entry| entry.body(ring))
+        self.lay(self.layout, |entry| entry.body(ring))
     }
 
     /// The draft of the same (document 02, W4).
@@ -77,15 +90,18 @@ impl Plan {
         self.lay(0, Entry::plain_body)
     }
 
-    fn lay(&self, edition: u16, body: impl Fn(&Entry) -> Vec<u8>) -> Vec<u8> {
+    fn lay(&self, edition: usize, body: impl Fn(&Entry) -> Vec<u8>) -> Vec<u8> {
         let mut table = vec![];
         let mut bodies = vec![];
-        let start = row_at(self.entries.len());
+        let start = shift::row_at(edition, self.entries.len());
         for (i, entry) in self.entries.iter().enumerate() {
             if self.gaps.contains(&i) {
                 bodies.push(0);
             }
             table.extend(entry.job.to_le_bytes());
+            if edition == 2 {
+                table.extend(entry.station.to_le_bytes());
+            }
             table.extend([entry.suite, entry.key]);
             table.extend((entry.ad.len() as u16).to_le_bytes());
             table.extend(((start + bodies.len()) as u32).to_le_bytes());
@@ -94,10 +110,10 @@ impl Plan {
             bodies.extend(body(entry));
         }
         bodies.resize(bodies.len() + self.tail, 0);
-        self.finish(edition, [table, bodies].concat())
+        self.finish(edition as u16, [table, bodies].concat())
     }
 
-    /// The header before the rest, then the patches.
+    /// The header before the rest.
     fn finish(&self, edition: u16, rest: Vec<u8>) -> Vec<u8> {
         let count = self.count.unwrap_or(self.entries.len() as u16);
         let total = ((shift::HEADER + rest.len()) as u32).wrapping_add(self.longer);
@@ -105,9 +121,6 @@ impl Plan {
         file.extend(count.to_le_bytes());
         file.extend(total.to_le_bytes());
         file.extend(rest);
-        for (place, byte) in &self.patches {
-            file[*place] = *byte;
-        }
         file
     }
 }

@@ -1,7 +1,7 @@
 //! The pass that reseals the entries of suite 4 as suite 3 (document 02, W7).
 
 use crate::comet;
-use crate::shift::{check_as, rows, Answer, Row, HEADER, ROW};
+use crate::shift::{check_as, fields_at, rows, Answer, Row};
 use crate::writer::refuse_lengths;
 
 const FROM: u8 = 4;
@@ -45,7 +45,7 @@ pub fn reseal(file: &[u8], ring: &[u8], out: &mut [u8]) -> Answer {
         let (text, tag) = comet::specified(TO, row.key(ring), resealed(row).nonce(), ad, &message);
         out[row.text()].copy_from_slice(&text);
         out[row.tag()].copy_from_slice(&tag);
-        out[HEADER + ROW * i + 4] = TO;
+        out[fields_at(1, i)] = TO;
     }
     (0, 0)
 }

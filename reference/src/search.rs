@@ -1,11 +1,11 @@
 //! Finding a job by halving (document 02, W6).
 
-use crate::shift::{check_header, rows, Answer};
+use crate::shift::{check_header, rows, Answer, EDITIONS};
 
 /// Number and row, and how many rows were looked at: 20 to 24 with none, then the halving over the table, whatever
 /// stands in it.
 pub fn search(file: &[u8], job: u32) -> (Answer, u32) {
-    let number = check_header(file, &[1]);
+    let number = check_header(file, &EDITIONS);
     if number != 0 {
         return ((number, 0), 0);
     }

@@ -1,6 +1,8 @@
 //! Sealing while measuring (document 02, W2): start, associated data in parts, message in parts, end.
 
-use crate::comet::{block_size, by_suite, first, is_retired, nonce_size, Cipher, State, Text, LIMIT, SEALED};
+use crate::comet::{
+    block_size, by_suite, first, is_retired, nonce_size, version_of, Cipher, State, Text, LIMIT, SEALED,
+};
 
 /// Y and Z (Y in the first bytes), the bytes that are in no whole block yet, and how many bytes of associated data
 /// and of message have come. The message has begun once a byte of it has come.
@@ -46,7 +48,7 @@ impl Session {
     }
 
     fn state<const N: usize, E: Cipher<N>>(&self, encrypt: E) -> State<N, E> {
-        State { y: self.y[..N].try_into().unwrap(), z: self.z, encrypt }
+        State { y: self.y[..N].try_into().unwrap(), z: self.z, version: version_of(self.suite), encrypt }
     }
 
     fn with<const N: usize, E: Cipher<N>>(self, state: State<N, E>, held: &[u8]) -> Session {
@@ -64,7 +66,7 @@ fn whole<const N: usize>(bytes: &[u8]) -> usize {
 }
 
 fn fresh<const N: usize>(encrypt: impl Cipher<N>, suite: u8, key: &[u8], nonce: &[u8]) -> Session {
-    Session { suite, ..OVER }.with(State::start(encrypt, key, nonce), &[])
+    Session { suite, ..OVER }.with(State::start(encrypt, version_of(suite), key, nonce), &[])
 }
 
 fn take_data<const N: usize>(encrypt: impl Cipher<N>, session: Session, ad: &[u8]) -> Session {

@@ -1,10 +1,9 @@
-//! The plant's shift file: check, lookup, associated data, and opening one job.
+//! The plant's shift file, editions 1 and 2: check, lookup, associated data, and opening one job.
 
 use crate::comet;
 use std::ops::Range;
 
 pub const HEADER: usize = 8;
-pub const ROW: usize = 32;
 pub const MOST_ROWS: usize = 512;
 pub const LONGEST: usize = 1_048_576;
 pub const RING: usize = 256;
@@ -12,7 +11,7 @@ pub const RING: usize = 256;
 /// A number of document 01 and the row that it carries.
 pub type Answer = (u32, u32);
 
-fn u16_at(file: &[u8], at: usize) -> usize {
+pub(crate) fn u16_at(file: &[u8], at: usize) -> usize {
     u16::from_le_bytes([file[at], file[at + 1]]) as usize
 }
 
@@ -20,10 +19,37 @@ fn u32_at(file: &[u8], at: usize) -> u32 {
     u32::from_le_bytes([file[at], file[at + 1], file[at + 2], file[at + 3]])
 }
 
-/// A row of the table of contents.
+/// Bytes of a row: in edition 2 a station number of 4 bytes follows the job number (document 02, W10).
+pub fn row_size(edition: usize) -> usize {
+    if edition == 2 {
+        36
+    } else {
+        32
+    }
+}
+
+/// Where a row starts.
+pub fn row_at(edition: usize, i: usize) -> usize {
+    HEADER + row_size(edition) * i
+}
+
+/// Where the fields start that follow job number and station: suite, key number, lengths, offset, nonce.
+pub fn fields_at(edition: usize, i: usize) -> usize {
+    row_at(edition, i + 1) - 28
+}
+
+/// The editions that files are of; a draft has edition 0.
+pub const EDITIONS: [usize; 2] = [1, 2];
+
+pub fn edition(file: &[u8]) -> usize {
+    u16_at(file, 0)
+}
+
+/// A row of the table of contents. In edition 1 the station is 0.
 #[derive(Clone, Copy)]
 pub struct Row {
     pub job: u32,
+    pub station: u32,
     pub suite: u8,
     pub key: u8,
     pub ad: usize,
@@ -33,15 +59,16 @@ pub struct Row {
 }
 
 fn row(file: &[u8], i: usize) -> Row {
-    let at = HEADER + ROW * i;
+    let (at, fields) = (row_at(edition(file), i), fields_at(edition(file), i));
     Row {
         job: u32_at(file, at),
-        suite: file[at + 4],
-        key: file[at + 5],
-        ad: u16_at(file, at + 6),
-        offset: u32_at(file, at + 8) as usize,
-        message: u32_at(file, at + 12) as usize,
-        nonce: file[at + 16..at + 32].try_into().unwrap(),
+        station: if fields == at + 8 { u32_at(file, at + 4) } else { 0 },
+        suite: file[fields],
+        key: file[fields + 1],
+        ad: u16_at(file, fields + 2),
+        offset: u32_at(file, fields + 4) as usize,
+        message: u32_at(file, fields + 8) as usize,
+        nonce: file[fields + 12..fields + 28].try_into().unwrap(),
     }
 }
 
@@ -89,7 +116,7 @@ impl Row {
     }
 }
 
-fn count(file: &[u8]) -> usize {
+pub fn count(file: &[u8]) -> usize {
     u16_at(file, 2)
 }
 
@@ -102,13 +129,13 @@ pub fn rows(file: &[u8]) -> Vec<Row> {
 pub fn check_header(file: &[u8], editions: &[usize]) -> u32 {
     if file.len() < HEADER || file.len() > LONGEST {
         20
-    } else if !editions.contains(&u16_at(file, 0)) {
+    } else if !editions.contains(&edition(file)) {
         21
     } else if count(file) > MOST_ROWS {
         22
     } else if u32_at(file, 4) as usize != file.len() {
         23
-    } else if HEADER + ROW * count(file) > file.len() {
+    } else if row_at(edition(file), count(file)) > file.len() {
         24
     } else {
         0
@@ -118,10 +145,10 @@ pub fn check_header(file: &[u8], editions: &[usize]) -> u32 {
 /// Numbers 25 to 28, 34, 29 and 30 of row i, and 0 where none applies. The rows before it have passed.
 fn check_row(file: &[u8], i: usize) -> u32 {
     let this = row(file, i);
-    let start = if i == 0 { HEADER + ROW * count(file) } else { row(file, i - 1).end() };
+    let start = if i == 0 { row_at(edition(file), count(file)) } else { row(file, i - 1).end() };
     if i > 0 && this.job <= row(file, i - 1).job {
         25
-    } else if !(1..=4).contains(&this.suite) || this.key > 15 {
+    } else if !comet::SUITES.contains(&this.suite) || this.key > 15 {
         26
     } else if !(5..=1024).contains(&this.ad) || this.message > comet::LIMIT {
         27
@@ -140,7 +167,7 @@ fn check_row(file: &[u8], i: usize) -> u32 {
 
 /// The full check.
 pub fn check(file: &[u8]) -> Answer {
-    check_as(file, &[1])
+    check_as(file, &EDITIONS)
 }
 
 /// The full check of a file that may be of these editions.

@@ -3,9 +3,8 @@
 use crate::calls::{Call, FileCall, FILLER};
 use crate::comet::{block_size, is_retired, LIMIT, SUITES};
 use crate::data::{cases, files, samples};
-use crate::plan::row_at;
 use crate::random::Random;
-use crate::shift;
+use crate::shift::{self, fields_at, row_at, EDITIONS};
 
 /// Each pair of lengths from 0 to 3 blocks + 1 under each suite: sealed, opened, and opened with one bit wrong.
 pub fn lengths(random: &mut Random, mut each: impl FnMut(&Call)) {
@@ -116,7 +115,7 @@ pub fn single_bytes(mut each: impl FnMut(&FileCall)) {
 pub fn shift_files(random: &mut Random, count: usize, mut each: impl FnMut(&FileCall)) {
     for _ in 0..count {
         let (rows, longest) = (random.below(9), [0, 20, 100][random.below(3)]);
-        let plan = files::random_plan(random, rows, longest);
+        let plan = files::random_plan(random, rows, longest).in_edition(1 + random.below(2));
         let mut call = FileCall { file: plan.file(&samples::ring()), ring: samples::ring(), job: 5, out: 0 };
         if rows > 0 {
             let entry = &plan.entries[random.below(rows)];
@@ -195,30 +194,36 @@ fn near(random: &mut Random, file: &[u8], at: usize, edges: &[u32]) -> [u8; 4] {
 
 /// An edit of a field of a row, or of the job number and unit at the start of its body.
 fn edit_row(random: &mut Random, file: &mut [u8], rows: usize) {
-    let (row, other) = (row_at(random.below(rows)), row_at(random.below(rows)));
-    let (at, bytes) = match random.below(10) {
+    let edition = if file.starts_with(&[2, 0]) { 2 } else { 1 };
+    let (i, j) = (random.below(rows), random.below(rows));
+    let (row, other) = (row_at(edition, i), row_at(edition, j));
+    let (fields, other_fields) = (fields_at(edition, i), fields_at(edition, j));
+    let nonce = |file: &[u8]| file.get(other_fields + 12..other_fields + 28).unwrap_or_default().to_vec();
+    let (at, bytes) = match random.below(11) {
         0 => (row, near(random, file, other, &[0, u32::MAX]).to_vec()),
-        1 => (row + 4, vec![random.below(7) as u8]),
-        2 => (row + 5, vec![13 + random.below(5) as u8]),
-        3 => (row + 6, near(random, file, row + 6, &[0, 4, 5, 1024, 1025])[..2].to_vec()),
-        4 => (row + 8, near(random, file, row + 8, &[0, 8, 40, u32::MAX]).to_vec()),
-        5 => (row + 12, near(random, file, row + 12, &[0, 65_536, 65_537, u32::MAX]).to_vec()),
-        6 => (row + 16, file.get(other + 16..other + 32).unwrap_or_default().to_vec()),
+        1 => (fields, vec![random.below(9) as u8]),
+        2 => (fields + 1, vec![13 + random.below(5) as u8]),
+        3 => (fields + 2, near(random, file, fields + 2, &[0, 4, 5, 1024, 1025])[..2].to_vec()),
+        4 => (fields + 4, near(random, file, fields + 4, &[0, 8, 40, u32::MAX]).to_vec()),
+        5 => (fields + 8, near(random, file, fields + 8, &[0, 65_536, 65_537, u32::MAX]).to_vec()),
+        6 => (fields + 12, nonce(file)),
         7 => {
-            let bytes = file.get(other + 16..other + 32).unwrap_or_default().to_vec();
-            put(file, row + 16, &bytes);
-            (row + 4, file.get(other + 4..other + 6).unwrap_or_default().to_vec())
+            let bytes = nonce(file);
+            put(file, fields + 12, &bytes);
+            (fields, file.get(other_fields..other_fields + 2).unwrap_or_default().to_vec())
         }
-        8 => (row + 31, vec![random.below(3) as u8]),
-        _ => (u32_at(file, row + 8) as usize + random.below(5), vec![random.below(4) as u8]),
+        8 => (fields + 27, vec![random.below(3) as u8]),
+        // the station, where there is one
+        9 => (row + 4, near(random, file, row + 4, &[0, 1, u32::MAX])[..fields - row - 4].to_vec()),
+        _ => (u32_at(file, fields + 4) as usize + random.below(5), vec![random.below(4) as u8]),
     };
     put(file, at, &bytes);
 }
 
 /// Long files: a table of 512 rows and one of 513 with edits, and files around the longest length.
 pub fn long_files(random: &mut Random, mut each: impl FnMut(&FileCall)) {
-    for rows in [512, 513] {
-        let good = files::many_rows(rows);
+    for (rows, edition) in [(512, 1), (513, 1), (512, 2), (513, 2)] {
+        let good = files::many_rows_plan(rows).in_edition(edition).file(&samples::ring());
         for turn in 0..40 {
             let mut file = good.clone();
             if turn > 0 {
@@ -228,13 +233,15 @@ pub fn long_files(random: &mut Random, mut each: impl FnMut(&FileCall)) {
             each(&FileCall { file, ring: samples::ring(), job, out: 0 });
         }
     }
-    let longest = files::longest();
-    for length in [shift::LONGEST - 1, shift::LONGEST, shift::LONGEST + 1] {
-        for job in 0..=17 {
-            let mut file = longest.clone();
-            file.resize(length, 0);
-            put(&mut file, 4, &(length as u32).to_le_bytes());
-            each(&FileCall { file, ring: samples::ring(), job, out: LIMIT });
+    for edition in EDITIONS {
+        let longest = files::long_file(edition, shift::LONGEST);
+        for length in [shift::LONGEST - 1, shift::LONGEST, shift::LONGEST + 1] {
+            for job in 0..=17 {
+                let mut file = longest.clone();
+                file.resize(length, 0);
+                put(&mut file, 4, &(length as u32).to_le_bytes());
+                each(&FileCall { file, ring: samples::ring(), job, out: LIMIT });
+            }
         }
     }
 }

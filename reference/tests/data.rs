@@ -1,7 +1,9 @@
 //! The data of the test programs: it provokes every number, and the repository's files are what is generated.
 
 use reference::calls::{Case, REFERENCE};
-use reference::data::{cases, comparing, files, parts, resealing, searching, sessions, writing, FOLDERS};
+use reference::data::{
+    amending, cases, comparing, files, moving, parts, resealing, searching, sessions, writing, FOLDERS,
+};
 use reference::random::Random;
 use reference::trials;
 use std::collections::BTreeSet;
@@ -65,6 +67,29 @@ fn comparing_provokes_every_number() {
     };
     assert_eq!(numbers(0), [0, 36].into());
     assert_eq!(numbers(1), [34].into_iter().chain(20..=31).collect());
+    assert_eq!(numbers(2), numbers(1));
+}
+
+#[test]
+fn moving_provokes_every_number() {
+    let numbers = |to: usize| -> BTreeSet<u32> {
+        let calls = moving::calls().into_iter().filter(|call| call.to == to);
+        calls.map(|call| call.answer(&REFERENCE).answer.0).collect()
+    };
+    assert_eq!(numbers(2), [0, 6, 34].into_iter().chain(20..=31).collect());
+    assert_eq!(numbers(1), [0, 6, 34, 35].into_iter().chain(20..=31).collect());
+    // a move that would be too long is the comparison's alone
+    moving::longest(|_| {});
+}
+
+#[test]
+fn amending_provokes_every_number() {
+    let answers: Vec<_> = amending::calls().iter().map(|call| call.answer(&REFERENCE)).collect();
+    let numbers = |file: u32| -> BTreeSet<u32> {
+        answers.iter().map(|answer| answer.opened).filter(|opened| opened.1 == file).map(|opened| opened.0).collect()
+    };
+    assert_eq!(numbers(0), [32].into());
+    assert_eq!(numbers(1), [0, 2, 6, 8, 34].into_iter().chain(20..=31).collect());
     assert_eq!(numbers(2), numbers(1));
 }
 

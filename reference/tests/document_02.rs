@@ -1,8 +1,10 @@
 //! What document 02 says of each request, at its edges.
 
-use reference::comet::{open, seal, specified};
+use reference::amendment::{amended, current, open_current};
+use reference::comet::{double_120, encipher, open, pad, seal, shuffle, specified, LIMIT};
 use reference::data::{files, samples};
 use reference::difference::{compare, printed, PROGRAM_LONGEST};
+use reference::editions::{to_edition1, to_edition2};
 use reference::plan::{Entry, Plan};
 use reference::reseal::reseal;
 use reference::search::search;
@@ -183,6 +185,8 @@ mod w6 {
         assert_eq!((check(&file).0, search(&file, 30)), (26, ((0, 3), 2)));
         file[0] = 3;
         assert_eq!(search(&file, 30), ((21, 0), 0));
+        file[0] = 0;
+        assert_eq!(search(&file, 30), ((21, 0), 0));
     }
 }
 
@@ -312,5 +316,223 @@ mod w8 {
         assert_eq!(printed(&longest, &longest), "first\nsecond\ndiffer\n");
         assert_eq!(printed(&longer, &longest), "refused 1 20 0\n");
         assert_eq!(compare(&longer, &longer, [&mut [], &mut [], &mut []]).number, 0);
+    }
+}
+
+mod w9 {
+    use super::*;
+
+    #[test]
+    fn doubling() {
+        let top = 1 << 119;
+        assert_eq!([0, 1, top, top | 1, top >> 1].map(double_120), [0, 2, 0x245, 0x247, top]);
+        let ones = (1 << 120) - 1;
+        assert_eq!(double_120(ones), (ones - 1) ^ 0x245);
+    }
+
+    /// A block as the paper has it: bits of a number, with byte 0 the least significant.
+    fn number(bytes: &[u8]) -> u128 {
+        bytes.iter().rev().fold(0, |number, byte| number << 8 | *byte as u128)
+    }
+
+    /// The control sequence of algorithm 7.1, left (version 1) and right (version 2), as its five bits.
+    fn control(version: usize, a: usize, m: usize, is_short: [bool; 2]) -> Vec<u128> {
+        let length = a + m;
+        let mut delta = vec![0; length + 2];
+        let later = version - 1;
+        if a != 0 {
+            delta[later] ^= 0b00001;
+            if is_short[0] {
+                delta[a - 1 + later] ^= 0b00010;
+            }
+        }
+        if m != 0 {
+            delta[a + later] ^= 0b00100;
+            if is_short[1] {
+                delta[length - 1 + later] ^= 0b01000;
+            }
+        }
+        delta[length + 1] ^= 0b10000;
+        delta
+    }
+
+    /// U: the key's prefix stays (half of it, or a byte), the rest is multiplied by the primitive element.
+    fn update(version: usize, z: u128) -> u128 {
+        let (bits, polynomial) = if version == 1 { (64, 0x1b) } else { (120, 0x245) };
+        let low = z & ((1 << bits) - 1);
+        let doubled = (low << 1) & ((1 << bits) - 1) ^ if low >> (bits - 1) == 1 { polynomial } else { 0 };
+        z ^ low ^ doubled
+    }
+
+    fn shuffled(x: &[u8]) -> Vec<u8> {
+        match x.try_into() {
+            Ok(block) => shuffle::<16>(block).to_vec(),
+            Err(_) => shuffle::<8>(x.try_into().unwrap()).to_vec(),
+        }
+    }
+
+    fn padded(size: usize, piece: &[u8]) -> Vec<u8> {
+        if size == 16 {
+            pad::<16>(piece).to_vec()
+        } else {
+            pad::<8>(piece).to_vec()
+        }
+    }
+
+    /// gCOMET as section 3.2 of source 004 lays it out, with the whole control sequence made first. A block's cipher call
+    /// is under Z_i, the updated key.
+    fn gcomet(suite: u8, version: usize, nonce: &[u8], ad: &[u8], msg: &[u8]) -> (Vec<u8>, Vec<u8>) {
+        let key: [u8; 16] = [0x3c; 16];
+        let size = if [1, 2, 5].contains(&suite) { 16 } else { 8 };
+        let call = |z: u128, y: u128| number(&encipher(suite, &z.to_le_bytes(), &y.to_le_bytes()[..size]));
+        let (a, m) = (ad.len().div_ceil(size), msg.len().div_ceil(size));
+        let delta = control(version, a, m, [ad, msg].map(|text| text.len() % size != 0));
+        let (mut y, mut z) = if size == 16 {
+            (number(&key), call(number(&key), number(nonce)))
+        } else {
+            (call(number(&key), 0), number(&key) ^ number(nonce))
+        };
+        z ^= delta[0] << 123;
+        let mut text = vec![];
+        for (i, piece) in ad.chunks(size).chain(msg.chunks(size)).enumerate() {
+            z = update(version, z);
+            let x = call(z, y);
+            y = x ^ number(&padded(size, piece));
+            z ^= delta[i + 1] << 123;
+            if i >= a {
+                let stream = shuffled(&x.to_le_bytes()[..size]);
+                text.extend(piece.iter().zip(stream).map(|(byte, other)| byte ^ other));
+            }
+        }
+        z = update(version, z ^ delta[a + m + 1] << 123);
+        (text, call(z, y).to_le_bytes()[..size].to_vec())
+    }
+
+    /// Both versions are what the paper says, at every pair of lengths up to three blocks and a byte.
+    #[test]
+    fn as_the_paper_has_it() {
+        let bytes: Vec<u8> = (0..64u32).map(|i| (7 * i + 1) as u8).collect();
+        for (suite, version, nonce) in [(1, 1, 16), (3, 1, 15), (5, 2, 16), (6, 2, 15), (2, 1, 16), (4, 1, 15)] {
+            let nonce = &bytes[10..10 + nonce];
+            for (a, m) in (0..50).flat_map(|a| (0..50).map(move |m| (a, m))) {
+                let (ad, msg) = (&bytes[..a], &bytes[5..5 + m]);
+                assert_eq!(gcomet(suite, version, nonce, ad, msg), specified(suite, &[0x3c; 16], nonce, ad, msg));
+            }
+        }
+    }
+
+    /// Suites 5 and 6 are sealed, opened and checked as the others are; 7 is none.
+    #[test]
+    fn numbers() {
+        for (suite, nonce, block) in [(5, 16, 16), (6, 15, 8)] {
+            let (mut out, mut tag, mut back) = ([0; 21], vec![0; block], [0; 21]);
+            assert_eq!(seal(suite, &[1; 16], &vec![2; nonce], b"ad", &[3; 21], &mut out, &mut tag), 0);
+            assert_eq!(open(suite, &[1; 16], &vec![2; nonce], b"ad", &out, &tag, &mut back), 0);
+            assert_eq!(back, [3; 21]);
+            tag[block - 1] ^= 0x80;
+            assert_eq!(open(suite, &[1; 16], &vec![2; nonce], b"ad", &out, &tag, &mut back), 8);
+            assert_eq!(seal(suite, &[1; 16], &[2; 14], b"ad", &[3; 21], &mut out, &mut tag), 3);
+            assert_eq!(seal(suite, &[1; 16], &vec![2; nonce], &[0; LIMIT + 1], &[], &mut [], &mut tag), 4);
+        }
+        assert_eq!(seal(7, &[], &[], &[], &[], &mut [], &mut []), 1);
+        let entries = [5, 6].map(|suite| Entry::new(suite as u32, suite, 0, 1, [9; 16], b"version 2"));
+        let mut file = Plan::new(entries.to_vec()).file(&samples::ring());
+        let mut message = [0; 9];
+        assert_eq!((open_job(&file, &samples::ring(), 6, &mut message), &message), ((0, 0), b"version 2"));
+        file[8 + 32 + 31] = 1;
+        assert_eq!(check(&file), (34, 1));
+        file[8 + 32 + 4] = 7;
+        assert_eq!(check(&file), (26, 1));
+    }
+}
+
+mod w10 {
+    use super::*;
+
+    /// The smallest file with a row, in edition 2: four bytes longer, its body four bytes later, its tag the same.
+    #[test]
+    fn the_smallest_file() {
+        let file = files::smallest();
+        let mut out = [7; 57];
+        assert_eq!(to_edition2(&file, &mut out), (0, 0));
+        assert_eq!(out[..8], [2, 0, 1, 0, 57, 0, 0, 0]);
+        assert_eq!(out[8..28], [7, 0, 0, 0, 0, 0, 0, 0, 3, 0, 5, 0, 44, 0, 0, 0, 0, 0, 0, 0]);
+        assert_eq!((&out[28..44], &out[44..]), (&[0; 16][..], &file[40..]));
+        assert_eq!((check(&out), open_job(&out, &samples::ring(), 7, &mut [])), ((0, 0), (0, 0)));
+        let mut back = [7; 53];
+        assert_eq!((to_edition1(&out, &mut back), &back[..]), ((0, 0), &file[..]));
+        out[12] = 1;
+        assert_eq!((check(&out), to_edition1(&out, &mut []), to_edition1(&file, &mut [])), ((0, 0), (35, 0), (21, 0)));
+        assert_eq!((to_edition2(&out, &mut back), to_edition2(&file, &mut back)), ((21, 0), (6, 0)));
+        assert_eq!(back, file[..]);
+    }
+
+    /// What edition 1 answers, edition 2 answers too.
+    #[test]
+    fn the_same_answers() {
+        let [one, two] = [1, 2].map(|edition| files::three_rows().in_edition(edition).file(&samples::ring()));
+        for job in [10, 20, 30, 5, 25] {
+            assert_eq!((lookup(&one, job), search(&one, job)), (lookup(&two, job), search(&two, job)));
+            let (mut message, mut other) = ([0; 11], [0; 11]);
+            let opened = open_job(&one, &samples::ring(), job, &mut message);
+            assert_eq!((opened, message), (open_job(&two, &samples::ring(), job, &mut other), other));
+        }
+        assert_eq!(printed(&one, &two), "first\nsecond\ndiffer\n20\n30\n");
+    }
+
+    /// The writer and the reseal pass take edition 1 alone.
+    #[test]
+    fn earlier_tools() {
+        let ring = samples::ring();
+        let file = files::three_rows().in_edition(2).file(&ring);
+        assert_eq!(unseal_file(&file, &ring, &mut []), (21, 0));
+        assert_eq!(reseal(&file, &ring, &mut []), (21, 0));
+        assert_eq!(seal_file(&file, &ring, &mut []), (21, 0));
+    }
+
+    /// Editions other than 1 and 2 are 21 before their rows are looked at.
+    #[test]
+    fn other_editions() {
+        for edition in [[0, 0], [3, 0], [1, 1], [2, 1], [0, 2]] {
+            assert_eq!(check(&[edition[0], edition[1], 0, 0, 8, 0, 0, 0]), (21, 0));
+        }
+        assert_eq!(check(&[2, 0, 0, 0, 8, 0, 0, 0]), (0, 0));
+    }
+}
+
+mod w11 {
+    use super::*;
+
+    /// The place and the bytes of the part are those of the file that holds the entry.
+    #[test]
+    fn whose_entry() {
+        let (amendment, day) = (samples::amendment(), samples::day());
+        for (job, file, row) in [(4101, 2, 0), (4102, 1, 0), (4110, 1, 1), (4220, 1, 2), (4211, 2, 7)] {
+            let answer = amended(&amendment, &day, job);
+            assert_eq!((answer.number, answer.file, answer.row), (0, file, row));
+            let holds = if file == 1 { &amendment } else { &day };
+            let part = current(&amendment, &day, job);
+            assert_eq!(part.as_ptr(), holds[answer.at..].as_ptr());
+            assert_eq!(part, reference::shift::associated(holds, job));
+        }
+        let answer = amended(&amendment, &day, 4103 + 1);
+        assert_eq!((answer.number, answer.file, answer.row, answer.at, answer.length), (32, 0, 0, 0, 0));
+        let mut message = [0; 41];
+        assert_eq!(open_current(&amendment, &day, &samples::ring(), 4220, &mut message), (0, 1, 0));
+        assert!(message.starts_with(b"gearbox 4220"));
+    }
+
+    /// The day's file is checked though the amendment has the job; what is handed back then is the amendment's.
+    #[test]
+    fn refusals() {
+        let (mut amendment, mut day) = (samples::amendment(), samples::day());
+        day[8 + 32 + 4] = 9;
+        let answer = amended(&amendment, &day, 4102);
+        assert_eq!((answer.number, answer.file, answer.row), (26, 2, 1));
+        let part = current(&amendment, &day, 4102);
+        assert_eq!((part.as_ptr(), part.len()), (amendment.as_ptr(), 0));
+        assert_eq!(open_current(&amendment, &day, &[], 4102, &mut []), (26, 2, 1));
+        amendment[0] = 3;
+        assert_eq!((amended(&amendment, &day, 4102).number, amended(&amendment, &day, 4102).file), (21, 1));
     }
 }

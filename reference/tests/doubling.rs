@@ -1,4 +1,4 @@
-//! Document 02, W3: no decision in the doubling, as the proved code's own MIR shows it (`tools/branches`).
+//! Document 02, W3 and W9: no decision in a doubling, as the proved code's own MIR shows it (`tools/branches`).
 //! Where the Rattle kit is not there, there is no MIR to look at, and the test says so.
 
 use std::path::Path;
@@ -22,10 +22,12 @@ fn decisions(name: &str, function: &str) -> Option<u32> {
 }
 
 #[test]
-fn the_doubling_decides_nothing() {
-    match decisions("step", "step::key::doubling") {
-        Some(count) => assert_eq!(count, 0),
-        None => eprintln!("no rt on this machine: the MIR was not looked at"),
+fn a_doubling_decides_nothing() {
+    for function in ["step::key::doubling", "step::key::doubling120"] {
+        match decisions("step", function) {
+            Some(count) => assert_eq!(count, 0),
+            None => eprintln!("no rt on this machine: the MIR was not looked at"),
+        }
     }
 }
 

@@ -47,7 +47,7 @@ Keeps f = Good (f .block) (f .E)
 
 good : (s : ℕ) → Good (sizeOf s) (engineOf s)
 unfolding sizeOf engineOf
-good = each Keeps aes-good (cham-good 32 (omega arith) (omega arith)) speck-good (cham-good 16 (omega arith) (omega arith))
+good = each Keeps aes-good (cham-good 32 (omega arith) (omega arith)) speck-good (cham-good 16 (omega arith) (omega arith)) aes-good speck-good
 
 pub lawful : (s : ℕ) → Lawful (cipherOf s)
 lawful s = record { sizes = sizes-two s; image = good s .image; one-to-one = good s .one-to-one }

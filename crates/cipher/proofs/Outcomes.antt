@@ -19,6 +19,8 @@ use Rattle.cipher.proofs.size_of.Kinds as size-of-kinds
 use Rattle.cipher.proofs.size_of.Reads as size-of-reads
 use Rattle.cipher.proofs.nonce_size.Kinds as nonce-size-kinds
 use Rattle.cipher.proofs.nonce_size.Reads as nonce-size-reads
+use Rattle.cipher.proofs.is_second.Kinds as is-second-kinds
+use Rattle.cipher.proofs.is_second.Reads as is-second-reads
 use Rattle.cipher.proofs.lends.Kinds as lends-kinds
 use Rattle.cipher.proofs.lends.Reads as lends-reads
 use Rattle.cipher.proofs.tables.Kinds as tables-kinds
@@ -49,6 +51,9 @@ size-of κs a h x y = (x .ensures .0 ∙ sym (y .ensures .0), refl)
 
 pub nonce-size : OneOutcome nonce-size-kinds.ps nonce-size-kinds.r nonce-size-reads.Pre nonce-size-reads.Post
 nonce-size κs a h x y = (x .ensures ∙ sym (y .ensures), refl)
+
+pub is-second : OneOutcome is-second-kinds.ps is-second-kinds.r is-second-reads.Pre is-second-reads.Post
+is-second κs a h x y = (x .ensures ∙ sym (y .ensures), refl)
 
 pub lends : OneOutcome lends-kinds.ps lends-kinds.r lends-reads.Pre lends-reads.Post
 lends κs a h x y = (x .ensures ∙ sym (y .ensures), refl)

@@ -1,21 +1,32 @@
 -- The facts of a suite: what every line of the table has, and the line that a test leads to.
 use mathlib.Core.Path.{_≡_, refl, sym, ap, _∙_, subst}
-use mathlib.Core.Bool.{Bool, true, false, cond, not}
+use mathlib.Core.Bool.{Bool, true, false, cond, _||_, not}
 use mathlib.Core.List.{List, []}
 use mathlib.Core.Logic.{_⊎_, inl, inr}
 use Prim.Native.Nat.{ℕ, _≤_, _<_}
 use native.Mathlib.Omega.{arith}
 use native.Mathlib.Decide.{decLe}
 use lib.Dec.{T, leb, eqb}
-use borrow.Author.Tests.{leb-true, leb-false, le-leb, lt-leb, eqb-true, not-false}
-use Rattle.words.proofs.Same.{and-true}
+use borrow.Author.Tests.{leb-true, leb-false, le-leb, lt-leb, eqb-true, eqb-false, not-false}
 use Rattle.fips197.specs.Cipher.{cipher}
 use Rattle.cham.specs.Cham.{cham}
 use Rattle.speck.specs.Speck.{speck}
-use Rattle.cipher.specs.Cipher.{Facts, facts, factsOf, isSuite, IsSuite, retired, seals, Seals, sizeOf, nonceOf, engineOf, lends, Ready}
+use Rattle.cipher.specs.Cipher.{Version, one, two, isTwo, Facts, facts, factsOf, sizeOf, nonceOf, engineOf, versionOf, lends, Ready, isSuite, IsSuite, retired, seals, Seals}
+use Rattle.words.proofs.Same.{and-true}
 
 abbrev pub Engine : Type 0
 Engine = List ℕ → List ℕ → List ℕ
+
+true-not-false : true ≡ false → ⊥
+true-not-false e = subst T e tt
+
+or-true : (a b : Bool) → (a || b) ≡ true → (a ≡ true) ⊎ (b ≡ true)
+or-true true b e = inl refl
+or-true false b e = inr e
+
+or-false : (a b : Bool) → (a || b) ≡ false → (a ≡ false) × (b ≡ false)
+or-false true b e = absurd (true-not-false e)
+or-false false b e = (refl, e)
 
 -- ---- what each line has, every suite has
 
@@ -24,9 +35,11 @@ module _ (P : Facts → Type 0) where
   either true x y p q = p
   either false x y p q = q
 
-  pub each : P (facts 16 16 16 cipher) → P (facts 16 16 16 (cham 32)) → P (facts 8 15 8 speck) → P (facts 8 15 8 (cham 16)) → (s : ℕ) → P (factsOf s)
+  pub each : P (facts 16 16 16 one cipher) → P (facts 16 16 16 one (cham 32)) → P (facts 8 15 8 one speck) → P (facts 8 15 8 one (cham 16))
+      → P (facts 16 16 16 two cipher) → P (facts 8 15 8 two speck) → (s : ℕ) → P (factsOf s)
   unfolding factsOf
-  each p q r t s = either (leb s 1) _ _ p (either (leb s 2) _ _ q (either (leb s 3) _ _ r t))
+  each p q r t u w s =
+      either (leb s 1) _ _ p (either (leb s 2) _ _ q (either (leb s 3) _ _ r (either (leb s 4) _ _ t (either (leb s 5) _ _ u w))))
 
 -- block, nonce and tag go together
 record Shape (b n t : ℕ) (f : Facts) : Type 0 where
@@ -42,6 +55,7 @@ shaped =
     each Shaped
     (inl (record { block = refl; nonce = refl; tag = refl })) (inl (record { block = refl; nonce = refl; tag = refl }))
     (inr (record { block = refl; nonce = refl; tag = refl })) (inr (record { block = refl; nonce = refl; tag = refl }))
+    (inl (record { block = refl; nonce = refl; tag = refl })) (inr (record { block = refl; nonce = refl; tag = refl }))
 
 -- ---- a suite that seals
 
@@ -118,27 +132,36 @@ nonce-most s = most (sizes-two s)
 
 -- ---- the line that a test leads to
 
-line-1 : (s : ℕ) → s ≤ 1 → factsOf s ≡ facts 16 16 16 cipher
+line-1 : (s : ℕ) → s ≤ 1 → factsOf s ≡ facts 16 16 16 one cipher
 unfolding factsOf
 line-1 s h = simp (le-leb s 1 h)
 
-line-2 : (s : ℕ) → 1 < s → s ≤ 2 → factsOf s ≡ facts 16 16 16 (cham 32)
+line-2 : (s : ℕ) → 1 < s → s ≤ 2 → factsOf s ≡ facts 16 16 16 one (cham 32)
 unfolding factsOf
 line-2 s g h = simp (lt-leb s 1 g, le-leb s 2 h)
 
-line-3 : (s : ℕ) → 2 < s → s ≤ 3 → factsOf s ≡ facts 8 15 8 speck
+line-3 : (s : ℕ) → s ≡ 3 → factsOf s ≡ facts 8 15 8 one speck
 unfolding factsOf
-line-3 s g h =
-    let f : 1 < s = omega arith in
-    simp (lt-leb s 1 f, lt-leb s 2 g, le-leb s 3 h)
+line-3 s e = ap factsOf e
 
-line-4 : (s : ℕ) → 3 < s → factsOf s ≡ facts 8 15 8 (cham 16)
+line-4 : (s : ℕ) → s ≡ 4 → factsOf s ≡ facts 8 15 8 one (cham 16)
 unfolding factsOf
-line-4 s h =
-    let f : 1 < s = omega arith in
-    let g : 2 < s = omega arith in
-    simp (lt-leb s 1 f, lt-leb s 2 g, lt-leb s 3 h)
+line-4 s e = ap factsOf e
 
+line-5 : (s : ℕ) → s ≡ 5 → factsOf s ≡ facts 16 16 16 two cipher
+unfolding factsOf
+line-5 s e = ap factsOf e
+
+line-6 : (s : ℕ) → 5 < s → factsOf s ≡ facts 8 15 8 two speck
+unfolding factsOf
+line-6 s h =
+    let a : 1 < s = omega arith in
+    let b : 2 < s = omega arith in
+    let c : 3 < s = omega arith in
+    let d : 4 < s = omega arith in
+    simp (lt-leb s 1 a, lt-leb s 2 b, lt-leb s 3 c, lt-leb s 4 d, lt-leb s 5 h)
+
+-- sizes
 pub size-16 : (s : ℕ) → s ≤ 2 → sizeOf s ≡ 16
 unfolding sizeOf
 size-16 s h =
@@ -147,43 +170,91 @@ size-16 s h =
       | no k ↦ ap (λ (f : Facts). f .block) (line-2 s (omega arith) h)
     ]
 
-pub size-8 : (s : ℕ) → 2 < s → sizeOf s ≡ 8
+pub size-five : (s : ℕ) → s ≡ 5 → sizeOf s ≡ 16
 unfolding sizeOf
-size-8 s h =
+size-five s e = ap (λ (f : Facts). f .block) (line-5 s e)
+
+pub size-8 : (s : ℕ) → 2 < s → (s ≡ 5 → ⊥) → sizeOf s ≡ 8
+unfolding sizeOf
+size-8 s h n =
     elim (decLe s 3) [
-      | yes k ↦ ap (λ (f : Facts). f .block) (line-3 s h k)
-      | no k ↦ ap (λ (f : Facts). f .block) (line-4 s (omega arith))
+      | yes k ↦ ap (λ (f : Facts). f .block) (line-3 s (omega arith))
+      | no k ↦ elim (decLe s 4) [
+        | yes i ↦ ap (λ (f : Facts). f .block) (line-4 s (omega arith))
+        | no i ↦ ap (λ (f : Facts). f .block) (line-6 s (omega (arith, n)))
+      ]
     ]
 
+-- versions
+pub version-one : (s : ℕ) → s ≤ 4 → versionOf s ≡ one
+unfolding versionOf
+version-one s h =
+    elim (decLe s 1) [
+      | yes a ↦ ap (λ (f : Facts). f .version) (line-1 s a)
+      | no a ↦ elim (decLe s 2) [
+        | yes b ↦ ap (λ (f : Facts). f .version) (line-2 s (omega arith) b)
+        | no b ↦ elim (decLe s 3) [
+          | yes c ↦ ap (λ (f : Facts). f .version) (line-3 s (omega arith))
+          | no c ↦ ap (λ (f : Facts). f .version) (line-4 s (omega arith))
+        ]
+      ]
+    ]
+
+pub version-two : (s : ℕ) → 4 < s → versionOf s ≡ two
+unfolding versionOf
+version-two s h =
+    elim (decLe s 5) [
+      | yes a ↦ ap (λ (f : Facts). f .version) (line-5 s (omega arith))
+      | no a ↦ ap (λ (f : Facts). f .version) (line-6 s (omega arith))
+    ]
+
+-- the version, from what its test gave
+pub is-one : (v : Version) → isTwo v ≡ false → v ≡ one
+is-one one e = refl
+is-one two e = absurd (true-not-false e)
+
+pub is-two : (v : Version) → isTwo v ≡ true → v ≡ two
+is-two one e = absurd (true-not-false (sym e))
+is-two two e = refl
+
+-- engines
 pub engine-1 : (s : ℕ) → lends s ≡ true → engineOf s ≡ cipher
 unfolding lends engineOf
-engine-1 s h = ap (λ (f : Facts). f .E) (line-1 s (leb-true s 1 h))
+engine-1 s h = one-or-five (or-true (leb s 1) (eqb s 5) h)
+  where
+    one-or-five : (leb s 1 ≡ true) ⊎ (eqb s 5 ≡ true) → factsOf s .E ≡ cipher
+    one-or-five (inl a) = ap (λ (f : Facts). f .E) (line-1 s (leb-true s 1 a))
+    one-or-five (inr b) = ap (λ (f : Facts). f .E) (line-5 s (eqb-true s 5 b))
 
 pub engine-2 : (s : ℕ) → lends s ≡ false → sizeOf s ≡ 16 → engineOf s ≡ cham 32
 unfolding lends engineOf
 engine-2 s g e =
+    let n = or-false (leb s 1) (eqb s 5) g in
     elim (decLe s 2) [
-      | yes h ↦ ap (λ (f : Facts). f .E) (line-2 s (leb-false s 1 g) h)
-      | no h ↦ absurd (omega (arith, size-8 s (omega arith)))
+      | yes h ↦ ap (λ (f : Facts). f .E) (line-2 s (leb-false s 1 (n .0)) h)
+      | no h ↦ absurd (omega (arith, size-8 s (omega arith) (eqb-false s 5 (n .1))))
     ]
 
-pub engine-3 : (s : ℕ) → sizeOf s ≡ 8 → s ≤ 3 → engineOf s ≡ speck
+pub engine-3 : (s : ℕ) → sizeOf s ≡ 8 → (s ≡ 4 → ⊥) → engineOf s ≡ speck
 unfolding engineOf
-engine-3 s e h =
+engine-3 s e n =
     elim (decLe s 2) [
       | yes g ↦ absurd (omega (arith, size-16 s g))
-      | no g ↦ ap (λ (f : Facts). f .E) (line-3 s (omega arith) h)
+      | no g ↦ elim (decLe s 3) [
+        | yes h ↦ ap (λ (f : Facts). f .E) (line-3 s (omega arith))
+        | no h ↦ elim (decLe s 5) [
+          | yes i ↦ absurd (omega (arith, size-five s (omega (arith, n))))
+          | no i ↦ ap (λ (f : Facts). f .E) (line-6 s (omega arith))
+        ]
+      ]
     ]
 
-pub engine-4 : (s : ℕ) → 3 < s → engineOf s ≡ cham 16
+pub engine-4 : (s : ℕ) → s ≡ 4 → engineOf s ≡ cham 16
 unfolding engineOf
-engine-4 s h = ap (λ (f : Facts). f .E) (line-4 s h)
+engine-4 s e = ap (λ (f : Facts). f .E) (line-4 s e)
 
 -- ---- what they are lent
 
 -- where a suite's engine is lent nothing, nothing is ready for it
 pub none-ready : (s : ℕ) → lends s ≡ false → Ready s []
 none-ready s h = record { full = λ e. absurd (true-not-false (sym e ∙ h)) }
-  where
-    true-not-false : true ≡ false → ⊥
-    true-not-false e = subst T e tt

@@ -6,7 +6,7 @@ use Prim.Native.Nat.{ℕ}
 use lib.Dec.{leb, eqb}
 use lib.ListN.{length, getD}
 use Rattle.words.specs.Bytes.{AllBytes}
-use mathlib.Core.Bool.{Bool, true, cond, not, _&&_}
+use mathlib.Core.Bool.{Bool, true, false, cond, _&&_, _||_, not}
 use Rattle.fips197.specs.Cipher.{cipher}
 use Rattle.columns.specs.Tables.{IsTables}
 use Rattle.cham.specs.Cham.{cham}
@@ -17,45 +17,57 @@ pub record Block (n : ℕ) (b : List ℕ) : Type 0 where
   pub long : length b ≡ n
   pub bytes : AllBytes b
 
--- a block cipher: its block size, and the image of a block under a key
+-- the versions of COMET: 1 is source 000's, 2 is source 004's
+pub data Version : Type 0 where
+  one : Version
+  two : Version
+
+-- what the mode is built over: a block cipher, by its block size and the image of a block under a key, and the version
 pub record Cipher : Type 0 where
   pub size : ℕ
   pub E : List ℕ → List ℕ → List ℕ
+  pub version : Version
 
--- what it promises: blocks of 16 or 8 bytes, images are blocks, and under each key no two blocks share an image
+-- what the cipher promises: blocks of 16 or 8 bytes, images are blocks, and under each key no two blocks share an image
 pub record Lawful (κ : Cipher) : Type 0 where
   pub sizes : (κ .size ≡ 16) ⊎ (κ .size ≡ 8)
   pub image : (k b : List ℕ) → Block 16 k → Block (κ .size) b → Block (κ .size) (κ .E k b)
   pub one-to-one : (k b b′ : List ℕ) → Block 16 k → Block (κ .size) b → Block (κ .size) b′ → κ .E k b ≡ κ .E k b′ → b ≡ b′
 
--- what a suite has: block, nonce and tag in bytes, and its cipher
+-- what a suite has: block, nonce and tag in bytes, its version of COMET, and its cipher
 pub record Facts : Type 0 where
   pub block : ℕ
   pub nonce : ℕ
   pub tag : ℕ
+  pub version : Version
   pub E : List ℕ → List ℕ → List ℕ
 
-abbrev pub facts : ℕ → ℕ → ℕ → (List ℕ → List ℕ → List ℕ) → Facts
-facts b n t e = record { block = b; nonce = n; tag = t; E = e }
+abbrev pub facts : ℕ → ℕ → ℕ → Version → (List ℕ → List ℕ → List ℕ) → Facts
+facts b n t v e = record { block = b; nonce = n; tag = t; version = v; E = e }
 
--- document 01's table, a line for each suite: AES-128 for 1, CHAM-128/128 for 2, Speck-64/128 for 3, CHAM-64/128 for 4
+-- document 01's table, a line for each suite: AES-128 for 1, CHAM-128/128 for 2, Speck-64/128 for 3, CHAM-64/128 for 4; then version 2 over AES-128 for 5, and over Speck-64/128 for 6 (document 02, W9)
 unfoldable pub factsOf : ℕ → Facts
 factsOf s =
-    cond (leb s 1) (facts 16 16 16 cipher)
-    (cond (leb s 2) (facts 16 16 16 (cham 32))
-    (cond (leb s 3) (facts 8 15 8 speck)
-    (facts 8 15 8 (cham 16))))
+    cond (leb s 1) (facts 16 16 16 one cipher)
+    (cond (leb s 2) (facts 16 16 16 one (cham 32))
+    (cond (leb s 3) (facts 8 15 8 one speck)
+    (cond (leb s 4) (facts 8 15 8 one (cham 16))
+    (cond (leb s 5) (facts 16 16 16 two cipher)
+    (facts 8 15 8 two speck)))))
 
 -- a suite that we have; of any other number the table's facts are asked nowhere
 unfoldable pub isSuite : ℕ → Bool
-isSuite s = leb 1 s && leb s 4
+isSuite s = leb 1 s && leb s 6
 
 abbrev pub IsSuite : ℕ → Type 0
 IsSuite s = isSuite s ≡ true
 
 -- suite 4 is retired (document 02, W7): it still opens, and seals no more
+abbrev pub retiredSuite : ℕ
+retiredSuite = 4
+
 unfoldable pub retired : ℕ → Bool
-retired s = eqb s 4
+retired s = eqb s retiredSuite
 
 -- a suite that seals: one that we have, and that is not retired
 unfoldable pub seals : ℕ → Bool
@@ -74,12 +86,20 @@ nonceOf s = factsOf s .nonce
 unfoldable pub engineOf : ℕ → List ℕ → List ℕ → List ℕ
 engineOf s = factsOf s .E
 
-abbrev pub cipherOf : ℕ → Cipher
-cipherOf s = record { size = sizeOf s; E = engineOf s }
+unfoldable pub versionOf : ℕ → Version
+versionOf s = factsOf s .version
 
--- the engine of AES is lent the tables of its columns, the others nothing
+abbrev pub cipherOf : ℕ → Cipher
+cipherOf s = record { size = sizeOf s; E = engineOf s; version = versionOf s }
+
+-- whether it is version 2
+abbrev pub isTwo : Version → Bool
+isTwo one = false
+isTwo two = true
+
+-- the engine of AES, for suites 1 and 5, is lent the tables of its columns, the others nothing
 unfoldable pub lends : ℕ → Bool
-lends s = leb s 1
+lends s = leb s 1 || eqb s 5
 
 abbrev pub Full : List (List (List ℕ)) → Type 0
 Full t = (length t ≡ 1) × IsTables (getD t 0 [])

@@ -1,4 +1,4 @@
-// The block ciphers of the four suites, under one promise.
+// The block ciphers of the six suites, under one promise.
 use words::block::Block;
 ghost use mathlib.Core.Path.{_≡_};
 ghost use mathlib.Core.Bool.{true};
@@ -10,7 +10,7 @@ ghost use Rattle.words.specs.Blocks.{wide};
 ghost use Rattle.fips197.specs.Cipher.{cipher};
 ghost use Rattle.cham.specs.Cham.{cham};
 ghost use Rattle.speck.specs.Speck.{speck};
-ghost use Rattle.cipher.specs.Cipher.{lends, Full, Ready, isSuite, IsSuite, seals, sizeOf, nonceOf, cipherOf};
+ghost use Rattle.cipher.specs.Cipher.{lends, Full, Ready, isSuite, IsSuite, isTwo, sizeOf, nonceOf, versionOf, cipherOf, seals};
 
 // Whether we have the suite.
 pub fn is_suite(suite: u8) -> bool
@@ -19,7 +19,7 @@ pub fn is_suite(suite: u8) -> bool
     if suite < 1 {
         return false;
     }
-    suite <= 4
+    suite <= 6
 }
 
 // Whether the suite seals: suite 4 is retired.
@@ -37,7 +37,10 @@ pub fn size_of(suite: u8) -> usize
     ensures is { λ r. ⌜ r ≡ sizeOf suite ⌝ }
     ensures bounds { λ r. ⌜ (0 < r) × (r ≤ 16) ⌝ }
 {
-    if suite <= 2 { 16 } else { 8 }
+    if suite <= 2 {
+        return 16;
+    }
+    if suite == 5 { 16 } else { 8 }
 }
 
 // The suite's nonce length.
@@ -47,6 +50,13 @@ pub fn nonce_size(suite: u8) -> usize
     if size_of(suite) == 16 { 16 } else { 15 }
 }
 
+// Whether the suite is of COMET's version 2.
+pub fn is_second(suite: u8) -> bool
+    ensures { λ r. ⌜ r ≡ isTwo (versionOf suite) ⌝ }
+{
+    4 < suite
+}
+
 // What an engine is lent, made once a message: a slice of one, or of none where the suite's engine is lent nothing.
 pub type Lent = columns::Tables;
 
@@ -54,7 +64,10 @@ pub type Lent = columns::Tables;
 pub fn lends(suite: u8) -> bool
     ensures { λ r. ⌜ r ≡ lends suite ⌝ }
 {
-    suite <= 1
+    if suite <= 1 {
+        return true;
+    }
+    suite == 5
 }
 
 pub fn tables(suite: u8) -> [Lent; 1]
@@ -113,10 +126,10 @@ pub fn encipher8(suite: u8, ka: u64, kb: u64, x: u64) -> u64
     requires { ⌜ IsSuite suite × (sizeOf suite ≡ 8) ⌝ }
     ensures { λ r. ⌜ bytes 8 r ≡ cipherOf suite .E (bytes 8 ka ++ bytes 8 kb) (bytes 8 x) ⌝ }
 {
-    if suite <= 3 {
-        return by_speck(ka, kb, x);
+    if suite == 4 {
+        return by_cham64(ka, kb, x);
     }
-    by_cham64(ka, kb, x)
+    by_speck(ka, kb, x)
 }
 
 // The image of the block's first bytes, as many as the suite's block has, and zeros behind it.

@@ -1,4 +1,4 @@
-// The sealer and the opener: COMET version 1 over the four ciphers.
+// The sealer and the opener: COMET under every suite.
 use cipher::Lent;
 use words::block::Block;
 

@@ -110,18 +110,20 @@ same-says f g i j q =
     let a = and-true _ _ q in
     let s = and-true _ _ (a .0) in
     let k = and-true _ _ (s .1) in
-    let b = and-true _ _ (a .1) in
+    let t = and-true _ _ (a .1) in
+    let b = and-true _ _ (t .1) in
     record {
       suite = eqb-true _ _ (s .0);
       key = eqb-true _ _ (k .0);
       ad = eqb-true _ _ (k .1);
       nonce = same-true _ _ (b .0);
       body = same-true _ _ (b .1);
+      station = eqb-true _ _ (t .0);
     }
 
 pub same-tells : (f g : List ℕ) (i j : ℕ) → Same f g i j → sameEntry f g i j ≡ true
 unfolding sameEntry sameFields
-same-tells f g i j h = simp (eq-eqb _ _ (h .suite), eq-eqb _ _ (h .key), eq-eqb _ _ (h .ad), h .nonce, h .body, same-refl (nonceOf g j), same-refl (bodyOf g j))
+same-tells f g i j h = simp (eq-eqb _ _ (h .suite), eq-eqb _ _ (h .key), eq-eqb _ _ (h .ad), eq-eqb _ _ (h .station), h .nonce, h .body, same-refl (nonceOf g j), same-refl (bodyOf g j))
 
 -- a test that is not true is false
 is-false : (b : Bool) → (b ≡ true → ⊥) → b ≡ false

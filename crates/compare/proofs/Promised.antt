@@ -1,4 +1,4 @@
--- What the comparison is worth: membership as worded; rising and apart; itself; exchanged; another length is another body.
+-- What the comparison is worth: membership as worded; rising and apart; itself; exchanged; another length is another body; stations.
 use Prim.Native.Nat.{ℕ, _+_, _-_, _≤_, _<_}
 use native.Mathlib.Omega.{arith}
 use mathlib.Core.Path.{_≡_, refl, sym, ap, _∙_}
@@ -8,13 +8,13 @@ use lib.ListN.{length}
 use lib.Dec.{ltb, lit≤}
 use borrow.Author.Tests.{eq-eqb, le-ltb}
 use Rattle.cipher.specs.Cipher.{sizeOf}
-use Rattle.table.specs.Format.{countOf, edition, rowSize, rowOf, bodyEnd}
+use Rattle.table.specs.Format.{editionOf, countOf, edition, newest, rowSize, rowOf, bodyEnd}
 use Rattle.table.specs.Check.{checkFile}
-use Rattle.table.proofs.Rows.{stretch-length}
+use Rattle.table.proofs.Rows.{stretch-length, station-none}
 use Rattle.table.proofs.Passed.{passes, entry-in}
 use Rattle.table.proofs.Searches.{any-hit}
 use Rattle.compare.specs.Comparing.{bodyOf, sameEntry, jobAt, has, hasJob, differs, onlyIn, differing, tooLong, comparison}
-use Rattle.compare.specs.Promised.{Same, Different, ExactlyListed, ListsRise, WithItself, FilesExchanged, OtherLength}
+use Rattle.compare.specs.Promised.{Same, Different, ExactlyListed, ListsRise, WithItself, FilesExchanged, OtherLength, OtherStation, NoStation}
 use Rattle.compare.proofs.Keeping.{any-only, kept-none}
 use Rattle.compare.proofs.Turns.{jobs-rise, others}
 use Rattle.compare.proofs.Members.{same-tells, only-has, only-gets, differ-has, differ-gets}
@@ -57,7 +57,7 @@ no-other f =
     (λ j l h. simp (any-hit (has f (jobAt f j)) j (countOf f) (omega arith) (eq-eqb (jobAt f j) (jobAt f j) refl)))
 
 same-self : (f : List ℕ) (i : ℕ) → sameEntry f f i i ≡ true
-same-self f i = same-tells f f i i (record { suite = refl; key = refl; ad = refl; nonce = refl; body = refl })
+same-self f i = same-tells f f i i (record { suite = refl; key = refl; ad = refl; nonce = refl; body = refl; station = refl })
 
 no-difference : (f : List ℕ) → checkFile f .number ≡ 0 → differing f f ≡ []
 unfolding differing
@@ -82,7 +82,7 @@ other-way : (f g : List ℕ) (job : ℕ) → Different f g job → Different g f
 other-way f g job h = record {
   first = h .second;
   second = h .first;
-  other = λ s. h .other (record { suite = sym (s .suite); key = sym (s .key); ad = sym (s .ad); nonce = sym (s .nonce); body = sym (s .body) });
+  other = λ s. h .other (record { suite = sym (s .suite); key = sym (s .key); ad = sym (s .ad); nonce = sym (s .nonce); body = sym (s .body); station = sym (s .station) });
 }
 
 pub files-exchanged : FilesExchanged
@@ -99,10 +99,25 @@ files-exchanged f g p q = record {
 body-length : (f : List ℕ) (i : ℕ) → checkFile f .number ≡ 0 → i < countOf f → length (bodyOf f i) ≡ rowOf f i .ad + rowOf f i .len + sizeOf (rowOf f i .suite)
 unfolding bodyEnd
 body-length f i z l =
-    let b = entry-in edition f (passes edition f z) i l .body-in in
+    let b = entry-in edition newest f (passes edition newest f z) i l .body-in in
     stretch-length f (rowOf f i .at) (bodyEnd (rowOf f i) - rowOf f i .at) (omega arith) ∙ omega arith
 
 pub other-length : OtherLength
 other-length f g i j p q m n h =
     let s : sizeOf (rowOf f i .suite) ≡ sizeOf (rowOf g j .suite) = ap sizeOf (h .suite) in
     omega (arith, body-length f i p m, body-length g j q n, ap length (h .body), h .ad)
+
+-- ---- stations
+
+pub other-station : OtherStation
+other-station f g i j m n q h =
+    differ-gets f g (rowOf f i .job)
+    (record {
+      first = record { row = i; within = m; has = refl };
+      second = record { row = j; within = n; has = sym q };
+      other = λ s. h (s .station);
+    })
+
+pub no-station : NoStation
+unfolding rowSize
+no-station f i e = sym (station-none f i _ (ap rowSize e))

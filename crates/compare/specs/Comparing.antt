@@ -1,4 +1,4 @@
--- The comparison of two shift files (document 02, W8): the jobs only in the first, only in the second, and in both but different.
+-- The comparison of two shift files (document 02, W8; W10: stations): the jobs only in the first, only in the second, and in both but different.
 use Prim.Native.Nat.{ℕ}
 use mathlib.Core.Bool.{Bool, not, _&&_, _||_, cond}
 use mathlib.Core.List.{List}
@@ -8,7 +8,7 @@ use Rattle.words.specs.Bytes.{sameBytes}
 use Rattle.table.specs.declared.row.Row.{Row}
 use Rattle.table.specs.declared.answers.Answer.{Answer}
 use Rattle.table.specs.Search.{anyBelow}
-use Rattle.table.specs.Format.{countOf, edition, rowSize, rowOf, nonceAt}
+use Rattle.table.specs.Format.{countOf, widthOf, rowOf, stationOf, nonceAt}
 use Rattle.table.specs.Answers.{answer, refusalAnswer}
 use Rattle.table.specs.Check.{checkFile}
 use Rattle.table.specs.Laid.{bodyAt}
@@ -23,17 +23,23 @@ use Rattle.compare.specs.Kept.{kept, onList}
 unfoldable pub sameFields : Row → Row → Bool
 sameFields x y = eqb (x .suite) (y .suite) && (eqb (x .key) (y .key) && eqb (x .ad) (y .ad))
 
+-- equal stations; in edition 1 a row's is 0
+abbrev pub sameStation : List ℕ → List ℕ → ℕ → ℕ → Bool
+sameStation f g i j = eqb (stationOf f i) (stationOf g j)
+
 -- the nonce of row i, all sixteen bytes
 abbrev pub nonceOf : List ℕ → ℕ → List ℕ
-nonceOf f i = nonceAt (rowSize edition) f i
+nonceOf f i = nonceAt (widthOf f) f i
 
 -- its body: associated data, ciphertext and tag
 abbrev pub bodyOf : List ℕ → ℕ → List ℕ
-bodyOf f i = bodyAt (rowSize edition) f i
+bodyOf f i = bodyAt (widthOf f) f i
 
--- rows i of f and j of g are equal in these, in nonce and in body
+-- rows i of f and j of g are equal in these, in station, in nonce and in body; each file has its own edition
 unfoldable pub sameEntry : List ℕ → List ℕ → ℕ → ℕ → Bool
-sameEntry f g i j = sameFields (rowOf f i) (rowOf g j) && (sameBytes (nonceOf f i) (nonceOf g j) && sameBytes (bodyOf f i) (bodyOf g j))
+sameEntry f g i j =
+    sameFields (rowOf f i) (rowOf g j)
+    && (sameStation f g i j && (sameBytes (nonceOf f i) (nonceOf g j) && sameBytes (bodyOf f i) (bodyOf g j)))
 
 -- ---- the three lists
 

@@ -1,10 +1,10 @@
--- What the comparison is worth (document 02, W8).
+-- What the comparison is worth (document 02, W8; W10: stations).
 use Prim.Native.Nat.{ℕ, _<_}
 use mathlib.Core.Path.{_≡_}
 use mathlib.Core.List.{List, [], List·Memᴰ}
 use mathlib.Core.Logic.{_↔_}
 use lib.ListN.{length, getD}
-use Rattle.table.specs.Format.{countOf, rowOf}
+use Rattle.table.specs.Format.{editionOf, countOf, edition, rowOf, stationOf}
 use Rattle.table.specs.Answers.{answer}
 use Rattle.table.specs.Check.{checkFile}
 use Rattle.compare.specs.Comparing.{nonceOf, bodyOf, onlyFirst, onlySecond, differing, refusedIn, stopped, comparison}
@@ -17,13 +17,14 @@ pub record InFile (f : List ℕ) (job : ℕ) : Type 0 where
   pub within : row < countOf f
   pub has : rowOf f row .job ≡ job
 
--- rows i of f and j of g are equal in suite, key number, associated data length, nonce and body
+-- rows i of f and j of g are equal in suite, key number, associated data length, nonce, body and station
 pub record Same (f g : List ℕ) (i j : ℕ) : Type 0 where
   pub suite : rowOf f i .suite ≡ rowOf g j .suite
   pub key : rowOf f i .key ≡ rowOf g j .key
   pub ad : rowOf f i .ad ≡ rowOf g j .ad
   pub nonce : nonceOf f i ≡ nonceOf g j
   pub body : bodyOf f i ≡ bodyOf g j
+  pub station : stationOf f i ≡ stationOf g j
 
 -- a row of each has the job, and they are different
 pub record Different (f g : List ℕ) (job : ℕ) : Type 0 where
@@ -81,3 +82,15 @@ abbrev pub OtherLength : Type 0
 OtherLength =
     (f g : List ℕ) (i j : ℕ) → checkFile f .number ≡ 0 → checkFile g .number ≡ 0 → i < countOf f → j < countOf g
     → Same f g i j → rowOf f i .len ≡ rowOf g j .len
+
+-- ---- stations
+
+-- another station is reported, whichever editions the two files have
+abbrev pub OtherStation : Type 0
+OtherStation =
+    (f g : List ℕ) (i j : ℕ) → i < countOf f → j < countOf g → rowOf f i .job ≡ rowOf g j .job
+    → (stationOf f i ≡ stationOf g j → ⊥) → List·Memᴰ (rowOf f i .job) (differing f g)
+
+-- in edition 1 it is 0
+abbrev pub NoStation : Type 0
+NoStation = (f : List ℕ) (i : ℕ) → editionOf f ≡ edition → stationOf f i ≡ 0

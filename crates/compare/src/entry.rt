@@ -1,17 +1,17 @@
-// Two rows, compared as entries.
-use table::row::EDITION;
+// Two rows, compared as entries; each file has its own edition.
 use table::row::Row;
 use table::row::body_end;
 use table::row::nonce_at;
 use table::row::row_at;
-use table::row::row_size;
+use table::row::station_of;
 use table::row::stretch;
+use table::row::width;
 ghost use mathlib.Core.Path.{_≡_};
 ghost use Prim.Native.Nat.{_-_, _≤_};
 ghost use lib.ListN.{length};
 ghost use Rattle.words.specs.Bytes.{sameBytes};
 ghost use Rattle.table.specs.Part.{stretch};
-ghost use Rattle.table.specs.Format.{edition, rowSize, bodyEnd};
+ghost use Rattle.table.specs.Format.{widthOf, bodyEnd};
 ghost use Rattle.table.specs.Inside.{EntryIn};
 ghost use Rattle.compare.specs.Comparing.{sameFields, sameEntry};
 
@@ -56,16 +56,20 @@ fn same_fields(x: Row, y: Row) -> bool
 
 // Rows i of f and j of g are the same entry.
 pub(crate) fn same_entry(f: &[u8], g: &[u8], i: usize, j: usize) -> bool
-    requires { ⌜ EntryIn (rowSize edition) (now f) i × EntryIn (rowSize edition) (now g) j ⌝ }
+    requires { ⌜ EntryIn (widthOf (now f)) (now f) i × EntryIn (widthOf (now g)) (now g) j ⌝ }
     ensures { λ r. ⌜ r ≡ sameEntry (now (f .entry)) (now (g .entry)) i j ⌝ }
 {
-    let w = row_size(EDITION);
-    let x = row_at(w, f, i);
+    let v = width(f);
+    let w = width(g);
+    let x = row_at(v, f, i);
     let y = row_at(w, g, j);
     if !same_fields(x, y) {
         return false;
     }
-    if !same_bytes(nonce_at(w, f, i), nonce_at(w, g, j)) {
+    if station_of(f, i) != station_of(g, j) {
+        return false;
+    }
+    if !same_bytes(nonce_at(v, f, i), nonce_at(w, g, j)) {
         return false;
     }
     same_bytes(body_of(f, x), body_of(g, y))

@@ -1,9 +1,8 @@
 // One pass over the tables of two files that pass the check, as a merge.
 use crate::entry::same_entry;
-use table::row::EDITION;
 use table::row::count;
 use table::row::row_at;
-use table::row::row_size;
+use table::row::width;
 ghost use mathlib.Core.Path.{_≡_};
 ghost use mathlib.Core.Bool.{true, cond, _&&_};
 ghost use Prim.Native.Nat.{_+_, _<_, _≤_};
@@ -43,7 +42,7 @@ fn job_of(f: &[u8], i: usize) -> u32
     requires { ⌜ (checkFile (now f) .number ≡ 0) × (i < countOf (now f)) ⌝ }
     ensures { λ r. ⌜ r ≡ jobAt (now (f .entry)) i ⌝ }
 {
-    let row = row_at(row_size(EDITION), f, i);
+    let row = row_at(width(f), f, i);
     row.job
 }
 

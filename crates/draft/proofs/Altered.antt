@@ -12,14 +12,14 @@ use Rattle.words.specs.Bytes.{AllBytes}
 use Rattle.cipher.specs.Cipher.{sizeOf}
 use Rattle.table.specs.declared.answers.Answer.{Answer}
 use Rattle.table.specs.Part.{stretch}
-use Rattle.table.specs.Format.{countOf, edition, rowSize, nonceAt, rowOf, dataOf, textOf, tagOf, bodyEnd}
+use Rattle.table.specs.Format.{editionOf, countOf, edition, rowSize, widthOf, rowAt, nonceAt, rowOf, dataOf, textOf, tagOf, bodyEnd}
 use Rattle.table.specs.Answers.{answer}
 use Rattle.table.specs.Check.{badData, checkAs}
 use Rattle.table.specs.Inside.{EntryIn}
 use Rattle.table.proofs.Rows.{row-broad}
 use Rattle.table.proofs.Passed.{Passes, passes}
 use Rattle.table.proofs.Alike.{Agree, AgreeTable, stretch-same, row-same, nonce-same, count-same}
-use Rattle.table.proofs.Kept.{body-table, body-other, body-check, data-held}
+use Rattle.table.proofs.Kept.{body-table, body-edition, body-other, body-check, data-held}
 use Rattle.shift.proofs.Entries.{entryRight}
 use Rattle.shift.proofs.Changed.{stretch-at, data-wrong, text-wrong}
 use Rattle.draft.specs.Files.{pieceStart, entryTag}
@@ -51,29 +51,32 @@ module _ (f g ring : List ℕ) (lent : Lent f ring) (hg : AllBytes g) (genuine :
   z : checkAs edition f .number ≡ 0
   z = ap (λ (x : Answer). x .number) (genuine .checked)
 
-  P : Passes edition f
-  P = passes edition f z
+  P : Passes edition edition f
+  P = passes edition edition f z
 
   outside : (k : ℕ) → (k < rowOf f i .at) ⊎ (bodyEnd (rowOf f i) ≤ k) → getD g k 0 ≡ getD f k 0
   unfolding bodyEnd
   outside k = ⊎-elim (λ a. same k (inl a)) (λ a. same k (inr (omega arith)))
 
-  table : AgreeTable g f long (rowSize edition) (countOf f)
-  table = body-table f g long edition P i l outside
+  table : AgreeTable g f long (widthOf f) (countOf f)
+  table = body-table f g long edition edition P i l outside
+
+  g-width : widthOf g ≡ widthOf f
+  g-width = ap rowSize (body-edition f g long edition edition P i l outside)
 
   g-count : countOf g ≡ countOf f
-  g-count = count-same g f long (rowSize edition) (countOf f) (row-broad edition) table
+  g-count = count-same g f long (widthOf f) (countOf f) (row-broad (editionOf f)) table
 
   g-row : (k : ℕ) → k < countOf f → rowOf g k ≡ rowOf f k
-  g-row = row-same g f long (rowSize edition) (countOf f) (row-broad edition) table
+  g-row k m = ap (λ (w : ℕ). rowAt w g k) g-width ∙ row-same g f long (widthOf f) (countOf f) (row-broad (editionOf f)) table k m
 
-  g-nonce : (k : ℕ) → k < countOf f → nonceAt (rowSize edition) g k ≡ nonceAt (rowSize edition) f k
-  g-nonce = nonce-same g f long (rowSize edition) (countOf f) (row-broad edition) table
+  g-nonce : (k : ℕ) → k < countOf f → nonceAt (widthOf g) g k ≡ nonceAt (widthOf f) f k
+  g-nonce k m = ap (λ (w : ℕ). nonceAt w g k) g-width ∙ nonce-same g f long (widthOf f) (countOf f) (row-broad (editionOf f)) table k m
 
   g-tag : tagOf g (rowOf f i) ≡ tagOf f (rowOf f i)
   g-tag = let r = rowOf f i in stretch-same g f long (r .at + r .ad + r .len) (sizeOf (r .suite)) (λ k a b. same k (inr a))
 
-  taken : EntryIn (rowSize edition) f i
+  taken : EntryIn (widthOf f) f i
   taken = entry-at edition f plain-file z i l
 
   -- every other entry is as it was
@@ -82,7 +85,7 @@ module _ (f g ring : List ℕ) (lent : Lent f ring) (hg : AllBytes g) (genuine :
   other-right k m ne =
       let r = rowOf f k in
       let kept : (at n : ℕ) → r .at ≤ at → at + n ≤ bodyEnd r → stretch g at n ≡ stretch f at n =
-      λ at n a b. stretch-same g f long at n (λ p c d. body-other f g long edition P i l outside k m ne p (omega arith) (omega arith)) in
+      λ at n a b. stretch-same g f long at n (λ p c d. body-other f g long edition edition P i l outside k m ne p (omega arith) (omega arith)) in
       tag-same f g ring k true (textOf f r) (g-row k m) (g-nonce k m) (kept (r .at) (r .ad) (omega arith) (omega arith)) (kept (r .at + r .ad) (r .len) (omega arith) (omega arith))
       ∙ genuine .right k m
       ∙ sym (ap (tagOf g) (g-row k m) ∙ kept (r .at + r .ad + r .len) (sizeOf (r .suite)) (omega arith) (omega arith))
@@ -92,7 +95,7 @@ module _ (f g ring : List ℕ) (lent : Lent f ring) (hg : AllBytes g) (genuine :
   was-right = right-test f i ring (genuine .right i l)
 
   g-check : checkAs edition g ≡ cond (badData g (rowOf f i)) (answer 30 i) (answer 0 0)
-  g-check = body-check f g long edition P i l outside
+  g-check = body-check f g long edition edition P i l outside
 
   module _ (out : List ℕ) (o : length out ≡ length f) where
     thirty : badData g (rowOf f i) ≡ true → fileUnsealing g ring out ≡ writes (answer 30 i) out
@@ -119,8 +122,8 @@ text-altered f g ring out i j lent hg o genuine l from last a =
     let same : (k : ℕ) → (k < r .at) ⊎ (r .at + r .ad + r .len ≤ k) → getD g k 0 ≡ getD f k 0 = λ k. ⊎-elim (λ b. a .same k (inl (omega arith))) (λ b. a .same k (inr b)) in
     let z′ = z f g ring lent hg genuine i l (a .long) same in
     let near : (k : ℕ) → r .at ≤ k → k < s → getD g k 0 ≡ getD f k 0 = λ k b c. a .same k (inl (omega arith)) in
-    let held = passes edition f z′ .walk .rows i l in
-    let fine = data-held f g (rowSize edition) i (held .held) (λ k b c. near k b (omega (arith, held .size .ad-low))) in
+    let held = passes edition edition f z′ .walk .rows i l in
+    let fine = data-held f g (widthOf f) i (held .held) (λ k b c. near k b (omega (arith, held .size .ad-low))) in
     eight f g ring lent hg genuine i l (a .long) same out o fine
     (text-wrong f g ring i (taken f g ring lent hg genuine i l (a .long) same) (lent .ring-long) (lent .file-bytes) hg (lent .ring-bytes) (a .long)
     (g-row f g ring lent hg genuine i l (a .long) same i l) (g-nonce f g ring lent hg genuine i l (a .long) same i l) (g-tag f g ring lent hg genuine i l (a .long) same) (was-right f g ring lent hg genuine i l (a .long) same)

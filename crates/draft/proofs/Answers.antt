@@ -185,7 +185,7 @@ module _ (file ring out : ℕ) where
 
 -- a refusal of the check is neither 0 nor 8
 pub not-eight : (e : ℕ) (f : List ℕ) → checkAs e f .number ≡ 8 → ⊥
-not-eight e f q = ⊎-elim (λ z. omega arith) (λ r. ⊎-elim (λ s. omega arith) (λ s. omega arith) r) (check-numbered e f .number)
+not-eight e f q = ⊎-elim (λ z. omega arith) (λ r. ⊎-elim (λ s. omega arith) (λ s. omega arith) r) (check-numbered e e f .number)
 
 -- what a number leaves
 pub kept : (x : Answer) (done out₀ : List ℕ) → (x .number ≡ 0 → ⊥) → (x .number ≡ 8 → ⊥) → leaves x done out₀ ≡ writes x out₀

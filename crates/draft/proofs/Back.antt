@@ -8,7 +8,7 @@ use lib.Dec.{lit<}
 use Rattle.cipher.specs.Cipher.{sizeOf}
 use Rattle.table.specs.declared.row.Row.{Row}
 use Rattle.table.specs.declared.answers.Answer.{Answer}
-use Rattle.table.specs.Format.{countOf, edition, rowSize, nonceAt, rowOf, dataOf, textOf, tagOf}
+use Rattle.table.specs.Format.{countOf, edition, rowSize, widthOf, nonceAt, rowOf, dataOf, textOf, tagOf}
 use Rattle.table.specs.Answers.{answer}
 use Rattle.table.specs.Check.{checkAs}
 use Rattle.table.specs.Inside.{EntryIn}
@@ -36,7 +36,7 @@ module _ (e₀ e : ℕ) (p₀ : Plain e₀) (p : Plain e) (d : Bool) (f ring : L
   abbrev new : List ℕ
   new = rewritten e piece f
 
-  taken : (i : ℕ) → i < countOf f → EntryIn (rowSize edition) f i
+  taken : (i : ℕ) → i < countOf f → EntryIn (widthOf f) f i
   taken = entry-at e₀ f p₀ z
 
   piece-long : (i : ℕ) → i < countOf f → length (piece i) ≡ pieceSize f i
@@ -57,7 +57,7 @@ module _ (e₀ e : ℕ) (p₀ : Plain e₀) (p : Plain e) (d : Bool) (f ring : L
     new-row : rowOf new i ≡ rowOf f i
     new-row = same-row e₀ f p₀ z e p piece piece-long i l
 
-    new-nonce : nonceAt (rowSize edition) new i ≡ nonceAt (rowSize edition) f i
+    new-nonce : nonceAt (widthOf new) new i ≡ nonceAt (widthOf f) f i
     new-nonce = same-nonce e₀ f p₀ z e p piece piece-long i l
 
     new-data : dataOf new (rowOf f i) ≡ dataOf f (rowOf f i)

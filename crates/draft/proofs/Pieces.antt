@@ -1,7 +1,7 @@
 -- Text and tag of a row: how long they are, and that what one direction makes of them the other undoes.
 use Prim.Native.Nat.{ℕ, _+_, _*_, _<_}
 use native.Mathlib.Omega.{arith}
-use mathlib.Core.Path.{_≡_, refl, sym, ap, ap₂, _∙_, subst}
+use mathlib.Core.Path.{_≡_, refl, sym, ap, ap₂, _∙_}
 use mathlib.Core.Bool.{Bool, true, false, not}
 use mathlib.Core.List.{List, _++_}
 use lib.ListN.{length, take, drop, replicate, length-append, length-replicate}
@@ -12,7 +12,7 @@ use Rattle.mode.specs.Mode.{textOut, tagOut}
 use Rattle.mode.proofs.Demand2.{text-length, text-back, tag-back, tag-block}
 use Rattle.table.specs.declared.row.Row.{Row}
 use Rattle.table.specs.Part.{stretch}
-use Rattle.table.specs.Format.{countOf, edition, rowSize, nonceAt, rowOf, dataOf, textOf, tagOf}
+use Rattle.table.specs.Format.{countOf, widthOf, nonceAt, rowOf, dataOf, textOf, tagOf}
 use Rattle.table.specs.Check.{checkAs}
 use Rattle.table.specs.Inside.{EntryIn}
 use Rattle.table.proofs.Passed.{passes, entry-in}
@@ -23,7 +23,7 @@ use Rattle.draft.specs.Files.{pieceStart, pieceSize, entryOut, entryTag,
 use Rattle.draft.proofs.Rewritten.{Plain, two-parts}
 
 -- two files with the same row, nonce and associated data make the same of a text
-module _ (f g ring : List ℕ) (i : ℕ) (d : Bool) (t : List ℕ) (rq : rowOf g i ≡ rowOf f i) (nq : nonceAt (rowSize edition) g i ≡ nonceAt (rowSize edition) f i)
+module _ (f g ring : List ℕ) (i : ℕ) (d : Bool) (t : List ℕ) (rq : rowOf g i ≡ rowOf f i) (nq : nonceAt (widthOf g) g i ≡ nonceAt (widthOf f) f i)
     (dq : dataOf g (rowOf f i) ≡ dataOf f (rowOf f i)) (tq : textOf g (rowOf f i) ≡ t) where
   out-same : entryOut d g ring i ≡ textOut (cipherOf (rowOf f i .suite)) d (ringKey ring (rowOf f i .key)) (nonceRead f i) (dataOf f (rowOf f i)) t
   unfolding entryOut
@@ -38,11 +38,11 @@ module _ (f g ring : List ℕ) (i : ℕ) (d : Bool) (t : List ℕ) (rq : rowOf g
       ∙ ap₂ (λ (a b : List ℕ). tagOut (cipherOf (rowOf f i .suite)) d (ringKey ring (rowOf f i .key)) (nonceRead f i) a b) dq tq
 
 -- a row of a file that passes is one that sealer and opener take
-pub entry-at : (e : ℕ) (f : List ℕ) → Plain e → checkAs e f .number ≡ 0 → (i : ℕ) → i < countOf f → EntryIn (rowSize edition) f i
-entry-at e f p z i l = subst (λ (w : ℕ). EntryIn w f i) (p .0) (entry-in e f (passes e f z) i l)
+pub entry-at : (e : ℕ) (f : List ℕ) → Plain e → checkAs e f .number ≡ 0 → (i : ℕ) → i < countOf f → EntryIn (widthOf f) f i
+entry-at e f p z i l = entry-in e e f (passes e e f z) i l
 
 -- a row of a file of bytes, under a ring of 16 keys
-module _ (f ring : List ℕ) (i : ℕ) (h : EntryIn (rowSize edition) f i) (g : length ring ≡ 256) (hf : AllBytes f) (hr : AllBytes ring) where
+module _ (f ring : List ℕ) (i : ℕ) (h : EntryIn (widthOf f) f i) (g : length ring ≡ 256) (hf : AllBytes f) (hr : AllBytes ring) where
   pub text-all : AllBytes (textOf f (rowOf f i))
   text-all = all-stretch f (rowOf f i .at + rowOf f i .ad) (rowOf f i .len) hf
 
@@ -65,7 +65,7 @@ module _ (f ring : List ℕ) (i : ℕ) (h : EntryIn (rowSize edition) f i) (g : 
   own-piece = sym (two-parts f (pieceStart f i) (rowOf f i .len) (sizeOf (rowOf f i .suite)))
 
   -- a file alike but for the text, which is what direction d made
-  module _ (d : Bool) (x : List ℕ) (rq : rowOf x i ≡ rowOf f i) (nq : nonceAt (rowSize edition) x i ≡ nonceAt (rowSize edition) f i)
+  module _ (d : Bool) (x : List ℕ) (rq : rowOf x i ≡ rowOf f i) (nq : nonceAt (widthOf x) x i ≡ nonceAt (widthOf f) f i)
       (dq : dataOf x (rowOf f i) ≡ dataOf f (rowOf f i)) (tq : textOf x (rowOf f i) ≡ entryOut d f ring i) where
     pub out-back : entryOut (not d) x ring i ≡ textOf f (rowOf f i)
     unfolding entryOut

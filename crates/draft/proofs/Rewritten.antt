@@ -2,12 +2,12 @@
 use Prim.Native.Nat.{ℕ, zero, suc, _+_, _-_, _*_, _/_, _%_, _≤_, _<_}
 use native.Mathlib.Decide.{decLt}
 use native.Mathlib.Omega.{arith}
-use mathlib.Core.Path.{_≡_, refl, sym, ap, ap₂, _∙_, subst}
+use mathlib.Core.Path.{_≡_, refl, sym, ap, ap₂, _∙_}
 use mathlib.Core.Bool.{Bool, true, false, not}
 use mathlib.Core.List.{List, [], _∷_, _++_}
 use mathlib.Core.Logic.{_⊎_, inl, inr, ⊎-elim}
 use lib.ListN.{length, getD, take, drop}
-use lib.Seq.{getD-take, getD-drop, ext-getD, take-add, drop-drop}
+use lib.Seq.{getD-take, getD-drop, ext-getD}
 use lib.Dec.{eqb}
 use borrow.Author.Tests.{eqb-false, not-true, eq-eqb}
 use Rattle.words.specs.Bytes.{AllBytes, value, bytes, word}
@@ -16,17 +16,17 @@ use Rattle.cipher.specs.Cipher.{sizeOf}
 use Rattle.table.specs.declared.row.Row.{Row}
 use Rattle.table.specs.declared.answers.Answer.{Answer}
 use Rattle.table.specs.Part.{stretch}
-use Rattle.table.specs.Format.{editionOf, countOf, edition, rowSize, rowStart, nonceAt, rowOf, dataOf, textOf, tagOf, bodyEnd}
+use Rattle.table.specs.Format.{editionOf, countOf, edition, rowSize, widthOf, rowStart, rowAt, nonceAt, rowOf, dataOf, textOf, tagOf, bodyEnd}
 use Rattle.table.specs.Answers.{answer}
-use Rattle.table.specs.Check.{checkAs}
-use Rattle.table.specs.Inside.{EntryIn}
+use Rattle.table.specs.Check.{outside, checkAs}
+use Rattle.table.proofs.Parts.{join}
 use Rattle.table.proofs.Rows.{row-broad, row-late, stretch-length}
 use Rattle.table.proofs.Searches.{first-none}
 use Rattle.table.proofs.Sound.{Sound, Headed}
-use Rattle.table.proofs.Passed.{Walked, Passes, passes, entry-in}
+use Rattle.table.proofs.Passed.{Walked, passes, own-edition}
 use Rattle.table.proofs.Bodies.{apart, after-table}
 use Rattle.table.proofs.Alike.{AgreeTable, stretch-same, row-same, nonce-same, count-same}
-use Rattle.table.proofs.Kept.{data-held, check-kept}
+use Rattle.table.proofs.Kept.{data-held, taken, check-kept}
 use Rattle.draft.specs.Put.{put, putAll}
 use Rattle.draft.specs.Files.{inEdition, pieceStart, pieceSize, rewritten}
 use Rattle.draft.proofs.Puts.{Beside, Apart, Inside, Outside, where-is, put-length, put-in, put-beside, all-length, all-outside, all-inside, piece-stretch}
@@ -78,25 +78,28 @@ pair-high l e b s q = omega (arith, b 0, b 1)
 -- ---- a stretch in two parts
 
 pub two-parts : (g : List ℕ) (s n m : ℕ) → stretch g s (n + m) ≡ stretch g s n ++ stretch g (s + n) m
-two-parts g s n m = take-add n m (drop s g) ∙ ap (λ (x : List ℕ). stretch g s n ++ take m x) (drop-drop n s g)
+two-parts g s n m = sym (join g s n m)
 
 -- rows of edition e are as long as those of edition 1
 abbrev pub Plain : ℕ → Type 0
 Plain e = (rowSize e ≡ rowSize edition) × (e < 256)
 
 module _ (e₀ : ℕ) (f : List ℕ) (p₀ : Plain e₀) (z : checkAs e₀ f .number ≡ 0) where
-  pub head : Headed e₀ f
-  head = passes e₀ f z .head
+  pub head : Headed e₀ e₀ f
+  head = passes e₀ e₀ f z .head
 
-  pub walk : Walked (rowSize edition) f (countOf f)
-  walk = subst (λ (w : ℕ). Walked w f (countOf f)) (p₀ .0) (passes e₀ f z .walk)
+  pub edition-own : editionOf f ≡ e₀
+  edition-own = own-edition e₀ f (passes e₀ e₀ f z)
 
-  pub row-sound : (i : ℕ) → i < countOf f → Sound (rowSize edition) f (countOf f) i
+  pub walk : Walked (widthOf f) f (countOf f)
+  walk = passes e₀ e₀ f z .walk
+
+  pub row-sound : (i : ℕ) → i < countOf f → Sound (widthOf f) f (countOf f) i
   row-sound i l = walk .rows i l
 
   -- the body starts behind the table
-  pub body-late : (i : ℕ) → i < countOf f → rowStart (rowSize edition) (countOf f) ≤ rowOf f i .at
-  body-late i l = omega (arith, after-table (rowSize edition) f (countOf f) walk i (omega arith), row-sound i l .place .starts)
+  pub body-late : (i : ℕ) → i < countOf f → rowStart (widthOf f) (countOf f) ≤ rowOf f i .at
+  body-late i l = omega (arith, after-table (widthOf f) f (countOf f) walk i (omega arith), row-sound i l .place .starts)
 
   -- text and tag end where the body does
   pub piece-end : (i : ℕ) → pieceStart f i + pieceSize f i ≡ bodyEnd (rowOf f i)
@@ -108,7 +111,7 @@ module _ (e₀ : ℕ) (f : List ℕ) (p₀ : Plain e₀) (z : checkAs e₀ f .nu
   start-is i = refl
 
   pub bodies-apart : (i j : ℕ) → i < j → j < countOf f → bodyEnd (rowOf f i) ≤ rowOf f j .at
-  bodies-apart = apart (rowSize edition) f (countOf f) walk
+  bodies-apart = apart (widthOf f) f (countOf f) walk
 
   pub piece-in : (i : ℕ) → i < countOf f → pieceStart f i + pieceSize f i ≤ length f
   piece-in i l = omega (arith, piece-end i, row-sound i l .place .ends)
@@ -133,10 +136,10 @@ module _ (e₀ : ℕ) (f : List ℕ) (p₀ : Plain e₀) (z : checkAs e₀ f .nu
     kept : (k : ℕ) → 2 ≤ k → Outside (pieceStart f) piece (countOf f) k → getD g k 0 ≡ getD f k 0
     kept k b o = all-outside (pieceStart f) piece (countOf f) (inEdition e f) pieces-apart (countOf f) (omega arith) k o ∙ edition-other e f (head .long) k b
 
-    head-outside : (k : ℕ) → k < rowStart (rowSize edition) (countOf f) → Outside (pieceStart f) piece (countOf f) k
+    head-outside : (k : ℕ) → k < rowStart (widthOf f) (countOf f) → Outside (pieceStart f) piece (countOf f) k
     head-outside k b i l = inl (omega (arith, body-late i l, start-is i))
 
-    pub same-table : AgreeTable g f same-length (rowSize edition) (countOf f)
+    pub same-table : AgreeTable g f same-length (widthOf f) (countOf f)
     same-table k a b = kept k a (head-outside k b)
 
     data-outside : (j : ℕ) → j < countOf f → (k : ℕ) → rowOf f j .at ≤ k → k < pieceStart f j → Outside (pieceStart f) piece (countOf f) k
@@ -151,19 +154,28 @@ module _ (e₀ : ℕ) (f : List ℕ) (p₀ : Plain e₀) (z : checkAs e₀ f .nu
 
     -- associated data is kept
     data-kept : (j : ℕ) → j < countOf f → (k : ℕ) → rowOf f j .at ≤ k → k < pieceStart f j → getD g k 0 ≡ getD f k 0
-    data-kept j m k a b = kept k (omega (arith, body-late j m, row-late (rowSize edition) (countOf f))) (data-outside j m k a b)
+    data-kept j m k a b = kept k (omega (arith, body-late j m, row-late (widthOf f) (countOf f))) (data-outside j m k a b)
 
     pub same-data : (j : ℕ) → j < countOf f → dataOf g (rowOf f j) ≡ dataOf f (rowOf f j)
     same-data j m = stretch-same g f same-length (rowOf f j .at) (rowOf f j .ad) (λ k a b. data-kept j m k a (omega (arith, start-is j)))
 
-    pub same-row : (i : ℕ) → i < countOf f → rowOf g i ≡ rowOf f i
-    same-row = row-same g f same-length (rowSize edition) (countOf f) (row-broad edition) same-table
+    new-edition : editionOf g ≡ e
+    new-edition =
+        let o : (k : ℕ) → k < 2 → getD g k 0 ≡ getD (inEdition e f) k 0 = λ k b. all-outside (pieceStart f) piece (countOf f) (inEdition e f) pieces-apart (countOf f) (omega arith) k (head-outside k (omega (arith, row-late (widthOf f) (countOf f)))) in
+        pair-is g e (p .1) (o 0 (omega arith) ∙ edition-low e f (head .long)) (o 1 (omega arith) ∙ edition-high e f (head .long))
 
-    pub same-nonce : (i : ℕ) → i < countOf f → nonceAt (rowSize edition) g i ≡ nonceAt (rowSize edition) f i
-    same-nonce = nonce-same g f same-length (rowSize edition) (countOf f) (row-broad edition) same-table
+    -- rows are as long as they were
+    same-width : widthOf g ≡ widthOf f
+    same-width = ap rowSize new-edition ∙ p .0 ∙ sym (ap rowSize edition-own ∙ p₀ .0)
+
+    pub same-row : (i : ℕ) → i < countOf f → rowOf g i ≡ rowOf f i
+    same-row i l = ap (λ (w : ℕ). rowAt w g i) same-width ∙ row-same g f same-length (widthOf f) (countOf f) (row-broad (editionOf f)) same-table i l
+
+    pub same-nonce : (i : ℕ) → i < countOf f → nonceAt (widthOf g) g i ≡ nonceAt (widthOf f) f i
+    same-nonce i l = ap (λ (w : ℕ). nonceAt w g i) same-width ∙ nonce-same g f same-length (widthOf f) (countOf f) (row-broad (editionOf f)) same-table i l
 
     pub same-count : countOf g ≡ countOf f
-    same-count = count-same g f same-length (rowSize edition) (countOf f) (row-broad edition) same-table
+    same-count = count-same g f same-length (widthOf f) (countOf f) (row-broad (editionOf f)) same-table
 
     pub same-start : (i : ℕ) → i < countOf f → pieceStart g i ≡ pieceStart f i
     unfolding pieceStart
@@ -185,18 +197,13 @@ module _ (e₀ : ℕ) (f : List ℕ) (p₀ : Plain e₀) (z : checkAs e₀ f .nu
 
     -- ---- the check
 
-    new-edition : editionOf g ≡ e
-    new-edition =
-        let o : (k : ℕ) → k < 2 → getD g k 0 ≡ getD (inEdition e f) k 0 = λ k b. all-outside (pieceStart f) piece (countOf f) (inEdition e f) pieces-apart (countOf f) (omega arith) k (head-outside k (omega (arith, row-late (rowSize edition) (countOf f)))) in
-        pair-is g e (p .1) (o 0 (omega arith) ∙ edition-low e f (head .long)) (o 1 (omega arith) ∙ edition-high e f (head .long))
-
     pub passes-again : checkAs e g ≡ answer 0 0
     passes-again =
-        check-kept f g same-length e e₀ (rowSize edition) (passes e₀ f z) (p₀ .0) (p .0) new-edition same-table
+        check-kept f g same-length e e e₀ e₀ (passes e₀ e₀ f z) (ap (outside e e) new-edition ∙ taken e e e (omega arith) (omega arith)) same-width same-table
         ∙ first-none _ _ _ (countOf f)
         (λ j m.
         let s = row-sound j m in
-        data-held f g (rowSize edition) j (s .held) (λ k a b. data-kept j m k a (omega (arith, s .size .ad-low, start-is j))))
+        data-held f g (widthOf f) j (s .held) (λ k a b. data-kept j m k a (omega (arith, s .size .ad-low, start-is j))))
 
 -- ---- and back: with the old edition, and the old bytes for text and tag of each row, it is the old file
 
@@ -247,7 +254,7 @@ module _ (e₀ : ℕ) (f : List ℕ) (p₀ : Plain e₀) (z : checkAs e₀ f .nu
       let m : i < countOf f = rw (sym count-new) l in
       let s = same-start e₀ f p₀ z e p piece long i m in
       ⊎-elim (λ b. inl (omega (arith, s, b))) (λ b. inr (omega (arith, s, b, long i m, old-long i m))) (o i m) in
-      let ed = head e₀ f p₀ z .edition in
+      let ed = edition-own e₀ f p₀ z in
       all-outside (pieceStart new) old (countOf new) (inEdition e₀ new) back-apart (countOf new) (omega arith) k o-new
       ∙ elim (decLt k 2) [
         | no b ↦ edition-other e₀ new big k (omega arith) ∙ kept e₀ f p₀ z e p piece long k (omega arith) o

@@ -10,7 +10,7 @@ use borrow.Author.Tests.{eq-eqb}
 use Rattle.cipher.specs.Cipher.{Seals, sizeOf}
 use Rattle.comet.specs.Answers.{Sealed, sealedAs, sealing, Opened, openedAs}
 use Rattle.comet.proofs.Refuse.{none-bad}
-use Rattle.table.specs.Format.{edition, rowSize, rowOf}
+use Rattle.table.specs.Format.{widthOf, rowOf}
 use Rattle.table.specs.Inside.{EntryIn}
 use Rattle.shift.specs.Opening.{entrySealing, entryOpening}
 use Rattle.shift.proofs.Entries.{key-long, nonce-long, data-long, text-long, entryRight, entryText, entry-opened}
@@ -20,7 +20,7 @@ use Rattle.draft.specs.Promised.{SealerTakes, OpenerTakes}
 use Rattle.draft.proofs.Pieces.{entry-at}
 use Rattle.draft.proofs.Back.{plain-draft, plain-file}
 
-module _ (f ring : List ℕ) (i : ℕ) (h : EntryIn (rowSize edition) f i) (g : length ring ≡ 256) where
+module _ (f ring : List ℕ) (i : ℕ) (h : EntryIn (widthOf f) f i) (g : length ring ≡ 256) where
   -- the sealer gives text and tag, where the suite seals
   pub seal-done : (out tag : List ℕ) → Seals (rowOf f i .suite) → length out ≡ rowOf f i .len → length tag ≡ sizeOf (rowOf f i .suite)
       → entrySealing f ring i out tag ≡ record { number = 0; out = entryOut false f ring i; tag = entryTag false f ring i }

@@ -1,6 +1,6 @@
 -- Block keys are blocks of sixteen bytes, one for each mark.
-use mathlib.Core.Path.{_≡_, refl, ap, _∙_}
-use Prim.Native.Nat.{ℕ, zero, suc, _+_, _-_, _<_}
+use mathlib.Core.Path.{_≡_, refl, ap, ap₂, _∙_}
+use Prim.Native.Nat.{ℕ, zero, suc, _+_, _-_, _≤_, _<_}
 use native.Mathlib.Nat.{not-suc-le-zero, le-of-suc-le-suc}
 use native.Mathlib.Omega.{arith}
 use mathlib.Core.Bool.{Bool, true, false, cond}
@@ -10,12 +10,12 @@ use lib.Dec.{ltb}
 use Rattle.words.specs.Words.{xor}
 use Rattle.words.specs.Bytes.{AllBytes, value, bytes}
 use Rattle.words.proofs.Xor.{below}
-use Rattle.words.proofs.Lists.{all-append, all-drop, all-set}
+use Rattle.words.proofs.Lists.{all-nil, all-tail, all-cons, all-append, all-drop, all-set}
 use Rattle.words.proofs.Bytes.{length-bytes, all-bytes}
-use Rattle.cipher.specs.Cipher.{Block}
+use Rattle.cipher.specs.Cipher.{Block, Version, one, two}
 use Rattle.mode.specs.Blocks.{lengths}
-use Rattle.mode.specs.Words.{double}
-use Rattle.mode.specs.Keys.{shortMark, textMarks, marks, marked, doubled, nextKey, keys}
+use Rattle.mode.specs.Words.{double, double120}
+use Rattle.mode.specs.Keys.{shortMark, textMarks, late, placed, marks, marked, onLow, nextKey, keys}
 use Rattle.mode.specs.Mode.{firstKey, laterKeys}
 
 pub marked-block : (m : ℕ) (z : List ℕ) → m < 256 → Block 16 z → Block 16 (marked m z)
@@ -24,17 +24,20 @@ marked-block m z h b =
     let v = xor (getD z 15 0) m in
     record { long = length-set z 15 v ∙ b .long; bytes = all-set z 15 v (b .bytes) (below 8 (b .bytes 15) h) }
 
-pub next-block : (m : ℕ) (z : List ℕ) → m < 256 → Block 16 z → Block 16 (nextKey m z)
-unfolding nextKey doubled
-next-block m z h b =
-    let y = marked m z in
-    let my = marked-block m z h b in
-    let x = double (value (take 8 y)) in
-    let ly : length y ≡ 16 = my .long in
+low-block : (k : ℕ) (f : ℕ → ℕ) (z : List ℕ) → k ≤ 16 → Block 16 z → Block 16 (onLow k f z)
+unfolding onLow
+low-block k f z h b =
+    let x = f (value (take k z)) in
+    let lz : length z ≡ 16 = b .long in
     record {
-      long = length-append (bytes 8 x) (drop 8 y) ∙ omega (arith, length-bytes 8 x, length-drop 8 y);
-      bytes = all-append (bytes 8 x) (drop 8 y) (all-bytes 8 x) (all-drop 8 y (my .bytes));
+      long = length-append (bytes k x) (drop k z) ∙ omega (arith, length-bytes k x, length-drop k z);
+      bytes = all-append (bytes k x) (drop k z) (all-bytes k x) (all-drop k z (b .bytes));
     }
+
+pub next-block : (v : Version) (m : ℕ) (z : List ℕ) → m < 256 → Block 16 z → Block 16 (nextKey v m z)
+unfolding nextKey
+next-block one m z h b = low-block 8 double (marked m z) (omega arith) (marked-block m z h b)
+next-block two m z h b = low-block 15 double120 (marked m z) (omega arith) (marked-block m z h b)
 
 -- ---- marks are bytes, and there are as many as blocks
 
@@ -56,23 +59,39 @@ unfolding textMarks
 text-marks-count n first short [] = refl
 text-marks-count n first short (k ∷ ks) = ap suc (text-marks-count n 0 short ks)
 
-last-byte : AllBytes (0x80 ∷ [])
-last-byte zero = omega arith
-last-byte (suc i) = omega arith
+late-bytes : (h : ℕ) (ms : List ℕ) → h < 256 → AllBytes ms → AllBytes (late h ms)
+unfolding late
+late-bytes h [] hh hm = all-cons (xor h 0x80) [] (below 8 hh (omega arith)) all-nil
+late-bytes h (m ∷ ms) hh hm = all-cons h (late m ms) hh (late-bytes m ms (hm 0) (all-tail m ms hm))
 
-pub marks-bytes : (n a m : ℕ) → AllBytes (marks n a m)
-unfolding marks
-marks-bytes n a m =
-    all-append (textMarks n 0x08 0x10 (lengths n a)) _ (text-marks-bytes n 0x08 0x10 (lengths n a) (omega arith) (omega arith))
-    (all-append (textMarks n 0x20 0x40 (lengths n m)) _ (text-marks-bytes n 0x20 0x40 (lengths n m) (omega arith) (omega arith)) last-byte)
+late-count : (h : ℕ) (ms : List ℕ) → length (late h ms) ≡ suc (length ms)
+unfolding late
+late-count h [] = refl
+late-count h (m ∷ ms) = ap suc (late-count m ms)
 
-pub marks-count : (n a m : ℕ) → length (marks n a m) ≡ suc (length (lengths n a) + length (lengths n m))
-unfolding marks
-marks-count n a m =
-    let p = textMarks n 0x08 0x10 (lengths n a) in
-    let q = textMarks n 0x20 0x40 (lengths n m) in
-    length-append p (q ++ (0x80 ∷ []))
-    ∙ omega (arith, length-append q (0x80 ∷ []), text-marks-count n 0x08 0x10 (lengths n a), text-marks-count n 0x20 0x40 (lengths n m))
+placed-bytes : (v : Version) (ms : List ℕ) → AllBytes ms → AllBytes (placed v ms)
+placed-bytes one ms h = all-append ms (0x80 ∷ []) h (all-cons 0x80 [] (omega arith) all-nil)
+placed-bytes two ms h = late-bytes 0 ms (omega arith) h
+
+placed-count : (v : Version) (ms : List ℕ) → length (placed v ms) ≡ suc (length ms)
+placed-count one ms = length-append ms (0x80 ∷ []) ∙ omega arith
+placed-count two ms = late-count 0 ms
+
+module _ (v : Version) (n a m : ℕ) where
+  pub marks-bytes : AllBytes (marks v n a m)
+  unfolding marks
+  marks-bytes =
+      placed-bytes v _
+      (all-append (textMarks n 0x08 0x10 (lengths n a)) _ (text-marks-bytes n 0x08 0x10 (lengths n a) (omega arith) (omega arith))
+      (text-marks-bytes n 0x20 0x40 (lengths n m) (omega arith) (omega arith)))
+
+  pub marks-count : length (marks v n a m) ≡ suc (length (lengths n a) + length (lengths n m))
+  unfolding marks
+  marks-count =
+      let p = textMarks n 0x08 0x10 (lengths n a) in
+      let q = textMarks n 0x20 0x40 (lengths n m) in
+      placed-count v (p ++ q)
+      ∙ ap suc (length-append p q ∙ ap₂ (λ (x y : ℕ). x + y) (text-marks-count n 0x08 0x10 (lengths n a)) (text-marks-count n 0x20 0x40 (lengths n m)))
 
 -- ---- keys enough for f blocks and the tag
 
@@ -84,10 +103,10 @@ pub enough-first : (f : ℕ) (ks : List (List ℕ)) → Enough f ks → Block 16
 enough-first zero ks e = e
 enough-first (suc f) ks e = e .0
 
-pub enough-keys : (f : ℕ) (z : List ℕ) (ms : List ℕ) → Block 16 z → AllBytes ms → f < length ms → Enough f (keys z ms)
+pub enough-keys : (v : Version) (f : ℕ) (z : List ℕ) (ms : List ℕ) → Block 16 z → AllBytes ms → f < length ms → Enough f (keys v z ms)
 unfolding keys
-enough-keys f z [] hz hm h = absurd (not-suc-le-zero h)
-enough-keys zero z (m ∷ ms) hz hm h = next-block m z (hm 0) hz
-enough-keys (suc f) z (m ∷ ms) hz hm h =
-    let hn = next-block m z (hm 0) hz in
-    (hn, enough-keys f (nextKey m z) ms hn (λ i. hm (suc i)) (le-of-suc-le-suc h))
+enough-keys v f z [] hz hm h = absurd (not-suc-le-zero h)
+enough-keys v zero z (m ∷ ms) hz hm h = next-block v m z (hm 0) hz
+enough-keys v (suc f) z (m ∷ ms) hz hm h =
+    let hn = next-block v m z (hm 0) hz in
+    (hn, enough-keys v f (nextKey v m z) ms hn (λ i. hm (suc i)) (le-of-suc-le-suc h))

@@ -1,6 +1,7 @@
 pub mod Blocks
 pub mod Words
 pub mod Keys
+pub mod Versions
 pub mod Chain
 pub mod Cut
 pub mod Walk

@@ -102,7 +102,9 @@ module _ (κ : Cipher) (L : Lawful κ) (key nonce : List ℕ) (hk : Block 16 key
       let f = length (lengths (κ .size) a) + length (lengths (κ .size) m) in
       record {
         y = y-block (L .sizes);
-        enough = enough-keys f (startZ κ key nonce) (marks (κ .size) a m) (z-block (L .sizes)) (marks-bytes (κ .size) a m) (omega (arith, marks-count (κ .size) a m));
+        enough =
+            enough-keys (κ .version) f (startZ κ key nonce) (marks (κ .version) (κ .size) a m) (z-block (L .sizes)) (marks-bytes (κ .version) (κ .size) a m)
+            (omega (arith, marks-count (κ .version) (κ .size) a m));
       }
 
   -- in blocks of the two texts

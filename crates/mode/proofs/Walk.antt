@@ -12,15 +12,17 @@ use borrow.Author.Tests.{lt-ltb, le-ltb}
 use Rattle.words.specs.Bytes.{AllBytes}
 use Rattle.words.proofs.Xor.{below, zero-r}
 use Rattle.words.specs.Words.{xor}
+use Rattle.words.specs.Xors.{xors}
 use Rattle.cipher.specs.Cipher.{Cipher, Lawful, Block}
 use Rattle.mode.specs.Blocks.{blocks, lengths}
-use Rattle.mode.specs.Words.{pad}
-use Rattle.mode.specs.Keys.{shortMark, textMarks, marks, nextKey, keys}
-use Rattle.mode.specs.Mode.{Chain, start, image, absorbed, absorb, masked, message, after, crypted, afterData, textOut, tagOut}
-use Rattle.mode.specs.Walk.{States, chainOf, whole, markOf, imageOf, turned, hidden, messageOf, walked, covered, tagged, origin, dataDone}
+use Rattle.mode.specs.Words.{shuffle, pad}
+use Rattle.mode.specs.Keys.{shortMark, textMarks, placed, marks, keys}
+use Rattle.mode.specs.Mode.{Chain, firstKey, laterKeys, start, image, absorbed, absorb, masked, message, after, crypted, afterData, textOut, tagOut}
+use Rattle.mode.specs.Walk.{States, chainOf, whole, blockKey, blockZ, markOf, imageOf, turned, hidden, messageOf, walked, covered, tagged, origin, dataDone}
 use Rattle.mode.proofs.Blocks.{sizes, blocks-sizes, blocks-nil, blocks-more, blocks-turn, AllBlocks, none, more}
 use Rattle.mode.proofs.Words.{pad-block}
-use Rattle.mode.proofs.Keys.{short-lt, next-block}
+use Rattle.mode.proofs.Keys.{short-lt}
+use Rattle.mode.proofs.Versions.{block-step, tag-step, key-block, kept-block}
 use Rattle.mode.proofs.Chain.{xors-block, length-message, all-message}
 use Rattle.mode.proofs.Cut.{length-whole, whole-short}
 
@@ -52,27 +54,31 @@ later-first n m pos l =
 module _ (κ : Cipher) where
   -- ---- the walk is the chain
 
-  pub turned-chain : (m : ℕ) (s : States) (b : List ℕ) (ms : List ℕ) → absorbed κ (chainOf s (m ∷ ms)) b ≡ chainOf (turned κ m s b) ms
-  unfolding absorbed keys turned
-  turned-chain m s b ms = refl
+  -- the chain's next key and the keys behind it
+  step-left : (m : ℕ) (s : States) (ms : List ℕ) → chainOf (κ .version) s (m ∷ ms) .left ≡ blockKey (κ .version) m (s .Z) ∷ keys (κ .version) (blockZ (κ .version) m (s .Z)) (placed (κ .version) ms)
+  step-left m s ms = block-step (κ .version) m (s .Z) ms
 
-  pub hidden-chain : (m : ℕ) (s : States) (b : List ℕ) (ms : List ℕ) → masked κ (chainOf s (m ∷ ms)) b ≡ hidden κ m s b
-  unfolding masked keys hidden
-  hidden-chain m s b ms = refl
+  pub turned-chain : (m : ℕ) (s : States) (b : List ℕ) (ms : List ℕ) → absorbed κ (chainOf (κ .version) s (m ∷ ms)) b ≡ chainOf (κ .version) (turned κ m s b) ms
+  unfolding absorbed turned
+  turned-chain m s b ms = ap (λ (l : List (List ℕ)). record { Y = xors (κ .E (firstKey l) (s .Y)) (pad (κ .size) b); left = laterKeys l }) (step-left m s ms)
 
-  pub message-chain : (d : Bool) (m : ℕ) (s : States) (b : List ℕ) (ms : List ℕ) → message κ d (chainOf s (m ∷ ms)) b ≡ messageOf κ d m s b
+  pub hidden-chain : (m : ℕ) (s : States) (b : List ℕ) (ms : List ℕ) → masked κ (chainOf (κ .version) s (m ∷ ms)) b ≡ hidden κ m s b
+  unfolding masked hidden
+  hidden-chain m s b ms = ap (λ (l : List (List ℕ)). xors b (shuffle (κ .size) (κ .E (firstKey l) (s .Y)))) (step-left m s ms)
+
+  pub message-chain : (d : Bool) (m : ℕ) (s : States) (b : List ℕ) (ms : List ℕ) → message κ d (chainOf (κ .version) s (m ∷ ms)) b ≡ messageOf κ d m s b
   unfolding message
   message-chain d m s b ms = ap (λ (o : List ℕ). cond d o b) (hidden-chain m s b ms)
 
   step-chain : (d : Bool) (m : ℕ) (s : States) (b : List ℕ) (ms : List ℕ)
-      → absorbed κ (chainOf s (m ∷ ms)) (message κ d (chainOf s (m ∷ ms)) b) ≡ chainOf (turned κ m s (messageOf κ d m s b)) ms
-  step-chain d m s b ms = ap (absorbed κ (chainOf s (m ∷ ms))) (message-chain d m s b ms) ∙ turned-chain m s (messageOf κ d m s b) ms
+      → absorbed κ (chainOf (κ .version) s (m ∷ ms)) (message κ d (chainOf (κ .version) s (m ∷ ms)) b) ≡ chainOf (κ .version) (turned κ m s (messageOf κ d m s b)) ms
+  step-chain d m s b ms = ap (absorbed κ (chainOf (κ .version) s (m ∷ ms))) (message-chain d m s b ms) ∙ turned-chain m s (messageOf κ d m s b) ms
 
   abbrev marksOf : ℕ → ℕ → List (List ℕ) → List ℕ → List ℕ
   marksOf first short bs ms = textMarks (κ .size) first short (sizes bs) ++ ms
 
   pub after-walk : (d : Bool) (first short : ℕ) (s : States) (bs : List (List ℕ)) (ms : List ℕ)
-      → after κ d (chainOf s (marksOf first short bs ms)) bs ≡ chainOf (walked κ d first short s bs) ms
+      → after κ d (chainOf (κ .version) s (marksOf first short bs ms)) bs ≡ chainOf (κ .version) (walked κ d first short s bs) ms
   unfolding after walked textMarks
   after-walk d first short s [] ms = refl
   after-walk d first short s (b ∷ bs) ms =
@@ -81,7 +87,7 @@ module _ (κ : Cipher) where
       ∙ after-walk d 0 short (turned κ m s (messageOf κ d m s b)) bs ms
 
   pub crypted-walk : (d : Bool) (first short : ℕ) (s : States) (bs : List (List ℕ)) (ms : List ℕ)
-      → crypted κ d (chainOf s (marksOf first short bs ms)) bs ≡ covered κ d first short s bs
+      → crypted κ d (chainOf (κ .version) s (marksOf first short bs ms)) bs ≡ covered κ d first short s bs
   unfolding crypted covered textMarks
   crypted-walk d first short s [] ms = refl
   crypted-walk d first short s (b ∷ bs) ms =
@@ -97,7 +103,7 @@ module _ (κ : Cipher) where
   absorb-after c (b ∷ bs) = absorb-after (absorbed κ c b) bs
 
   pub absorb-walk : (first short : ℕ) (s : States) (bs : List (List ℕ)) (ms : List ℕ)
-      → absorb κ (chainOf s (marksOf first short bs ms)) bs ≡ chainOf (walked κ false first short s bs) ms
+      → absorb κ (chainOf (κ .version) s (marksOf first short bs ms)) bs ≡ chainOf (κ .version) (walked κ false first short s bs) ms
   absorb-walk first short s bs ms = absorb-after _ bs ∙ after-walk false first short s bs ms
 
   -- ---- the whole of it
@@ -106,22 +112,27 @@ module _ (κ : Cipher) where
     marks-walk : (first short : ℕ) (l ms : List ℕ) → textMarks (κ .size) first short (lengths (κ .size) (length l)) ++ ms ≡ marksOf first short (blocks (κ .size) l) ms
     marks-walk first short l ms = ap (λ (ks : List ℕ). textMarks (κ .size) first short ks ++ ms) (sym (blocks-sizes (κ .size) pos (length l) l (le-refl (length l))))
 
-    data-walk : afterData κ key nonce a (length t) ≡ chainOf (dataDone κ key nonce a) (marksOf 0x20 0x40 (blocks (κ .size) t) (0x80 ∷ []))
+    data-walk : afterData κ key nonce a (length t) ≡ chainOf (κ .version) (dataDone κ key nonce a) (marksOf 0x20 0x40 (blocks (κ .size) t) [])
     unfolding afterData start marks
     data-walk =
         let s = origin κ key nonce in
-        let ms : List ℕ = marksOf 0x20 0x40 (blocks (κ .size) t) (0x80 ∷ []) in
-        ap (λ (x : List ℕ). absorb κ (chainOf s (textMarks (κ .size) 0x08 0x10 (lengths (κ .size) (length a)) ++ x)) (blocks (κ .size) a)) (marks-walk 0x20 0x40 t (0x80 ∷ []))
-        ∙ ap (λ (x : List ℕ). absorb κ (chainOf s x) (blocks (κ .size) a)) (marks-walk 0x08 0x10 a ms)
+        let ms : List ℕ = marksOf 0x20 0x40 (blocks (κ .size) t) [] in
+        let q : textMarks (κ .size) 0x20 0x40 (lengths (κ .size) (length t)) ≡ ms = sym (append-nil _) ∙ marks-walk 0x20 0x40 t [] in
+        ap (λ (x : List ℕ). absorb κ (chainOf (κ .version) s (textMarks (κ .size) 0x08 0x10 (lengths (κ .size) (length a)) ++ x)) (blocks (κ .size) a)) q
+        ∙ ap (λ (x : List ℕ). absorb κ (chainOf (κ .version) s x) (blocks (κ .size) a)) (marks-walk 0x08 0x10 a ms)
         ∙ absorb-walk 0x08 0x10 s (blocks (κ .size) a) ms
 
     pub text-walk : (d : Bool) → textOut κ d key nonce a t ≡ covered κ d 0x20 0x40 (dataDone κ key nonce a) (blocks (κ .size) t)
     unfolding textOut
-    text-walk d = ap (λ (c : Chain). crypted κ d c (blocks (κ .size) t)) data-walk ∙ crypted-walk d 0x20 0x40 (dataDone κ key nonce a) (blocks (κ .size) t) (0x80 ∷ [])
+    text-walk d = ap (λ (c : Chain). crypted κ d c (blocks (κ .size) t)) data-walk ∙ crypted-walk d 0x20 0x40 (dataDone κ key nonce a) (blocks (κ .size) t) []
 
     pub tag-walk : (d : Bool) → tagOut κ d key nonce a t ≡ tagged κ (walked κ d 0x20 0x40 (dataDone κ key nonce a) (blocks (κ .size) t))
-    unfolding tagOut tagged keys
-    tag-walk d = ap (λ (c : Chain). image κ (after κ d c (blocks (κ .size) t))) data-walk ∙ ap (image κ) (after-walk d 0x20 0x40 (dataDone κ key nonce a) (blocks (κ .size) t) (0x80 ∷ []))
+    unfolding tagOut tagged
+    tag-walk d =
+        let w = walked κ d 0x20 0x40 (dataDone κ key nonce a) (blocks (κ .size) t) in
+        ap (λ (c : Chain). image κ (after κ d c (blocks (κ .size) t))) data-walk
+        ∙ ap (image κ) (after-walk d 0x20 0x40 (dataDone κ key nonce a) (blocks (κ .size) t) [])
+        ∙ ap (λ (l : List (List ℕ)). κ .E (firstKey l) (w .Y)) (tag-step (κ .version) (w .Z))
 
   -- ---- a walk goes on
 
@@ -188,12 +199,16 @@ module _ (κ : Cipher) where
     turned-fine : (m : ℕ) (s : States) (b : List ℕ) → m < 256 → AllBytes b → length b ≤ κ .size → Fine s → Fine (turned κ m s b)
     unfolding turned
     turned-fine m s b hm hb lb g =
-        let hz = next-block m (s .Z) hm (g .z) in
-        record { y = xors-block (κ .size) (imageOf κ m s) (pad (κ .size) b) (L .image (nextKey m (s .Z)) (s .Y) hz (g .y)) (pad-block (κ .size) b lb hb); z = hz }
+        let v = κ .version in
+        let hk = key-block v m (s .Z) hm (g .z) in
+        record {
+          y = xors-block (κ .size) (imageOf κ m s) (pad (κ .size) b) (L .image (blockKey v m (s .Z)) (s .Y) hk (g .y)) (pad-block (κ .size) b lb hb);
+          z = kept-block v m (s .Z) hm (g .z);
+        }
 
     step-fine : (d : Bool) (m : ℕ) (s : States) (b : List ℕ) → m < 256 → AllBytes b → length b ≤ κ .size → Fine s → Fine (turned κ m s (messageOf κ d m s b))
     step-fine d m s b hm hb lb g =
-        let c = chainOf s (m ∷ []) in
+        let c = chainOf (κ .version) s (m ∷ []) in
         subst (λ (v : List ℕ). Fine (turned κ m s v)) (message-chain d m s b [])
         (turned-fine m s (message κ d c b) hm (all-message κ L d c b hb) (omega (arith, length-message κ L d c b lb)) g)
 

@@ -6,35 +6,51 @@ use lib.Dec.{ltb}
 use mathlib.Core.Bool.{cond}
 use Rattle.words.specs.Words.{xor}
 use Rattle.words.specs.Bytes.{value, bytes}
-use Rattle.mode.specs.Words.{double}
+use Rattle.cipher.specs.Cipher.{Version, one, two}
+use Rattle.mode.specs.Words.{double, double120}
 use Rattle.mode.specs.Blocks.{lengths}
 
 -- the mark of a block of k bytes for being short
 abbrev pub shortMark : ℕ → ℕ → ℕ → ℕ
 shortMark n short k = cond (ltb k n) short 0
 
--- the marks before the blocks of a text, given their lengths: `first` before the first, `short` before a short one; where both meet, both
+-- the marks of the blocks of a text, given their lengths: `first` for the first, `short` for a short one; where both meet, both
 unfoldable pub textMarks : ℕ → ℕ → ℕ → List ℕ → List ℕ
 textMarks n first short [] = []
 textMarks n first short (k ∷ ks) = xor first (shortMark n short k) ∷ textMarks n 0 short ks
 
--- the mark before each cipher call after the start: a bytes of associated data, m of message, and the tag's call (document 01; source 000, section 3.6)
-unfoldable pub marks : ℕ → ℕ → ℕ → List ℕ
-marks n a m = textMarks n 0x08 0x10 (lengths n a) ++ (textMarks n 0x20 0x40 (lengths n m) ++ (0x80 ∷ []))
+-- one call later: a call takes the mark that the one before it held back, and the tag's call its own beside it
+unfoldable pub late : ℕ → List ℕ → List ℕ
+late held [] = xor held 0x80 ∷ []
+late held (m ∷ ms) = held ∷ late m ms
+
+-- the mark before each cipher call after the start, the tag's last, from the marks of the blocks: version 1 marks a block's own call, version 2 the call behind it (source 004, algorithm 7.1)
+abbrev pub placed : Version → List ℕ → List ℕ
+placed one ms = ms ++ (0x80 ∷ [])
+placed two ms = late 0 ms
+
+-- for a bytes of associated data and m of message (document 01; source 000, section 3.6)
+unfoldable pub marks : Version → ℕ → ℕ → ℕ → List ℕ
+marks v n a m = placed v (textMarks n 0x08 0x10 (lengths n a) ++ textMarks n 0x20 0x40 (lengths n m))
 
 -- a mark, XORed into byte 15 of Z
 unfoldable pub marked : ℕ → List ℕ → List ℕ
 marked m z = set z 15 (xor (getD z 15 0) m)
 
--- the low 64 bits of Z doubled, the high half kept
-unfoldable pub doubled : List ℕ → List ℕ
-doubled z = bytes 8 (double (value (take 8 z))) ++ drop 8 z
+-- a function of numbers on the first k bytes of Z as one number, the other bytes kept
+unfoldable pub onLow : ℕ → (ℕ → ℕ) → List ℕ → List ℕ
+onLow k f z = bytes k (f (value (take k z))) ++ drop k z
+
+-- version 1 doubles the low 64 bits of Z, version 2 the low 120
+abbrev pub doubled : Version → List ℕ → List ℕ
+doubled one z = onLow 8 double z
+doubled two z = onLow 15 double120 z
 
 -- the next block key: the mark, then the doubling; it is the new Z (source 000, algorithm 3, get_blk_key)
-unfoldable pub nextKey : ℕ → List ℕ → List ℕ
-nextKey m z = doubled (marked m z)
+unfoldable pub nextKey : Version → ℕ → List ℕ → List ℕ
+nextKey v m z = doubled v (marked m z)
 
 -- the block keys: one for each mark, each made from the one before
-unfoldable pub keys : List ℕ → List ℕ → List (List ℕ)
-keys z [] = []
-keys z (m ∷ ms) = nextKey m z ∷ keys (nextKey m z) ms
+unfoldable pub keys : Version → List ℕ → List ℕ → List (List ℕ)
+keys v z [] = []
+keys v z (m ∷ ms) = nextKey v m z ∷ keys v (nextKey v m z) ms

@@ -1,4 +1,4 @@
--- COMET version 1 over a block cipher (document 01, "Bytes, words and the two states"; source 000, algorithms 1 to 3): the start, the chain, the ciphertext and the tag.
+-- COMET over a block cipher, in version 1 (document 01, "Bytes, words and the two states"; source 000, algorithms 1 to 3) or 2 (source 004, sections 3 and 7): the start, the chain, the ciphertext and the tag. The versions differ in the marks' places and in the doubling, so in the block keys alone.
 use Prim.Native.Nat.{ℕ}
 use mathlib.Core.Bool.{Bool, false, cond}
 use mathlib.Core.List.{List, [], _∷_, _++_}
@@ -38,7 +38,7 @@ module _ (κ : Cipher) where
 
   -- the chain at the start: the block keys come from Z and the lengths of associated data and message
   unfoldable pub start : List ℕ → List ℕ → ℕ → ℕ → Chain
-  start key nonce a m = record { Y = startY key; left = keys (startZ key nonce) (marks (κ .size) a m) }
+  start key nonce a m = record { Y = startY key; left = keys (κ .version) (startZ key nonce) (marks (κ .version) (κ .size) a m) }
 
   -- X = E(key, Y) for the next block key
   abbrev pub image : Chain → List ℕ

@@ -5,10 +5,10 @@ use mathlib.Core.List.{List, [], _∷_, _++_}
 use lib.ListN.{length, take, drop}
 use Rattle.words.specs.Words.{xor}
 use Rattle.words.specs.Xors.{xors}
-use Rattle.cipher.specs.Cipher.{Cipher}
+use Rattle.cipher.specs.Cipher.{Cipher, Version, one, two}
 use Rattle.mode.specs.Blocks.{blocks}
 use Rattle.mode.specs.Words.{shuffle, pad}
-use Rattle.mode.specs.Keys.{shortMark, nextKey, keys}
+use Rattle.mode.specs.Keys.{shortMark, placed, marked, nextKey, keys}
 use Rattle.mode.specs.Mode.{Chain, startY, startZ}
 
 -- the two states
@@ -16,9 +16,9 @@ pub record States : Type 0 where
   pub Y : List ℕ
   pub Z : List ℕ
 
--- the chain that they stand for, where the marks ms are still to come
-abbrev pub chainOf : States → List ℕ → Chain
-chainOf s ms = record { Y = s .Y; left = keys (s .Z) ms }
+-- the chain that they stand for, where blocks with the marks ms are still to come, and the tag
+abbrev pub chainOf : Version → States → List ℕ → Chain
+chainOf v s ms = record { Y = s .Y; left = keys v (s .Z) (placed v ms) }
 
 -- the whole blocks of a text, and the bytes behind them, which are less than a block
 unfoldable pub whole : ℕ → List ℕ → List ℕ
@@ -27,12 +27,19 @@ whole n l = take (length l / n * n) l
 unfoldable pub rest : ℕ → List ℕ → List ℕ
 rest n l = drop (length l / n * n) l
 
--- the key of a block under the mark m, and the Z that is kept behind it
-abbrev pub blockKey : ℕ → List ℕ → List ℕ
-blockKey m z = nextKey m z
+-- the key of a block with the mark m: version 2 holds the mark back
+abbrev pub blockKey : Version → ℕ → List ℕ → List ℕ
+blockKey one m z = nextKey one m z
+blockKey two m z = nextKey two 0 z
 
-abbrev pub blockZ : ℕ → List ℕ → List ℕ
-blockZ m z = nextKey m z
+-- behind the block with the key k, version 2 puts the mark in
+abbrev pub keptBehind : Version → ℕ → List ℕ → List ℕ
+keptBehind one m k = k
+keptBehind two m k = marked m k
+
+-- the Z that is kept behind a block
+abbrev pub blockZ : Version → ℕ → List ℕ → List ℕ
+blockZ v m z = keptBehind v m (blockKey v m z)
 
 module _ (κ : Cipher) where
   -- the mark of a block: `first` if it is the first, and `short` if it is short
@@ -41,11 +48,11 @@ module _ (κ : Cipher) where
 
   -- X = E(block key, Y)
   abbrev pub imageOf : ℕ → States → List ℕ
-  imageOf m s = κ .E (blockKey m (s .Z)) (s .Y)
+  imageOf m s = κ .E (blockKey (κ .version) m (s .Z)) (s .Y)
 
   -- a block goes in under the mark m: Y = X XOR padded block
   unfoldable pub turned : ℕ → States → List ℕ → States
-  turned m s b = record { Y = xors (imageOf m s) (pad (κ .size) b); Z = blockZ m (s .Z) }
+  turned m s b = record { Y = xors (imageOf m s) (pad (κ .size) b); Z = blockZ (κ .version) m (s .Z) }
 
   -- what goes out for a block of text: the block XOR as many first bytes of shuffle(X)
   unfoldable pub hidden : ℕ → States → List ℕ → List ℕ
@@ -71,7 +78,7 @@ module _ (κ : Cipher) where
 
   -- the tag: the last call, under the last mark
   unfoldable pub tagged : States → List ℕ
-  tagged s = κ .E (nextKey 0x80 (s .Z)) (s .Y)
+  tagged s = κ .E (nextKey (κ .version) 0x80 (s .Z)) (s .Y)
 
   module _ (key nonce : List ℕ) where
     -- the states that key and nonce start

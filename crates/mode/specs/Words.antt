@@ -7,13 +7,21 @@ use mathlib.Core.Bool.{cond}
 use Rattle.words.specs.Words.{xor, rotr}
 use Rattle.words.specs.Bytes.{bytes, word}
 
--- a left shift by one of a 64-bit number, which drops the top bit
-abbrev pub shifted : ℕ → ℕ
-shifted x = x * 2 % 2 ^ 64
+-- a left shift by one of a number of w bits, which drops the top bit
+abbrev pub shifted : ℕ → ℕ → ℕ
+shifted w x = x * 2 % 2 ^ w
 
--- doubling of a 64-bit number: the shift and, if the dropped bit was 1, XOR 0x1b (document 01; source 000, section 1.1)
-unfoldable pub double : ℕ → ℕ
-double x = cond (leb (2 ^ 63) x) (xor (shifted x) 0x1b) (shifted x)
+-- doubling of a number of w bits modulo x^w + p: the shift and, if the dropped bit was 1, XOR p
+unfoldable pub doubleBy : ℕ → ℕ → ℕ → ℕ
+doubleBy w p x = cond (leb (2 ^ (w - 1)) x) (xor (shifted w x) p) (shifted w x)
+
+-- of 64 bits: 0x1b is x^4 + x^3 + x + 1 (document 01; source 000, section 1.1)
+abbrev pub double : ℕ → ℕ
+double x = doubleBy 64 0x1b x
+
+-- of 120 bits: 0x245 is x^9 + x^6 + x^2 + 1 (source 004, section 7.2)
+abbrev pub double120 : ℕ → ℕ
+double120 x = doubleBy 120 0x245 x
 
 -- a block as four equal words, the highest first as the paper writes it
 pub record Four : Type 0 where

@@ -1,6 +1,14 @@
--- W8 by citation.
-use Rattle.compare.proofs.Promised.{exactly-listed, lists-rise, with-itself, files-exchanged, other-length}
+-- W8, and the stations of W10, by citation.
+use Rattle.compare.proofs.Promised.{exactly-listed, lists-rise, with-itself, files-exchanged, other-length, other-station, no-station}
 use Rattle.promises.specs.Compare.{Compare}
 
 pub compares : Compare
-compares = record { listed = exactly-listed; rise = lists-rise; itself = with-itself; exchanged = files-exchanged; lengths = other-length }
+compares = record {
+  listed = exactly-listed;
+  rise = lists-rise;
+  itself = with-itself;
+  exchanged = files-exchanged;
+  lengths = other-length;
+  stations = other-station;
+  no-stations = no-station;
+}

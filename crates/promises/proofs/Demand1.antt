@@ -15,6 +15,8 @@ use Rattle.shift.proofs.Outcomes as shift
 use Rattle.writer.proofs.Outcomes as writer
 use Rattle.reseal.proofs.Outcomes as resealer
 use Rattle.search.proofs.Outcomes as halving
+use Rattle.amend.proofs.Outcomes as amend
+use Rattle.editions.proofs.Outcomes as editions
 use Rattle.compare.proofs.Outcomes as comparing
 use Rattle.reader.proofs.Outcomes as reading
 use Rattle.comet.proofs.Refuse.{refusal-most}
@@ -37,6 +39,11 @@ entry-points =
       associated = shift.associated;
       seal-file = record { asks-nothing = λ κs a. tt; one-outcome = writer.seal-file };
       unseal-file = record { asks-nothing = λ κs a. tt; one-outcome = writer.unseal-file };
+      locate = record { asks-nothing = λ κs a. tt; one-outcome = amend.locate };
+      current = amend.current;
+      open-current = record { asks-nothing = λ κs a. tt; one-outcome = amend.open-current };
+      to-edition2 = record { asks-nothing = λ κs a. tt; one-outcome = editions.to-edition2 };
+      to-edition1 = record { asks-nothing = λ κs a. tt; one-outcome = editions.to-edition1 };
       compare = record { asks-nothing = λ κs a. tt; one-outcome = comparing.compare };
       start = record { asks-nothing = λ κs a. tt; one-outcome = reading.start };
       ask = record { asks-nothing = λ κs a. tt; one-outcome = reading.ask };

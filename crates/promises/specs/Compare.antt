@@ -1,5 +1,5 @@
--- Document 02, W8: compare two shift files.
-use Rattle.compare.specs.Promised.{ExactlyListed, ListsRise, WithItself, FilesExchanged, OtherLength}
+-- Document 02, W8: compare two shift files; W10: their stations.
+use Rattle.compare.specs.Promised.{ExactlyListed, ListsRise, WithItself, FilesExchanged, OtherLength, OtherStation, NoStation}
 
 pub record Compare : Type 0 where
   -- a job is in a list exactly as document 02 words it
@@ -12,3 +12,6 @@ pub record Compare : Type 0 where
   pub exchanged : FilesExchanged
   -- another message length is another body
   pub lengths : OtherLength
+  -- another station is reported, also between files of different editions: in edition 1 it is 0
+  pub stations : OtherStation
+  pub no-stations : NoStation

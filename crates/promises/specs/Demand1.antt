@@ -35,10 +35,20 @@ use Rattle.writer.proofs.seal_file.Kinds as seal-file-kinds
 use Rattle.writer.proofs.seal_file.Reads as seal-file-reads
 use Rattle.writer.proofs.unseal_file.Kinds as unseal-file-kinds
 use Rattle.writer.proofs.unseal_file.Reads as unseal-file-reads
+use Rattle.editions.proofs.to_edition2.Kinds as to-edition2-kinds
+use Rattle.editions.proofs.to_edition2.Reads as to-edition2-reads
+use Rattle.editions.proofs.to_edition1.Kinds as to-edition1-kinds
+use Rattle.editions.proofs.to_edition1.Reads as to-edition1-reads
 use Rattle.reseal.proofs.reseal.Kinds as reseal-kinds
 use Rattle.reseal.proofs.reseal.Reads as reseal-reads
 use Rattle.search.proofs.search.Kinds as search-kinds
 use Rattle.search.proofs.search.Reads as search-reads
+use Rattle.amend.proofs.locate.Kinds as locate-kinds
+use Rattle.amend.proofs.locate.Reads as locate-reads
+use Rattle.amend.proofs.current.Kinds as current-kinds
+use Rattle.amend.proofs.current.Reads as current-reads
+use Rattle.amend.proofs.open_current.Kinds as open-current-kinds
+use Rattle.amend.proofs.open_current.Reads as open-current-reads
 use Rattle.compare.proofs.compare.Kinds as compare-kinds
 use Rattle.compare.proofs.compare.Reads as compare-reads
 use Rattle.reader.proofs.cursor.start.Kinds as start-kinds
@@ -74,6 +84,14 @@ pub record EntryPoints : Type 0 where
   -- W4
   pub seal-file : Answers seal-file-kinds.ps seal-file-kinds.r seal-file-reads.Pre seal-file-reads.Post
   pub unseal-file : Answers unseal-file-kinds.ps unseal-file-kinds.r unseal-file-reads.Pre unseal-file-reads.Post
+  -- W11: the second hands back a part of one of two files, its bytes and its place
+  pub locate : Answers locate-kinds.ps locate-kinds.r locate-reads.Pre locate-reads.Post
+  pub current : (κs : Lfts 1) (a : Dens κs current-kinds.ps) (x y : Outcome current-kinds.ps current-kinds.r current-reads.Post κs a)
+      → (now (x .result) ≡ now (y .result)) × (x .result .ptr ≡ y .result .ptr)
+  pub open-current : Answers open-current-kinds.ps open-current-kinds.r open-current-reads.Pre open-current-reads.Post
+  -- W10
+  pub to-edition2 : Answers to-edition2-kinds.ps to-edition2-kinds.r to-edition2-reads.Pre to-edition2-reads.Post
+  pub to-edition1 : Answers to-edition1-kinds.ps to-edition1-kinds.r to-edition1-reads.Pre to-edition1-reads.Post
   -- W8
   pub compare : Answers compare-kinds.ps compare-kinds.r compare-reads.Pre compare-reads.Post
   -- W14: the cursor and the report; of the reader, which holds a reference, it is said of its contract's clauses (`reader/proofs/Held.antt`)

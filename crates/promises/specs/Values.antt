@@ -39,7 +39,7 @@ given =
     ∷ (secondPlace 32 0 ∷ secondPlace 32 3 ∷ [])
     ∷ (secondPlace 16 0 ∷ secondPlace 16 1 ∷ secondPlace 16 7 ∷ [])
     -- marks: suite 1, 17 bytes of associated data, no message
-    ∷ marks (cipherOf 1 .size) 17 0
+    ∷ marks (cipherOf 1 .version) (cipherOf 1 .size) 17 0
     -- the empty file, whole: the check's number and row
     ∷ answerRow (checkFile (0x01 ∷ 0x00 ∷ 0x00 ∷ 0x00 ∷ 0x08 ∷ 0x00 ∷ 0x00 ∷ 0x00 ∷ []))
     ∷ []

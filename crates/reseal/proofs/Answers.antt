@@ -8,8 +8,9 @@ use mathlib.Core.Logic.{_⊎_, inl, inr, ⊎-elim}
 use lib.ListN.{length, replicate}
 use lib.Dec.{eqb, lit<}
 use borrow.Author.Tests.{eq-eqb, ne-eqb, eqb-true, eqb-false, not-false}
+use Rattle.cipher.specs.Cipher.{retiredSuite}
 use Rattle.table.specs.declared.answers.Answer.{Answer}
-use Rattle.table.specs.Format.{countOf, edition, rowSize, rowOf}
+use Rattle.table.specs.Format.{countOf, edition, widthOf, rowOf}
 use Rattle.table.specs.Answers.{answer}
 use Rattle.table.specs.Check.{nonceSeen, andThen, checkAs}
 use Rattle.table.proofs.Searches.{first-none, first-at}
@@ -17,7 +18,7 @@ use Rattle.table.proofs.Passed.{both-zero}
 use Rattle.draft.specs.Answers.{tagRight, lentAnswer, FileWritten, writes, leaves}
 use Rattle.draft.specs.Promised.{RightTag}
 use Rattle.draft.proofs.Answers.{right-test, right-told, wrong-test, found-none, found-number, eight-leaves, Room, room-told, room-right, ring-wrong, out-wrong, lent-number, not-eight, kept}
-use Rattle.reseal.specs.Files.{retiredSuite, retabled, resealedFile}
+use Rattle.reseal.specs.Files.{retabled, resealedFile}
 use Rattle.reseal.specs.Answers.{seenFrom, wrongAgain, wrongAgainFrom, takeAnswer, resealAnswer, fileResealing}
 use Rattle.reseal.specs.Promised.{HasFour, Clashes, Calm, ResealCases, Resealing, ResealNumbers}
 
@@ -31,21 +32,21 @@ number x = x .number
 -- ---- 29, on any table
 
 module _ (f : List ℕ) (n : ℕ) where
-  pub seen-none : ((i : ℕ) → i < n → nonceSeen (rowSize edition) f i ≡ true → ⊥) → seenFrom f n 0 ≡ answer 0 0
+  pub seen-none : ((i : ℕ) → i < n → nonceSeen (widthOf f) f i ≡ true → ⊥) → seenFrom f n 0 ≡ answer 0 0
   unfolding seenFrom
   seen-none h = first-none _ _ _ n (λ i l. not-true-false _ (h i l))
 
-  seen-first : (i : ℕ) → i < n → nonceSeen (rowSize edition) f i ≡ true → ((k : ℕ) → k < i → nonceSeen (rowSize edition) f k ≡ true → ⊥) → seenFrom f n 0 ≡ answer 29 i
+  seen-first : (i : ℕ) → i < n → nonceSeen (widthOf f) f i ≡ true → ((k : ℕ) → k < i → nonceSeen (widthOf f) f k ≡ true → ⊥) → seenFrom f n 0 ≡ answer 29 i
   unfolding seenFrom
   seen-first i l h z = first-at _ _ _ n i l h (λ k b. not-true-false _ (z k b))
 
-  none-seen : seenFrom f n 0 .number ≡ 0 → (i : ℕ) → i < n → nonceSeen (rowSize edition) f i ≡ true → ⊥
+  none-seen : seenFrom f n 0 .number ≡ 0 → (i : ℕ) → i < n → nonceSeen (widthOf f) f i ≡ true → ⊥
   unfolding seenFrom
-  none-seen z i l e = true≢false (sym e ∙ found-none (nonceSeen (rowSize edition) f) 29 (lit< tt) n z i l)
+  none-seen z i l e = true≢false (sym e ∙ found-none (nonceSeen (widthOf f) f) 29 (lit< tt) n z i l)
 
   seen-number : (seenFrom f n 0 ≡ answer 0 0) ⊎ (seenFrom f n 0 .number ≡ 29)
   unfolding seenFrom
-  seen-number = found-number (nonceSeen (rowSize edition) f) 29 (lit< tt) n
+  seen-number = found-number (nonceSeen (widthOf f) f) 29 (lit< tt) n
 
 -- ---- 8, of the suite 4 rows
 

@@ -10,18 +10,18 @@ use lib.Seq.{take-at, getD-take}
 use lib.Dec.{eqb, lit≤}
 use borrow.Author.Tests.{eq-eqb, ne-eqb}
 use borrow.Rule.Slice.PartMut.{putMid}
-use Rattle.cipher.specs.Cipher.{factsOf, isSuite, IsSuite, retired, seals, Seals, sizeOf, nonceOf}
+use Rattle.cipher.specs.Cipher.{retiredSuite, factsOf, isSuite, IsSuite, retired, seals, Seals, sizeOf, nonceOf}
 use Rattle.cipher.proofs.Suites.{nonce-most}
 use Rattle.comet.specs.Answers.{Sealed, sealedAs, sealing}
 use Rattle.comet.proofs.Refuse.{none-bad}
 use Rattle.table.specs.declared.row.Row.{Row}
 use Rattle.table.specs.declared.answers.Answer.{Answer}
 use Rattle.table.specs.Part.{stretch}
-use Rattle.table.specs.Format.{countOf, edition, rowSize, rowStart, restStart, nonceAt, rowOf, bodyEnd}
+use Rattle.table.specs.Format.{editionOf, countOf, edition, rowSize, widthOf, rowStart, restStart, nonceAt, rowOf, bodyEnd}
 use Rattle.table.specs.Check.{checkAs}
 use Rattle.table.specs.Inside.{RowIn, EntryIn, TableIn, Spared}
-use Rattle.table.proofs.Rows.{row-in, row-broad, rows-small, stretch-length, nonce-length}
-use Rattle.table.proofs.Passed.{Passes, passes}
+use Rattle.table.proofs.Rows.{row-in, row-broad, row-late, rows-small, stretch-length, nonce-length}
+use Rattle.table.proofs.Passed.{Passes, passes, own-edition}
 use Rattle.shift.specs.Opening.{entrySealingAs}
 use Rattle.shift.proofs.Entries.{key-long, data-long}
 use Rattle.draft.specs.Put.{put, putAll}
@@ -32,7 +32,7 @@ use Rattle.draft.proofs.Back.{plain-file}
 use Rattle.writer.specs.declared.answers.Written.{Written}
 use Rattle.writer.specs.declared.answers.Written.the-variants as written
 use Rattle.writer.specs.Answers.{writtenAnswer}
-use Rattle.reseal.specs.Files.{retiredSuite, successor, newSuite, resuited, retabled, againText, againTag, againPiece}
+use Rattle.reseal.specs.Files.{successor, newSuite, resuited, retabled, againText, againTag, againPiece}
 use Rattle.reseal.specs.Answers.{seenFrom, wrongAgain, takeAnswer}
 use Rattle.reseal.specs.Inside.{Passing, tableMost, most}
 use Rattle.reseal.proofs.Retabled.{tab, unread-kept, new-table, seen-same}
@@ -54,7 +54,7 @@ pub four-size : (r : Row) → r .suite ≡ retiredSuite → sizeOf (r .suite) �
 unfolding sizeOf factsOf
 four-size r q = ap sizeOf q
 
-module _ (f ring : List ℕ) (i : ℕ) (h : EntryIn (rowSize edition) f i) (g : length ring ≡ 256) where
+module _ (f ring : List ℕ) (i : ℕ) (h : EntryIn (widthOf f) f i) (g : length ring ≡ 256) where
   again-done : (msg out tag : List ℕ) → length msg ≡ rowOf f i .len → length out ≡ rowOf f i .len → length tag ≡ sizeOf successor
       → entrySealingAs f ring i successor msg out tag ≡ record { number = 0; out = againText f ring i msg; tag = againTag f ring i msg }
   unfolding sealing againText againTag
@@ -63,7 +63,7 @@ module _ (f ring : List ℕ) (i : ℕ) (h : EntryIn (rowSize edition) f i) (g : 
       (none-bad false _ _ _ _ _ _ _ three-seals (record {
         suite = three-is;
         key = key-long f ring i h g;
-        nonce = length-take (nonceOf successor) (nonceAt (rowSize edition) f i) ∙ omega (arith, nonce-length (rowSize edition) f i (h .row-in), nonce-most successor);
+        nonce = length-take (nonceOf successor) (nonceAt (widthOf f) f i) ∙ omega (arith, nonce-length (widthOf f) f i (h .row-in), nonce-most successor);
         extra = omega (arith, data-long f ring i h g, h .data-high);
         text = omega (arith, h .text-high);
         room = lo ∙ sym lm;
@@ -86,7 +86,7 @@ again-put f ring i r q out x y msg ex ey = λ t. put out (q t .at + q t .ad) (ex
 -- ---- the room
 
 -- a message has room
-module _ (f : List ℕ) (i : ℕ) (r : Row) (h : EntryIn (rowSize edition) f i) (q : r ≡ rowOf f i) where
+module _ (f : List ℕ) (i : ℕ) (r : Row) (h : EntryIn (widthOf f) f i) (q : r ≡ rowOf f i) where
   pub len-most : r .len ≤ most
   len-most = rw q (h .text-high)
 
@@ -133,6 +133,10 @@ module _ (f ring : List ℕ) (i : ℕ) (r : Row) (q : r ≡ rowOf f i) where
 
 -- ---- the table as it would be
 
+-- the header is in front of it
+pub head-fits : (w : ℕ) (f : List ℕ) (n : ℕ) → TableIn w f n → 8 ≤ length f
+head-fits w f n t = omega (arith, row-late w n, t .fits)
+
 -- a row of a table lies in every list that is as long
 pub table-row : (w : ℕ) (l₀ l : List ℕ) (n : ℕ) {i : ℕ} → TableIn w l₀ n → length l ≡ length l₀ → i < n → RowIn w l i
 table-row w l₀ l n {i} t q b = row-in w l n i (record { broad = t .broad; fits = omega (arith, t .fits, q) }) b
@@ -141,46 +145,50 @@ pub spared-part : (w : ℕ) (f : List ℕ) (n i : ℕ) → Spared w f n → i < 
 spared-part w f n i h l = record { spare = λ j b. h .spare j (omega arith) }
 
 -- one suite more
-pub suite-step : (f out out₀ new : List ℕ) (i w s : ℕ) (r : Row) → RowIn (rowSize edition) out i → w ≡ rowSize edition → s ≡ newSuite (r .suite) → r ≡ rowOf f i
+pub suite-step : (f out out₀ new : List ℕ) (i w s : ℕ) (r : Row) → RowIn (widthOf f) out i → w ≡ widthOf f → s ≡ newSuite (r .suite) → r ≡ rowOf f i
     → out ≡ resuited f i out₀ → new ≡ set out (restStart w i) s → new ≡ resuited f (i + 1) out₀
 unfolding resuited putAll restStart
 suite-step f out out₀ new i w s r h ew es er eo e =
     e
     ∙ ap₂ (λ (v x : ℕ). set out (restStart v i) x) ew (es ∙ ap (λ (q : Row). newSuite (q .suite)) er)
-    ∙ put-one out (restStart (rowSize edition) i) (newSuite (rowOf f i .suite)) (omega (arith, h .broad, h .fits))
-    ∙ rw add-one (ap (λ (l : List ℕ). put l (restStart (rowSize edition) i) (newSuite (rowOf f i .suite) ∷ [])) eo)
+    ∙ put-one out (restStart (widthOf f) i) (newSuite (rowOf f i .suite)) (omega (arith, h .broad, h .fits))
+    ∙ rw (add-one i) (ap (λ (l : List ℕ). put l (restStart (widthOf f) i) (newSuite (rowOf f i .suite) ∷ [])) eo)
 
 module _ (f : List ℕ) (n : ℕ) (p : Passing f n) where
-  P : Passes edition f
-  P = passes edition f (p .passed)
+  P : Passes edition edition f
+  P = passes edition edition f (p .passed)
 
-  pub table-in : TableIn (rowSize edition) f n
+  pub table-in : TableIn (widthOf f) f n
   table-in = rw (p .rows) (tab f (p .passed))
 
   few : n ≤ 512
   few = omega (arith, p .rows, P .head .few)
 
-  table-small : rowStart (rowSize edition) n ≤ tableMost
-  unfolding rowStart rowSize
-  table-small = omega (arith, few)
+  -- rows of edition 1
+  own-width : widthOf f ≡ rowSize edition
+  own-width = ap rowSize (own-edition edition f P)
 
-  pub start-small : (w : ℕ) → w ≡ rowSize edition → rowStart w n < 0x1_0000_0000_0000_0000
-  start-small w v = rw v (rows-small edition n few)
+  table-small : rowStart (widthOf f) n ≤ tableMost
+  unfolding rowStart rowSize
+  table-small = rw own-width (omega (arith, few))
+
+  pub start-small : (w : ℕ) → w ≡ widthOf f → rowStart w n < 0x1_0000_0000_0000_0000
+  start-small w v = rw v (rows-small (editionOf f) n few)
 
   -- a list that begins with the table
-  module _ (l : List ℕ) (tl : TableIn (rowSize edition) l n) (agree : (k : ℕ) → k < rowStart (rowSize edition) n → getD l k 0 ≡ getD f k 0) where
-    pub t-spared : Spared (rowSize edition) (resuited f n l) n
+  module _ (l : List ℕ) (tl : TableIn (widthOf f) l n) (agree : (k : ℕ) → k < rowStart (widthOf f) n → getD l k 0 ≡ getD f k 0) where
+    pub t-spared : Spared (widthOf (resuited f n l)) (resuited f n l) n
     t-spared = record { spare = λ j b. unread-kept f l n table-in tl agree j b ∙ P .walk .rows j (rw (p .rows) at b) .spare }
 
-    pub t-table : TableIn (rowSize edition) (resuited f n l) n
+    pub t-table : TableIn (widthOf (resuited f n l)) (resuited f n l) n
     t-table = new-table f l n table-in tl agree
 
     pub t-seen : seenFrom (resuited f n l) n 0 ≡ seenFrom (retabled f) n 0
     t-seen = seen-same f l f n table-in tl table-in agree (λ k b. refl) ∙ ap (λ (k : ℕ). seenFrom (resuited f k f) n 0) (p .rows)
 
   -- header and table are copied to the front
-  module _ (e w : ℕ) (q : e ≡ rowStart w n) (v : w ≡ rowSize edition) where
-    end-is : e ≡ rowStart (rowSize edition) n
+  module _ (e w : ℕ) (q : e ≡ rowStart w n) (v : w ≡ widthOf f) where
+    end-is : e ≡ rowStart (widthOf f) n
     end-is = q ∙ ap (λ (x : ℕ). rowStart x n) v
 
     pub end-in : e ≤ length f
@@ -189,15 +197,15 @@ module _ (f : List ℕ) (n : ℕ) (p : Passing f n) where
     pub end-small : e ≤ tableMost
     end-small = omega (arith, end-is, table-small)
 
-    pub copied : (l x : List ℕ) → x ≡ stretch f 0 (e - 0) → (k : ℕ) → k < rowStart (rowSize edition) n → getD (putMid 0 (e - 0) l x) k 0 ≡ getD f k 0
+    pub copied : (l x : List ℕ) → x ≡ stretch f 0 (e - 0) → (k : ℕ) → k < rowStart (widthOf f) n → getD (putMid 0 (e - 0) l x) k 0 ≡ getD f k 0
     copied l x r k b =
         let lx : length x ≡ e = ap length r ∙ length-take (e - 0) f ∙ omega (arith, end-in) in
         List·getD-append x (drop (e - 0) (drop 0 l)) 0 k (omega (arith, lx, end-is))
         ∙ ap (λ (y : List ℕ). getD y k 0) r
         ∙ getD-take (e - 0) f k 0 (omega (arith, end-is))
 
-    pub copied-in : (l x : List ℕ) → length l ≡ tableMost → length (putMid 0 (e - 0) l x) ≡ length l → TableIn (rowSize edition) (putMid 0 (e - 0) l x) n
-    copied-in l x m s = record { broad = row-broad edition; fits = omega (arith, s, m, table-small) }
+    pub copied-in : (l x : List ℕ) → length l ≡ tableMost → length (putMid 0 (e - 0) l x) ≡ length l → TableIn (widthOf f) (putMid 0 (e - 0) l x) n
+    copied-in l x m s = record { broad = row-broad (editionOf f); fits = omega (arith, s, m, table-small) }
 
 -- ---- the entry point
 
@@ -207,7 +215,7 @@ take-can file ring out x q d = takeable file ring out (ap (λ (y : Answer). y .n
 
 -- the table lies in the file, and in an output of its length
 pub both-tables : (f : List ℕ) (n : ℕ) → checkAs edition f .number ≡ 0 → n ≡ countOf f → (out : List ℕ) → length out ≡ length f
-    → TableIn (rowSize edition) f n × TableIn (rowSize edition) out n
+    → TableIn (widthOf f) f n × TableIn (widthOf f) out n
 both-tables f n z q out l =
     let t = table-in f n (record { passed = z; rows = q }) in
     (t, record { broad = t .broad; fits = omega (arith, t .fits, l) })

@@ -8,7 +8,7 @@ use Rattle.comet.specs.Answers.{Opened, openedAs}
 use Rattle.words.specs.Bytes.{AllBytes}
 use Rattle.table.specs.declared.row.Row.{Row}
 use Rattle.table.specs.declared.answers.Answer.{Answer}
-use Rattle.table.specs.Format.{countOf, edition, rowSize, rowOf, dataOf}
+use Rattle.table.specs.Format.{countOf, edition, widthOf, rowOf, dataOf}
 use Rattle.table.specs.Answers.{answer}
 use Rattle.table.specs.Check.{nonceSeen, checkAs}
 use Rattle.table.proofs.Passed.{passes}
@@ -35,7 +35,7 @@ calm-same : (f : List ℕ) → checkAs edition f .number ≡ 0 → ((i : ℕ) �
 calm-same f z none =
     record {
       checked = z;
-      calm = λ i l e. true≢false (sym e ∙ ap (λ (x : List ℕ). nonceSeen (rowSize edition) x i) (t-same f z none) ∙ passes edition f z .walk .rows i l .fresh);
+      calm = λ i l e. true≢false (sym e ∙ ap (λ (x : List ℕ). nonceSeen (widthOf x) x i) (t-same f z none) ∙ passes edition edition f z .walk .rows i l .fresh);
     }
 
 pub nothing-retired : NothingRetired

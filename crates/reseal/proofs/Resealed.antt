@@ -10,7 +10,7 @@ use lib.ListN.{length, getD, take, drop, length-append}
 use lib.Dec.{eqb}
 use borrow.Author.Tests.{eq-eqb, ne-eqb, eqb-true, eqb-false}
 use Rattle.words.specs.Bytes.{AllBytes}
-use Rattle.cipher.specs.Cipher.{cipherOf, sizeOf, nonceOf}
+use Rattle.cipher.specs.Cipher.{retiredSuite, cipherOf, sizeOf, nonceOf}
 use Rattle.cipher.proofs.Lawful.{lawful}
 use Rattle.mode.specs.Mode.{textOut, tagOut}
 use Rattle.mode.proofs.Demand2.{text-length, text-bytes, text-back, tag-back, tag-block}
@@ -18,12 +18,11 @@ use Rattle.mode.proofs.Start.{suite-nonce}
 use Rattle.table.specs.declared.row.Row.{Row}
 use Rattle.table.specs.declared.answers.Answer.{Answer}
 use Rattle.table.specs.Part.{stretch}
-use Rattle.table.specs.Format.{countOf, edition, rowSize, rowStart, restStart, nonceAt, rowOf, dataOf, textOf, tagOf}
+use Rattle.table.specs.Format.{countOf, edition, widthOf, rowStart, restStart, nonceAt, rowOf, dataOf, textOf, tagOf}
 use Rattle.table.specs.Answers.{answer}
 use Rattle.table.specs.Check.{checkAs}
 use Rattle.table.specs.Inside.{EntryIn}
 use Rattle.table.proofs.Rows.{stretch-length}
-use Rattle.table.proofs.Passed.{passes}
 use Rattle.table.proofs.Alike.{stretch-same}
 use Rattle.shift.specs.Opening.{ringKey, nonceRead}
 use Rattle.shift.proofs.Changed.{all-stretch, nonce-bytes, nonce-full, key-block}
@@ -31,10 +30,10 @@ use Rattle.draft.specs.Put.{putAll}
 use Rattle.draft.specs.Files.{inEdition, pieceStart, pieceSize, entryOut, entryTag, rewritten}
 use Rattle.draft.specs.Promised.{RightTag}
 use Rattle.draft.proofs.Puts.{Apart, all-outside}
-use Rattle.draft.proofs.Rewritten.{piece-in, piece-end, start-is, body-late, bodies-apart, pieces-apart, same-length, same-row, same-nonce, same-data, same-count, parts-are, passes-again, edition-same, pair-low, pair-high}
+use Rattle.draft.proofs.Rewritten.{head, edition-own, piece-in, piece-end, start-is, body-late, bodies-apart, pieces-apart, same-length, same-row, same-nonce, same-data, same-count, parts-are, passes-again, edition-same, pair-low, pair-high}
 use Rattle.draft.proofs.Pieces.{entry-at, text-all, out-long}
 use Rattle.draft.proofs.Back.{plain-file}
-use Rattle.reseal.specs.Files.{retiredSuite, successor, newSuite, resuited, retabled, againText, againTag, againPiece, resealedFile}
+use Rattle.reseal.specs.Files.{successor, newSuite, resuited, retabled, againText, againTag, againPiece, resealedFile}
 use Rattle.reseal.specs.Promised.{HasFour, Elsewhere, Calm}
 use Rattle.reseal.proofs.Retabled.{withSuite, size-new, nonce-new, new-four, new-not, t-length, t-row, t-nonce, t-head, t-body, t-count, t-kept, t-same, clash-of-check}
 use Rattle.reseal.proofs.Pieces.{put-places, put-empty, put-alike}
@@ -42,10 +41,10 @@ use Rattle.reseal.proofs.Answers.{seen-none}
 
 -- the nonce bytes that suite 3 reads of row i
 abbrev nonceAgain : List ℕ → ℕ → List ℕ
-nonceAgain f i = take (nonceOf successor) (nonceAt (rowSize edition) f i)
+nonceAgain f i = take (nonceOf successor) (nonceAt (widthOf f) f i)
 
 -- a suite 4 entry's message, sealed as suite 3: how long text and tag are
-module _ (f ring : List ℕ) (hf : AllBytes f) (hr : AllBytes ring) (full : length ring ≡ 256) (i : ℕ) (e : EntryIn (rowSize edition) f i) (four : HasFour f i) where
+module _ (f ring : List ℕ) (hf : AllBytes f) (hr : AllBytes ring) (full : length ring ≡ 256) (i : ℕ) (e : EntryIn (widthOf f) f i) (four : HasFour f i) where
   abbrev msg : List ℕ
   msg = entryOut true f ring i
 
@@ -54,7 +53,7 @@ module _ (f ring : List ℕ) (hf : AllBytes f) (hr : AllBytes ring) (full : leng
   msg-all = let r = rowOf f i in text-bytes (cipherOf (r .suite)) (lawful (r .suite)) (ringKey ring (r .key)) (nonceRead f i) (dataOf f r) true (textOf f r) (text-all f ring i e full hf hr)
 
   nonce-four : nonceRead f i ≡ nonceAgain f i
-  nonce-four = ap (λ (k : ℕ). take k (nonceAt (rowSize edition) f i)) (sym (nonce-new (rowOf f i .suite)) ∙ ap nonceOf (new-four (rowOf f i .suite) four))
+  nonce-four = ap (λ (k : ℕ). take k (nonceAt (widthOf f) f i)) (sym (nonce-new (rowOf f i .suite)) ∙ ap nonceOf (new-four (rowOf f i .suite) four))
 
   size-four : sizeOf (rowOf f i .suite) ≡ sizeOf successor
   size-four = sym (size-new (rowOf f i .suite)) ∙ ap sizeOf (new-four (rowOf f i .suite) four)
@@ -94,7 +93,7 @@ module _ (f ring : List ℕ) (hf : AllBytes f) (hr : AllBytes ring) (c : Calm f)
   t-passes : checkAs edition T .number ≡ 0
   t-passes = ap (λ (x : Answer). x .number) (clash-of-check f z ∙ seen-none T n (c .calm))
 
-  taken : (i : ℕ) → i < n → EntryIn (rowSize edition) f i
+  taken : (i : ℕ) → i < n → EntryIn (widthOf f) f i
   taken = entry-at edition f plain-file z
 
   t-start : (i : ℕ) → i < n → pieceStart T i ≡ pieceStart f i
@@ -106,10 +105,9 @@ module _ (f ring : List ℕ) (hf : AllBytes f) (hr : AllBytes ring) (c : Calm f)
 
   t-edition : inEdition edition T ≡ T
   t-edition =
-      let h = passes edition f z .head in
-      edition-same edition T (omega (arith, t-length f z, h .long))
-      (t-head f z 0 (omega arith) ∙ pair-low f edition hf (plain-file .1) (h .edition))
-      (t-head f z 1 (omega arith) ∙ pair-high f edition hf (plain-file .1) (h .edition))
+      edition-same edition T (omega (arith, t-length f z, head edition f plain-file z .long))
+      (t-head f z 0 (omega arith) ∙ pair-low f edition hf (plain-file .1) (edition-own edition f plain-file z))
+      (t-head f z 1 (omega arith) ∙ pair-high f edition hf (plain-file .1) (edition-own edition f plain-file z))
 
   -- ---- with a piece for every row: where nothing is put, what stands there
 
@@ -191,9 +189,9 @@ module _ (f ring : List ℕ) (hf : AllBytes f) (hr : AllBytes ring) (c : Calm f)
   pub none-left : (i : ℕ) → i < countOf (resealedFile f ring) → HasFour (resealedFile f ring) i → ⊥
   none-left i l q = new-not (rowOf f i .suite) (sym (ap (λ (r : Row). r .suite) (resealed-row i (rw resealed-count at l))) ∙ q)
 
-  pub resealed-nonce : (i : ℕ) → i < n → nonceAt (rowSize edition) (resealedFile f ring) i ≡ nonceAt (rowSize edition) f i
+  pub resealed-nonce : (i : ℕ) → i < n → nonceAt (widthOf (resealedFile f ring)) (resealedFile f ring) i ≡ nonceAt (widthOf f) f i
   resealed-nonce i l =
-      ap (λ (x : List ℕ). nonceAt (rowSize edition) x i) resealed-is
+      ap (λ (x : List ℕ). nonceAt (widthOf x) x i) resealed-is
       ∙ same-nonce edition T plain-file t-passes edition plain-file whole whole-long i (rw (t-count f z) l)
       ∙ t-nonce f z i l
 

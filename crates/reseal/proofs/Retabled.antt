@@ -11,13 +11,13 @@ use lib.Seq.{ext-getD}
 use lib.Dec.{eqb, leb}
 use borrow.Author.Tests.{le-ltb, eq-eqb, ne-eqb, eqb-true}
 use Rattle.words.specs.Bytes.{sameBytes}
-use Rattle.cipher.specs.Cipher.{factsOf, isSuite, IsSuite, sizeOf, nonceOf}
+use Rattle.cipher.specs.Cipher.{retiredSuite, factsOf, isSuite, IsSuite, sizeOf, nonceOf}
 use Rattle.table.specs.declared.row.Row.{Row}
 use Rattle.table.specs.declared.answers.Answer.{Answer}
 use Rattle.table.specs.Search.{anyBelow}
-use Rattle.table.specs.Format.{editionOf, countOf, totalOf, edition, rowSize, rowStart, restStart, rowAt, nonceStart, nonceAt, nonceReadAt, padded, rowOf, bodyEnd}
+use Rattle.table.specs.Format.{editionOf, countOf, totalOf, edition, rowSize, widthOf, rowStart, restStart, rowAt, nonceStart, nonceAt, nonceReadAt, padded, rowOf, bodyEnd}
 use Rattle.table.specs.Answers.{answer}
-use Rattle.table.specs.Check.{notAbove, badSuite, badLength, bodyStart, misplaced, unreadSet, clash, nonceSeen, badData, bodyNumber, rowNumber, endAnswer, rowsFrom, headNumber, checkAs}
+use Rattle.table.specs.Check.{notAbove, badSuite, badLength, bodyStart, misplaced, unreadSet, clash, nonceSeen, badData, bodyNumber, rowNumber, endAnswer, rowsFrom, headNumber, checkBetween, checkAs}
 use Rattle.table.specs.Inside.{RowIn, TableIn}
 use Rattle.table.proofs.Rows.{row-broad, row-late, row-below, row-in, nonce-length}
 use Rattle.table.proofs.Sound.{Sound}
@@ -30,7 +30,7 @@ use Rattle.draft.specs.Put.{put, putAll}
 use Rattle.draft.proofs.Puts.{Beside, Apart, Inside, Outside, where-is, all-length, all-outside, all-inside, own-pieces}
 use Rattle.draft.proofs.Rewritten.{body-late}
 use Rattle.draft.proofs.Back.{plain-file}
-use Rattle.reseal.specs.Files.{retiredSuite, successor, newSuite, resuited, retabled}
+use Rattle.reseal.specs.Files.{successor, newSuite, resuited, retabled}
 use Rattle.reseal.specs.Answers.{seenFrom}
 
 -- ---- the new suite
@@ -81,12 +81,15 @@ end-new : (r : Row) → bodyEnd (withSuite r) ≡ bodyEnd r
 unfolding bodyEnd
 end-new r = ap (λ (k : ℕ). r .at + r .ad + r .len + k) (size-new (r .suite))
 
-abbrev w : ℕ
-w = rowSize edition
-
 -- ---- bytes that have the file's table, with the new suites
 
-module _ (f l : List ℕ) (n : ℕ) (tf : TableIn w f n) (tl : TableIn w l n) (agree : (k : ℕ) → k < rowStart w n → getD l k 0 ≡ getD f k 0) where
+module _ (f l : List ℕ) (n : ℕ) (tf : TableIn (widthOf f) f n) (tl : TableIn (widthOf f) l n) (agree : (k : ℕ) → k < rowStart (widthOf f) n → getD l k 0 ≡ getD f k 0) where
+  abbrev w : ℕ
+  w = widthOf f
+
+  broad : 32 ≤ w
+  broad = row-broad (editionOf f)
+
   abbrev g : List ℕ
   g = resuited f n l
 
@@ -95,12 +98,12 @@ module _ (f l : List ℕ) (n : ℕ) (tf : TableIn w f n) (tl : TableIn w l n) (a
 
   place : (i : ℕ) → restStart w i + 28 ≡ rowStart w i + w
   unfolding restStart
-  place i = omega (arith, row-broad edition)
+  place i = omega (arith, broad)
 
   suites-apart : Apart (restStart w) piece n l
   suites-apart = record {
     fits = λ i b. omega (arith, place i, row-below w i n b, tl .fits);
-    after = λ i j b m. omega (arith, place i, row-below w i j b, place j, row-broad edition);
+    after = λ i j b m. omega (arith, place i, row-below w i j b, place j, broad);
   }
 
   pub new-length : length g ≡ length l
@@ -121,10 +124,17 @@ module _ (f l : List ℕ) (n : ℕ) (tf : TableIn w f n) (tl : TableIn w l n) (a
 
   -- the header, and what stands behind the table
   head-kept : (k : ℕ) → k < 8 → getD g k 0 ≡ getD l k 0
-  head-kept k b = new-kept k (λ i c q. omega (arith, place i, row-late w i, row-broad edition))
+  head-kept k b = new-kept k (λ i c q. omega (arith, place i, row-late w i, broad))
 
   body-kept : (k : ℕ) → rowStart w n ≤ k → getD g k 0 ≡ getD l k 0
   body-kept k b = new-kept k (λ i c q. omega (arith, place i, row-below w i n c))
+
+  -- the edition stands in the header, so rows are as long as they were
+  pub new-edition : editionOf g ≡ editionOf f
+  new-edition = word-same g f 2 0 (λ k b c. head-kept k (omega arith) ∙ agree k (omega (arith, row-late w n)))
+
+  new-width : widthOf g ≡ w
+  new-width = ap rowSize new-edition
 
   -- a row's bytes but for the suite
   row-kept : (i : ℕ) → i < n → (k : ℕ) → rowStart w i ≤ k → k < rowStart w i + w → (k ≡ restStart w i → ⊥) → getD g k 0 ≡ getD f k 0
@@ -132,7 +142,7 @@ module _ (f l : List ℕ) (n : ℕ) (tf : TableIn w f n) (tl : TableIn w l n) (a
       new-kept k (λ j m q. elim (decLt j i) [
         | yes e ↦ omega (arith, place j, row-below w j i e)
         | no e ↦ elim (decLt i j) [
-          | yes h ↦ omega (arith, place j, row-below w i j h, row-broad edition)
+          | yes h ↦ omega (arith, place j, row-below w i j h, broad)
           | no h ↦ let s : j ≡ i = omega arith in ne (q ∙ ap (restStart w) s)
         ]
       ])
@@ -144,12 +154,12 @@ module _ (f l : List ℕ) (n : ℕ) (tf : TableIn w f n) (tl : TableIn w l n) (a
       let q : restStart w i ≡ restStart w i + 0 = omega arith in
       ap (λ (k : ℕ). getD g k 0) q ∙ all-inside (restStart w) piece n l suites-apart n (omega arith) i b 0 (omega arith)
 
-  pub row-new : (i : ℕ) → i < n → rowOf g i ≡ withSuite (rowOf f i)
+  row-at : (i : ℕ) → i < n → rowAt w g i ≡ withSuite (rowOf f i)
   unfolding rowAt
-  row-new i b =
+  row-at i b =
       let q = restStart w i in
       let p = place i in
-      let v = row-broad edition in
+      let v = broad in
       let job = word-same g f 4 (rowStart w i) (λ k c d. row-kept i b k (omega arith) (omega arith) (λ s. omega arith)) in
       let key = row-kept i b (q + 1) (omega arith) (omega arith) (λ s. omega arith) in
       let ad = word-same g f 2 (q + 2) (λ k c d. row-kept i b k (omega arith) (omega arith) (λ s. omega arith)) in
@@ -158,29 +168,41 @@ module _ (f l : List ℕ) (n : ℕ) (tf : TableIn w f n) (tl : TableIn w l n) (a
       let suite = suite-new i b in
       λ t. record { job = job t; suite = suite t; key = key t; ad = ad t; at = at t; len = len t }
 
-  pub new-table : TableIn w g n
-  new-table = record { broad = tl .broad; fits = omega (arith, tl .fits, new-length) }
+  pub row-new : (i : ℕ) → i < n → rowOf g i ≡ withSuite (rowOf f i)
+  row-new i b = ap (λ (v : ℕ). rowAt v g i) new-width ∙ row-at i b
 
-  pub nonce-kept : (i : ℕ) → i < n → nonceAt w g i ≡ nonceAt w f i
+  table-at : TableIn w g n
+  table-at = record { broad = tl .broad; fits = omega (arith, tl .fits, new-length) }
+
+  pub new-table : TableIn (widthOf g) g n
+  new-table = rw new-width table-at
+
+  nonce-at : (i : ℕ) → i < n → nonceAt w g i ≡ nonceAt w f i
   unfolding nonceAt nonceStart
-  nonce-kept i b =
-      let lg : length (nonceAt w g i) ≡ 16 = nonce-length w g i (row-in w g n i new-table b) in
+  nonce-at i b =
+      let lg : length (nonceAt w g i) ≡ 16 = nonce-length w g i (row-in w g n i table-at b) in
       ext-getD 0 (nonceAt w g i) (nonceAt w f i) (lg ∙ sym (nonce-length w f i (row-in w f n i tf b)))
       (λ k c.
       let m : k < 16 = omega (arith, lg) in
       stretch-at g (nonceStart w i) 16 k m
-      ∙ row-kept i b (nonceStart w i + k) (omega (arith, place i, row-broad edition)) (omega (arith, place i)) (λ s. omega arith)
+      ∙ row-kept i b (nonceStart w i + k) (omega (arith, place i, broad)) (omega (arith, place i)) (λ s. omega arith)
       ∙ sym (stretch-at f (nonceStart w i) 16 k m))
 
-  read-kept : (i : ℕ) → i < n → nonceReadAt w g i ≡ nonceReadAt w f i
-  read-kept i b =
-      ap₂ (λ (r : Row) (s : List ℕ). take (nonceOf (r .suite)) s) (row-new i b) (nonce-kept i b)
+  pub nonce-kept : (i : ℕ) → i < n → nonceAt (widthOf g) g i ≡ nonceAt w f i
+  nonce-kept i b = ap (λ (v : ℕ). nonceAt v g i) new-width ∙ nonce-at i b
+
+  read-at : (i : ℕ) → i < n → nonceReadAt w g i ≡ nonceReadAt w f i
+  read-at i b =
+      ap₂ (λ (r : Row) (s : List ℕ). take (nonceOf (r .suite)) s) (row-at i b) (nonce-at i b)
       ∙ ap (λ (k : ℕ). take k (nonceAt w f i)) (nonce-new (rowOf f i .suite))
 
   -- 34 says of a row what it said
-  pub unread-kept : (i : ℕ) → i < n → unreadSet w g i ≡ unreadSet w f i
+  unread-at : (i : ℕ) → i < n → unreadSet w g i ≡ unreadSet w f i
   unfolding unreadSet
-  unread-kept i b = ap₂ (λ (s t : List ℕ). not (sameBytes s (padded t))) (nonce-kept i b) (read-kept i b)
+  unread-at i b = ap₂ (λ (s t : List ℕ). not (sameBytes s (padded t))) (nonce-at i b) (read-at i b)
+
+  pub unread-kept : (i : ℕ) → i < n → unreadSet (widthOf g) g i ≡ unreadSet w f i
+  unread-kept i b = ap (λ (v : ℕ). unreadSet v g i) new-width ∙ unread-at i b
 
   -- 29 goes by the file's rows with their new suites, whatever stands behind the table
   abbrev newClash : ℕ → ℕ → Bool
@@ -188,18 +210,21 @@ module _ (f l : List ℕ) (n : ℕ) (tf : TableIn w f n) (tl : TableIn w l n) (a
       eqb (newSuite (rowOf f i .suite)) (newSuite (rowOf f j .suite))
       && (eqb (rowOf f i .key) (rowOf f j .key) && sameBytes (nonceReadAt w f i) (nonceReadAt w f j))
 
-  pub seen-new : (i : ℕ) → i < n → nonceSeen w g i ≡ anyBelow (newClash i) i
+  seen-at : (i : ℕ) → i < n → nonceSeen w g i ≡ anyBelow (newClash i) i
   unfolding nonceSeen clash
-  seen-new i b = any-same (clash w g i) (newClash i) i (λ k c. clash-new k (omega arith))
+  seen-at i b = any-same (clash w g i) (newClash i) i (λ k c. clash-new k (omega arith))
     where
       clash-new : (k : ℕ) → k < n → clash w g i k ≡ newClash i k
       clash-new k c =
-          ap₂ (λ (r q : Row). eqb (r .suite) (q .suite) && (eqb (r .key) (q .key) && sameBytes (nonceReadAt w g i) (nonceReadAt w g k))) (row-new i b) (row-new k c)
-          ∙ ap₂ (λ (s t : List ℕ). eqb (newSuite (rowOf f i .suite)) (newSuite (rowOf f k .suite)) && (eqb (rowOf f i .key) (rowOf f k .key) && sameBytes s t)) (read-kept i b) (read-kept k c)
+          ap₂ (λ (r q : Row). eqb (r .suite) (q .suite) && (eqb (r .key) (q .key) && sameBytes (nonceReadAt w g i) (nonceReadAt w g k))) (row-at i b) (row-at k c)
+          ∙ ap₂ (λ (s t : List ℕ). eqb (newSuite (rowOf f i .suite)) (newSuite (rowOf f k .suite)) && (eqb (rowOf f i .key) (rowOf f k .key) && sameBytes s t)) (read-at i b) (read-at k c)
+
+  pub seen-new : (i : ℕ) → i < n → nonceSeen (widthOf g) g i ≡ anyBelow (newClash i) i
+  seen-new i b = ap (λ (v : ℕ). nonceSeen v g i) new-width ∙ seen-at i b
 
 -- so a copy of the table tells
-pub seen-same : (f l m : List ℕ) (n : ℕ) (tf : TableIn w f n) (tl : TableIn w l n) (tm : TableIn w m n) → ((k : ℕ) → k < rowStart w n → getD l k 0 ≡ getD f k 0)
-    → ((k : ℕ) → k < rowStart w n → getD m k 0 ≡ getD f k 0) → seenFrom (resuited f n l) n 0 ≡ seenFrom (resuited f n m) n 0
+pub seen-same : (f l m : List ℕ) (n : ℕ) (tf : TableIn (widthOf f) f n) (tl : TableIn (widthOf f) l n) (tm : TableIn (widthOf f) m n) → ((k : ℕ) → k < rowStart (widthOf f) n → getD l k 0 ≡ getD f k 0)
+    → ((k : ℕ) → k < rowStart (widthOf f) n → getD m k 0 ≡ getD f k 0) → seenFrom (resuited f n l) n 0 ≡ seenFrom (resuited f n m) n 0
 unfolding seenFrom
 seen-same f l m n tf tl tm a b =
     first-same _ _ _ _ _ _ (n - 0) 0 (λ j c. seen-new f l n tf tl a j (omega arith) ∙ sym (seen-new f m n tf tm b j (omega arith))) (λ j c e. refl) refl
@@ -210,10 +235,13 @@ module _ (f : List ℕ) (z : checkAs edition f .number ≡ 0) where
   abbrev n : ℕ
   n = countOf f
 
-  P : Passes edition f
-  P = passes edition f z
+  abbrev v : ℕ
+  v = widthOf f
 
-  pub tab : TableIn w f n
+  P : Passes edition edition f
+  P = passes edition edition f z
+
+  pub tab : TableIn v f n
   tab = P .head .table
 
   abbrev T : List ℕ
@@ -225,88 +253,97 @@ module _ (f : List ℕ) (z : checkAs edition f .number ≡ 0) where
   pub t-row : (i : ℕ) → i < n → rowOf T i ≡ withSuite (rowOf f i)
   t-row = row-new f f n tab tab (λ k b. refl)
 
-  pub t-nonce : (i : ℕ) → i < n → nonceAt w T i ≡ nonceAt w f i
+  pub t-nonce : (i : ℕ) → i < n → nonceAt (widthOf T) T i ≡ nonceAt v f i
   t-nonce = nonce-kept f f n tab tab (λ k b. refl)
 
   pub t-head : (k : ℕ) → k < 8 → getD T k 0 ≡ getD f k 0
   t-head = head-kept f f n tab tab (λ k b. refl)
 
-  pub t-body : (k : ℕ) → rowStart w n ≤ k → getD T k 0 ≡ getD f k 0
+  pub t-body : (k : ℕ) → rowStart v n ≤ k → getD T k 0 ≡ getD f k 0
   t-body = body-kept f f n tab tab (λ k b. refl)
 
   pub t-count : countOf T ≡ n
   t-count = word-same T f 2 2 (λ k a b. t-head k (omega arith))
 
   -- every byte but the suite of a suite 4 row
-  pub t-kept : (k : ℕ) → ((i : ℕ) → i < n → rowOf f i .suite ≡ retiredSuite → k ≡ restStart w i → ⊥) → getD T k 0 ≡ getD f k 0
+  pub t-kept : (k : ℕ) → ((i : ℕ) → i < n → rowOf f i .suite ≡ retiredSuite → k ≡ restStart v i → ⊥) → getD T k 0 ≡ getD f k 0
   unfolding rowAt
   t-kept k o =
       ⊎-elim
-      (λ (x : Inside (restStart w) (piece f f n tab tab (λ k b. refl)) n k).
+      (λ (x : Inside (restStart v) (piece f f n tab tab (λ k b. refl)) n k).
       let i = x .at in
-      let q : k ≡ restStart w i = omega (arith, x .from, x .to) in
+      let q : k ≡ restStart v i = omega (arith, x .from, x .to) in
       ap (λ (j : ℕ). getD T j 0) q
       ∙ suite-new f f n tab tab (λ k b. refl) i (x .below)
       ∙ new-other (rowOf f i .suite) (λ s. o i (x .below) s q)
       ∙ ap (λ (j : ℕ). getD f j 0) (sym q))
-      (λ (x : Outside (restStart w) (piece f f n tab tab (λ k b. refl)) n k).
+      (λ (x : Outside (restStart v) (piece f f n tab tab (λ k b. refl)) n k).
       new-kept f f n tab tab (λ k b. refl) k (λ i b q. ⊎-elim (λ c. omega arith) (λ c. omega arith) (x i b)))
-      (where-is (restStart w) (piece f f n tab tab (λ k b. refl)) n k)
+      (where-is (restStart v) (piece f f n tab tab (λ k b. refl)) n k)
 
-  start-kept : (i : ℕ) → i ≤ n → bodyStart w T n i ≡ bodyStart w f n i
+  t-edition : editionOf T ≡ editionOf f
+  t-edition = new-edition f f n tab tab (λ k b. refl)
+
+  -- the check reads the rows of the new table by the old one's width
+  t-width : widthOf T ≡ v
+  t-width = ap rowSize t-edition
+
+  t-at : (i : ℕ) → i < n → rowAt v T i ≡ withSuite (rowOf f i)
+  t-at = row-at f f n tab tab (λ k b. refl)
+
+  start-kept : (i : ℕ) → i ≤ n → bodyStart v T n i ≡ bodyStart v f n i
   unfolding bodyStart
   start-kept zero h = refl
   start-kept (suc i) h =
-      ap (λ (r : Row). cond (eqb (suc i) 0) (rowStart w n) (bodyEnd r)) (t-row (suc i - 1) (omega arith))
-      ∙ ap (λ (k : ℕ). cond (eqb (suc i) 0) (rowStart w n) k) (end-new (rowOf f (suc i - 1)))
+      ap (λ (r : Row). cond (eqb (suc i) 0) (rowStart v n) (bodyEnd r)) (t-at (suc i - 1) (omega arith))
+      ∙ ap (λ (k : ℕ). cond (eqb (suc i) 0) (rowStart v n) k) (end-new (rowOf f (suc i - 1)))
 
   module _ (i : ℕ) (l : i < n) where
-    s : Sound w f n i
+    s : Sound v f n i
     s = P .walk .rows i l
 
-    order-new : notAbove w T i ≡ false
+    order-new : notAbove v T i ≡ false
     unfolding notAbove
-    order-new = ap₂ (λ (a b : Row). not (eqb i 0) && leb (a .job) (b .job)) (t-row i l) (t-row (i - 1) (omega arith)) ∙ s .order
+    order-new = ap₂ (λ (a b : Row). not (eqb i 0) && leb (a .job) (b .job)) (t-at i l) (t-at (i - 1) (omega arith)) ∙ s .order
 
-    suit-new : badSuite (rowOf T i) ≡ false
+    suit-new : badSuite (rowAt v T i) ≡ false
     unfolding badSuite
-    suit-new = simp (t-row i l, is-new (rowOf f i .suite), s .suit .suite-is, le-ltb _ _ (s .suit .key-high))
+    suit-new = simp (t-at i l, is-new (rowOf f i .suite), s .suit .suite-is, le-ltb _ _ (s .suit .key-high))
 
-    length-new : badLength (rowOf T i) ≡ false
+    length-new : badLength (rowAt v T i) ≡ false
     unfolding badLength
-    length-new = let z = s .size in simp (t-row i l, le-ltb _ _ (z .ad-low), le-ltb _ _ (z .ad-high), le-ltb _ _ (z .len-high))
+    length-new = let z = s .size in simp (t-at i l, le-ltb _ _ (z .ad-low), le-ltb _ _ (z .ad-high), le-ltb _ _ (z .len-high))
 
-    place-new : misplaced w T n i ≡ false
+    place-new : misplaced v T n i ≡ false
     unfolding misplaced
-    place-new = simp (t-row i l, end-new (rowOf f i), start-kept i (omega arith), t-length, eq-eqb _ _ (s .place .starts), le-ltb _ _ (s .place .ends))
+    place-new = simp (t-at i l, end-new (rowOf f i), start-kept i (omega arith), t-length, eq-eqb _ _ (s .place .starts), le-ltb _ _ (s .place .ends))
 
-    data-new : badData T (rowOf T i) ≡ false
+    data-new : badData T (rowAt v T i) ≡ false
     unfolding badData
     data-new =
         let b = body-late edition f plain-file z i l in
-        ap (badData T) (t-row i l) ∙ data-held f T w i (s .held) (λ k a c. t-body k (omega (arith, b)))
+        ap (badData T) (t-at i l) ∙ data-held f T v i (s .held) (λ k a c. t-body k (omega (arith, b)))
 
-    number-new : rowNumber w T n i ≡ cond (nonceSeen w T i) 29 0
+    number-new : rowNumber v T n i ≡ cond (nonceSeen v T i) 29 0
     unfolding rowNumber bodyNumber
-    number-new = simp (order-new, suit-new, length-new, place-new, unread-kept f f n tab tab (λ k b. refl) i l, s .spare, data-new)
+    number-new = simp (order-new, suit-new, length-new, place-new, unread-at f f n tab tab (λ k b. refl) i l, s .spare, data-new)
 
-  t-end : endAnswer w T n ≡ answer 0 0
+  t-end : endAnswer v T n ≡ answer 0 0
   unfolding endAnswer
   t-end = simp (eq-eqb _ _ (start-kept n (omega arith) ∙ P .walk .ends ∙ sym t-length))
 
-  t-zero : headNumber edition T ≡ 0
+  t-zero : headNumber edition edition T ≡ 0
   unfolding headNumber
   t-zero =
-      let e : editionOf T ≡ editionOf f = word-same T f 2 0 (λ k a b. t-head k (omega arith)) in
       let t : totalOf T ≡ totalOf f = word-same T f 4 4 (λ k a b. t-head k (omega arith)) in
-      simp (t-length, e, t, t-count) (P .zero)
+      simp (t-length, t-edition, t, t-count) (P .zero)
 
-  t-rows : rowsFrom w T n 0 ≡ seenFrom T n 0
+  t-rows : rowsFrom v T n 0 ≡ seenFrom T n 0
   unfolding rowsFrom seenFrom
   t-rows =
       first-same _ _ _ _ _ _ (n - 0) 0
-      (λ j l. ap (λ (m : ℕ). not (eqb m 0)) (number-new j (omega arith)) ∙ some (nonceSeen w T j))
-      (λ j l e. ap (λ (m : ℕ). answer m j) (seen (nonceSeen w T j) (rowNumber w T n j) (number-new j (omega arith)) e))
+      (λ j l. ap (λ (m : ℕ). not (eqb m 0)) (number-new j (omega arith)) ∙ some (nonceSeen v T j) ∙ ap (λ (u : ℕ). nonceSeen u T j) (sym t-width))
+      (λ j l e. ap (λ (m : ℕ). answer m j) (seen (nonceSeen v T j) (rowNumber v T n j) (number-new j (omega arith)) e))
       t-end
     where
       some : (b : Bool) → not (eqb (cond b 29 0) 0) ≡ b
@@ -319,8 +356,8 @@ module _ (f : List ℕ) (z : checkAs edition f .number ≡ 0) where
 
   -- the theorem: the check of the file with the new suites is the search for a clash
   pub clash-of-check : checkAs edition T ≡ seenFrom T n 0
-  unfolding checkAs
-  clash-of-check = simp (t-zero, t-count) t-rows
+  unfolding checkBetween
+  clash-of-check = simp (t-zero, t-count, t-width) t-rows
 
   -- no suite 4 row: nothing changes
   pub t-same : ((i : ℕ) → i < n → rowOf f i .suite ≡ retiredSuite → ⊥) → T ≡ f

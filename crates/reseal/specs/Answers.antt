@@ -4,17 +4,18 @@ use mathlib.Core.Bool.{Bool, not, _&&_}
 use mathlib.Core.List.{List}
 use lib.ListN.{length}
 use lib.Dec.{eqb}
+use Rattle.cipher.specs.Cipher.{retiredSuite}
 use Rattle.table.specs.declared.answers.Answer.{Answer}
 use Rattle.table.specs.Search.{firstOf}
-use Rattle.table.specs.Format.{countOf, edition, rowSize, rowOf}
+use Rattle.table.specs.Format.{countOf, edition, widthOf, rowOf}
 use Rattle.table.specs.Answers.{answer}
 use Rattle.table.specs.Check.{nonceSeen, andThen, checkAs}
 use Rattle.draft.specs.Answers.{tagRight, lentAnswer, FileWritten, leaves}
-use Rattle.reseal.specs.Files.{retiredSuite, retabled, resealedFile}
+use Rattle.reseal.specs.Files.{retabled, resealedFile}
 
 -- 29: the first row of n, from row i on, that clashes with an earlier one, by the check's own rule
 unfoldable pub seenFrom : List ℕ → ℕ → ℕ → Answer
-seenFrom f n i = firstOf (nonceSeen (rowSize edition) f) (answer 29) (answer 0 0) i (n - i)
+seenFrom f n i = firstOf (nonceSeen (widthOf f) f) (answer 29) (answer 0 0) i (n - i)
 
 -- the tag of row i is wrong and the row is looked at: only suite 4 entries are opened
 unfoldable pub wrongAgain : List ℕ → List ℕ → ℕ → Bool

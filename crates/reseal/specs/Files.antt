@@ -4,17 +4,14 @@ use mathlib.Core.Bool.{true, false, cond}
 use mathlib.Core.List.{List, [], _∷_, _++_}
 use lib.ListN.{take}
 use lib.Dec.{eqb}
-use Rattle.cipher.specs.Cipher.{nonceOf, cipherOf}
+use Rattle.cipher.specs.Cipher.{retiredSuite, nonceOf, cipherOf}
 use Rattle.mode.specs.Mode.{textOut, tagOut}
-use Rattle.table.specs.Format.{countOf, edition, rowSize, restStart, nonceAt, rowOf, dataOf}
+use Rattle.table.specs.Format.{countOf, widthOf, restStart, nonceAt, rowOf, dataOf}
 use Rattle.shift.specs.Opening.{ringKey}
 use Rattle.draft.specs.Put.{putAll}
 use Rattle.draft.specs.Files.{pieceStart, entryOut}
 
--- the suite that is retired, and the one that follows it
-abbrev pub retiredSuite : ℕ
-retiredSuite = 4
-
+-- the suite that follows the retired one
 abbrev pub successor : ℕ
 successor = 3
 
@@ -23,7 +20,7 @@ newSuite s = cond (eqb s retiredSuite) successor s
 
 -- a list of bytes with the new suites of the file's first n rows in its table
 unfoldable pub resuited : List ℕ → ℕ → List ℕ → List ℕ
-resuited f n l = putAll (restStart (rowSize edition)) (λ i. newSuite (rowOf f i .suite) ∷ []) n l
+resuited f n l = putAll (restStart (widthOf f)) (λ i. newSuite (rowOf f i .suite) ∷ []) n l
 
 -- the file with the table as it would be
 abbrev pub retabled : List ℕ → List ℕ
@@ -33,12 +30,12 @@ retabled f = resuited f (countOf f) f
 unfoldable pub againText : List ℕ → List ℕ → ℕ → List ℕ → List ℕ
 againText f ring i msg =
     let r = rowOf f i in
-    textOut (cipherOf successor) false (ringKey ring (r .key)) (take (nonceOf successor) (nonceAt (rowSize edition) f i)) (dataOf f r) msg
+    textOut (cipherOf successor) false (ringKey ring (r .key)) (take (nonceOf successor) (nonceAt (widthOf f) f i)) (dataOf f r) msg
 
 unfoldable pub againTag : List ℕ → List ℕ → ℕ → List ℕ → List ℕ
 againTag f ring i msg =
     let r = rowOf f i in
-    tagOut (cipherOf successor) false (ringKey ring (r .key)) (take (nonceOf successor) (nonceAt (rowSize edition) f i)) (dataOf f r) msg
+    tagOut (cipherOf successor) false (ringKey ring (r .key)) (take (nonceOf successor) (nonceAt (widthOf f) f i)) (dataOf f r) msg
 
 -- what is put where text and tag of row i stand: of a suite 4 entry its message sealed as suite 3, of any other nothing
 unfoldable pub againPiece : List ℕ → List ℕ → ℕ → List ℕ

@@ -5,15 +5,16 @@ use mathlib.Core.Bool.{true, false}
 use mathlib.Core.List.{List}
 use mathlib.Core.Logic.{_⊎_}
 use lib.ListN.{length, getD, replicate}
+use Rattle.cipher.specs.Cipher.{retiredSuite}
 use Rattle.words.specs.Bytes.{AllBytes}
-use Rattle.table.specs.Format.{countOf, edition, rowSize, restStart, nonceAt, rowOf, dataOf}
+use Rattle.table.specs.Format.{countOf, edition, widthOf, restStart, nonceAt, rowOf, dataOf}
 use Rattle.table.specs.Answers.{answer}
 use Rattle.table.specs.Check.{nonceSeen, checkAs}
 use Rattle.shift.specs.Opening.{entryOpening}
 use Rattle.draft.specs.Files.{pieceStart, pieceSize}
 use Rattle.draft.specs.Answers.{FileWritten, writes}
 use Rattle.draft.specs.Promised.{RightTag}
-use Rattle.reseal.specs.Files.{retiredSuite, successor, retabled, resealedFile}
+use Rattle.reseal.specs.Files.{successor, retabled, resealedFile}
 use Rattle.reseal.specs.Answers.{seenFrom, fileResealing}
 
 -- row i has suite 4
@@ -22,7 +23,7 @@ HasFour file i = rowOf file i .suite ≡ retiredSuite
 
 -- row i would clash with an earlier one: the check's rule, on the table as it would be
 abbrev pub Clashes : List ℕ → ℕ → Type 0
-Clashes file i = nonceSeen (rowSize edition) (retabled file) i ≡ true
+Clashes file i = nonceSeen (widthOf (retabled file)) (retabled file) i ≡ true
 
 -- ---- what 0 leaves
 
@@ -30,7 +31,7 @@ Clashes file i = nonceSeen (rowSize edition) (retabled file) i ≡ true
 pub record Resealed (file ring out : List ℕ) (i : ℕ) : Type 0 where
   pub suite : rowOf out i .suite ≡ successor
   pub key : rowOf out i .key ≡ rowOf file i .key
-  pub nonce : nonceAt (rowSize edition) out i ≡ nonceAt (rowSize edition) file i
+  pub nonce : nonceAt (widthOf out) out i ≡ nonceAt (widthOf file) file i
   pub ad : dataOf out (rowOf out i) ≡ dataOf file (rowOf file i)
   -- its tag is right, and the opener gives what it gave before
   pub right : RightTag out ring i
@@ -38,7 +39,7 @@ pub record Resealed (file ring out : List ℕ) (i : ℕ) : Type 0 where
 
 -- place k is not row i's suite byte, and not one of its text and tag
 pub record Elsewhere (file : List ℕ) (i k : ℕ) : Type 0 where
-  pub suite : k ≡ restStart (rowSize edition) i → ⊥
+  pub suite : k ≡ restStart (widthOf file) i → ⊥
   pub piece : (k < pieceStart file i) ⊎ (pieceStart file i + pieceSize file i ≤ k)
 
 pub record Renewed (file ring out : List ℕ) : Type 0 where

@@ -13,7 +13,7 @@ use borrow.Author.Tests.{eqb-true, ne-eqb}
 use Rattle.words.specs.Bytes.{word}
 use Rattle.table.specs.declared.row.Row.{Row}
 use Rattle.table.specs.declared.answers.Answer.{Answer}
-use Rattle.table.specs.Format.{countOf, edition, rowSize, rowStart}
+use Rattle.table.specs.Format.{editionOf, countOf, edition, newest, rowSize, widthOf, rowStart, rowAt}
 use Rattle.table.specs.declared.answers.Refusal.{Refusal}
 use Rattle.table.specs.Answers.{answer, refusalAnswer}
 use Rattle.table.specs.Check.{headNumber, checkFile}
@@ -30,7 +30,7 @@ use Rattle.search.specs.Promised.{SameAsLookup, TenLooks, SameTable, Bod
 use Rattle.search.proofs.Halves.{looks, row-most, jobs-same, says}
 
 -- the header passes: all rows are halved
-pub goes : (f : List ℕ) (job : ℕ) → headAnswer f .number ≡ 0 → searching f job ≡ halving (jobsOf (rowSize edition) f) job 0 (countOf f)
+pub goes : (f : List ℕ) (job : ℕ) → headAnswer f .number ≡ 0 → searching f job ≡ halving (jobsOf (widthOf f) f) job 0 (countOf f)
 unfolding searching
 goes f job z = simp z
 
@@ -43,20 +43,20 @@ stops f job x q =
 
 pub same-as-lookup : SameAsLookup
 same-as-lookup f job z =
-    let p = passes edition f z in
+    let p = passes edition newest f z in
     let n = countOf f in
     ap (λ (x : Walk). x .says) (goes f job (p .zero))
     ∙ ⊎-elim
     (λ r. r .gives ∙ sym (finds f job z .found (r .at) .1 (record { within = omega (arith, r .below); right = r .has })))
     (λ g. g .gives ∙ sym (finds f job z .missing .1 (λ i h. g .none i (omega arith) (omega (arith, h .within)) (h .right))))
-    (says (jobsOf (rowSize edition) f) job n 0 n n (omega arith) (omega arith) (rising (rowSize edition) f n (p .walk)))
+    (says (jobsOf (widthOf f) f) job n 0 n n (omega arith) (omega arith) (rising (widthOf f) f n (p .walk)))
 
 pub ten-looks : TenLooks
 unfolding searching
 ten-looks f job = head-case (eqb (headAnswer f .number) 0) refl
   where
-    head-case : (b : Bool) → eqb (headAnswer f .number) 0 ≡ b → length (cond b (halving (jobsOf (rowSize edition) f) job 0 (countOf f)) (ends (headAnswer f)) .rows) ≤ 10
-    head-case true e = looks (jobsOf (rowSize edition) f) job 10 0 (countOf f) (lt-of-le-of-lt (headed edition f (eqb-true _ _ e) .few) (lit< tt))
+    head-case : (b : Bool) → eqb (headAnswer f .number) 0 ≡ b → length (cond b (halving (jobsOf (widthOf f) f) job 0 (countOf f)) (ends (headAnswer f)) .rows) ≤ 10
+    head-case true e = looks (jobsOf (widthOf f) f) job 10 0 (countOf f) (lt-of-le-of-lt (headed edition newest f (eqb-true _ _ e) .few) (lit< tt))
     head-case false e = lit≤ tt
 
 -- the row of an answer is one of the file's
@@ -64,10 +64,10 @@ pub says-low : (f : List ℕ) (job : ℕ) → searching f job .says .row ≤ 512
 unfolding searching
 says-low f job = head-case (eqb (headAnswer f .number) 0) refl
   where
-    head-case : (b : Bool) → eqb (headAnswer f .number) 0 ≡ b → cond b (halving (jobsOf (rowSize edition) f) job 0 (countOf f)) (ends (headAnswer f)) .says .row ≤ 512
+    head-case : (b : Bool) → eqb (headAnswer f .number) 0 ≡ b → cond b (halving (jobsOf (widthOf f) f) job 0 (countOf f)) (ends (headAnswer f)) .says .row ≤ 512
     head-case true e =
-        let few = headed edition f (eqb-true _ _ e) .few in
-        omega (arith, few, row-most (jobsOf (rowSize edition) f) job (countOf f) 0 (countOf f) (omega arith))
+        let few = headed edition newest f (eqb-true _ _ e) .few in
+        omega (arith, few, row-most (jobsOf (widthOf f) f) job (countOf f) 0 (countOf f) (omega arith))
     head-case false e = lit≤ tt
 
 -- equal fronts are equal bytes
@@ -88,13 +88,15 @@ module _ (f g : List ℕ) (job : ℕ) (h : SameTable f g) where
   unfolding headNumber
   heads = ap (λ (m : ℕ). answer m 0) (simp (h .long, number-same 2 0 (lit≤ tt), number-same 2 2 (lit≤ tt), number-same 4 4 (lit≤ tt)))
 
-  walks : headAnswer f .number ≡ 0 → halving (jobsOf (rowSize edition) f) job 0 (countOf f) ≡ halving (jobsOf (rowSize edition) g) job 0 (countOf g)
+  walks : headAnswer f .number ≡ 0 → halving (jobsOf (widthOf f) f) job 0 (countOf f) ≡ halving (jobsOf (widthOf g) g) job 0 (countOf g)
   walks z =
-      let w = rowSize edition in
+      let w = widthOf f in
       let n = countOf f in
       let t : AgreeTable f g (h .long) w n = λ k a b. front-agree f g (rowStart w n) (h .table z) k (omega arith) (omega arith) in
-      jobs-same (jobsOf (rowSize edition) f) (jobsOf (rowSize edition) g) job n 0 n (omega arith) (λ i a b. ap (λ (r : Row). r .job) (row-same f g (h .long) w n (row-broad edition) t i (omega arith)))
-      ∙ ap (halving (jobsOf (rowSize edition) g) job 0) (number-same 2 2 (lit≤ tt))
+      let v : w ≡ widthOf g = ap rowSize (number-same 2 0 (lit≤ tt)) in
+      jobs-same (jobsOf w f) (jobsOf (widthOf g) g) job n 0 n (omega arith)
+      (λ i a b. ap (λ (r : Row). r .job) (row-same f g (h .long) w n (row-broad (editionOf f)) t i (omega arith) ∙ ap (λ (x : ℕ). rowAt x g i) v))
+      ∙ ap (halving (jobsOf (widthOf g) g) job 0) (number-same 2 2 (lit≤ tt))
 
 pub bodies-unread : BodiesUnread
 unfolding searching

@@ -3,9 +3,10 @@ use shift::answers::Found;
 use table::answers::Checked;
 use table::check_head;
 use table::row::EDITION;
+use table::row::NEWEST;
 use table::row::count;
 use table::row::row_at;
-use table::row::row_size;
+use table::row::width;
 ghost use mathlib.Core.Path.{_≡_};
 ghost use lib.ListN.{length};
 ghost use Rattle.table.specs.Inside.{TableIn};
@@ -56,7 +57,7 @@ fn halve(w: usize, f: &[u8], n: usize, job: u32) -> Searched
 pub fn search(file: &[u8], job: u32) -> Searched
     ensures { λ r. ⌜ (foundAnswer (r .found) ≡ searching (now (file .entry)) job .says) × (r .looked ≡ length (searching (now (file .entry)) job .rows)) ⌝ }
 {
-    match check_head(EDITION, file) {
+    match check_head(EDITION, NEWEST, file) {
         Checked::Refused(x) => {
             return Searched {
                 found: Found::Refused(x),
@@ -65,5 +66,5 @@ pub fn search(file: &[u8], job: u32) -> Searched
         }
         Checked::Passed => {}
     }
-    halve(row_size(EDITION), file, count(file), job)
+    halve(width(file), file, count(file), job)
 }

@@ -22,7 +22,7 @@ use Rattle.mode.proofs.Walk.{hidden-chain}
 
 module _ (κ : Cipher) (L : Lawful κ) (short : ℕ) where
   hidden-long : (m : ℕ) (s : States) (b : List ℕ) → length b ≤ κ .size → length (hidden κ m s b) ≡ length b
-  hidden-long m s b h = ap length (sym (hidden-chain κ m s b [])) ∙ length-masked κ L (chainOf s (m ∷ [])) b h
+  hidden-long m s b h = ap length (sym (hidden-chain κ m s b [])) ∙ length-masked κ L (chainOf (κ .version) s (m ∷ [])) b h
 
   none-long : (m : ℕ) (s : States) (l : List ℕ) → length l ≡ 0 → length (covered κ false m short s (blocks (κ .size) l)) ≡ length l
   unfolding covered

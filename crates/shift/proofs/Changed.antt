@@ -20,7 +20,7 @@ use Rattle.mode.proofs.Demand3.{same-before, same-behind, data-told}
 use Rattle.mode.proofs.LastBlock.{last-told}
 use Rattle.table.specs.declared.row.Row.{Row}
 use Rattle.table.specs.Part.{stretch}
-use Rattle.table.specs.Format.{edition, rowSize, nonceStart, nonceAt, rowOf, dataOf, textOf, tagOf, bodyEnd}
+use Rattle.table.specs.Format.{widthOf, nonceStart, nonceAt, rowOf, dataOf, textOf, tagOf, bodyEnd}
 use Rattle.table.specs.Inside.{EntryIn}
 use Rattle.table.proofs.Rows.{stretch-length}
 use Rattle.shift.specs.Opening.{ringKey, nonceRead}
@@ -35,13 +35,13 @@ stretch-at f at n k l = getD-take n (drop at f) k 0 l ∙ getD-drop at f k 0
 
 pub nonce-bytes : (f : List ℕ) (i : ℕ) → AllBytes f → AllBytes (nonceRead f i)
 unfolding nonceAt
-nonce-bytes f i h = all-take (nonceOf (rowOf f i .suite)) (nonceAt (rowSize edition) f i) (all-stretch f (nonceStart (rowSize edition) i) 16 h)
+nonce-bytes f i h = all-take (nonceOf (rowOf f i .suite)) (nonceAt (widthOf f) f i) (all-stretch f (nonceStart (widthOf f) i) 16 h)
 
 -- and the nonce is as long as the mode wants it
-pub nonce-full : (f ring : List ℕ) (i : ℕ) → EntryIn (rowSize edition) f i → length ring ≡ 256 → length (nonceRead f i) ≡ nonceSize (cipherOf (rowOf f i .suite))
+pub nonce-full : (f ring : List ℕ) (i : ℕ) → EntryIn (widthOf f) f i → length ring ≡ 256 → length (nonceRead f i) ≡ nonceSize (cipherOf (rowOf f i .suite))
 nonce-full f ring i h full = nonce-long f ring i h full ∙ sym (suite-nonce (rowOf f i .suite))
 
-pub key-block : (f ring : List ℕ) (i : ℕ) → EntryIn (rowSize edition) f i → length ring ≡ 256 → AllBytes ring → Block 16 (ringKey ring (rowOf f i .key))
+pub key-block : (f ring : List ℕ) (i : ℕ) → EntryIn (widthOf f) f i → length ring ≡ 256 → AllBytes ring → Block 16 (ringKey ring (rowOf f i .key))
 key-block f ring i h full hr = record { long = key-long f ring i h full; bytes = all-stretch ring (16 * rowOf f i .key) 16 hr }
 
 -- two stretches of files that are alike outside of a to b: every difference lies there
@@ -62,8 +62,8 @@ inside f g at n a b same k ne =
     ]
 
 -- row i stands in both files, with its nonce and its tag
-module _ (f g ring : List ℕ) (i : ℕ) (h : EntryIn (rowSize edition) f i) (full : length ring ≡ 256) (hf : AllBytes f) (hg : AllBytes g) (hr : AllBytes ring) (long : length g ≡ length f)
-    (row : rowOf g i ≡ rowOf f i) (nonce : nonceAt (rowSize edition) g i ≡ nonceAt (rowSize edition) f i) (tag : tagOf g (rowOf f i) ≡ tagOf f (rowOf f i)) (right : entryRight f ring i ≡ true) where
+module _ (f g ring : List ℕ) (i : ℕ) (h : EntryIn (widthOf f) f i) (full : length ring ≡ 256) (hf : AllBytes f) (hg : AllBytes g) (hr : AllBytes ring) (long : length g ≡ length f)
+    (row : rowOf g i ≡ rowOf f i) (nonce : nonceAt (widthOf g) g i ≡ nonceAt (widthOf f) f i) (tag : tagOf g (rowOf f i) ≡ tagOf f (rowOf f i)) (right : entryRight f ring i ≡ true) where
   -- the tag that the opener works out of associated data and text
   abbrev worked : List ℕ → List ℕ → List ℕ
   worked ad text = tagOut (cipherOf (rowOf f i .suite)) true (ringKey ring (rowOf f i .key)) (nonceRead f i) ad text

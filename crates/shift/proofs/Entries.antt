@@ -13,7 +13,7 @@ use Rattle.cipher.proofs.Suites.{nonce-most}
 use Rattle.mode.specs.Mode.{textOut, tagOut}
 use Rattle.comet.specs.Answers.{refusal, Sealed, sealing, Opened, openedAs, opening}
 use Rattle.table.specs.declared.row.Row.{Row}
-use Rattle.table.specs.Format.{edition, rowSize, nonceAt, rowOf, dataOf, textOf, tagOf, bodyEnd}
+use Rattle.table.specs.Format.{widthOf, nonceAt, rowOf, dataOf, textOf, tagOf, bodyEnd}
 use Rattle.table.specs.Answers.{answer}
 use Rattle.table.specs.Inside.{EntryIn}
 use Rattle.table.proofs.Rows.{stretch-length, nonce-length}
@@ -22,14 +22,14 @@ use Rattle.shift.specs.Inside.{Lendable}
 
 -- lent the entry's own bytes, the opener gives and leaves what the definition says
 pub lent : (f ring : List ℕ) (i : ℕ) (r : Row) (x : Opened) (key nonce ad text tag out : List ℕ) → x ≡ opening (r .suite) key nonce ad text tag out → r ≡ rowOf f i
-    → key ≡ ringKey ring (r .key) → nonce ≡ take (nonceOf (r .suite)) (nonceAt (rowSize edition) f i)
+    → key ≡ ringKey ring (r .key) → nonce ≡ take (nonceOf (r .suite)) (nonceAt (widthOf f) f i)
     → ad ≡ dataOf f r → text ≡ textOf f r → tag ≡ tagOf f r → x ≡ entryOpening f ring i out
 unfolding entryOpening
 lent f ring i r x key nonce ad text tag out e q ek en ea et eg = e ∙ simp (ek, en, ea, et, eg, q)
 
 -- and so does the sealer, of any text under any suite
 pub lent-sealer : (f ring : List ℕ) (i suite : ℕ) (r : Row) (x : Sealed) (key nonce ad text out tag : List ℕ) → x ≡ sealing suite key nonce ad text out tag → r ≡ rowOf f i
-    → key ≡ ringKey ring (r .key) → nonce ≡ take (nonceOf suite) (nonceAt (rowSize edition) f i)
+    → key ≡ ringKey ring (r .key) → nonce ≡ take (nonceOf suite) (nonceAt (widthOf f) f i)
     → ad ≡ dataOf f r → x ≡ entrySealingAs f ring i suite text out tag
 lent-sealer f ring i suite r x key nonce ad text out tag e q ek en ea = e ∙ simp (ek, en, ea, q)
 
@@ -50,14 +50,14 @@ entryText f ring i =
     let r = rowOf f i in
     textOut (cipherOf (r .suite)) true (ringKey ring (r .key)) (nonceRead f i) (dataOf f r) (textOf f r)
 
-module _ (f ring : List ℕ) (i : ℕ) (h : EntryIn (rowSize edition) f i) (g : length ring ≡ 256) where
+module _ (f ring : List ℕ) (i : ℕ) (h : EntryIn (widthOf f) f i) (g : length ring ≡ 256) where
   pub key-long : length (ringKey ring (rowOf f i .key)) ≡ 16
   key-long = stretch-length ring (16 * rowOf f i .key) 16 (omega (arith, h .key-high))
 
   pub nonce-long : length (nonceRead f i) ≡ nonceOf (rowOf f i .suite)
   nonce-long =
       let s = rowOf f i .suite in
-      length-take (nonceOf s) (nonceAt (rowSize edition) f i) ∙ omega (arith, nonce-length (rowSize edition) f i (h .row-in), nonce-most s)
+      length-take (nonceOf s) (nonceAt (widthOf f) f i) ∙ omega (arith, nonce-length (widthOf f) f i (h .row-in), nonce-most s)
 
   pub data-long : length (dataOf f (rowOf f i)) ≡ rowOf f i .ad
   unfolding bodyEnd

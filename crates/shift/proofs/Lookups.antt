@@ -8,9 +8,9 @@ use borrow.Author.Tests.{eqb-true}
 use types.Run.{OneOf, miss}
 use denote.Enum.Declared.{tagOf}
 use Rattle.table.specs.declared.answers.Answer.{Answer}
-use Rattle.table.specs.Format.{countOf, edition, rowSize, rowAt}
+use Rattle.table.specs.Format.{countOf, edition, newest, widthOf, rowAt, rowOf}
 use Rattle.table.specs.Answers.{answer}
-use Rattle.table.specs.Check.{checkAs}
+use Rattle.table.specs.Check.{checkFile}
 use Rattle.table.specs.Inside.{EntryIn}
 use Rattle.table.proofs.Searches.{first-says}
 use Rattle.table.proofs.Numbers.{refusal-some}
@@ -18,14 +18,14 @@ use Rattle.table.proofs.Passed.{Passes, passes, both-zero, entry-in}
 use Rattle.shift.specs.declared.answers.Found.{Found}
 use Rattle.shift.specs.declared.answers.Found.the-variants as found
 use Rattle.shift.specs.Answers.{foundAnswer}
-use Rattle.shift.specs.Lookup.{findFrom, lookupAs, lookupJob}
+use Rattle.shift.specs.Lookup.{findFrom, lookupJob}
 use Rattle.shift.proofs.answers.Found.{the-type}
 
 -- row i of a file that passes has the job
-pub record Holding (e : ℕ) (f : List ℕ) (job i : ℕ) : Type 0 where
-  pub file : Passes e f
+pub record Holding (f : List ℕ) (job i : ℕ) : Type 0 where
+  pub file : Passes edition newest f
   pub within : i < countOf f
-  pub right : rowAt (rowSize e) f i .job ≡ job
+  pub right : rowOf f i .job ≡ job
 
 found-says : (w : ℕ) (f : List ℕ) (n job i : ℕ) → findFrom w f n job 0 ≡ answer 0 i → (i < n) × (rowAt w f i .job ≡ job)
 unfolding findFrom
@@ -35,16 +35,16 @@ found-says w f n job i q =
     (λ h. absurd (let z = ap (λ (x : Answer). x .number) (h .gives) in omega arith))
     (first-says _ _ _ (n - 0) 0 (answer 0 i) q)
 
-pub holding : (e : ℕ) (f : List ℕ) (job i : ℕ) → lookupAs e f job ≡ answer 0 i → Holding e f job i
-unfolding lookupAs
-holding e f job i q =
-    let b = both-zero (checkAs e f) (findFrom (rowSize e) f (countOf f) job 0) (ap (λ (x : Answer). x .number) q) in
-    let s = found-says (rowSize e) f (countOf f) job i (sym (b .1) ∙ q) in
-    record { file = passes e f (b .0); within = s .0; right = s .1 }
+pub holding : (f : List ℕ) (job i : ℕ) → lookupJob f job ≡ answer 0 i → Holding f job i
+unfolding lookupJob
+holding f job i q =
+    let b = both-zero (checkFile f) (findFrom (widthOf f) f (countOf f) job 0) (ap (λ (x : Answer). x .number) q) in
+    let s = found-says (widthOf f) f (countOf f) job i (sym (b .1) ∙ q) in
+    record { file = passes edition newest f (b .0); within = s .0; right = s .1 }
 
 -- a row that a lookup found can be read and opened
-pub found-in : (f : List ℕ) (job i : ℕ) → lookupJob f job ≡ answer 0 i → EntryIn (rowSize edition) f i
-found-in f job i q = let h = holding edition f job i q in entry-in edition f (h .file) i (h .within)
+pub found-in : (f : List ℕ) (job i : ℕ) → lookupJob f job ≡ answer 0 i → EntryIn (widthOf f) f i
+found-in f job i q = let h = holding f job i q in entry-in edition newest f (h .file) i (h .within)
 
 -- only a found row has number 0
 pub not-at : (x : Found) → OneOf (1 ∷ 2 ∷ []) (tagOf the-type x) → foundAnswer x .number ≡ 0 → ⊥

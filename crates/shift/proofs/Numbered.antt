@@ -7,11 +7,11 @@ use mathlib.Core.List.{List}
 use mathlib.Core.Logic.{inl, inr, ⊎-elim}
 use lib.Dec.{eqb, lit≤}
 use Rattle.table.specs.declared.answers.Answer.{Answer}
-use Rattle.table.specs.Format.{countOf, edition, rowSize}
+use Rattle.table.specs.Format.{countOf, edition, newest, widthOf}
 use Rattle.table.specs.Check.{checkFile}
 use Rattle.table.proofs.Searches.{first-says}
 use Rattle.table.proofs.Numbered.{Numbered, check-numbered}
-use Rattle.shift.specs.Lookup.{findFrom, lookupAs, lookupJob}
+use Rattle.shift.specs.Lookup.{findFrom, lookupJob}
 
 found-numbered : (w : ℕ) (f : List ℕ) (n job i : ℕ) → (findFrom w f n job i .number ≡ 0 → ⊥) → Numbered 32 (findFrom w f n job i)
 unfolding findFrom
@@ -23,14 +23,14 @@ found-numbered w f n job i none =
 
 -- a lookup that refuses
 pub lookup-numbered : (f : List ℕ) (job : ℕ) → (lookupJob f job .number ≡ 0 → ⊥) → Numbered 32 (lookupJob f job)
-unfolding lookupAs
+unfolding lookupJob
 lookup-numbered f job none = lookup-case (eqb (checkFile f .number) 0) none
   where
     found : Answer
-    found = findFrom (rowSize edition) f (countOf f) job 0
+    found = findFrom (widthOf f) f (countOf f) job 0
 
     lookup-case : (b : Bool) → (cond b found (checkFile f) .number ≡ 0 → ⊥) → Numbered 32 (cond b found (checkFile f))
-    lookup-case true n = found-numbered (rowSize edition) f (countOf f) job 0 n
+    lookup-case true n = found-numbered (widthOf f) f (countOf f) job 0 n
     lookup-case false n =
-        let t = check-numbered edition f in
+        let t = check-numbered edition newest f in
         record { number = ⊎-elim inl (λ r. inr (⊎-elim (λ s. inl (omega arith)) inr r)) (t .number); row = t .row }

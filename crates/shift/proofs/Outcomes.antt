@@ -70,7 +70,7 @@ opened-back opened.Forged = refl
 pub found-one : {x y : Found} → foundAnswer x ≡ foundAnswer y → x ≡ y
 found-one {x} {y} q = sym (found-back x) ∙ ap foundOf q ∙ found-back y
 
-opened-one : {x y : JobAnswer} → openedAnswer x ≡ openedAnswer y → x ≡ y
+pub opened-one : {x y : JobAnswer} → openedAnswer x ≡ openedAnswer y → x ≡ y
 opened-one {x} {y} q = sym (opened-back x) ∙ ap openedOf q ∙ opened-back y
 
 -- ---- the routines

@@ -9,7 +9,7 @@ use lib.Dec.{eqb}
 use borrow.Author.Tests.{eqb-true, ne-eqb}
 use Rattle.table.specs.declared.answers.Answer.{Answer}
 use Rattle.table.specs.declared.row.Row.{Row}
-use Rattle.table.specs.Format.{edition, rowOf, bodyEnd}
+use Rattle.table.specs.Format.{rowOf, bodyEnd}
 use Rattle.table.specs.Answers.{answer}
 use Rattle.shift.specs.declared.answers.Entry.{Entry}
 use Rattle.shift.specs.Lookup.{lookupJob}
@@ -32,7 +32,7 @@ module _ (f : List ℕ) (job : ℕ) where
   -- a found row's text starts at a place of 32 bits
   pub text-low : (i : ℕ) → lookupJob f job ≡ answer 0 i → rowOf f i .at + rowOf f i .ad ≤ 1048576
   unfolding bodyEnd
-  text-low i q = omega (arith, found-in f job i q .body-in, holding edition f job i q .file .head .short)
+  text-low i q = omega (arith, found-in f job i q .body-in, holding f job i q .file .head .short)
 
 -- the theorem
 pub entries-lie : EntriesLie

@@ -17,16 +17,16 @@ use Rattle.comet.specs.Answers.{Opened, openedAs}
 use Rattle.comet.proofs.Refuse.{tag-right}
 use Rattle.table.specs.declared.row.Row.{Row}
 use Rattle.table.specs.declared.answers.Answer.{Answer}
-use Rattle.table.specs.Format.{countOf, edition, rowSize, nonceAt, rowOf, dataOf, tagOf, bodyEnd, unitOf, isUnit}
+use Rattle.table.specs.Format.{editionOf, countOf, edition, newest, rowSize, widthOf, rowAt, nonceAt, rowOf, dataOf, tagOf, bodyEnd, unitOf, isUnit}
 use Rattle.table.specs.Answers.{answer}
 use Rattle.table.specs.Check.{checkFile}
 use Rattle.table.specs.Inside.{EntryIn}
 use Rattle.table.proofs.Passed.{Passes}
 use Rattle.table.proofs.Rows.{row-broad}
 use Rattle.table.proofs.Alike.{AgreeTable, stretch-same, row-same, nonce-same, count-same}
-use Rattle.table.proofs.Kept.{body-table}
+use Rattle.table.proofs.Kept.{body-table, body-edition}
 use Rattle.table.proofs.Units.{unit-long, unit-outside, unit-check}
-use Rattle.shift.specs.Lookup.{lookupAs, lookupJob}
+use Rattle.shift.specs.Lookup.{lookupJob}
 use Rattle.shift.specs.Opening.{JobOpened, left, rowOpening, jobOpening, entryOpening}
 use Rattle.shift.specs.Promised.{UnitRefused}
 use Rattle.shift.proofs.Lookups.{holding, found-in}
@@ -41,34 +41,37 @@ module _ (f ring : List ℕ) (job i v : ℕ) (found : lookupJob f job ≡ answer
   otherUnit = set f (rowOf f i .at + 4) v
 
   within : i < countOf f
-  within = holding edition f job i found .within
+  within = holding f job i found .within
 
-  passed : Passes edition f
-  passed = holding edition f job i found .file
+  passed : Passes edition newest f
+  passed = holding f job i found .file
 
   same-long : length otherUnit ≡ length f
-  same-long = unit-long edition f passed i v within
+  same-long = unit-long edition newest f passed i v within
 
-  same-table : AgreeTable otherUnit f same-long (rowSize edition) (countOf f)
-  same-table = body-table f otherUnit same-long edition passed i within (unit-outside edition f passed i v within)
+  same-table : AgreeTable otherUnit f same-long (widthOf f) (countOf f)
+  same-table = body-table f otherUnit same-long edition newest passed i within (unit-outside edition newest f passed i v within)
+
+  same-width : widthOf otherUnit ≡ widthOf f
+  same-width = ap rowSize (body-edition f otherUnit same-long edition newest passed i within (unit-outside edition newest f passed i v within))
 
   row-is : rowOf otherUnit i ≡ rowOf f i
-  row-is = row-same otherUnit f same-long (rowSize edition) (countOf f) (row-broad edition) same-table i within
+  row-is = ap (λ (w : ℕ). rowAt w otherUnit i) same-width ∙ row-same otherUnit f same-long (widthOf f) (countOf f) (row-broad (editionOf f)) same-table i within
 
-  nonce-is : nonceAt (rowSize edition) otherUnit i ≡ nonceAt (rowSize edition) f i
-  nonce-is = nonce-same otherUnit f same-long (rowSize edition) (countOf f) (row-broad edition) same-table i within
+  nonce-is : nonceAt (widthOf otherUnit) otherUnit i ≡ nonceAt (widthOf f) f i
+  nonce-is = ap (λ (w : ℕ). nonceAt w otherUnit i) same-width ∙ nonce-same otherUnit f same-long (widthOf f) (countOf f) (row-broad (editionOf f)) same-table i within
 
   -- the check passes where the new byte is a unit, and else refuses the row with 30
   check-is : (b : Bool) → isUnit v ≡ b → checkFile otherUnit ≡ cond (not b) (answer 30 i) (answer 0 0)
-  check-is b e = rw e at (unit-check edition f passed i v within)
+  check-is b e = rw e at (unit-check edition newest f passed i v within)
 
   lookup-is : (b : Bool) → isUnit v ≡ b → lookupJob otherUnit job ≡ cond b (answer 0 i) (answer 30 i)
-  unfolding lookupAs
+  unfolding lookupJob
   lookup-is true e =
       finds otherUnit job (ap (λ (x : Answer). x .number) (check-is true e)) .found i .1
       (record {
-        within = rw (count-same otherUnit f same-long (rowSize edition) (countOf f) (row-broad edition) same-table) within;
-        right = ap (λ (r : Row). r .job) row-is ∙ holding edition f job i found .right;
+        within = rw (count-same otherUnit f same-long (widthOf f) (countOf f) (row-broad (editionOf f)) same-table) within;
+        right = ap (λ (r : Row). r .job) row-is ∙ holding f job i found .right;
       })
   lookup-is false e = simp (check-is false e)
 
@@ -97,7 +100,7 @@ module _ (f ring : List ℕ) (job i v : ℕ) (found : lookupJob f job ≡ answer
         (λ k o. getD-set-other f (r .at + 4) k v 0 (λ q. ⊎-elim (λ a. omega arith) (λ a. omega arith) o))
 
     -- the opener's answer, where the output has no byte
-    opened-is : (x : List ℕ) → rowOf x i .len ≡ 0 → EntryIn (rowSize edition) x i → entryOpening x ring i [] ≡ openedAs 0 (entryRight x ring i) (entryText x ring i) []
+    opened-is : (x : List ℕ) → rowOf x i .len ≡ 0 → EntryIn (widthOf x) x i → entryOpening x ring i [] ≡ openedAs 0 (entryRight x ring i) (entryText x ring i) []
     opened-is x z h = rw (eq-eqb _ _ (sym z)) at (entry-opened x ring i h g [])
 
   -- what the accepted opening says

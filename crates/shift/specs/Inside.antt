@@ -4,12 +4,12 @@ use mathlib.Core.Path.{_≡_}
 use mathlib.Core.List.{List}
 use lib.ListN.{length}
 use Rattle.table.specs.declared.row.Row.{Row}
-use Rattle.table.specs.Format.{edition, rowSize, rowOf, bodyEnd}
+use Rattle.table.specs.Format.{widthOf, rowOf, bodyEnd}
 use Rattle.table.specs.Inside.{RowIn}
 
 -- what the opener is lent of row i lies in the file and in the ring
 pub record Lendable (f ring : List ℕ) (i : ℕ) (r : Row) : Type 0 where
   pub is-row : r ≡ rowOf f i
-  pub row-in : RowIn (rowSize edition) f i
+  pub row-in : RowIn (widthOf f) f i
   pub key-in : 16 * r .key + 16 ≤ length ring
   pub body-in : bodyEnd r ≤ length f

@@ -4,18 +4,14 @@ use mathlib.Core.List.{List}
 use lib.Dec.{eqb}
 use Rattle.table.specs.declared.answers.Answer.{Answer}
 use Rattle.table.specs.Search.{firstOf}
-use Rattle.table.specs.Format.{countOf, edition, rowSize, rowAt}
+use Rattle.table.specs.Format.{countOf, widthOf, rowAt}
 use Rattle.table.specs.Answers.{answer}
-use Rattle.table.specs.Check.{andThen, checkAs}
+use Rattle.table.specs.Check.{andThen, checkFile}
 
 -- the first row of n from row i on that has the job; 32 where none has
 unfoldable pub findFrom : ℕ → List ℕ → ℕ → ℕ → ℕ → Answer
 findFrom w f n job i = firstOf (λ j. eqb (rowAt w f j .job) job) (answer 0) (answer 32 0) i (n - i)
 
 -- the full check, then the row
-unfoldable pub lookupAs : ℕ → List ℕ → ℕ → Answer
-lookupAs e f job = andThen (checkAs e f) (findFrom (rowSize e) f (countOf f) job 0)
-
--- the lookup of a job in a shift file
-abbrev pub lookupJob : List ℕ → ℕ → Answer
-lookupJob f job = lookupAs edition f job
+unfoldable pub lookupJob : List ℕ → ℕ → Answer
+lookupJob f job = andThen (checkFile f) (findFrom (widthOf f) f (countOf f) job 0)

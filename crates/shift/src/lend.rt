@@ -3,28 +3,27 @@ use comet::Verdict;
 use table::body::data_of;
 use table::body::tag_of;
 use table::body::text_of;
-use table::row::EDITION;
 use table::row::Row;
 use table::row::nonce_at;
 use table::row::row_at;
-use table::row::row_size;
 use table::row::stretch;
+use table::row::width;
 ghost use mathlib.Core.Path.{_≡_};
 ghost use Prim.Native.Nat.{_+_, _*_, _≤_};
 ghost use lib.ListN.{length, take};
 ghost use Rattle.cipher.specs.Cipher.{nonceOf};
 ghost use Rattle.comet.specs.Answers.{numberOf, Sealed, Opened};
-ghost use Rattle.table.specs.Format.{edition, rowSize, rowOf, nonceAt};
+ghost use Rattle.table.specs.Format.{widthOf, rowOf, nonceAt};
 ghost use Rattle.table.specs.Inside.{RowIn};
 ghost use Rattle.shift.specs.Opening.{ringKey, entrySealingAs, entrySealing, entryOpening};
 ghost use Rattle.shift.specs.Inside.{Lendable};
 
 // Row i of a shift file.
 pub fn row_of(f: &[u8], i: usize) -> Row
-    requires { ⌜ RowIn (rowSize edition) (now f) i ⌝ }
+    requires { ⌜ RowIn (widthOf (now f)) (now f) i ⌝ }
     ensures { λ r. ⌜ r ≡ rowOf (now (f .entry)) i ⌝ }
 {
-    row_at(row_size(EDITION), f, i)
+    row_at(width(f), f, i)
 }
 
 // Key k of the ring.
@@ -38,10 +37,10 @@ fn ring_key(ring: &[u8], k: u8) -> &[u8]
 
 // The nonce bytes of row i that its suite reads.
 fn nonce_read(f: &[u8], i: usize, suite: u8) -> &[u8]
-    requires { ⌜ RowIn (rowSize edition) (now f) i ⌝ }
-    ensures { λ r. ⌜ now r ≡ take (nonceOf suite) (nonceAt (rowSize edition) (now (f .entry)) i) ⌝ }
+    requires { ⌜ RowIn (widthOf (now f)) (now f) i ⌝ }
+    ensures { λ r. ⌜ now r ≡ take (nonceOf suite) (nonceAt (widthOf (now (f .entry))) (now (f .entry)) i) ⌝ }
 {
-    let nonce = nonce_at(row_size(EDITION), f, i);
+    let nonce = nonce_at(width(f), f, i);
     stretch(nonce, 0, cipher::nonce_size(suite))
 }
 

@@ -8,8 +8,11 @@ use answers::Entry;
 use answers::Found;
 use answers::JobAnswer;
 use lend::row_of;
-use table::row::EDITION;
+use table::answers::Checked;
+use table::check;
+use table::row::count;
 use table::row::stretch;
+use table::row::width;
 ghost use mathlib.Core.Path.{_≡_};
 ghost use Rattle.table.specs.Part.{PartOf};
 ghost use Rattle.shift.specs.Answers.{foundAnswer, openedAnswer};
@@ -21,7 +24,13 @@ ghost use Rattle.shift.specs.Opening.{JobOpened, jobOpening};
 pub fn lookup(file: &[u8], job: u32) -> Found
     ensures { λ r. ⌜ foundAnswer r ≡ lookupJob (now (file .entry)) job ⌝ }
 {
-    find::lookup_as(EDITION, file, job)
+    match check(file) {
+        Checked::Refused(x) => {
+            return Found::Refused(x);
+        }
+        Checked::Passed => {}
+    }
+    find::find_job(width(file), file, count(file), job)
 }
 
 // The lookup, and where in the file the job's associated data and its text lie; 0 where the lookup refuses.

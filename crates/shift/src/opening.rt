@@ -5,14 +5,14 @@ use crate::lend::open_row;
 use crate::lend::row_of;
 use comet::Verdict;
 ghost use mathlib.Core.Path.{_≡_};
-ghost use Rattle.table.specs.Format.{edition, rowSize};
+ghost use Rattle.table.specs.Format.{widthOf};
 ghost use Rattle.table.specs.Inside.{EntryIn};
 ghost use Rattle.shift.specs.Answers.{foundAnswer, openedAnswer};
 ghost use Rattle.shift.specs.Opening.{JobOpened, rowOpening};
 
 // Opens row i: 2, 6, 8.
 pub(crate) fn open_entry(f: &[u8], ring: &[u8], i: usize, out: &mut [u8]) -> JobAnswer
-    requires { ⌜ EntryIn (rowSize edition) (now f) i ⌝ }
+    requires { ⌜ EntryIn (widthOf (now f)) (now f) i ⌝ }
     ensures { λ r. ⌜ _≡_ {A = JobOpened} (record { answer = openedAnswer r; out = now (out .exit) }) (rowOpening (now (f .entry)) (now (ring .entry)) i (now (out .entry))) ⌝ }
 {
     if ring.len() != 256 {

@@ -1,4 +1,5 @@
 pub mod Rows
+pub mod AmendedRows
 pub mod Lists
 pub mod Reports
 pub mod Steps

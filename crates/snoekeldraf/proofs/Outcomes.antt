@@ -37,15 +37,26 @@ use Rattle.snoekeldraf.proofs.file.shift_entry.Kinds as entry-kinds
 use Rattle.snoekeldraf.proofs.file.shift_entry.Reads as entry-reads
 use Rattle.snoekeldraf.proofs.file.shift_open_job.Kinds as open-job-kinds
 use Rattle.snoekeldraf.proofs.file.shift_open_job.Reads as open-job-reads
+use Rattle.editions.specs.Answers.{FileMoved}
 use Rattle.draft.specs.Answers.{FileWritten}
 use Rattle.snoekeldraf.proofs.drafts.shift_seal_file.Kinds as seal-file-kinds
 use Rattle.snoekeldraf.proofs.drafts.shift_seal_file.Reads as seal-file-reads
 use Rattle.snoekeldraf.proofs.drafts.shift_unseal_file.Kinds as unseal-file-kinds
 use Rattle.snoekeldraf.proofs.drafts.shift_unseal_file.Reads as unseal-file-reads
+use Rattle.snoekeldraf.proofs.moves.shift_to_edition2.Kinds as to-edition2-kinds
+use Rattle.snoekeldraf.proofs.moves.shift_to_edition2.Reads as to-edition2-reads
+use Rattle.snoekeldraf.proofs.moves.shift_to_edition1.Kinds as to-edition1-kinds
+use Rattle.snoekeldraf.proofs.moves.shift_to_edition1.Reads as to-edition1-reads
 use Rattle.snoekeldraf.proofs.renewal.shift_reseal.Kinds as reseal-kinds
 use Rattle.snoekeldraf.proofs.renewal.shift_reseal.Reads as reseal-reads
 use Rattle.snoekeldraf.proofs.halving.shift_search.Kinds as search-kinds
 use Rattle.snoekeldraf.proofs.halving.shift_search.Reads as search-reads
+use Rattle.amend.specs.Amending.{AmendedOpening}
+use Rattle.snoekeldraf.specs.Amended.{Placed}
+use Rattle.snoekeldraf.proofs.amending.shift_amended.Kinds as amended-kinds
+use Rattle.snoekeldraf.proofs.amending.shift_amended.Reads as amended-reads
+use Rattle.snoekeldraf.proofs.amending.shift_open_amended.Kinds as open-amended-kinds
+use Rattle.snoekeldraf.proofs.amending.shift_open_amended.Reads as open-amended-reads
 use Rattle.compare.specs.Comparing.{Comparison}
 use Rattle.snoekeldraf.proofs.listing.shift_compare.Kinds as compare-kinds
 use Rattle.snoekeldraf.proofs.listing.shift_compare.Reads as compare-reads
@@ -152,6 +163,26 @@ pub shift-search : OneOutcome search-kinds.ps search-kinds.r search-reads.Pre se
 shift-search κs a h x y =
     let e = x .ensures .0 ∙ sym (y .ensures .0) in
     (ap (λ (w : Answer). w .number) e, ap₂ (λ (w : Answer) (l : ℕ). (tt, (tt, (w .row, (l, tt))))) e (x .ensures .1 ∙ sym (y .ensures .1)))
+
+pub shift-amended : OneOutcome amended-kinds.ps amended-kinds.r amended-reads.Pre amended-reads.Post
+shift-amended κs a h x y =
+    let e = x .ensures ∙ sym (y .ensures) in
+    (ap (λ (w : Placed). w .number) e, ap (λ (w : Placed). (tt, (tt, (tt, (w .file, (w .row, (w .at, (w .len, tt)))))))) e)
+
+pub shift-open-amended : OneOutcome open-amended-kinds.ps open-amended-kinds.r open-amended-reads.Pre open-amended-reads.Post
+shift-open-amended κs a h x y =
+    let e = x .ensures ∙ sym (y .ensures) in
+    (ap (λ (w : AmendedOpening). w .answer .number) e, ap (λ (w : AmendedOpening). (tt, (tt, (tt, (tt, (w .out, (w .file, (w .answer .row, tt)))))))) e)
+
+pub shift-to-edition2 : OneOutcome to-edition2-kinds.ps to-edition2-kinds.r to-edition2-reads.Pre to-edition2-reads.Post
+shift-to-edition2 κs a h x y =
+    let e = x .ensures ∙ sym (y .ensures) in
+    (ap (λ (w : FileMoved). w .answer .number) e, ap (λ (w : FileMoved). (tt, (w .out, (w .answer .row, tt)))) e)
+
+pub shift-to-edition1 : OneOutcome to-edition1-kinds.ps to-edition1-kinds.r to-edition1-reads.Pre to-edition1-reads.Post
+shift-to-edition1 κs a h x y =
+    let e = x .ensures ∙ sym (y .ensures) in
+    (ap (λ (w : FileMoved). w .answer .number) e, ap (λ (w : FileMoved). (tt, (w .out, (w .answer .row, tt)))) e)
 
 pub shift-compare : OneOutcome compare-kinds.ps compare-kinds.r compare-reads.Pre compare-reads.Post
 shift-compare κs a h x y =

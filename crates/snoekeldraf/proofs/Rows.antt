@@ -6,20 +6,22 @@ use mathlib.Core.Bool.{Bool, true, false, not, cond}
 use mathlib.Core.List.{List}
 use mathlib.Core.Logic.{⊎-elim}
 use lib.ListN.{length}
-use lib.Dec.{eqb}
+use lib.Dec.{eqb, ltb}
 use borrow.Author.Tests.{eqb-true}
 use Rattle.table.specs.declared.answers.Answer.{Answer}
 use Rattle.table.specs.Search.{firstOf}
-use Rattle.table.specs.Format.{countOf, edition, rowSize, rowOf}
+use Rattle.table.specs.Format.{countOf, edition, newest, widthOf, rowOf, stationOf}
 use Rattle.table.specs.Answers.{answer}
-use Rattle.table.specs.Check.{bodyStart, endAnswer, rowsFrom, headNumber, andThen, checkAs, checkFile}
+use Rattle.table.specs.Check.{bodyStart, endAnswer, rowsFrom, headNumber, andThen, checkBetween, checkAs, checkFile}
 use Rattle.table.proofs.Searches.{first-says}
 use Rattle.table.proofs.Sound.{headed}
 use Rattle.table.proofs.Passed.{passes, both-zero}
-use Rattle.shift.specs.Lookup.{findFrom, lookupAs, lookupJob}
+use Rattle.shift.specs.Lookup.{findFrom, lookupJob}
 use Rattle.shift.specs.Opening.{entryOpening, left, rowOpening, jobOpening}
 use Rattle.draft.specs.Files.{draftEdition}
-use Rattle.draft.specs.Answers.{tagSet, rowRetired, tagRight, setFrom, retiredFrom, wrongFrom, lentAnswer, sealAnswer, openAnswer, unsealAnswer, fileSealing, fileUnsealing}
+use Rattle.editions.specs.Files.{moved}
+use Rattle.editions.specs.Answers.{stationsFrom, lengthAnswer, upAnswer, backAnswer, toEdition2, toEdition1}
+use Rattle.draft.specs.Answers.{tagSet, tagRight, setFrom, wrongFrom, lentAnswer, sealAnswer, openAnswer, unsealAnswer, fileSealing, fileUnsealing, rowRetired, retiredFrom}
 use Rattle.reseal.specs.Files.{retabled}
 use Rattle.reseal.specs.Answers.{seenFrom, wrongAgain, wrongAgainFrom, takeAnswer, resealAnswer, fileResealing}
 use Rattle.table.specs.Check.{nonceSeen}
@@ -56,17 +58,17 @@ find-row : (w : ℕ) (f : List ℕ) (n job : ℕ) → findFrom w f n job 0 .row 
 unfolding findFrom
 find-row w f n job = first-row _ _ (answer 32 0) n (omega arith)
 
-pub check-row : (e : ℕ) (f : List ℕ) → checkAs e f .row ≤ 512
-unfolding checkAs
-check-row e f =
-    then-row (answer (headNumber e f) 0) (rowsFrom (rowSize e) f (countOf f) 0) 512 (omega arith)
-    (λ z. omega (arith, headed e f z .few, rows-row (rowSize e) f (countOf f)))
+pub check-row : (low high : ℕ) (f : List ℕ) → checkBetween low high f .row ≤ 512
+unfolding checkBetween
+check-row low high f =
+    then-row (answer (headNumber low high f) 0) (rowsFrom (widthOf f) f (countOf f) 0) 512 (omega arith)
+    (λ z. omega (arith, headed low high f z .few, rows-row (widthOf f) f (countOf f)))
 
 pub lookup-row : (f : List ℕ) (job : ℕ) → lookupJob f job .row ≤ 512
-unfolding lookupAs
+unfolding lookupJob
 lookup-row f job =
-    then-row (checkFile f) (findFrom (rowSize edition) f (countOf f) job 0) 512 (check-row edition f)
-    (λ z. omega (arith, passes edition f z .head .few, find-row (rowSize edition) f (countOf f) job))
+    then-row (checkFile f) (findFrom (widthOf f) f (countOf f) job 0) 512 (check-row edition newest f)
+    (λ z. omega (arith, passes edition newest f z .head .few, find-row (widthOf f) f (countOf f) job))
 
 opened-row : (f ring : List ℕ) (i : ℕ) (out₀ : List ℕ) → rowOpening f ring i out₀ .answer .row ≡ 0
 unfolding rowOpening
@@ -102,11 +104,11 @@ sealed-row draft ring out₀ =
     let lent = lentAnswer (length draft) (length ring) (length out₀) in
     let retired = retiredFrom draft (countOf draft) 0 in
     let set = setFrom draft (countOf draft) 0 in
-    then-row (checkAs draftEdition draft) (andThen set (andThen retired lent)) 512 (check-row draftEdition draft)
+    then-row (checkAs draftEdition draft) (andThen set (andThen retired lent)) 512 (check-row draftEdition draftEdition draft)
     (λ z. then-row set (andThen retired lent) 512
-    (omega (arith, passes draftEdition draft z .head .few, first-row (tagSet draft) (λ j. 33) (answer 0 0) (countOf draft) (omega arith)))
+    (omega (arith, passes draftEdition draftEdition draft z .head .few, first-row (tagSet draft) (λ j. 33) (answer 0 0) (countOf draft) (omega arith)))
     (λ y. then-row retired lent 512
-    (omega (arith, passes draftEdition draft z .head .few, first-row (rowRetired draft) (λ j. 10) (answer 0 0) (countOf draft) (omega arith)))
+    (omega (arith, passes draftEdition draftEdition draft z .head .few, first-row (rowRetired draft) (λ j. 10) (answer 0 0) (countOf draft) (omega arith)))
     (λ x. lent-row (length draft) (length ring) (length out₀))))
 
 pub unsealed-row : (file ring out₀ : List ℕ) → fileUnsealing file ring out₀ .answer .row ≤ 512
@@ -114,8 +116,8 @@ unfolding fileUnsealing unsealAnswer openAnswer wrongFrom
 unsealed-row file ring out₀ =
     let lent = lentAnswer (length file) (length ring) (length out₀) in
     then-row (andThen (checkAs edition file) lent) (wrongFrom file ring (countOf file) 0) 512
-    (then-row (checkAs edition file) lent 512 (check-row edition file) (λ z. lent-row (length file) (length ring) (length out₀)))
-    (λ z. omega (arith, passes edition file (both-zero (checkAs edition file) lent z .0) .head .few, first-row (λ j. not (tagRight file ring j)) (λ j. 8) (answer 0 0) (countOf file) (omega arith)))
+    (then-row (checkAs edition file) lent 512 (check-row edition edition file) (λ z. lent-row (length file) (length ring) (length out₀)))
+    (λ z. omega (arith, passes edition edition file (both-zero (checkAs edition file) lent z .0) .head .few, first-row (λ j. not (tagRight file ring j)) (λ j. 8) (answer 0 0) (countOf file) (omega arith)))
 
 -- the reseal pass's
 pub resealed-row : (file ring out₀ : List ℕ) → fileResealing file ring out₀ .answer .row ≤ 512
@@ -124,8 +126,33 @@ resealed-row file ring out₀ =
     let lent = lentAnswer (length file) (length ring) (length out₀) in
     let seen = seenFrom (retabled file) (countOf file) 0 in
     then-row (andThen (checkAs edition file) (andThen seen lent)) (wrongAgainFrom file ring (countOf file) 0) 512
-    (then-row (checkAs edition file) (andThen seen lent) 512 (check-row edition file)
+    (then-row (checkAs edition file) (andThen seen lent) 512 (check-row edition edition file)
     (λ z. then-row seen lent 512
-    (omega (arith, passes edition file z .head .few, first-row (nonceSeen (rowSize edition) (retabled file)) (λ j. 29) (answer 0 0) (countOf file) (omega arith)))
+    (omega (arith, passes edition edition file z .head .few, first-row (nonceSeen (widthOf (retabled file)) (retabled file)) (λ j. 29) (answer 0 0) (countOf file) (omega arith)))
     (λ y. lent-row (length file) (length ring) (length out₀))))
-    (λ z. omega (arith, passes edition file (both-zero (checkAs edition file) (andThen seen lent) z .0) .head .few, first-row (wrongAgain file ring) (λ j. 8) (answer 0 0) (countOf file) (omega arith)))
+    (λ z. omega (arith, passes edition edition file (both-zero (checkAs edition file) (andThen seen lent) z .0) .head .few, first-row (wrongAgain file ring) (λ j. 8) (answer 0 0) (countOf file) (omega arith)))
+
+-- the moves' answers
+length-row : (new out : ℕ) → lengthAnswer new out .row ≤ 512
+unfolding lengthAnswer
+length-row new out = go (ltb 1048576 new) (eqb out new)
+  where
+    go : (a b : Bool) → cond a (answer 20 0) (cond (not b) (answer 6 0) (answer 0 0)) .row ≤ 512
+    go true b = omega arith
+    go false true = omega arith
+    go false false = omega arith
+
+pub up-row : (file out₀ : List ℕ) → toEdition2 file out₀ .answer .row ≤ 512
+unfolding toEdition2 upAnswer
+up-row file out₀ =
+    let new = lengthAnswer (length (moved newest file)) (length out₀) in
+    then-row (checkAs edition file) new 512 (check-row edition edition file) (λ z. length-row (length (moved newest file)) (length out₀))
+
+pub back-row : (file out₀ : List ℕ) → toEdition1 file out₀ .answer .row ≤ 512
+unfolding toEdition1 backAnswer stationsFrom
+back-row file out₀ =
+    let new = lengthAnswer (length (moved edition file)) (length out₀) in
+    then-row (checkAs newest file) (andThen (stationsFrom file (countOf file) 0) new) 512 (check-row newest newest file)
+    (λ z. then-row (stationsFrom file (countOf file) 0) new 512
+    (omega (arith, passes newest newest file z .head .few, first-row (λ j. not (eqb (stationOf file j) 0)) (λ j. 35) (answer 0 0) (countOf file) (omega arith)))
+    (λ y. length-row (length (moved edition file)) (length out₀)))

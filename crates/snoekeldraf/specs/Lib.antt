@@ -1,2 +1,3 @@
 pub mod Flat
 pub mod Located
+pub mod Amended

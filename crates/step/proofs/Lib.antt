@@ -1,3 +1,4 @@
 pub mod Words
+pub mod Halves
 pub mod Turns
 pub mod Outcomes

@@ -1,10 +1,8 @@
--- The mode's work on bytes, done on two numbers of 64 bits: mark, doubling, shuffle, padding and mask.
+-- The mode's work on bytes, done on two numbers of 64 bits: mark, shuffle, padding and mask.
 use mathlib.Core.Path.{_≡_, refl, sym, ap, ap₂, _∙_}
 use Prim.Native.Nat.{ℕ, zero, suc, _+_, _-_, _*_, _/_, _%_, _^_, _≤_, _<_}
 use native.Mathlib.Nat.{le-of-suc-le-suc, not-suc-le-zero, le-of-eq}
 use native.Mathlib.Omega.{arith}
-use native.Mathlib.Decide.{decLe}
-use borrow.Author.Tests.{le-leb, lt-leb}
 use mathlib.Core.List.{List, [], _∷_, _++_, append-assoc, append-nil}
 use lib.ListN.{length, set, take, drop, replicate, length-append, length-drop, take-append-drop}
 use lib.Seq.{take-at, take-all, take-append-add, drop-append-add, drop-at, set-at, length-take-le}
@@ -13,13 +11,11 @@ use Rattle.words.specs.Bytes.{value, bytes, word}
 use Rattle.words.specs.Xors.{xors}
 use Rattle.words.proofs.Xor.{zero-r}
 use Rattle.words.proofs.Lists.{part-take}
-use Rattle.words.proofs.Bytes.{length-bytes, value-bytes, value-low, bytes-join, bytes-mod, bytes-split}
+use Rattle.words.proofs.Bytes.{length-bytes, value-low, bytes-join, bytes-mod, bytes-split}
 use Rattle.words.proofs.Xors.{bytes-xor, take-xors, xors-take, xors-append}
-use Rattle.mode.specs.Words.{double, Four, four, fourOf, bytesOf, shuffleWords, shuffle, pad}
-use Rattle.mode.specs.Keys.{marked, doubled}
+use Rattle.mode.specs.Words.{Four, four, fourOf, bytesOf, shuffleWords, shuffle, pad}
+use Rattle.mode.specs.Keys.{marked}
 use Rattle.mode.proofs.Words.{pad-short, pad-full}
-
--- ---- Z as two numbers
 
 -- the mark in the top byte of the high half
 pub mark-high : (a b m : ℕ) → m < 256 → bytes 8 a ++ bytes 8 (xor b (m * 0x100_0000_0000_0000)) ≡ marked m (bytes 8 a ++ bytes 8 b)
@@ -32,27 +28,6 @@ mark-high a b m h =
     ∙ ap (λ (v : ℕ). xors (bytes 8 b) (bytes 8 v)) e
     ∙ ap (xors (bytes 8 b)) (bytes-join 7 1 0 m (omega arith))
     ∙ simp (zero-r, r))
-
--- a doubling: 0x1b comes in as often as a bit drops out, once or not at all
-pub double-is : (x : ℕ) → x < 2 ^ 64 → xor (x * 2 % 2 ^ 64) (x / 2 ^ 63 * 0x1b) ≡ double x
-unfolding double
-double-is x h =
-    elim (decLe (2 ^ 63) x) [
-      | yes k ↦
-          let e : x / 2 ^ 63 ≡ 1 = omega arith in
-          ap (λ (b : ℕ). xor (x * 2 % 2 ^ 64) (b * 0x1b)) e ∙ sym (simp (le-leb (2 ^ 63) x k))
-      | no k ↦
-          let e : x / 2 ^ 63 ≡ 0 = omega arith in
-          ap (λ (b : ℕ). xor (x * 2 % 2 ^ 64) (b * 0x1b)) e ∙ zero-r (x * 2 % 2 ^ 64) ∙ sym (simp (lt-leb (2 ^ 63) x (omega arith)))
-    ]
-
--- the low half doubled
-pub double-low : (a b : ℕ) → a < 2 ^ 64 → bytes 8 (double a) ++ bytes 8 b ≡ doubled (bytes 8 a ++ bytes 8 b)
-unfolding doubled
-double-low a b h =
-    let t : take 8 (bytes 8 a ++ bytes 8 b) ≡ bytes 8 a = take-at (bytes 8 a) (bytes 8 b) 8 (length-bytes 8 a) in
-    let d : drop 8 (bytes 8 a ++ bytes 8 b) ≡ bytes 8 b = drop-at (bytes 8 a) (bytes 8 b) 8 (length-bytes 8 a) in
-    sym (ap₂ (λ (x y : List ℕ). bytes 8 (double (value x)) ++ y) t d ∙ ap (λ (v : ℕ). bytes 8 (double v) ++ bytes 8 b) (value-bytes 8 a h))
 
 -- ---- the shuffle, over the number w of bytes in a word
 

@@ -4,7 +4,7 @@ use Prim.Native.Nat.{ℕ, _-_}
 use lib.ListN.{take, drop, replicate}
 use Rattle.words.specs.declared.block.Block.{Block}
 use Rattle.words.specs.Blocks.{wide}
-use Rattle.cipher.specs.Cipher.{sizeOf, cipherOf}
+use Rattle.cipher.specs.Cipher.{sizeOf, versionOf, cipherOf}
 use Rattle.mode.specs.Walk.{States, blockZ, imageOf}
 use Rattle.step.specs.declared.state.State.{State}
 
@@ -21,6 +21,6 @@ pub record Holds (suite : ℕ) (r : State) (t : States) : Type 0 where
   pub two : twoOf suite r ≡ t
   pub clean : Clean suite (r .y)
 
--- X in the place of Y, and the Z that is kept, for a block under the mark m
+-- X in the place of Y, and the Z that is kept, for a block with the mark m
 abbrev pub imaged : ℕ → ℕ → States → States
-imaged suite m s = record { Y = imageOf (cipherOf suite) m s; Z = blockZ m (s .Z) }
+imaged suite m s = record { Y = imageOf (cipherOf suite) m s; Z = blockZ (versionOf suite) m (s .Z) }

@@ -1,15 +1,34 @@
-// The next block key: a mark into byte 15 of Z, and the low half doubled.
+// The next block key: a mark into byte 15 of Z, and the doubling of its low bits, 64 in version 1 and 120 in version 2.
 use words::block::Block;
 ghost use mathlib.Core.Path.{_≡_};
 ghost use Rattle.words.specs.Blocks.{wide};
+ghost use Rattle.cipher.specs.Cipher.{two, versionOf};
 ghost use Rattle.mode.specs.Words.{double};
-ghost use Rattle.mode.specs.Keys.{marked, nextKey};
+ghost use Rattle.mode.specs.Keys.{marked, doubled, nextKey};
+ghost use Rattle.mode.specs.Walk.{blockKey, keptBehind};
 
 // Doubling of a 64-bit number: the dropped bit is 1 or 0.
 fn doubling(x: u64) -> u64
     ensures { λ r. ⌜ r ≡ double x ⌝ }
 {
     (x << 1) ^ ((x >> 63) * 0x1b)
+}
+
+// Doubling of the low 120 bits: the bit that the low half drops comes into the high half, whose top byte stays.
+fn doubling120(z: Block) -> Block
+    ensures { λ r. ⌜ wide r ≡ doubled two (wide z) ⌝ }
+{
+    let t = z.b / 0x100_0000_0000_0000;
+    let h = z.b % 0x100_0000_0000_0000;
+    let p = (h >> 55) * 0x245;
+    let twice = h % 0x80_0000_0000_0000 * 2;
+    let high = twice + (z.a >> 63);
+    let top = t * 0x100_0000_0000_0000;
+    let b = high + top;
+    Block {
+        a: (z.a << 1) ^ p,
+        b: b,
+    }
 }
 
 // The mark, XORed into byte 15, the highest of the high half.
@@ -22,13 +41,36 @@ fn mark(z: Block, m: u8) -> Block
     }
 }
 
-// The mark, then the doubling of the low half.
-pub(crate) fn next_key(z: Block, m: u8) -> Block
-    ensures { λ r. ⌜ wide r ≡ nextKey m (wide z) ⌝ }
+// The mark, then the doubling of the suite's version.
+pub(crate) fn next_key(suite: u8, z: Block, m: u8) -> Block
+    ensures { λ r. ⌜ wide r ≡ nextKey (versionOf suite) m (wide z) ⌝ }
 {
     let r = mark(z, m);
+    if cipher::is_second(suite) {
+        return doubling120(r);
+    }
     Block {
         a: doubling(r.a),
         b: r.b,
     }
+}
+
+// The key of a block with the mark m: version 2 holds the mark back.
+pub(crate) fn block_key(suite: u8, z: Block, m: u8) -> Block
+    ensures { λ r. ⌜ wide r ≡ blockKey (versionOf suite) m (wide z) ⌝ }
+{
+    if cipher::is_second(suite) {
+        return next_key(suite, z, 0);
+    }
+    next_key(suite, z, m)
+}
+
+// The Z that is kept behind a block with the key k: the mark that was held back goes in.
+pub(crate) fn kept(suite: u8, k: Block, m: u8) -> Block
+    ensures { λ r. ⌜ wide r ≡ keptBehind (versionOf suite) m (wide k) ⌝ }
+{
+    if cipher::is_second(suite) {
+        return mark(k, m);
+    }
+    k
 }

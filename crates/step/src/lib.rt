@@ -1,4 +1,4 @@
-// The block step of COMET version 1: the two states Y and Z, a block put in, what goes out for it, and the tag.
+// The block step of COMET: the two states Y and Z, a block put in, what goes out for it, and the tag.
 pub mod block;
 mod key;
 mod pad;

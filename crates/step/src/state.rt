@@ -34,15 +34,16 @@ pub fn start(tb: &[Lent], suite: u8, key: &[u8], nonce: &[u8]) -> State
     }
 }
 
-// The next block key under the mark m, and X, the image of Y under it.
+// The key of a block with the mark m; X, the image of Y under it; and the Z that is kept behind the block.
 pub(crate) fn turn(tb: &[Lent], suite: u8, s: State, m: u8) -> State
     requires { ⌜ Ready suite (now tb) × IsSuite suite ⌝ }
     ensures { λ r. ⌜ Holds suite r (imaged suite m (twoOf suite s)) ⌝ }
 {
     let y = s.y;
     let z0 = s.z;
-    let z = crate::key::next_key(z0, m);
-    let x = cipher::encipher(tb, suite, z, y);
+    let k = crate::key::block_key(suite, z0, m);
+    let x = cipher::encipher(tb, suite, k, y);
+    let z = crate::key::kept(suite, k, m);
     State { y: x, z: z }
 }
 

@@ -18,8 +18,10 @@ pub fn tag_of(tb: &[Lent], suite: u8, s: State) -> Block
     ensures tag { λ r. ⌜ take (sizeOf suite) (wide r) ≡ tagged (cipherOf suite) (twoOf suite s) ⌝ }
     ensures clean { λ r. ⌜ Clean suite r ⌝ }
 {
-    let t = crate::state::turn(tb, suite, s, 0x80);
-    t.y
+    let y = s.y;
+    let z = s.z;
+    let k = crate::key::next_key(suite, z, 0x80);
+    cipher::encipher(tb, suite, k, y)
 }
 
 // Whether the first bytes of t are those of tag, where zeros follow: every difference counts before the one test.

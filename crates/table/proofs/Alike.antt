@@ -4,7 +4,6 @@ use native.Mathlib.Omega.{arith}
 use mathlib.Core.Path.{_≡_, refl, sym, ap, ap₂, _∙_}
 use mathlib.Core.Bool.{Bool, true, false, _||_, _&&_, not, cond}
 use lib.Dec.{eqb, leb}
-use borrow.Author.Tests.{eq-eqb}
 use mathlib.Core.List.{List, _∷_}
 use lib.ListN.{length, getD, take, drop, length-take, length-drop}
 use lib.Seq.{ext-getD, getD-take, getD-drop}
@@ -13,8 +12,8 @@ use Rattle.cipher.specs.Cipher.{nonceOf}
 use Rattle.table.specs.declared.row.Row.{Row}
 use Rattle.table.specs.Search.{anyBelow}
 use Rattle.table.specs.Part.{stretch}
-use Rattle.table.specs.Format.{editionOf, countOf, totalOf, rowSize, rowStart, restStart, rowAt, nonceStart, nonceAt, nonceReadAt, padded, bodyEnd}
-use Rattle.table.specs.Check.{notAbove, badSuite, badLength, bodyStart, misplaced, unreadSet, clash, nonceSeen, badData, bodyNumber, rowNumber, headNumber}
+use Rattle.table.specs.Format.{editionOf, countOf, totalOf, widthOf, rowStart, restStart, rowAt, nonceStart, nonceAt, nonceReadAt, padded, bodyEnd}
+use Rattle.table.specs.Check.{outside, notAbove, badSuite, badLength, bodyStart, misplaced, unreadSet, clash, nonceSeen, badData, bodyNumber, rowNumber, headNumber}
 use Rattle.table.proofs.Rows.{row-below, row-late}
 
 pub any-same : (p q : ℕ → Bool) (n : ℕ) → ((k : ℕ) → k < n → p k ≡ q k) → anyBelow p n ≡ anyBelow q n
@@ -127,7 +126,7 @@ module _ (f g : List ℕ) where
       unfolding rowStart
       total-same = word-same 4 4 (agree 4 4 (omega arith) (omega arith))
 
-      -- each passes 20 to 24 where its own edition is wanted, if the other does
-      pub head-same : (e d : ℕ) → rowSize e ≡ rowSize d → editionOf f ≡ e → editionOf g ≡ d → headNumber e f ≡ headNumber d g
+      -- 20 to 24, where both editions are taken or neither, and their rows are of one size
+      pub head-same : (a b c d : ℕ) → outside a b (editionOf f) ≡ outside c d (editionOf g) → widthOf f ≡ widthOf g → headNumber a b f ≡ headNumber c d g
       unfolding headNumber
-      head-same e d q a b = simp (long, a, b, eq-eqb e e refl, eq-eqb d d refl, count-same, total-same, q)
+      head-same a b c d o q = simp (long, o, count-same, total-same, q)

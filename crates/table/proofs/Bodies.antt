@@ -9,7 +9,7 @@ use lib.ListN.{length, take, drop, take-append-drop, drop-of-length-le}
 use lib.Seq.{drop-drop}
 use lib.Dec.{eqb·suc-zero}
 use Rattle.table.specs.Part.{stretch}
-use Rattle.table.specs.Format.{countOf, edition, rowSize, rowStart, rowAt, rowOf, bodyEnd}
+use Rattle.table.specs.Format.{countOf, edition, newest, widthOf, rowStart, rowAt, rowOf, bodyEnd}
 use Rattle.table.specs.Check.{bodyStart}
 use Rattle.table.specs.Laid.{bodyAt, bodies, BodiesLaid}
 use Rattle.table.proofs.Passed.{Walked, passes}
@@ -61,9 +61,9 @@ module _ (w : ℕ) (f : List ℕ) (n : ℕ) where
 
 pub laid : BodiesLaid
 laid f z =
-    let w = rowSize edition in
+    let w = widthOf f in
     let n = countOf f in
-    let h = passes edition f z .walk in
+    let h = passes edition newest f z .walk in
     record {
       first = λ l. h .rows 0 l .place .starts ∙ start-first w f n;
       next = λ i l. h .rows (suc i) l .place .starts ∙ start-next w f n i;

@@ -2,18 +2,18 @@
 use Prim.Native.Nat.{ℕ, _+_, _-_, _≤_, _<_}
 use native.Mathlib.Decide.{decLt}
 use native.Mathlib.Omega.{arith}
-use mathlib.Core.Path.{_≡_, refl, sym, ap, _∙_, subst}
+use mathlib.Core.Path.{_≡_, refl, sym, ap, _∙_}
 use mathlib.Core.Bool.{Bool, true, false, not, cond}
 use mathlib.Core.List.{List}
 use mathlib.Core.Logic.{_⊎_, inl, inr}
 use lib.ListN.{length, getD}
 use lib.Dec.{eqb}
-use borrow.Author.Tests.{eq-eqb}
+use borrow.Author.Tests.{eq-eqb, le-ltb}
 use Rattle.table.specs.declared.answers.Answer.{Answer}
 use Rattle.table.specs.Search.{firstOf}
-use Rattle.table.specs.Format.{editionOf, countOf, rowSize, rowStart, rowAt, bodyEnd}
+use Rattle.table.specs.Format.{editionOf, countOf, rowSize, widthOf, rowStart, rowAt, bodyEnd}
 use Rattle.table.specs.Answers.{answer}
-use Rattle.table.specs.Check.{badData, rowNumber, endAnswer, rowsFrom, headNumber, checkAs}
+use Rattle.table.specs.Check.{outside, badData, rowNumber, endAnswer, rowsFrom, headNumber, checkBetween}
 use Rattle.table.proofs.Searches.{first-same, first-only}
 use Rattle.table.proofs.Rows.{row-broad, row-late}
 use Rattle.table.proofs.Passed.{Walked, Passes}
@@ -30,6 +30,10 @@ unfolding badData
 data-held f g w j h near =
     let r = rowAt w f j in
     simp (word-same g f 4 (r .at) (λ k a b. near k a (omega arith)), near (r .at + 4) (omega arith) (omega arith)) h
+
+-- an edition that is taken
+pub taken : (low high x : ℕ) → low ≤ x → x ≤ high → outside low high x ≡ false
+taken low high x a b = simp (le-ltb x low a, le-ltb high x b)
 
 module _ (f g : List ℕ) (long : length g ≡ length f) where
   module _ (w n : ℕ) (broad : 32 ≤ w) (h : Walked w f n) (table : AgreeTable g f long w n) where
@@ -56,22 +60,23 @@ module _ (f g : List ℕ) (long : length g ≡ length f) where
         thirty true m q e = q
         thirty false m q e = absurd (let z : _≡_ {A = ℕ} 0 1 = ap (λ (b : Bool). cond b 1 0) (sym (ap (λ (k : ℕ). not (eqb k 0)) q) ∙ e) in omega arith)
 
-  -- of an edition e whose rows are as long as those of d
-  pub check-kept : (e d w : ℕ) → Passes d f → rowSize d ≡ w → rowSize e ≡ w → editionOf g ≡ e → AgreeTable g f long w (countOf f) → checkAs e g ≡ badFrom w f g (countOf f)
-  unfolding checkAs
-  check-kept e d w p qd qe a table =
+  -- of an edition that is taken and whose rows are as long
+  pub check-kept : (a b low high : ℕ) → Passes low high f → outside a b (editionOf g) ≡ false → widthOf g ≡ widthOf f → AgreeTable g f long (widthOf f) (countOf f)
+      → checkBetween a b g ≡ badFrom (widthOf f) f g (countOf f)
+  unfolding checkBetween
+  check-kept a b low high p o q table =
+      let w = widthOf f in
       let n = countOf f in
-      let broad : 32 ≤ w = rw (sym qd) (row-broad d) in
-      let walk = subst (λ (v : ℕ). Walked v f n) qd (p .walk) in
-      let z : headNumber e g ≡ 0 = head-same g f long w n broad table e d (qe ∙ sym qd) a (p .head .edition) ∙ p .zero in
-      simp (z, count-same g f long w n broad table, qe) (rows-kept w n broad walk table)
+      let broad = row-broad (editionOf f) in
+      let z : headNumber a b g ≡ 0 = head-same g f long w n broad table a b low high (o ∙ sym (taken low high _ (p .head .from) (p .head .to))) q ∙ p .zero in
+      simp (z, count-same g f long w n broad table, q) (rows-kept w n broad (p .walk) table)
 
 -- ---- a file that differs from one that passes inside the body of one row alone
 
-module _ (f g : List ℕ) (long : length g ≡ length f) (d : ℕ) (p : Passes d f) (i : ℕ) (within : i < countOf f)
-    (same : (k : ℕ) → (k < rowAt (rowSize d) f i .at) ⊎ (bodyEnd (rowAt (rowSize d) f i) ≤ k) → getD g k 0 ≡ getD f k 0) where
+module _ (f g : List ℕ) (long : length g ≡ length f) (low high : ℕ) (p : Passes low high f) (i : ℕ) (within : i < countOf f)
+    (same : (k : ℕ) → (k < rowAt (widthOf f) f i .at) ⊎ (bodyEnd (rowAt (widthOf f) f i) ≤ k) → getD g k 0 ≡ getD f k 0) where
   abbrev w : ℕ
-  w = rowSize d
+  w = widthOf f
 
   -- the body lies behind the table
   behind : rowStart w (countOf f) ≤ rowAt w f i .at
@@ -80,8 +85,8 @@ module _ (f g : List ℕ) (long : length g ≡ length f) (d : ℕ) (p : Passes d
   pub body-table : AgreeTable g f long w (countOf f)
   body-table k a b = same k (inl (omega (arith, behind)))
 
-  pub body-edition : editionOf g ≡ d
-  body-edition = word-same g f 2 0 (λ k a b. same k (inl (omega (arith, behind, row-late w (countOf f))))) ∙ p .head .edition
+  pub body-edition : editionOf g ≡ editionOf f
+  body-edition = word-same g f 2 0 (λ k a b. same k (inl (omega (arith, behind, row-late w (countOf f)))))
 
   -- every other body is kept
   pub body-other : (j : ℕ) → j < countOf f → (j ≡ i → ⊥) → (k : ℕ) → rowAt w f j .at ≤ k → k < bodyEnd (rowAt w f j) → getD g k 0 ≡ getD f k 0
@@ -92,10 +97,10 @@ module _ (f g : List ℕ) (long : length g ≡ length f) (d : ℕ) (p : Passes d
       ]
 
   -- so the check passes, or refuses that row with 30
-  pub body-check : checkAs d g ≡ cond (badData g (rowAt w f i)) (answer 30 i) (answer 0 0)
+  pub body-check : checkBetween low high g ≡ cond (badData g (rowAt w f i)) (answer 30 i) (answer 0 0)
   unfolding bodyEnd
   body-check =
-      check-kept f g long d d w p refl refl body-edition body-table
+      check-kept f g long low high low high p (ap (outside low high) body-edition ∙ taken low high _ (p .head .from) (p .head .to)) (ap rowSize body-edition) body-table
       ∙ first-only _ _ _ (countOf f) i within
       (λ j l ne.
       let s = p .walk .rows j l in

@@ -22,6 +22,8 @@ use Rattle.table.specs.Answers.{answer, refusalAnswer, checkedAnswer}
 use Rattle.table.proofs.Numbers.{refusal-range, refusal-some}
 use Rattle.table.proofs.check_head.Kinds as check-head-kinds
 use Rattle.table.proofs.check_head.Reads as check-head-reads
+use Rattle.table.proofs.check_between.Kinds as check-between-kinds
+use Rattle.table.proofs.check_between.Reads as check-between-reads
 use Rattle.table.proofs.check_as.Kinds as check-as-kinds
 use Rattle.table.proofs.check_as.Reads as check-as-reads
 use Rattle.table.proofs.check.Kinds as check-kinds
@@ -30,8 +32,14 @@ use Rattle.table.proofs.row.count.Kinds as count-kinds
 use Rattle.table.proofs.row.count.Reads as count-reads
 use Rattle.table.proofs.row.row_size.Kinds as row-size-kinds
 use Rattle.table.proofs.row.row_size.Reads as row-size-reads
+use Rattle.table.proofs.row.width.Kinds as width-kinds
+use Rattle.table.proofs.row.width.Reads as width-reads
+use Rattle.table.proofs.row.station_of.Kinds as station-of-kinds
+use Rattle.table.proofs.row.station_of.Reads as station-of-reads
 use Rattle.table.proofs.row.row_start.Kinds as row-start-kinds
 use Rattle.table.proofs.row.row_start.Reads as row-start-reads
+use Rattle.table.proofs.row.rest_start.Kinds as rest-start-kinds
+use Rattle.table.proofs.row.rest_start.Reads as rest-start-reads
 use Rattle.table.proofs.row.set_suite.Kinds as set-suite-kinds
 use Rattle.table.proofs.row.set_suite.Reads as set-suite-reads
 use Rattle.table.proofs.rules.nonce_seen.Kinds as nonce-seen-kinds
@@ -123,6 +131,9 @@ part-one p q = (p .bytes ∙ sym (q .bytes), p .place ∙ sym (q .place))
 pub check-head : OneOutcome check-head-kinds.ps check-head-kinds.r check-head-reads.Pre check-head-reads.Post
 check-head κs a h x y = (checked-one (x .ensures ∙ sym (y .ensures)), refl)
 
+pub check-between : OneOutcome check-between-kinds.ps check-between-kinds.r check-between-reads.Pre check-between-reads.Post
+check-between κs a h x y = (checked-one (x .ensures ∙ sym (y .ensures)), refl)
+
 pub check-as : OneOutcome check-as-kinds.ps check-as-kinds.r check-as-reads.Pre check-as-reads.Post
 check-as κs a h x y = (checked-one (x .ensures ∙ sym (y .ensures)), refl)
 
@@ -135,8 +146,17 @@ count κs a h x y = (x .ensures ∙ sym (y .ensures), refl)
 pub row-size : OneOutcome row-size-kinds.ps row-size-kinds.r row-size-reads.Pre row-size-reads.Post
 row-size κs a h x y = (x .ensures ∙ sym (y .ensures), refl)
 
+pub width : OneOutcome width-kinds.ps width-kinds.r width-reads.Pre width-reads.Post
+width κs a h x y = (x .ensures ∙ sym (y .ensures), refl)
+
+pub station-of : OneOutcome station-of-kinds.ps station-of-kinds.r station-of-reads.Pre station-of-reads.Post
+station-of κs a h x y = (x .ensures ∙ sym (y .ensures), refl)
+
 pub row-start : OneOutcome row-start-kinds.ps row-start-kinds.r row-start-reads.Pre row-start-reads.Post
 row-start κs a h x y = (x .ensures ∙ sym (y .ensures), refl)
+
+pub rest-start : OneOutcome rest-start-kinds.ps rest-start-kinds.r rest-start-reads.Pre rest-start-reads.Post
+rest-start κs a h x y = (x .ensures .0 ∙ sym (y .ensures .0), refl)
 
 pub set-suite : OneOutcome set-suite-kinds.ps set-suite-kinds.r set-suite-reads.Pre set-suite-reads.Post
 set-suite κs a h x y = (refl, ap (λ (l : List ℕ). (tt, (l, (tt, (tt, tt))))) (x .ensures ∙ sym (y .ensures)))

@@ -13,10 +13,10 @@ use Rattle.table.specs.declared.answers.Fault.{Fault}
 use Rattle.table.specs.declared.answers.Refusal.{Refusal}
 use Rattle.table.specs.declared.answers.Checked.{Checked}
 use Rattle.table.specs.declared.answers.Checked.the-variants.{Passed, Refused}
-use Rattle.table.specs.Format.{countOf, rowSize}
+use Rattle.table.specs.Format.{editionOf, countOf, widthOf}
 use Rattle.table.specs.Answers.{answer, faultNumber, refusalAnswer, checkedAnswer}
 use Rattle.table.specs.Inside.{EntryIn}
-use Rattle.table.specs.Check.{bodyStart, rowNumber, endAnswer, rowsFrom, headNumber, andThen, checkAs}
+use Rattle.table.specs.Check.{bodyStart, rowNumber, endAnswer, rowsFrom, headNumber, andThen, checkBetween}
 use Rattle.table.proofs.Searches.{first-hit, first-skip, first-end, first-says}
 use Rattle.table.proofs.Numbers.{fault-some, refusal-some}
 use Rattle.table.proofs.Rows.{row-in}
@@ -91,23 +91,28 @@ walked w f n z =
     })
     (first-says _ _ _ (n - 0) 0 (rowsFrom w f n 0) refl)
 
-pub record Passes (e : ℕ) (f : List ℕ) : Type 0 where
-  pub zero : headNumber e f ≡ 0
-  pub head : Headed e f
-  pub walk : Walked (rowSize e) f (countOf f)
+-- as one of the editions from low to high
+pub record Passes (low high : ℕ) (f : List ℕ) : Type 0 where
+  pub zero : headNumber low high f ≡ 0
+  pub head : Headed low high f
+  pub walk : Walked (widthOf f) f (countOf f)
 
-pub passes : (e : ℕ) (f : List ℕ) → checkAs e f .number ≡ 0 → Passes e f
-unfolding checkAs
-passes e f z =
-    let b = both-zero (answer (headNumber e f) 0) (rowsFrom (rowSize e) f (countOf f) 0) z in
-    record { zero = b .0; head = headed e f (b .0); walk = walked (rowSize e) f (countOf f) (rw (b .1) at z) }
+pub passes : (low high : ℕ) (f : List ℕ) → checkBetween low high f .number ≡ 0 → Passes low high f
+unfolding checkBetween
+passes low high f z =
+    let b = both-zero (answer (headNumber low high f) 0) (rowsFrom (widthOf f) f (countOf f) 0) z in
+    record { zero = b .0; head = headed low high f (b .0); walk = walked (widthOf f) f (countOf f) (rw (b .1) at z) }
+
+-- of one edition alone, it has that
+pub own-edition : (e : ℕ) (f : List ℕ) → Passes e e f → editionOf f ≡ e
+own-edition e f p = omega (arith, p .head .from, p .head .to)
 
 -- each row of such a file can be read and opened
-pub entry-in : (e : ℕ) (f : List ℕ) → Passes e f → (i : ℕ) → i < countOf f → EntryIn (rowSize e) f i
-entry-in e f h i l =
+pub entry-in : (low high : ℕ) (f : List ℕ) → Passes low high f → (i : ℕ) → i < countOf f → EntryIn (widthOf f) f i
+entry-in low high f h i l =
     let s = h .walk .rows i l in
     record {
-      row-in = row-in (rowSize e) f (countOf f) i (h .head .table) l;
+      row-in = row-in (widthOf f) f (countOf f) i (h .head .table) l;
       suite-is = s .suit .suite-is;
       key-high = s .suit .key-high;
       data-high = s .size .ad-high;

@@ -1,13 +1,15 @@
 -- Where rows lie: a table that lies in the file has each of its rows there, and a row its nonce.
-use Prim.Native.Nat.{ℕ, _+_, _≤_, _<_}
-use native.Mathlib.Nat.{mul-suc, mul-le-mul-left}
+use Prim.Native.Nat.{ℕ, _+_, _-_, _≤_, _<_}
+use native.Mathlib.Nat.{mul-suc, mul-le-mul-left, mul-le-mul-right}
 use native.Mathlib.Omega.{arith}
-use mathlib.Core.Path.{_≡_}
+use mathlib.Core.Path.{_≡_, refl, ap}
+use mathlib.Core.Bool.{Bool, true, false, cond}
 use mathlib.Core.List.{List}
 use lib.ListN.{length, length-take, length-drop}
-use lib.Dec.{lit≤}
+use lib.Dec.{eqb, lit≤}
+use Rattle.words.specs.Bytes.{value, word}
 use Rattle.table.specs.Part.{stretch}
-use Rattle.table.specs.Format.{rowSize, rowStart, restStart, nonceStart, nonceAt}
+use Rattle.table.specs.Format.{newest, rowSize, rowStart, restStart, stationAt, nonceStart, nonceAt}
 use Rattle.table.specs.Inside.{RowIn, TableIn}
 
 pub stretch-length : (f : List ℕ) (at len : ℕ) → at + len ≤ length f → length (stretch f at len) ≡ len
@@ -30,12 +32,38 @@ pub nonce-length : (w : ℕ) (f : List ℕ) (i : ℕ) → RowIn w f i → length
 unfolding nonceAt nonceStart restStart
 nonce-length w f i h = stretch-length f (nonceStart w i) 16 (omega (arith, h .broad, h .fits))
 
--- a row holds what the format puts into it, in every edition
+-- a row holds what the format puts into it, in every edition, and at most a station beside
+wide : (b : Bool) → (32 ≤ cond b 36 32) × (cond b 36 32 ≤ 36)
+wide true = (lit≤ tt, lit≤ tt)
+wide false = (lit≤ tt, lit≤ tt)
+
 pub row-broad : (e : ℕ) → 32 ≤ rowSize e
 unfolding rowSize
-row-broad e = lit≤ tt
+row-broad e = wide (eqb e newest) .0
+
+pub row-narrow : (e : ℕ) → rowSize e ≤ 36
+unfolding rowSize
+row-narrow e = wide (eqb e newest) .1
+
+-- the size is one of two
+pub row-other : (e : ℕ) → (rowSize e ≡ 32 → ⊥) → rowSize e ≡ 36
+unfolding rowSize
+row-other e = two (eqb e newest)
+  where
+    two : (b : Bool) → (_≡_ {A = ℕ} (cond b 36 32) 32 → ⊥) → _≡_ {A = ℕ} (cond b 36 32) 36
+    two true h = refl
+    two false h = absurd (h refl)
+
+-- a row of 32 bytes has no station, which is 0; in one of 36 it has four bytes
+pub station-none : (f : List ℕ) (i w : ℕ) → w ≡ 32 → 0 ≡ stationAt w f i
+unfolding stationAt value
+station-none f i w q = rw q refl
+
+pub station-four : (f : List ℕ) (i w : ℕ) → w ≡ 36 → word 4 f (rowStart w i + 4) ≡ stationAt w f i
+unfolding stationAt
+station-four f i w q = let m : 4 ≡ w - 32 = omega arith in ap (λ (k : ℕ). word k f (rowStart w i + 4)) m
 
 -- as many rows as 22 lets through are counted without wrapping
 pub rows-small : (e n : ℕ) → n ≤ 512 → rowStart (rowSize e) n < 0x1_0000_0000_0000_0000
-unfolding rowStart rowSize
-rows-small e n h = omega arith
+unfolding rowStart
+rows-small e n h = omega (arith, mul-le-mul-right n (row-narrow e))

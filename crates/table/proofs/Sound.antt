@@ -10,7 +10,7 @@ use borrow.Author.Tests.{ltb-false, eqb-true, not-false}
 use Rattle.words.proofs.Ladder.{not-taken}
 use Rattle.cipher.specs.Cipher.{isSuite, IsSuite}
 use Rattle.table.specs.declared.row.Row.{Row}
-use Rattle.table.specs.Format.{editionOf, countOf, totalOf, rowSize, rowStart, rowAt, bodyEnd}
+use Rattle.table.specs.Format.{editionOf, countOf, totalOf, widthOf, rowStart, rowAt, bodyEnd}
 use Rattle.table.specs.Check.{notAbove, outside, badSuite, badLength, bodyStart, misplaced, unreadSet, nonceSeen, badData, bodyNumber, rowNumber, headNumber}
 use Rattle.table.specs.Inside.{TableIn}
 use Rattle.table.proofs.Searches.{or-false}
@@ -90,28 +90,31 @@ sound w f n i z =
 
 -- ---- the header
 
-pub record Headed (e : ℕ) (f : List ℕ) : Type 0 where
+pub record Headed (low high : ℕ) (f : List ℕ) : Type 0 where
   pub long : 8 ≤ length f
   pub short : length f ≤ 1048576
-  pub edition : editionOf f ≡ e
+  pub from : low ≤ editionOf f
+  pub to : editionOf f ≤ high
   pub few : countOf f ≤ 512
   pub total : totalOf f ≡ length f
-  pub table : TableIn (rowSize e) f (countOf f)
+  pub table : TableIn (widthOf f) f (countOf f)
 
-pub headed : (e : ℕ) (f : List ℕ) → headNumber e f ≡ 0 → Headed e f
+pub headed : (low high : ℕ) (f : List ℕ) → headNumber low high f ≡ 0 → Headed low high f
 unfolding headNumber
-headed e f h =
+headed low high f h =
     let p20 = not-taken (ltb (length f) 8 || ltb 1048576 (length f)) 20 _ (lit< tt) h in
-    let p21 = not-taken (not (eqb (editionOf f) e)) 21 _ (lit< tt) (p20 .1) in
+    let p21 = not-taken (outside low high (editionOf f)) 21 _ (lit< tt) (p20 .1) in
     let p22 = not-taken (ltb 512 (countOf f)) 22 _ (lit< tt) (p21 .1) in
     let p23 = not-taken (not (eqb (totalOf f) (length f))) 23 _ (lit< tt) (p22 .1) in
-    let p24 = not-taken (ltb (length f) (rowStart (rowSize e) (countOf f))) 24 _ (lit< tt) (p23 .1) in
+    let p24 = not-taken (ltb (length f) (rowStart (widthOf f) (countOf f))) 24 _ (lit< tt) (p23 .1) in
     let len = or-false (ltb (length f) 8) (ltb 1048576 (length f)) (p20 .0) in
+    let taken = or-false (ltb (editionOf f) low) (ltb high (editionOf f)) (p21 .0) in
     record {
       long = ltb-false _ _ (len .0);
       short = ltb-false _ _ (len .1);
-      edition = eqb-true _ _ (not-false _ (p21 .0));
+      from = ltb-false _ _ (taken .0);
+      to = ltb-false _ _ (taken .1);
       few = ltb-false _ _ (p22 .0);
       total = eqb-true _ _ (not-false _ (p23 .0));
-      table = record { broad = row-broad e; fits = ltb-false _ _ (p24 .0) };
+      table = record { broad = row-broad (editionOf f); fits = ltb-false _ _ (p24 .0) };
     }

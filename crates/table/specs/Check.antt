@@ -1,4 +1,4 @@
--- The full check (document 01, "The shift file", numbers 20 to 31; document 02, W5: 29 and 34). Rows are w bytes long.
+-- The full check (document 01, "The shift file", numbers 20 to 31; document 02, W5: 29 and 34, W10: the editions). Rows are w bytes long.
 use Prim.Native.Nat.{ℕ, _-_}
 use mathlib.Core.List.{List}
 use mathlib.Core.Bool.{Bool, _||_, _&&_, not, cond}
@@ -9,7 +9,7 @@ use Rattle.cipher.specs.Cipher.{isSuite}
 use Rattle.table.specs.declared.row.Row.{Row}
 use Rattle.table.specs.declared.answers.Answer.{Answer}
 use Rattle.table.specs.Search.{anyBelow, firstOf}
-use Rattle.table.specs.Format.{editionOf, countOf, totalOf, edition, rowSize, rowStart, rowAt, nonceAt, nonceReadAt, padded, bodyEnd, dataJob, unitOf, isUnit}
+use Rattle.table.specs.Format.{editionOf, countOf, totalOf, edition, newest, widthOf, rowStart, rowAt, nonceAt, nonceReadAt, padded, bodyEnd, dataJob, unitOf, isUnit}
 use Rattle.table.specs.Answers.{answer}
 
 -- 25: job number not above the row before (row 0: any)
@@ -80,14 +80,14 @@ unfoldable pub rowsFrom : ℕ → List ℕ → ℕ → ℕ → Answer
 rowsFrom w f n i =
     firstOf (λ j. not (eqb (rowNumber w f n j) 0)) (λ j. answer (rowNumber w f n j) j) (endAnswer w f n) i (n - i)
 
--- the first of 20 to 24 that applies, else 0; e is the edition that is wanted
-unfoldable pub headNumber : ℕ → List ℕ → ℕ
-headNumber e f =
+-- the first of 20 to 24 that applies, else 0; the editions from low to high are taken
+unfoldable pub headNumber : ℕ → ℕ → List ℕ → ℕ
+headNumber low high f =
     cond (ltb (length f) 8 || ltb 1048576 (length f)) 20
-    (cond (not (eqb (editionOf f) e)) 21
+    (cond (outside low high (editionOf f)) 21
     (cond (ltb 512 (countOf f)) 22
     (cond (not (eqb (totalOf f) (length f))) 23
-    (cond (ltb (length f) (rowStart (rowSize e) (countOf f))) 24
+    (cond (ltb (length f) (rowStart (widthOf f) (countOf f))) 24
     0))))
 
 -- after number 0 the next answer; any other stands
@@ -95,9 +95,13 @@ abbrev pub andThen : Answer → Answer → Answer
 andThen x next = cond (eqb (x .number) 0) next x
 
 -- 20 to 24 first, then each row from row 0 with its numbers in order, then 31
-unfoldable pub checkAs : ℕ → List ℕ → Answer
-checkAs e f = andThen (answer (headNumber e f) 0) (rowsFrom (rowSize e) f (countOf f) 0)
+unfoldable pub checkBetween : ℕ → ℕ → List ℕ → Answer
+checkBetween low high f = andThen (answer (headNumber low high f) 0) (rowsFrom (widthOf f) f (countOf f) 0)
 
--- the full check of a shift file
+-- one edition alone
+abbrev pub checkAs : ℕ → List ℕ → Answer
+checkAs e f = checkBetween e e f
+
+-- the full check of a shift file, whichever its edition
 abbrev pub checkFile : List ℕ → Answer
-checkFile f = checkAs edition f
+checkFile f = checkBetween edition newest f

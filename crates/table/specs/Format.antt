@@ -1,6 +1,6 @@
--- The shift file's format (document 01, "The shift file"): header, table of contents, bodies. Numbers are little-endian.
+-- The shift file's format (document 01, "The shift file"; document 02, W10: edition 2): header, table of contents, bodies. Numbers are little-endian.
 use Prim.Native.Nat.{ℕ, _+_, _-_, _*_}
-use mathlib.Core.Bool.{Bool, _||_}
+use mathlib.Core.Bool.{Bool, _||_, cond}
 use mathlib.Core.List.{List, _++_}
 use lib.Dec.{eqb}
 use lib.ListN.{length, getD, take, replicate}
@@ -21,19 +21,27 @@ countOf f = word 2 f 2
 abbrev pub totalOf : List ℕ → ℕ
 totalOf f = word 4 f 4
 
--- the edition of a shift file
+-- the first edition of a shift file, which the writer makes
 abbrev pub edition : ℕ
 edition = 1
 
--- the bytes of a row, in edition e
+-- the newest; readers take both
+abbrev pub newest : ℕ
+newest = 2
+
+-- the bytes of a row, in edition e: four more in the newest, for the station
 unfoldable pub rowSize : ℕ → ℕ
-rowSize e = 32
+rowSize e = cond (eqb e newest) 36 32
+
+-- the bytes of a row, in the file's own edition
+abbrev pub widthOf : List ℕ → ℕ
+widthOf f = rowSize (editionOf f)
 
 -- where row i starts, rows being w bytes long; the bodies start where row n would
 unfoldable pub rowStart : ℕ → ℕ → ℕ
 rowStart w i = 8 + w * i
 
--- where the rest of row i starts: its last 28 bytes, all but the job number
+-- where the rest of row i starts: its last 28 bytes, all but job number and station
 unfoldable pub restStart : ℕ → ℕ → ℕ
 restStart w i = rowStart w i + (w - 28)
 
@@ -47,6 +55,10 @@ rowAt w f i = record {
   at = word 4 f (restStart w i + 4);
   len = word 4 f (restStart w i + 8);
 }
+
+-- its station number, between the job number and the rest: 4 bytes in edition 2; in edition 1 none, so it is 0
+unfoldable pub stationAt : ℕ → List ℕ → ℕ → ℕ
+stationAt w f i = word (w - 32) f (rowStart w i + 4)
 
 -- its nonce, the last sixteen bytes: where they start
 unfoldable pub nonceStart : ℕ → ℕ → ℕ
@@ -63,9 +75,12 @@ nonceReadAt w f i = take (nonceOf (rowAt w f i .suite)) (nonceAt w f i)
 abbrev pub padded : List ℕ → List ℕ
 padded s = s ++ replicate (16 - length s) 0
 
--- row i of a shift file
+-- row i of a shift file, and its station
 abbrev pub rowOf : List ℕ → ℕ → Row
-rowOf f i = rowAt (rowSize edition) f i
+rowOf f i = rowAt (widthOf f) f i
+
+abbrev pub stationOf : List ℕ → ℕ → ℕ
+stationOf f i = stationAt (widthOf f) f i
 
 -- a body is associated data
 abbrev pub dataOf : List ℕ → Row → List ℕ

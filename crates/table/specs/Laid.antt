@@ -4,7 +4,7 @@ use mathlib.Core.Path.{_≡_}
 use mathlib.Core.List.{List, [], _++_}
 use lib.ListN.{length, take}
 use Rattle.table.specs.Part.{stretch}
-use Rattle.table.specs.Format.{countOf, edition, rowSize, rowStart, rowAt, rowOf, bodyEnd}
+use Rattle.table.specs.Format.{countOf, widthOf, rowStart, rowAt, rowOf, bodyEnd}
 use Rattle.table.specs.Check.{checkFile}
 
 -- the bytes of row i's body
@@ -18,14 +18,14 @@ bodies w f i (suc k) = bodyAt w f i ++ bodies w f (suc i) k
 
 pub record Laid (f : List ℕ) : Type 0 where
   -- the first body starts after the table, each other one where the one before ends
-  pub first : 0 < countOf f → rowOf f 0 .at ≡ rowStart (rowSize edition) (countOf f)
+  pub first : 0 < countOf f → rowOf f 0 .at ≡ rowStart (widthOf f) (countOf f)
   pub next : (i : ℕ) → suc i < countOf f → rowOf f (suc i) .at ≡ bodyEnd (rowOf f i)
   -- no two overlap
   pub apart : (i j : ℕ) → i < j → j < countOf f → bodyEnd (rowOf f i) ≤ rowOf f j .at
   -- the last ends where the file ends
   pub last : (i : ℕ) → suc i ≡ countOf f → bodyEnd (rowOf f i) ≡ length f
   -- the file is its header and table, then the bodies, and nothing else
-  pub whole : f ≡ take (rowStart (rowSize edition) (countOf f)) f ++ bodies (rowSize edition) f 0 (countOf f)
+  pub whole : f ≡ take (rowStart (widthOf f) (countOf f)) f ++ bodies (widthOf f) f 0 (countOf f)
 
 -- of every file that passes
 abbrev pub BodiesLaid : Type 0

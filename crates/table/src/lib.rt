@@ -8,21 +8,24 @@ use answers::Checked;
 use answers::Refusal;
 use answers::RowCheck;
 use row::EDITION;
+use row::NEWEST;
 use row::count;
 use row::get16;
 use row::get32;
 use row::row_size;
 use row::row_start;
+use row::width;
 use rules::body_start;
 use rules::check_row;
+use rules::outside;
 ghost use mathlib.Core.Path.{_≡_};
 ghost use Rattle.table.specs.Answers.{answer, checkedAnswer};
-ghost use Rattle.table.specs.Check.{headNumber, rowsFrom, checkAs, checkFile};
+ghost use Rattle.table.specs.Check.{headNumber, rowsFrom, checkBetween, checkAs, checkFile};
 ghost use Rattle.table.specs.Inside.{TableIn};
 
-// 20 to 24; e is the edition that is wanted.
-pub fn check_head(e: u16, f: &[u8]) -> Checked
-    ensures { λ r. ⌜ checkedAnswer r ≡ answer (headNumber e (now (f .entry))) 0 ⌝ }
+// 20 to 24; the editions from low to high are taken.
+pub fn check_head(low: u16, high: u16, f: &[u8]) -> Checked
+    ensures { λ r. ⌜ checkedAnswer r ≡ answer (headNumber low high (now (f .entry))) 0 ⌝ }
 {
     if f.len() < 8 {
         return Checked::Refused(Refusal::Size);
@@ -30,7 +33,8 @@ pub fn check_head(e: u16, f: &[u8]) -> Checked
     if 1048576 < f.len() {
         return Checked::Refused(Refusal::Size);
     }
-    if get16(f, 0) != e {
+    let e = get16(f, 0);
+    if outside(low, high, e) {
         return Checked::Refused(Refusal::Edition);
     }
     let n = count(f);
@@ -67,20 +71,27 @@ fn check_rows(w: usize, f: &[u8], n: usize) -> Checked
     Checked::Passed
 }
 
+// The full check of a file of one of the editions from low to high.
+pub fn check_between(low: u16, high: u16, f: &[u8]) -> Checked
+    ensures { λ r. ⌜ checkedAnswer r ≡ checkBetween low high (now (f .entry)) ⌝ }
+{
+    let head = check_head(low, high, f);
+    let Checked::Passed = head else {
+        return head;
+    };
+    check_rows(width(f), f, count(f))
+}
+
 // The full check of a file of edition e.
 pub fn check_as(e: u16, f: &[u8]) -> Checked
     ensures { λ r. ⌜ checkedAnswer r ≡ checkAs e (now (f .entry)) ⌝ }
 {
-    let head = check_head(e, f);
-    let Checked::Passed = head else {
-        return head;
-    };
-    check_rows(row_size(e), f, count(f))
+    check_between(e, e, f)
 }
 
 // The full check of a shift file: numbers 20 to 31, and 34.
 pub fn check(file: &[u8]) -> Checked
     ensures { λ r. ⌜ checkedAnswer r ≡ checkFile (now (file .entry)) ⌝ }
 {
-    check_as(EDITION, file)
+    check_between(EDITION, NEWEST, file)
 }

@@ -7,7 +7,7 @@ ghost use Rattle.words.specs.Bytes.{word};
 ghost use Rattle.words.specs.Blocks.{wide};
 ghost use Rattle.cipher.specs.Cipher.{nonceOf};
 ghost use Rattle.table.specs.Part.{PartOf};
-ghost use Rattle.table.specs.Format.{countOf, rowSize, rowStart, restStart, rowAt, nonceStart, nonceAt, padded, bodyEnd};
+ghost use Rattle.table.specs.Format.{countOf, rowSize, widthOf, rowStart, restStart, rowAt, stationOf, nonceStart, nonceAt, padded, bodyEnd};
 ghost use Rattle.table.specs.Inside.{RowIn};
 
 // A row without its nonce: ad, at and len are associated data length, body offset and message length.
@@ -44,14 +44,24 @@ pub fn count(f: &[u8]) -> usize
     get16(f, 2) as usize
 }
 
-// The edition of a shift file.
+// The first edition of a shift file, which the writer makes, and the newest; readers take both.
 pub const EDITION: u16 = 1;
+
+pub const NEWEST: u16 = 2;
 
 // The bytes of a row, in edition e.
 pub fn row_size(e: u16) -> usize
     ensures { λ r. ⌜ r ≡ rowSize e ⌝ }
 {
-    32
+    if e == NEWEST { 36 } else { 32 }
+}
+
+// The bytes of a row, in the file's own edition.
+pub fn width(f: &[u8]) -> usize
+    requires { ⌜ 8 ≤ length (now f) ⌝ }
+    ensures { λ r. ⌜ r ≡ widthOf (now (f .entry)) ⌝ }
+{
+    row_size(get16(f, 0))
 }
 
 // Where row i starts; of n rows, where the bodies do: row_start(w, n).
@@ -62,8 +72,8 @@ pub fn row_start(w: usize, i: usize) -> usize
     8 + w * i
 }
 
-// Where the rest of row i starts, after the job number.
-fn rest_start(w: usize, i: usize) -> usize
+// Where the rest of row i starts, after job number and station.
+pub fn rest_start(w: usize, i: usize) -> usize
     requires { ⌜ (28 ≤ w) × (rowStart w i + w < 0x1_0000_0000_0000_0000) ⌝ }
     ensures { λ r. ⌜ (r ≡ restStart w i) × (r + 28 ≡ rowStart w i + w) ⌝ }
 {
@@ -85,6 +95,18 @@ pub fn row_at(w: usize, f: &[u8], i: usize) -> Row
         at: get32(f, q + 4),
         len: get32(f, q + 8),
     }
+}
+
+// The station of row i of a shift file; 0 where its edition has none.
+pub fn station_of(f: &[u8], i: usize) -> u32
+    requires { ⌜ RowIn (widthOf (now f)) (now f) i ⌝ }
+    ensures { λ r. ⌜ r ≡ stationOf (now (f .entry)) i ⌝ }
+{
+    let w = width(f);
+    if w == 32 {
+        return 0;
+    }
+    get32(f, row_start(w, i) + 4)
 }
 
 // Another suite for row i.

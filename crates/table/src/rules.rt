@@ -32,7 +32,7 @@ fn not_above(w: usize, f: &[u8], n: usize, i: usize) -> bool
 }
 
 // x is outside low to high.
-fn outside(low: u16, high: u16, x: u16) -> bool
+pub(crate) fn outside(low: u16, high: u16, x: u16) -> bool
     ensures { λ r. ⌜ r ≡ outside low high x ⌝ }
 {
     if x < low {

@@ -39,7 +39,7 @@ open-can file ring out x q d = openable file ring out (ap (λ (y : Answer). y .n
 
 module _ (e : ℕ) (f : List ℕ) (p : Plain e) (z : checkAs e f .number ≡ 0) where
   pub header-in : 8 ≤ length f
-  header-in = passes e f z .head .long
+  header-in = passes e e f z .head .long
 
   pub rows-in : RowsIn f (countOf f)
   rows-in = record { entries = λ i l. entry-at e f p z i l }

@@ -10,7 +10,7 @@ use borrow.Rule.Slice.PartMut.{putMid}
 use Rattle.cipher.specs.Cipher.{Seals, sizeOf}
 use Rattle.comet.specs.Answers.{Sealed, Opened, openedAs}
 use Rattle.table.specs.declared.row.Row.{Row}
-use Rattle.table.specs.Format.{edition, rowSize, rowOf, bodyEnd}
+use Rattle.table.specs.Format.{widthOf, rowOf, bodyEnd}
 use Rattle.table.specs.Inside.{EntryIn}
 use Rattle.shift.specs.Opening.{entrySealing, entryOpening}
 use Rattle.draft.specs.Put.{put}
@@ -19,11 +19,11 @@ use Rattle.draft.specs.Answers.{tagRight}
 use Rattle.draft.proofs.Takes.{seal-done, open-done}
 
 -- a row's body lies in the file
-pub body-fits : (f : List ℕ) (i : ℕ) (r : Row) → EntryIn (rowSize edition) f i → r ≡ rowOf f i → r .at + r .ad + r .len + sizeOf (r .suite) ≤ length f
+pub body-fits : (f : List ℕ) (i : ℕ) (r : Row) → EntryIn (widthOf f) f i → r ≡ rowOf f i → r .at + r .ad + r .len + sizeOf (r .suite) ≤ length f
 unfolding bodyEnd
 body-fits f i r h q = rw q (h .body-in)
 
-module _ (f ring : List ℕ) (i : ℕ) (h : EntryIn (rowSize edition) f i) (g : length ring ≡ 256) where
+module _ (f ring : List ℕ) (i : ℕ) (h : EntryIn (widthOf f) f i) (g : length ring ≡ 256) where
   -- the sealer left text and tag
   pub seal-told : (r : Row) → r ≡ rowOf f i → Seals (r .suite) → (m : ℕ) (x y out tag : List ℕ) → length out ≡ r .len → length tag ≡ sizeOf (r .suite)
       → _≡_ {A = Sealed} (record { number = m; out = x; tag = y }) (entrySealing f ring i out tag)

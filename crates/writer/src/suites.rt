@@ -3,7 +3,7 @@ use crate::answers::Written;
 use shift::lend::row_of;
 ghost use mathlib.Core.Path.{_≡_};
 ghost use mathlib.Core.Bool.{not};
-ghost use Rattle.table.specs.Format.{edition, rowSize};
+ghost use Rattle.table.specs.Format.{widthOf};
 ghost use Rattle.table.specs.Inside.{EntryIn};
 ghost use Rattle.draft.specs.Answers.{rowRetired, retiredFrom};
 ghost use Rattle.writer.specs.Answers.{writtenAnswer};
@@ -11,7 +11,7 @@ ghost use Rattle.writer.specs.Inside.{RowsIn};
 
 // Whether the suite of row i seals.
 fn row_seals(f: &[u8], i: usize) -> bool
-    requires { ⌜ EntryIn (rowSize edition) (now f) i ⌝ }
+    requires { ⌜ EntryIn (widthOf (now f)) (now f) i ⌝ }
     ensures { λ r. ⌜ not r ≡ rowRetired (now (f .entry)) i ⌝ }
 {
     let row = row_of(f, i);

@@ -5,7 +5,7 @@ use table::body::tag_of;
 use words::runs::all_zero;
 ghost use mathlib.Core.Path.{_≡_};
 ghost use mathlib.Core.Bool.{not};
-ghost use Rattle.table.specs.Format.{edition, rowSize};
+ghost use Rattle.table.specs.Format.{widthOf};
 ghost use Rattle.table.specs.Inside.{EntryIn};
 ghost use Rattle.draft.specs.Answers.{tagSet, setFrom};
 ghost use Rattle.writer.specs.Answers.{writtenAnswer};
@@ -13,7 +13,7 @@ ghost use Rattle.writer.specs.Inside.{RowsIn};
 
 // Whether the tag of row i is all zero.
 fn tag_zero(f: &[u8], i: usize) -> bool
-    requires { ⌜ EntryIn (rowSize edition) (now f) i ⌝ }
+    requires { ⌜ EntryIn (widthOf (now f)) (now f) i ⌝ }
     ensures { λ r. ⌜ not r ≡ tagSet (now (f .entry)) i ⌝ }
 {
     all_zero(tag_of(f, row_of(f, i)))

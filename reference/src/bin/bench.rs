@@ -15,7 +15,7 @@ use std::time::{Duration, Instant};
 
 const SIZES: [usize; 4] = [0, 64, 1_024, 65_536];
 const BATCH: Duration = Duration::from_micros(300);
-/// The proved library, the reference and the plain C; for suite 1 the plain C also with AES by four tables.
+/// The proved library, the reference and the plain C; for suites 1 and 5 the plain C also with AES by four tables.
 const LIBRARIES: [Library; 3] = [PROVED, REFERENCE, PLAIN];
 const BY_TABLES: [Library; 3] = [PROVED, REFERENCE, COLUMNS];
 
@@ -103,7 +103,7 @@ fn growth(repetitions: usize, shorter: &Call, longer: &Call) -> f64 {
 
 /// As many messages of a size under one suite as a file has room for, at most 512.
 fn plan(random: &mut Random, suite: u8, size: usize) -> Plan {
-    let rows = ((shift::LONGEST - shift::HEADER) / (shift::ROW + 5 + size + 16)).min(shift::MOST_ROWS);
+    let rows = ((shift::LONGEST - shift::HEADER) / (shift::row_size(1) + 5 + size + 16)).min(shift::MOST_ROWS);
     let entry = |job| Entry::new(job as u32, suite, 0, 1, random.array(), &vec![0; size]);
     Plan::new((0..rows).map(entry).collect())
 }
@@ -211,7 +211,7 @@ fn main() {
         let both = [("seal", calls.clone()), ("open", calls.map(|call| call.reopened()))];
         for (what, calls) in both.into_iter().skip(is_retired(suite) as usize) {
             missed.extend(measure_sizes(repetitions, what, &calls, &LIBRARIES, &[(1, 0.9), (2, 1.0), (3, 1.0)]));
-            if suite == 1 {
+            if [1, 5].contains(&suite) {
                 let what = format!("{what}, C by tables");
                 missed.extend(measure_sizes(repetitions, &what, &calls, &BY_TABLES, &[(2, 1.0), (3, 1.0)]));
             }

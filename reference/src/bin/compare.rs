@@ -5,7 +5,7 @@
 
 use reference::bridge::PROVED;
 use reference::calls::{Case, Library, REFERENCE};
-use reference::data::{cases, comparing, files, resealing, searching, sessions, writing};
+use reference::data::{amending, cases, comparing, files, moving, resealing, searching, sessions, writing};
 use reference::linked::{COLUMNS, PLAIN};
 use reference::random::Random;
 use reference::show::hex;
@@ -76,7 +76,7 @@ fn compare_files(tally: &mut Tally, random: &mut Random) {
     files::calls().iter().for_each(|call| tally.all(call));
     tally.report("the calls of the program files");
     trials::single_bytes(|call| tally.all(call));
-    tally.report("every single-byte damage of two small files");
+    tally.report("every single-byte damage of three small files");
     trials::shift_files(random, 60_000, |call| tally.all(call));
     tally.report("random shift files, good and edited");
     trials::long_files(random, |call| tally.all(call));
@@ -130,6 +130,24 @@ fn compare_compare(tally: &mut Tally, random: &mut Random) {
     tally.report("pairs of the longest files");
 }
 
+fn compare_moves(tally: &mut Tally, random: &mut Random) {
+    moving::calls().iter().for_each(|call| tally.proved(call));
+    tally.report("the calls of the program moving");
+    moving::trials(random, 10_000, |call| tally.proved(call));
+    tally.report("random files moved, good and edited");
+    moving::longest(|call| tally.proved(call));
+    tally.report("moves around the longest file");
+}
+
+fn compare_amendments(tally: &mut Tally, random: &mut Random) {
+    amending::calls().iter().for_each(|call| tally.proved(call));
+    tally.report("the calls of the program amending");
+    amending::trials(random, 10_000, |call| tally.proved(call));
+    tally.report("random amendments, good and edited");
+    amending::longest(|call| tally.proved(call));
+    tally.report("amendments with the longest file");
+}
+
 fn main() {
     let seed = std::env::args().nth(1).map_or(2026, |seed| seed.parse().expect("SEED is a number"));
     let mut tally = Tally::default();
@@ -141,6 +159,8 @@ fn main() {
     compare_search(&mut tally, &mut random);
     compare_reseal(&mut tally, &mut random);
     compare_compare(&mut tally, &mut random);
+    compare_moves(&mut tally, &mut random);
+    compare_amendments(&mut tally, &mut random);
     println!("{} cases, {} differences", tally.cases, tally.differences);
     if tally.differences > 0 {
         std::process::exit(1);

@@ -20,14 +20,18 @@ pub fn sealing(random: &mut Random, suite: u8, ad: usize, message: usize) -> Cal
 }
 
 /// Pairs of lengths: each of 0 to 3 blocks + 1 alone and with one of the other that walks through all;
-/// and, of one suite for each block size, all pairs up to a block + 1.
+/// and, of one suite for each block size and version, all pairs up to a block + 1 (of suite 5 some of them).
 fn lengths(suite: u8) -> Vec<(usize, usize)> {
     let block = block_size(suite);
     let all = 3 * block + 2;
-    let paired = if suite % 2 == 1 { block + 2 } else { 0 };
+    let paired: Vec<usize> = match suite {
+        1 | 3 | 6 => (0..block + 2).collect(),
+        5 => vec![0, 1, block - 1, block, block + 1, 2 * block, 2 * block + 1],
+        _ => vec![],
+    };
     let alone = (0..all).flat_map(|i| [(i, 0), (0, i)]);
     let walks = (0..all).flat_map(|i| [(i, (7 * i + 3) % all), ((11 * i + 5) % all, i)]);
-    let pairs = (0..paired).flat_map(|ad| (0..paired).map(move |message| (ad, message)));
+    let pairs = paired.iter().flat_map(|ad| paired.iter().map(move |message| (*ad, *message)));
     alone.chain(walks).chain(pairs).collect()
 }
 
@@ -90,7 +94,7 @@ pub fn fault(call: &mut Call, number: u32, turn: usize) {
     let resize = |bytes: &mut Vec<u8>, lengths: &[usize]| bytes.resize(other(bytes.len(), lengths), FILLER);
     let block = block_size(call.suite);
     match number {
-        1 => call.suite = [0, 5, 255, 6, 128][turn % 5],
+        1 => call.suite = [0, 7, 255, 8, 128][turn % 5],
         2 => resize(&mut call.key, &[15, 17, 0, 1, 8, 32, 40]),
         3 => resize(&mut call.nonce, &[15, 16, 14, 17, 0, 8, 40]),
         4 => call.ad = vec![0; LIMIT + 1],

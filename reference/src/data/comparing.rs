@@ -152,6 +152,26 @@ fn bodies(_: &mut Random) -> Vec<CompareCall> {
     calls
 }
 
+/// The editions beside each other: edition 1 has station 0, and a station that differs is told.
+fn stations(_: &mut Random) -> Vec<CompareCall> {
+    let plain = of_jobs(&[10, 11, 12]);
+    let (one, mut other) = (plain.in_edition(2), plain.in_edition(2));
+    (other.entries[0].station, other.entries[2].station) = (1, 0x8000_0000);
+    let mut third = other.clone();
+    third.entries[0].station = 0x0100_0001;
+    let pairs: [(&Plan, &Plan, &[u32]); 8] = [
+        (&plain, &one, &[]),
+        (&one, &plain, &[]),
+        (&one, &one, &[]),
+        (&plain, &other, &[10, 12]),
+        (&other, &plain, &[10, 12]),
+        (&other, &other, &[]),
+        (&one, &other, &[10, 12]),
+        (&other, &third, &[10]),
+    ];
+    pairs.iter().flat_map(|(first, second, jobs)| listed(first, second, [&[], &[], jobs])).collect()
+}
+
 /// As many rows as there can be: the same, interleaved, and all different.
 fn full_tables(_: &mut Random) -> Vec<CompareCall> {
     let plan = files::many_rows_plan(512);
@@ -162,7 +182,9 @@ fn full_tables(_: &mut Random) -> Vec<CompareCall> {
     }
     different.entries.iter_mut().for_each(|entry| entry.ad[4] = 2);
     let files = [&plan, &interleaved, &different].map(|plan| plan.file(&samples::ring()));
+    let wide = different.in_edition(2).file(&samples::ring());
     let calls = [
+        call(wide, files[2].clone(), [0, 0, 511]),
         call(files[0].clone(), files[0].clone(), [0, 0, 0]),
         call(files[0].clone(), files[1].clone(), [512, 512, 0]),
         call(files[1].clone(), files[0].clone(), [511, 512, 0]),
@@ -170,13 +192,13 @@ fn full_tables(_: &mut Random) -> Vec<CompareCall> {
         call(files[2].clone(), files[0].clone(), [0, 1, 511]),
     ];
     let numbers = calls.each_ref().map(|call| call.answer(&REFERENCE).answer.number);
-    assert_eq!(numbers, [0, 0, 36, 0, 36]);
+    assert_eq!(numbers, [0, 0, 0, 36, 0, 36]);
     calls.to_vec()
 }
 
 /// A file with the fault of one number of the check, in row 1 where the number has one.
-fn faulty(number: u32) -> Vec<u8> {
-    let mut plan = files::three_rows();
+fn faulty(edition: usize, number: u32) -> Vec<u8> {
+    let mut plan = files::three_rows().in_edition(edition);
     if number > 20 {
         files::fault(&mut plan, number, 1);
     }
@@ -194,9 +216,9 @@ fn refused(_: &mut Random) -> Vec<CompareCall> {
     let mut calls = vec![];
     for (number, other) in numbers.clone().zip(numbers.cycle().skip(5)) {
         let row = |number: u32| files::OF_ROWS.contains(&number) as u32;
-        calls.push(expected(call(faulty(number), good.clone(), [2, 1, 0]), number, 1, row(number)));
-        calls.push(expected(call(good.clone(), faulty(number), [0, 0, 3]), number, 2, row(number)));
-        calls.push(expected(call(faulty(number), faulty(other), [1, 1, 1]), number, 1, row(number)));
+        calls.push(expected(call(faulty(1, number), good.clone(), [2, 1, 0]), number, 1, row(number)));
+        calls.push(expected(call(good.clone(), faulty(1, number), [0, 0, 3]), number, 2, row(number)));
+        calls.push(expected(call(faulty(2, number), faulty(1, other), [1, 1, 1]), number, 1, row(number)));
     }
     let draft = files::three_rows().draft();
     calls.push(expected(call(draft.clone(), vec![], [1, 1, 1]), 21, 1, 0));
@@ -240,7 +262,7 @@ fn random_call(random: &mut Random) -> CompareCall {
     let first = files::random_plan(random, rows, 30);
     let second = if random.below(6) == 0 { files::random_plan(random, rows, 30) } else { neighbour(random, &first) };
     let places = [0; 3].map(|_| if random.below(6) == 0 { random.below(3) } else { 3 + random.below(8) });
-    let mut files = [first, second].map(|plan| plan.file(&samples::ring()));
+    let mut files = [first, second].map(|plan| plan.in_edition(1 + random.below(2)).file(&samples::ring()));
     if random.below(2) == 0 {
         files.swap(0, 1);
     }
@@ -250,7 +272,7 @@ fn random_call(random: &mut Random) -> CompareCall {
 /// All calls of the program.
 pub fn calls() -> Vec<CompareCall> {
     let mut random = Random::new(13);
-    let groups = [jobs, differing, bodies, full_tables, refused, random_files];
+    let groups = [jobs, differing, bodies, stations, full_tables, refused, random_files];
     groups.into_iter().flat_map(|group| group(&mut random)).collect()
 }
 

@@ -5,7 +5,7 @@ use crate::calls::{Case, FileCall, REFERENCE};
 use crate::comet::{block_size, fitting_tag, nonce_size, LIMIT, SUITES};
 use crate::plan::{row_at, Entry, Plan};
 use crate::random::Random;
-use crate::shift;
+use crate::shift::{self, fields_at, EDITIONS};
 
 fn call(file: Vec<u8>, job: u32, out: usize) -> FileCall {
     FileCall { file, ring: samples::ring(), job, out }
@@ -21,17 +21,23 @@ fn expected(file: Vec<u8>, number: u32, row: usize) -> FileCall {
 
 /// Document 01's smallest file with a row: job 7, suite 3, key 0, unit 1, no message, zero nonce.
 pub fn smallest() -> Vec<u8> {
-    Plan::new(vec![Entry::new(7, 3, 0, 1, [0; 16], b"")]).file(&samples::ring())
+    smallest_plan().file(&samples::ring())
 }
 
-/// A small good file of three rows under suites 3, 1 and 4: jobs 10, 20 and 30.
+pub fn smallest_plan() -> Plan {
+    Plan::new(vec![Entry::new(7, 3, 0, 1, [0; 16], b"")])
+}
+
+/// A small good file of three rows under suites 3, 1 and 4: jobs 10, 20 and 30; two of them have a station.
 pub fn three_rows() -> Plan {
     let mut random = Random::new(6);
-    Plan::new(vec![
+    let mut plan = Plan::new(vec![
         Entry::new(10, 3, 1, 1, random.array(), b"ten"),
         Entry::new(20, 1, 2, 2, random.array(), b"20 "),
         Entry::new(30, 4, 15, 1, random.array(), b"thirty jobs"),
-    ])
+    ]);
+    (plan.entries[1].station, plan.entries[2].station) = (300, 0xff00_0000);
+    plan
 }
 
 /// The worked values, and the lengths 0 to 8 of a file.
@@ -39,21 +45,25 @@ fn worked(_: &mut Random) -> Vec<FileCall> {
     let empty = Plan::new(vec![]).file(&[]);
     assert_eq!(empty, [1, 0, 0, 0, 8, 0, 0, 0]);
     let mut calls: Vec<FileCall> = (0..=8).map(|length| call(empty[..length].to_vec(), 7, 0)).collect();
-    for job in [7, 0, 6, 8] {
-        calls.push(call(smallest(), job, 0));
-    }
-    for (job, out) in [(10, 3), (20, 3), (30, 11), (11, 3)] {
-        calls.push(call(three_rows().file(&samples::ring()), job, out));
+    calls.push(call(vec![2, 0, 0, 0, 8, 0, 0, 0], 7, 0));
+    for edition in EDITIONS {
+        for job in [7, 0, 6, 8] {
+            calls.push(call(smallest_plan().in_edition(edition).file(&samples::ring()), job, 0));
+        }
+        for (job, out) in [(10, 3), (20, 3), (30, 11), (11, 3)] {
+            calls.push(call(three_rows().in_edition(edition).file(&samples::ring()), job, out));
+        }
     }
     calls
 }
 
-/// Many rows without messages, job 10 i in row i.
+/// Many rows without messages, job 10 i and station i in row i.
 pub fn many_rows_plan(rows: usize) -> Plan {
     let entry = |i: usize| {
         let mut nonce = [0; 16];
         nonce[..2].copy_from_slice(&(i as u16).to_le_bytes());
-        Entry::new(10 * i as u32, 3 + (i % 2) as u8, (i % 16) as u8, 1, nonce, b"")
+        let station = i as u32;
+        Entry { station, ..Entry::new(10 * i as u32, 3 + (i % 2) as u8, (i % 16) as u8, 1, nonce, b"") }
     };
     Plan::new((0..rows).map(entry).collect())
 }
@@ -66,22 +76,35 @@ pub fn many_rows(rows: usize) -> Vec<u8> {
 fn full_tables(_: &mut Random) -> Vec<FileCall> {
     let mut clash = many_rows(40);
     clash.copy_within(row_at(1) + 16..row_at(1) + 32, row_at(33) + 16);
-    vec![call(many_rows(512), 5110, 0), expected(many_rows(513), 22, 0), expected(clash, 29, 33)]
+    let [full, over] = [512, 513].map(|rows| many_rows_plan(rows).in_edition(2).file(&samples::ring()));
+    vec![
+        call(many_rows(512), 5110, 0),
+        expected(many_rows(513), 22, 0),
+        expected(clash, 29, 33),
+        call(full, 5110, 0),
+        expected(over, 22, 0),
+    ]
 }
 
 /// A good file of exactly the longest length, job i + 1 in row i, whose ciphertexts are zeros.
 pub fn longest() -> Vec<u8> {
+    long_file(1, shift::LONGEST)
+}
+
+/// The same of another edition (no row has a station), or a little shorter.
+pub fn long_file(edition: usize, length: usize) -> Vec<u8> {
     let rows = 16;
     let ring = samples::ring();
     let mut table = vec![];
     let mut bodies: Vec<u8> = vec![];
     for i in 0..rows {
-        let (job, suite, key) = (i as u32 + 1, 1 + (i % 4) as u8, i as u8);
+        let (job, suite, key) = (i as u32 + 1, SUITES[i % SUITES.len()], i as u8);
         let Entry { ad, nonce, .. } = Entry::new(job, suite, key, 2, [key; 16], b"");
-        let offset = row_at(rows) + bodies.len();
-        let room = shift::LONGEST - offset - ad.len() - block_size(suite);
+        let offset = shift::row_at(edition, rows) + bodies.len();
+        let room = length - offset - ad.len() - block_size(suite);
         let text = vec![0; if i + 1 < rows { LIMIT } else { room }];
         table.extend(job.to_le_bytes());
+        table.resize(fields_at(edition, i) - shift::HEADER, 0);
         table.extend([suite, key, ad.len() as u8, 0]);
         table.extend((offset as u32).to_le_bytes());
         table.extend((text.len() as u32).to_le_bytes());
@@ -90,7 +113,7 @@ pub fn longest() -> Vec<u8> {
         let tag = fitting_tag(suite, key, &nonce[..nonce_size(suite)], &ad, &text);
         bodies.extend([ad, text, tag].concat());
     }
-    let header = [&[1, 0, rows as u8, 0][..], &(shift::LONGEST as u32).to_le_bytes()].concat();
+    let header = [&[edition as u8, 0, rows as u8, 0][..], &(length as u32).to_le_bytes()].concat();
     [header, table, bodies].concat()
 }
 
@@ -117,7 +140,7 @@ pub fn fault(plan: &mut Plan, number: u32, row: usize) {
     let Entry { suite, key, nonce, .. } = plan.entries[0];
     let entry = &mut plan.entries[row];
     match number {
-        21 => plan.edition = Some(2),
+        21 => plan.edition = Some(3),
         22 => plan.count = Some(513),
         23 => plan.longer = 1,
         24 => plan.count = plan.count.or(Some(512)),
@@ -125,14 +148,14 @@ pub fn fault(plan: &mut Plan, number: u32, row: usize) {
             entry.job = previous;
             entry.ad[..4].copy_from_slice(&previous.to_le_bytes());
         }
-        26 => plan.patches.push((row_at(row) + 5, 16)),
+        26 => entry.key |= 16,
         27 => entry.ad.truncate(4),
         28 => plan.gaps.push(row),
         29 => {
             if entry.suite != suite {
                 entry.nonce[15] = 0;
             }
-            (entry.suite, entry.key) = (suite, key);
+            (entry.suite, entry.key) = (suite, key | entry.key & 16);
             entry.nonce[..15].copy_from_slice(&nonce[..15]);
         }
         30 => entry.ad[3] ^= 1,
@@ -156,7 +179,10 @@ fn refused(_: &mut Random) -> Vec<FileCall> {
         for (number, row) in faults {
             fault(&mut plan, *number, *row);
         }
-        calls.push(expected(plan.file(&ring), number, if OF_ROWS.contains(&number) { row } else { 0 }));
+        for edition in EDITIONS {
+            let file = plan.in_edition(edition).file(&ring);
+            calls.push(expected(file, number, if OF_ROWS.contains(&number) { row } else { 0 }));
+        }
     };
     for number in [21, 23, 31] {
         add(&[(number, 0)], number, 0);
@@ -186,9 +212,18 @@ fn patched(file: &[u8], at: usize, bytes: &[u8]) -> Vec<u8> {
     file
 }
 
-/// The kinds of the header's numbers that `fault` does not choose.
+/// The kinds of the header's numbers that `fault` does not choose; and each edition's file under the other's name.
 fn header_kinds(_: &mut Random) -> Vec<FileCall> {
-    let file = three_rows().file(&samples::ring());
+    let mut calls = vec![];
+    for edition in EDITIONS {
+        let file = three_rows().in_edition(edition).file(&samples::ring());
+        calls.push(call(patched(&file, 0, &[3 - edition as u8]), 20, 3));
+        calls.extend(headers(file));
+    }
+    calls
+}
+
+fn headers(file: Vec<u8>) -> Vec<FileCall> {
     let length = (file.len() as u32 - 1).to_le_bytes();
     let kinds: [(u32, usize, &[u8]); 8] = [
         (21, 0, &[0]),
@@ -205,27 +240,31 @@ fn header_kinds(_: &mut Random) -> Vec<FileCall> {
 
 /// The kinds of a row's numbers that `fault` does not choose, in row 1 and in its body.
 fn row_kinds(_: &mut Random) -> Vec<FileCall> {
-    let file = three_rows().file(&samples::ring());
-    let at = row_at(1);
-    let body = u32::from_le_bytes(file[at + 8..at + 12].try_into().unwrap());
+    EDITIONS.into_iter().flat_map(row_kinds_in).collect()
+}
+
+fn row_kinds_in(edition: usize) -> Vec<FileCall> {
+    let file = three_rows().in_edition(edition).file(&samples::ring());
+    let (row, at) = (shift::row_at(edition, 1), fields_at(edition, 1));
+    let body = u32::from_le_bytes(file[at + 4..at + 8].try_into().unwrap());
     let numbers = |number: u32, place: usize, values: &[u32]| -> Vec<FileCall> {
-        let width = if place == 6 { 2 } else { 4 };
-        let patch = |value: &u32| expected(patched(&file, at + place, &value.to_le_bytes()[..width]), number, 1);
+        let width = if place == at + 2 { 2 } else { 4 };
+        let patch = |value: &u32| expected(patched(&file, place, &value.to_le_bytes()[..width]), number, 1);
         values.iter().map(patch).collect()
     };
     let bytes = |number: u32, at: usize, values: &[u8]| -> Vec<FileCall> {
         values.iter().map(|value| expected(patched(&file, at, &[*value]), number, 1)).collect()
     };
     [
-        numbers(25, 0, &[0, 9]),
-        bytes(26, at + 4, &[0, 5, 255]),
-        bytes(26, at + 5, &[255]),
-        numbers(27, 6, &[0, 4, 1025, 0xffff]),
-        numbers(27, 12, &[LIMIT as u32 + 1, u32::MAX]),
-        numbers(28, 6, &[1024]),
-        numbers(28, 8, &[0, body - 1, body + 1, u32::MAX]),
-        numbers(28, 12, &[LIMIT as u32]),
-        numbers(30, 0, &[21, 20 + (1 << 31)]),
+        numbers(25, row, &[0, 9]),
+        bytes(26, at, &[0, 7, 255]),
+        bytes(26, at + 1, &[255]),
+        numbers(27, at + 2, &[0, 4, 1025, 0xffff]),
+        numbers(27, at + 8, &[LIMIT as u32 + 1, u32::MAX]),
+        numbers(28, at + 2, &[1024]),
+        numbers(28, at + 4, &[0, body - 1, body + 1, u32::MAX]),
+        numbers(28, at + 8, &[LIMIT as u32]),
+        numbers(30, row, &[21, 20 + (1 << 31)]),
         (0..4).flat_map(|place| bytes(30, body as usize + place, &[21])).collect(),
         bytes(30, body as usize + 4, &[0, 3, 255]),
     ]
@@ -247,6 +286,12 @@ fn ends(_: &mut Random) -> Vec<FileCall> {
         calls.push(expected(cut(&smallest(), length), 24, 0));
     }
     calls.push(expected(cut(&smallest(), 40), 28, 0));
+    let wide = smallest_plan().in_edition(2).file(&samples::ring());
+    for length in [8, 40, 43] {
+        calls.push(expected(cut(&wide, length), 24, 0));
+    }
+    calls.push(expected(cut(&wide, 44), 28, 0));
+    calls.push(expected(vec![2, 0, 0, 0, 9, 0, 0, 0, 0], 31, 0));
     calls.push(expected(vec![1, 0, 0, 0, 9, 0, 0, 0, 0], 31, 0));
     calls.push(expected(vec![1, 0, 0, 0, 8, 0, 0, 0, 0], 23, 0));
     calls
@@ -256,17 +301,19 @@ fn ends(_: &mut Random) -> Vec<FileCall> {
 /// different suites.
 fn just_good(_: &mut Random) -> Vec<FileCall> {
     let mut entries = vec![];
-    for (job, suite) in [(0, 3), (1, 1), (0x8000_0000, 4), (0xffff_ffff, 2)] {
+    for (job, suite) in [(0, 3), (1, 1), (3, 5), (0x7fff_ffff, 6), (0x8000_0000, 4), (0xffff_ffff, 2)] {
         entries.push(Entry::new(job, suite, 15, 2, [9; 16], b"edge"));
     }
-    entries[3].ad.resize(1024, 0);
-    let file = Plan::new(entries).file(&samples::ring());
-    [0, 1, 2, 0x8000_0000, 0xffff_ffff].into_iter().map(|job| call(file.clone(), job, 4)).collect()
+    entries[5].ad.resize(1024, 0);
+    entries[3].station = u32::MAX;
+    let files = EDITIONS.map(|edition| Plan::new(entries.clone()).in_edition(edition).file(&samples::ring()));
+    let jobs = [0, 1, 2, 3, 0x7fff_ffff, 0x8000_0000, 0xffff_ffff];
+    files.iter().flat_map(|file| jobs.map(|job| call(file.clone(), job, 4))).collect()
 }
 
 /// Two rows, each of suite, key number, sixteenth nonce byte, with fifteen equal nonce bytes before it, and what the
 /// check gives (document 02, W5). The first is the auditor's file.
-const PAIRS: [([(u8, u8, u8); 2], u32, usize); 14] = [
+const PAIRS: [([(u8, u8, u8); 2], u32, usize); 21] = [
     ([(3, 0, 0), (3, 0, 1)], 34, 1),
     ([(3, 0, 1), (3, 0, 0)], 34, 0),
     ([(3, 0, 1), (3, 0, 2)], 34, 0),
@@ -281,6 +328,13 @@ const PAIRS: [([(u8, u8, u8); 2], u32, usize); 14] = [
     ([(1, 0, 7), (1, 15, 7)], 0, 0),
     ([(1, 0, 7), (2, 0, 7)], 0, 0),
     ([(1, 0, 0), (3, 0, 0)], 0, 0),
+    ([(6, 0, 0), (6, 0, 1)], 34, 1),
+    ([(6, 3, 0), (6, 3, 0)], 29, 1),
+    ([(3, 0, 0), (6, 0, 0)], 0, 0),
+    ([(5, 0, 0), (5, 0, 1)], 0, 0),
+    ([(5, 0, 7), (5, 0, 7)], 29, 1),
+    ([(1, 0, 7), (5, 0, 7)], 0, 0),
+    ([(5, 1, 0), (6, 1, 0)], 0, 0),
 ];
 
 /// The nonce rule on pairs of rows, and with a row between them.
@@ -295,6 +349,8 @@ fn nonces(_: &mut Random) -> Vec<FileCall> {
         let (one, two) = (entry(10, rows[0]), entry(20, rows[1]));
         let between = Entry::new(15, 3, 0, 1, [8; 16], b"between");
         let apart = [one.clone(), between, two.clone()];
+        let wide = Plan::new(vec![one.clone(), two.clone()]).in_edition(2);
+        calls.push(expected(wide.file(&samples::ring()), number, row));
         calls.push(expected(Plan::new(vec![one, two]).file(&samples::ring()), number, row));
         calls.push(expected(Plan::new(apart.to_vec()).file(&samples::ring()), number, 2 * row));
         calls.push(call(calls[calls.len() - 2].file.clone(), 20, 5));
@@ -304,8 +360,13 @@ fn nonces(_: &mut Random) -> Vec<FileCall> {
 
 /// Opening: 32, 2, 6 and 8 in all their pairs, the earlier wins; and each thing that a tag covers.
 fn openings(_: &mut Random) -> Vec<FileCall> {
-    let good = call(three_rows().file(&samples::ring()), 20, 3);
-    let body = row_at(3) + 5 + 3 + 8;
+    EDITIONS.into_iter().flat_map(openings_in).collect()
+}
+
+fn openings_in(edition: usize) -> Vec<FileCall> {
+    let good = call(three_rows().in_edition(edition).file(&samples::ring()), 20, 3);
+    let body = shift::row_at(edition, 3) + 5 + 3 + 8;
+    let nonce = fields_at(edition, 1) + 12;
     let mut calls = vec![];
     for faults in 0..16 {
         let mut call = good.clone();
@@ -323,7 +384,7 @@ fn openings(_: &mut Random) -> Vec<FileCall> {
     for length in [0, 2, 65_540] {
         calls.push(FileCall { out: length, ..good.clone() });
     }
-    for place in [row_at(1) + 16, row_at(1) + 31, body + 4, body + 5, body + 7, body + 23] {
+    for place in [nonce, nonce + 15, body + 4, body + 5, body + 7, body + 23] {
         let mut call = good.clone();
         call.file[place] ^= 3;
         calls.push(call);
@@ -331,10 +392,17 @@ fn openings(_: &mut Random) -> Vec<FileCall> {
     let mut other_key = good.clone();
     other_key.ring[16 * 2 + 15] ^= 1;
     calls.push(other_key);
+    if edition == 2 {
+        // no tag covers the station
+        let mut elsewhere = good;
+        elsewhere.file[shift::row_at(2, 1) + 4] ^= 1;
+        assert_eq!(elsewhere.answer(&REFERENCE).open, (0, 0));
+        calls.push(elsewhere);
+    }
     calls
 }
 
-/// A good file of random entries.
+/// A good file of random entries, some of which have a station.
 pub fn random_plan(random: &mut Random, rows: usize, longest: usize) -> Plan {
     let mut job = random.below(100) as u32;
     let mut entries = vec![];
@@ -346,6 +414,7 @@ pub fn random_plan(random: &mut Random, rows: usize, longest: usize) -> Plan {
         let mut entry = Entry::new(job, suite, key, unit, random.array(), &message);
         let more = random.below(40);
         entry.ad.extend(random.bytes(more));
+        entry.station = [0, random.below(300) as u32][random.below(2)];
         entries.push(entry);
         job += 1 + random.below(1000) as u32;
     }
@@ -355,8 +424,8 @@ pub fn random_plan(random: &mut Random, rows: usize, longest: usize) -> Plan {
 /// Files of several rows, each job opened.
 fn good_files(random: &mut Random) -> Vec<FileCall> {
     let mut calls = vec![];
-    for rows in 1..=8 {
-        let plan = random_plan(random, rows, 150);
+    for (edition, rows) in EDITIONS.into_iter().flat_map(|edition| (1..=8).map(move |rows| (edition, rows))) {
+        let plan = random_plan(random, rows, 150).in_edition(edition);
         let file = plan.file(&samples::ring());
         for entry in &plan.entries {
             let call = call(file.clone(), entry.job, entry.message.len());
@@ -378,8 +447,9 @@ pub fn calls() -> Vec<FileCall> {
 }
 
 /// The calls whose files are damaged in every byte.
-pub fn damaged_calls() -> [FileCall; 2] {
-    [call(smallest(), 7, 0), call(three_rows().file(&samples::ring()), 20, 3)]
+pub fn damaged_calls() -> [FileCall; 3] {
+    let wide = smallest_plan().in_edition(2).file(&samples::ring());
+    [call(smallest(), 7, 0), call(three_rows().file(&samples::ring()), 20, 3), call(wide, 7, 0)]
 }
 
 /// The longest file that the program has room for; the comparison runs the longer ones.

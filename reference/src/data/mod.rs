@@ -1,8 +1,10 @@
 //! The data of the test programs and the samples, the same in every run.
 
+pub mod amending;
 pub mod cases;
 pub mod comparing;
 pub mod files;
+pub mod moving;
 pub mod resealing;
 pub mod samples;
 pub mod searching;
@@ -16,7 +18,7 @@ use crate::calls::{Case, REFERENCE};
 pub type Part = (&'static str, Vec<u8>);
 
 /// The folders of the repository that are written.
-pub const FOLDERS: [&str; 12] = [
+pub const FOLDERS: [&str; 15] = [
     "samples",
     "crates/vectors",
     "crates/cases",
@@ -29,6 +31,9 @@ pub const FOLDERS: [&str; 12] = [
     "crates/resealing",
     "crates/comparing",
     "crates/differ",
+    "crates/moving",
+    "crates/moves",
+    "crates/amending",
 ];
 
 /// What a test program reads and writes.
@@ -53,6 +58,9 @@ pub fn parts(folder: &str) -> Vec<Part> {
         "crates/resealing" => resealing::parts().to_vec(),
         "crates/comparing" => comparing::parts().to_vec(),
         "crates/differ" => comparing::differ_parts().to_vec(),
+        "crates/moving" => moving::parts().to_vec(),
+        "crates/moves" => moving::move_parts().to_vec(),
+        "crates/amending" => amending::parts().to_vec(),
         _ => unreachable!("no data for {folder}"),
     }
 }

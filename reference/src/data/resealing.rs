@@ -1,6 +1,6 @@
 //! The program `resealing`: files whose entries of suite 4 become suite 3.
 
-use super::writing::{call, expected, four_rows, Pass, RewriteCall, RewriteOutcome};
+use super::writing::{all_suites, call, expected, Pass, RewriteCall, RewriteOutcome};
 use super::{files, parts_of, samples, Part};
 use crate::calls::{Case, FILLER, REFERENCE};
 use crate::plan::{row_at, Entry, Plan};
@@ -35,7 +35,7 @@ fn of_suites(suites: &[u8]) -> Plan {
 fn good(random: &mut Random) -> Vec<RewriteCall> {
     let suites: [&[u8]; 7] = [&[], &[3], &[4], &[1, 2, 3, 1], &[4, 1, 4, 3, 4], &[4; 9], &[3, 4, 3, 4, 2, 4]];
     let mut plans: Vec<Plan> = suites.map(of_suites).to_vec();
-    plans.extend([files::three_rows(), four_rows(), files::many_rows_plan(512)]);
+    plans.extend([files::three_rows(), all_suites(), files::many_rows_plan(512)]);
     plans.extend((1..9).map(|rows| files::random_plan(random, rows, 60)));
     plans.iter().map(good_call).collect()
 }
@@ -125,6 +125,7 @@ fn refused_checks(_: &mut Random) -> Vec<RewriteCall> {
         let plan = Plan { edition: Some(edition), ..files::three_rows() };
         calls.push(expected(reseal(&plan), 21, 0));
     }
+    calls.push(expected(reseal(&files::three_rows().in_edition(2)), 21, 0));
     calls
 }
 

@@ -10,8 +10,8 @@ pub fn ring() -> Vec<u8> {
     Random::new(4).bytes(shift::RING)
 }
 
-/// Six jobs of a day: job, suite, key, unit, and the torque record that is sealed.
-const DAY: [(u32, u8, u8, u8, &str); 6] = [
+/// The jobs of a day: job, suite, key, unit, and the torque record that is sealed.
+const DAY: [(u32, u8, u8, u8, &str); 8] = [
     (
         4101,
         1,
@@ -24,7 +24,12 @@ const DAY: [(u32, u8, u8, u8, &str); 6] = [
     (4105, 4, 3, 2, "gearbox 4105 bolt 10-32 count 4 torque 31 32 31 31"),
     (4110, 3, 2, 1, ""),
     (4200, 1, 15, 1, "gearbox 4200 plug M22 count 1 torque 60.0, refitted after leak test"),
+    (4210, 5, 4, 1, "gearbox 4210 bolt M12x80 count 6 torque 84.1 84.0 84.3 84.2 84.0 84.1"),
+    (4211, 6, 5, 2, "gearbox 4211 bolt 5/16-24 count 3 torque 210 212 211"),
 ];
+
+/// The stations of the day, in its file of edition 2.
+const STATIONS: [u32; 8] = [207, 207, 207, 208, 0, 311, 207, 208];
 
 /// What stands in the associated data after the unit, where a station adds its name.
 const STATION: &[u8] = b"line 2 station 7";
@@ -41,11 +46,18 @@ fn entries() -> Vec<Entry> {
         }
         entry
     };
-    DAY.into_iter().map(entry).collect()
+    let mut entries: Vec<Entry> = DAY.into_iter().map(entry).collect();
+    entries.iter_mut().zip(STATIONS).for_each(|(entry, station)| entry.station = station);
+    entries
 }
 
 pub fn day() -> Vec<u8> {
     Plan::new(entries()).file(&ring())
+}
+
+/// The same day in edition 2, with its stations.
+pub fn stations() -> Vec<u8> {
+    Plan::new(entries()).in_edition(2).file(&ring())
 }
 
 /// The day as it was sent later: job 4105 is gone, 4111 and 4300 have come, 4102 has another record and 4200 another key.
@@ -65,13 +77,39 @@ pub fn later_day() -> Vec<u8> {
     Plan::new(entries).file(&ring())
 }
 
+/// What quality sent: jobs 4102 and 4110 anew, and a job that the day did not have.
+pub fn amendment() -> Vec<u8> {
+    let records = [
+        (
+            4102,
+            2,
+            "gearbox 4102 bolt M8x40 count 8 torque 25.0 25.1 25.0 25.2 25.0 25.0 25.1 25.0, bolts 1 5 8 retorqued",
+        ),
+        (4110, 3, "gearbox 4110 bolt M6x20 count 2 torque 9.8 9.9, entered by hand"),
+        (4220, 5, "gearbox 4220 plug M22 count 1 torque 60.2"),
+    ];
+    let mut random = Random::new(16);
+    let entry = |(job, suite, record): (u32, u8, &str)| {
+        let mut entry = Entry::new(job, suite, 7, 1, random.array(), record.as_bytes());
+        entry.ad.extend(b"quality");
+        entry
+    };
+    Plan::new(records.into_iter().map(entry).collect()).file(&ring())
+}
+
 /// The day before it was sealed, but for the job of suite 4.
 pub fn draft() -> Vec<u8> {
     Plan::new(entries().into_iter().filter(|entry| entry.suite != 4).collect()).draft()
 }
 
-pub fn parts() -> [Part; 3] {
-    [("day.shift", day()), ("day.draft", draft()), ("ring.keys", ring())]
+pub fn parts() -> [Part; 5] {
+    [
+        ("day.shift", day()),
+        ("stations.shift", stations()),
+        ("amendment.shift", amendment()),
+        ("day.draft", draft()),
+        ("ring.keys", ring()),
+    ]
 }
 
 /// What `job FILE RING JOB` writes: the opening's number and row and, on 0, unit, associated data and message.

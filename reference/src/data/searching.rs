@@ -2,9 +2,8 @@
 
 use super::{files, parts_of, samples, Part};
 use crate::calls::{Case, Library, REFERENCE};
-use crate::plan::row_at;
 use crate::random::Random;
-use crate::shift::{self, Answer};
+use crate::shift::{self, row_at, Answer};
 use crate::trials::edit;
 
 /// So many jobs, one after the other from the first, are looked for in a file.
@@ -35,11 +34,16 @@ impl Case for SearchCall {
 
 /// A file that is a header and a table with these jobs: it passes 20 to 24, and the search asks no more.
 fn table(jobs: &[u32]) -> Vec<u8> {
-    let length = row_at(jobs.len());
-    let mut file = [&[1, 0][..], &(jobs.len() as u16).to_le_bytes(), &(length as u32).to_le_bytes()].concat();
+    table_in(1, jobs)
+}
+
+fn table_in(edition: usize, jobs: &[u32]) -> Vec<u8> {
+    let length = row_at(edition, jobs.len());
+    let header = [&[edition as u8, 0][..], &(jobs.len() as u16).to_le_bytes(), &(length as u32).to_le_bytes()];
+    let mut file = header.concat();
     file.resize(length, 0);
     for (i, job) in jobs.iter().enumerate() {
-        file[row_at(i)..][..4].copy_from_slice(&job.to_le_bytes());
+        file[row_at(edition, i)..][..4].copy_from_slice(&job.to_le_bytes());
     }
     file
 }
@@ -56,7 +60,8 @@ fn call(first: u32, count: u32, file: Vec<u8>) -> SearchCall {
 /// Every job and its neighbours in tables of these sizes.
 fn sizes(_: &mut Random) -> Vec<SearchCall> {
     let sizes = (0..=10).chain([15, 16, 17, 63, 64, 511, 512]);
-    sizes.map(|count| call(0, 2 * count + 2, table(&odd(count)))).collect()
+    let wide = [0, 1, 2, 3, 16, 100, 512].map(|count| call(0, 2 * count + 2, table_in(2, &odd(count))));
+    sizes.map(|count| call(0, 2 * count + 2, table(&odd(count)))).chain(wide).collect()
 }
 
 /// The smallest and the largest job numbers, and those around 2^31.
@@ -78,7 +83,16 @@ fn unsorted(random: &mut Random) -> Vec<SearchCall> {
 
 /// 20 to 24, each alone and beside all later ones; a refusal reports none looked at.
 fn refused(_: &mut Random) -> Vec<SearchCall> {
-    let good = table(&odd(5));
+    let mut calls = refused_of(table(&odd(5)));
+    calls.extend(refused_of(table_in(2, &odd(5))));
+    // a table that an edition with shorter rows would have
+    let mut narrow = table(&odd(9));
+    narrow[0] = 2;
+    calls.push(call(5, 1, narrow));
+    calls
+}
+
+fn refused_of(good: Vec<u8>) -> Vec<SearchCall> {
     let mut calls: Vec<SearchCall> = (0..=8).map(|length| call(5, 1, good[..length].to_vec())).collect();
     let faults: [(u32, usize, &[u8]); 4] =
         [(21, 0, &[3, 0]), (22, 2, &[1, 2]), (23, 4, &[7, 0, 0, 0]), (24, 2, &[6, 0])];
@@ -99,8 +113,8 @@ fn refused(_: &mut Random) -> Vec<SearchCall> {
 /// Good files, where the answer is the full lookup's; and the same with other bodies and rows that pass no check.
 fn whole_files(random: &mut Random) -> Vec<SearchCall> {
     let mut calls = vec![];
-    for rows in [1, 3, 6] {
-        let mut good = call(0, 0, files::random_plan(random, rows, 20).file(&samples::ring()));
+    for (edition, rows) in [(1, 1), (1, 3), (1, 6), (2, 2), (2, 5)] {
+        let mut good = call(0, 0, files::random_plan(random, rows, 20).in_edition(edition).file(&samples::ring()));
         for row in shift::rows(&good.file) {
             let near = SearchCall { first: row.job.max(1) - 1, count: 3, ..good.clone() };
             let lookups: Vec<Answer> = (0..3).map(|i| shift::lookup(&near.file, near.first + i)).collect();
@@ -108,8 +122,8 @@ fn whole_files(random: &mut Random) -> Vec<SearchCall> {
             calls.push(near);
         }
         let job = shift::rows(&good.file)[rows / 2].job;
-        good.file[row_at(rows)..].fill(0xee);
-        good.file[row_at(0) + 4..row_at(1)].fill(0xee);
+        good.file[row_at(edition, rows)..].fill(0xee);
+        good.file[row_at(edition, 0) + 4..row_at(edition, 1)].fill(0xee);
         calls.push(SearchCall { first: job, count: 2, ..good });
     }
     calls
@@ -129,20 +143,20 @@ pub fn parts() -> [Part; 2] {
 /// Random files, good and edited, and random tables; every job that is there and its neighbours.
 pub fn trials(random: &mut Random, count: usize, mut each: impl FnMut(&SearchCall)) {
     for turn in 0..count {
-        let rows = random.below(12);
-        let mut file = files::random_plan(random, rows, 10).file(&samples::ring());
+        let (rows, edition) = (random.below(12), 1 + random.below(2));
+        let mut file = files::random_plan(random, rows, 10).in_edition(edition).file(&samples::ring());
         if turn % 2 == 0 {
             let most = 1 + random.below(40);
             let jobs: Vec<u32> = (0..random.below(40)).map(|_| random.below(most) as u32).collect();
-            file = table(&jobs);
+            file = table_in(edition, &jobs);
         }
         for _ in 0..random.below(3) {
             edit(random, &mut file, rows);
         }
         let first = [0, random.below(3000) as u32][random.below(2)];
         each(&call(first, 30, file.clone()));
-        if rows > 0 && file.len() >= row_at(rows) {
-            let near = row_at(random.below(rows));
+        if rows > 0 && file.len() >= row_at(edition, rows) {
+            let near = row_at(edition, random.below(rows));
             let job = u32::from_le_bytes(file[near..near + 4].try_into().unwrap());
             each(&call(job.max(1) - 1, if job < u32::MAX { 3 } else { 1 }, file));
         }
@@ -151,10 +165,12 @@ pub fn trials(random: &mut Random, count: usize, mut each: impl FnMut(&SearchCal
 
 /// Around the longest file: the longest is searched, one byte more is 20.
 pub fn longest(mut each: impl FnMut(&SearchCall)) {
-    let longest = files::longest();
-    each(&call(0, 20, longest.clone()));
-    let mut longer = longest;
-    longer.push(0);
-    longer[4..8].copy_from_slice(&(shift::LONGEST as u32 + 1).to_le_bytes());
-    each(&call(0, 3, longer));
+    for edition in shift::EDITIONS {
+        let longest = files::long_file(edition, shift::LONGEST);
+        each(&call(0, 20, longest.clone()));
+        let mut longer = longest;
+        longer.push(0);
+        longer[4..8].copy_from_slice(&(shift::LONGEST as u32 + 1).to_le_bytes());
+        each(&call(0, 3, longer));
+    }
 }

@@ -172,7 +172,7 @@ fn cuttings(random: &mut Random) -> Vec<Run> {
 /// Byte by byte, and every cut of a text of two blocks and a byte in two.
 fn small_parts(random: &mut Random) -> Vec<Run> {
     let mut runs = vec![];
-    for suite in [1, 3] {
+    for suite in [1, 3, 5, 6] {
         let bytes = random.bytes(2 * block_size(suite) + 1);
         let single: Vec<&[u8]> = bytes.chunks(1).collect();
         runs.push(cut(random, suite, &single, &single));
@@ -190,7 +190,7 @@ fn refused_starts(random: &mut Random) -> Vec<Run> {
     let mut runs = vec![];
     for faults in 1..16 {
         let suite = match faults & 9 {
-            0 => SEALED[faults % 3],
+            0 => SEALED[faults % SEALED.len()],
             8 => 4,
             _ => [0, 7, 255][faults / 2 % 3],
         };
@@ -229,7 +229,7 @@ fn probes(suite: u8) -> Vec<SessionCall> {
 /// Each probe in each phase, and then the run goes on to its end, so that what a refusal leaves is seen.
 fn phases(random: &mut Random) -> Vec<Run> {
     let mut runs = vec![];
-    for suite in [1, 3, 2] {
+    for suite in [1, 3, 2, 5, 6] {
         let begins = start(random, suite);
         let prefixes = [
             vec![begins.clone()],
@@ -252,7 +252,7 @@ fn phases(random: &mut Random) -> Vec<Run> {
 /// The running totals at their limits, from a session whose totals were raised by whole blocks; 5 before 6.
 fn limits(random: &mut Random) -> Vec<Run> {
     let mut runs = vec![];
-    for suite in [1, 3] {
+    for suite in [1, 3, 6] {
         let zeros = |length: usize| vec![0; length];
         let start = start(random, suite);
         let near = LIMIT - 3;
@@ -300,7 +300,7 @@ fn longest(random: &mut Random) -> Vec<Run> {
 /// Values that no run gives: no suite, one that no start takes, totals over the limits. Every call is 9; then the old value goes on.
 fn forged(random: &mut Random) -> Vec<Run> {
     let mut runs = vec![];
-    for suite in [1, 3] {
+    for suite in [1, 3, 5] {
         let over = LIMIT + 1;
         let values = [
             (0, 3, 0),
@@ -395,7 +395,7 @@ pub fn forged_values(random: &mut Random, count: usize, mut each: impl FnMut(&Fo
             _ => random.below(60),
         };
         let (data, text) = (total(random), total(random));
-        let suite = random.below(6) as u8;
+        let suite = random.below(9) as u8;
         let session = Session { suite, y: random.array(), z: random.array(), held: random.array(), data, text };
         let calls = probes([1, 3][random.below(2)]);
         each(&Forged(session, calls[random.below(calls.len())].clone()));

@@ -89,20 +89,20 @@ fn sealable(plan: &Plan) -> Plan {
     plan.resuited(4, 3)
 }
 
-/// Four rows, one of each suite, with longer messages.
-pub fn four_rows() -> Plan {
+/// A row of each suite, with longer messages.
+pub fn all_suites() -> Plan {
     let mut random = Random::new(9);
     let entry = |i: u32| {
-        let length = [0, 5, 16, 40][i as usize];
-        Entry::new(i, 1 + i as u8, 3 * i as u8, 1, random.array(), &random.bytes(length))
+        let length = [0, 5, 16, 40, 33, 9][i as usize];
+        Entry::new(i, comet::SUITES[i as usize], 3 * i as u8, 1, random.array(), &random.bytes(length))
     };
-    Plan::new((0..4).map(entry).collect())
+    Plan::new((0..comet::SUITES.len() as u32).map(entry).collect())
 }
 
-/// No rows, one, three, four, as many as there can be; and random ones. Then those with suite 4 among them.
+/// No rows, one, three, one of each suite, as many as there can be; and random ones. Then those with suite 4 among them.
 fn good(random: &mut Random) -> Vec<RewriteCall> {
     let smallest = Plan::new(vec![Entry::new(7, 3, 0, 1, [0; 16], b"")]);
-    let mut plans = vec![files::three_rows(), four_rows(), files::many_rows_plan(512)];
+    let mut plans = vec![files::three_rows(), all_suites(), files::many_rows_plan(512)];
     plans.extend((0..10).map(|rows| files::random_plan(random, rows, 100)));
     let current = [Plan::new(vec![]), smallest].into_iter().chain(plans.iter().map(sealable));
     let current: Vec<RewriteCall> = current.flat_map(|plan| both_ways(&plan)).collect();
@@ -138,8 +138,9 @@ fn refused_checks(_: &mut Random) -> Vec<RewriteCall> {
             }
             calls.push(expected(RewriteCall { pass, file, ring: vec![0; 255], out: 3 }, number, row));
         }
-        let other = if pass == Pass::Seal { files::three_rows().file(&samples::ring()) } else { four_rows().draft() };
+        let other = if pass == Pass::Seal { files::three_rows().file(&samples::ring()) } else { all_suites().draft() };
         calls.push(expected(call(pass, other), 21, 0));
+        calls.push(expected(call(pass, sealable(&all_suites()).in_edition(2).file(&samples::ring())), 21, 0));
     }
     calls
 }
@@ -148,7 +149,7 @@ fn refused_checks(_: &mut Random) -> Vec<RewriteCall> {
 fn refused(_: &mut Random) -> Vec<RewriteCall> {
     let mut calls = vec![];
     for pass in [Pass::Seal, Pass::Unseal] {
-        let plan = if pass == Pass::Seal { sealable(&four_rows()) } else { four_rows() };
+        let plan = if pass == Pass::Seal { sealable(&all_suites()) } else { all_suites() };
         let good = call(pass, input(pass, &plan));
         let length = good.file.len();
         let with = |ring: usize, out: usize| {
@@ -188,7 +189,7 @@ fn refused(_: &mut Random) -> Vec<RewriteCall> {
 fn retired(_: &mut Random) -> Vec<RewriteCall> {
     let mut calls = vec![];
     for (suites, row) in [([4, 1, 3, 2], 0), ([1, 4, 4, 3], 1), ([3, 1, 2, 4], 3), ([4, 4, 4, 4], 0)] {
-        let mut plan = four_rows();
+        let mut plan = all_suites();
         for (entry, suite) in plan.entries.iter_mut().zip(suites) {
             (entry.suite, entry.nonce[15]) = (suite, 0);
         }
@@ -210,8 +211,8 @@ fn retired(_: &mut Random) -> Vec<RewriteCall> {
 /// the ring. In a draft the same bytes are no fault.
 fn altered(_: &mut Random) -> Vec<RewriteCall> {
     let mut calls = vec![];
-    for i in 1..4 {
-        let file = four_rows().file(&samples::ring());
+    for i in 1..comet::SUITES.len() {
+        let file = all_suites().file(&samples::ring());
         let row = &rows(&file)[i];
         let at = row_at(i);
         let places =
@@ -224,7 +225,7 @@ fn altered(_: &mut Random) -> Vec<RewriteCall> {
         let mut other_ring = call(Pass::Unseal, file.clone());
         other_ring.ring[16 * row.key as usize] ^= 1;
         calls.push(expected(other_ring, 8, i));
-        let mut draft = call(Pass::Seal, sealable(&four_rows()).draft());
+        let mut draft = call(Pass::Seal, sealable(&all_suites()).draft());
         draft.file[row.offset + 4] ^= 3;
         draft.file[row.text().start] ^= 1;
         calls.push(expected(draft, 0, 0));

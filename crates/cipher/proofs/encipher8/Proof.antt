@@ -8,22 +8,22 @@ use Rattle.cipher.proofs.Suites.{Engine, engine-3, engine-4}
 use Rattle.cipher.proofs.encipher8.Statement.{statement}
 use Rattle.cipher.proofs.encipher8.Tie as tie
 
-by-speck-requires : tie.Need-by-speck-requires
-by-speck-requires c κs = search needs
+by-cham64-requires : tie.Need-by-cham64-requires
+by-cham64-requires c κs = search needs
 
 returns : tie.Need-returns
 returns c =
     let x = c .before .before .args in
-    c .by-speck .ensures ∙ sym (ap (λ (e : Engine). e (bytes 8 (x .ka) ++ bytes 8 (x .kb)) (bytes 8 (x .x))) (engine-3 (x .suite) (omega arith) (omega arith)))
+    c .by-cham64 .ensures ∙ sym (ap (λ (e : Engine). e (bytes 8 (x .ka) ++ bytes 8 (x .kb)) (bytes 8 (x .x))) (engine-4 (x .suite) (omega (arith, c .before .if1 .taken))))
 
-by-cham64-requires : tie.Need-by-cham64-requires
-by-cham64-requires c κs = search needs
+by-speck-requires : tie.Need-by-speck-requires
+by-speck-requires c κs = search needs
 
 returns-2 : tie.Need-returns-2
 returns-2 c =
     let x = c .before .before .args in
-    c .by-cham64 .ensures ∙ sym (ap (λ (e : Engine). e (bytes 8 (x .ka) ++ bytes 8 (x .kb)) (bytes 8 (x .x))) (engine-4 (x .suite) (omega arith)))
+    c .by-speck .ensures ∙ sym (ap (λ (e : Engine). e (bytes 8 (x .ka) ++ bytes 8 (x .kb)) (bytes 8 (x .x))) (engine-3 (x .suite) (c .before .before .pre .1) (λ e. omega (arith, e, c .before .if1 .left))))
 
 pub encipher8-spec : {M : Type 1} → statement M
 encipher8-spec =
-    tie.close (tie.spec by-speck-requires returns by-cham64-requires returns-2)
+    tie.close (tie.spec by-cham64-requires returns by-speck-requires returns-2)

@@ -18,11 +18,14 @@ returns-2 c = simp (lt-ltb _ _ (c .if2 .taken), le-ltb _ _ (c .before .if1 .left
 get16-requires : tie.Need-get16-requires
 get16-requires c κs = search needs
 
+outside-requires : tie.Need-outside-requires
+outside-requires c κs = search needs
+
 returns-3 : tie.Need-returns-3
 unfolding headNumber
 returns-3 c =
-    let p20 = c .before .before in
-    simp (← c .before .get16 .ensures, ne-eqb _ _ (c .if3 .taken), le-ltb _ _ (p20 .if2 .left), le-ltb _ _ (p20 .before .if1 .left))
+    let p20 = c .before .before .before in
+    simp (← c .before .before .get16 .ensures, ← c .before .outside .ensures, c .if3 .taken, le-ltb _ _ (p20 .if2 .left), le-ltb _ _ (p20 .before .if1 .left))
 
 count-requires : tie.Need-count-requires
 count-requires c κs = search needs
@@ -31,8 +34,8 @@ returns-4 : tie.Need-returns-4
 unfolding headNumber
 returns-4 c =
     let p21 = c .before .before in
-    let p20 = p21 .before .before in
-    simp (← p21 .before .get16 .ensures, ← c .before .count .ensures, lt-ltb _ _ (c .if4 .taken), eq-eqb _ _ (p21 .if3 .left), le-ltb _ _ (p20 .if2 .left), le-ltb _ _ (p20 .before .if1 .left))
+    let p20 = p21 .before .before .before in
+    simp (← p21 .before .before .get16 .ensures, ← p21 .before .outside .ensures, ← c .before .count .ensures, lt-ltb _ _ (c .if4 .taken), p21 .if3 .left, le-ltb _ _ (p20 .if2 .left), le-ltb _ _ (p20 .before .if1 .left))
 
 get32-requires : tie.Need-get32-requires
 get32-requires c κs = search needs
@@ -45,8 +48,8 @@ unfolding headNumber
 returns-5 c =
     let p22 = c .before .before in
     let p21 = p22 .before .before in
-    let p20 = p21 .before .before in
-    simp (← p21 .before .get16 .ensures, ← p22 .before .count .ensures, ← c .before .get32 .ensures, ne-eqb _ _ (c .if5 .taken), le-ltb _ _ (p22 .if4 .left), eq-eqb _ _ (p21 .if3 .left), le-ltb _ _ (p20 .if2 .left), le-ltb _ _ (p20 .before .if1 .left))
+    let p20 = p21 .before .before .before in
+    simp (← p21 .before .before .get16 .ensures, ← p21 .before .outside .ensures, ← p22 .before .count .ensures, ← c .before .get32 .ensures, ne-eqb _ _ (c .if5 .taken), le-ltb _ _ (p22 .if4 .left), p21 .if3 .left, le-ltb _ _ (p20 .if2 .left), le-ltb _ _ (p20 .before .if1 .left))
 
 row-size-requires : tie.Need-row-size-requires
 row-size-requires c κs = search needs
@@ -60,8 +63,8 @@ returns-6 c =
     let p23 = c .before .before .before in
     let p22 = p23 .before .before in
     let p21 = p22 .before .before in
-    let p20 = p21 .before .before in
-    simp (← p21 .before .get16 .ensures, ← p22 .before .count .ensures, ← p23 .before .get32 .ensures, ← c .before .before .row-size .ensures, ← c .before .row-start .ensures, lt-ltb _ _ (c .if6 .taken), eq-eqb _ _ (p23 .if5 .left), le-ltb _ _ (p22 .if4 .left), eq-eqb _ _ (p21 .if3 .left), le-ltb _ _ (p20 .if2 .left), le-ltb _ _ (p20 .before .if1 .left))
+    let p20 = p21 .before .before .before in
+    simp (← p21 .before .before .get16 .ensures, ← p21 .before .outside .ensures, ← p22 .before .count .ensures, ← p23 .before .get32 .ensures, ← c .before .before .row-size .ensures, ← c .before .row-start .ensures, lt-ltb _ _ (c .if6 .taken), eq-eqb _ _ (p23 .if5 .left), le-ltb _ _ (p22 .if4 .left), p21 .if3 .left, le-ltb _ _ (p20 .if2 .left), le-ltb _ _ (p20 .before .if1 .left))
 
 returns-7 : tie.Need-returns-7
 unfolding headNumber
@@ -69,8 +72,8 @@ returns-7 c =
     let p23 = c .before .before .before in
     let p22 = p23 .before .before in
     let p21 = p22 .before .before in
-    let p20 = p21 .before .before in
-    simp (← p21 .before .get16 .ensures, ← p22 .before .count .ensures, ← p23 .before .get32 .ensures, ← c .before .before .row-size .ensures, ← c .before .row-start .ensures, le-ltb _ _ (c .if6 .left), eq-eqb _ _ (p23 .if5 .left), le-ltb _ _ (p22 .if4 .left), eq-eqb _ _ (p21 .if3 .left), le-ltb _ _ (p20 .if2 .left), le-ltb _ _ (p20 .before .if1 .left))
+    let p20 = p21 .before .before .before in
+    simp (← p21 .before .before .get16 .ensures, ← p21 .before .outside .ensures, ← p22 .before .count .ensures, ← p23 .before .get32 .ensures, ← c .before .before .row-size .ensures, ← c .before .row-start .ensures, le-ltb _ _ (c .if6 .left), eq-eqb _ _ (p23 .if5 .left), le-ltb _ _ (p22 .if4 .left), p21 .if3 .left, le-ltb _ _ (p20 .if2 .left), le-ltb _ _ (p20 .before .if1 .left))
 
 pub check-head-spec : {M : Type 1} → statement M
 check-head-spec =
@@ -79,6 +82,7 @@ check-head-spec =
     returns
     returns-2
     get16-requires
+    outside-requires
     returns-3
     count-requires
     returns-4

@@ -1,20 +1,23 @@
--- The tests in the order of the definition, on rows, nonces and bodies that lie in their files.
+-- The tests in the order of the definition, on rows, stations, nonces and bodies that lie in their files.
 use mathlib.Core.Path.{sym, _∙_}
-use borrow.Author.Tests.{not-true, not-false}
+use borrow.Author.Tests.{not-true, not-false, eq-eqb, ne-eqb}
 use Rattle.table.specs.Format.{nonceAt}
 use Rattle.compare.specs.Comparing.{sameEntry}
 use borrow.Author.Needs.{needs}
 use Rattle.compare.proofs.entry.same_entry.Statement.{statement}
 use Rattle.compare.proofs.entry.same_entry.Tie as tie
 
-row-size-requires : tie.Need-row-size-requires
-row-size-requires c κs = search needs
+width-requires : tie.Need-width-requires
+width-requires c κs = search needs
+
+width-requires-2 : tie.Need-width-requires-2
+width-requires-2 c κs = search needs
 
 row-at-requires : tie.Need-row-at-requires
-row-at-requires c κs = rw (c .row-size .ensures) (c .before .before .before .pre .0 .row-in)
+row-at-requires c κs = rw (c .before .width .ensures) (c .before .before .before .before .pre .0 .row-in)
 
 row-at-requires-2 : tie.Need-row-at-requires-2
-row-at-requires-2 c κs = rw (c .before .row-size .ensures) (c .before .before .before .before .pre .1 .row-in)
+row-at-requires-2 c κs = rw (c .before .width2 .ensures) (c .before .before .before .before .before .pre .1 .row-in)
 
 same-fields-requires : tie.Need-same-fields-requires
 same-fields-requires c κs = search needs
@@ -23,71 +26,103 @@ returns : tie.Need-returns
 unfolding sameEntry
 returns c =
     let r = c .before .before in
-    let q = simp (r .row-at2 .ensures, r .before .row-at .ensures, r .before .before .row-size .ensures) at (sym (c .before .same-fields .ensures) ∙ not-true _ (c .if1 .taken)) in
+    let w = r .before .before in
+    let q = simp (r .row-at2 .ensures, r .before .row-at .ensures, w .width2 .ensures, w .before .width .ensures) at (sym (c .before .same-fields .ensures) ∙ not-true _ (c .if1 .taken)) in
     simp q
+
+station-of-requires : tie.Need-station-of-requires
+station-of-requires c κs = search needs
+
+station-of-requires-2 : tie.Need-station-of-requires-2
+station-of-requires-2 c κs = search needs
+
+returns-2 : tie.Need-returns-2
+unfolding sameEntry
+returns-2 c =
+    let s = c .before in
+    let k = s .before .before in
+    let r = k .before .before in
+    let w = r .before .before in
+    let q = simp (r .row-at2 .ensures, r .before .row-at .ensures, w .width2 .ensures, w .before .width .ensures) at (sym (k .before .same-fields .ensures) ∙ not-false _ (k .if1 .left)) in
+    let t = ne-eqb _ _ (λ e. c .if2 .taken (s .before .station-of .ensures ∙ e ∙ sym (s .station-of2 .ensures))) in
+    simp (q, t)
 
 nonce-at-requires : tie.Need-nonce-at-requires
 nonce-at-requires c κs =
-    let r = c .before .before .before .before in
-    rw (r .row-size .ensures) (r .before .before .before .pre .0 .row-in)
+    let w = c .before .before .before .before .before .before .before in
+    rw (w .before .width .ensures) (w .before .before .before .before .pre .0 .row-in)
 
 nonce-at-requires-2 : tie.Need-nonce-at-requires-2
 nonce-at-requires-2 c κs =
-    let r = c .before .before .before .before .before in
-    rw (r .row-size .ensures) (r .before .before .before .pre .1 .row-in)
+    let w = c .before .before .before .before .before .before .before .before in
+    rw (w .width2 .ensures) (w .before .before .before .before .pre .1 .row-in)
 
 same-bytes-requires : tie.Need-same-bytes-requires
 same-bytes-requires c κs = search needs
 
-returns-2 : tie.Need-returns-2
+returns-3 : tie.Need-returns-3
 unfolding sameEntry nonceAt
-returns-2 c =
+returns-3 c =
     let n = c .before .before in
-    let k = n .before .before in
+    let d = n .before .before in
+    let s = d .before in
+    let k = s .before .before in
     let r = k .before .before in
-    let q = simp (r .row-at2 .ensures, r .before .row-at .ensures, r .before .before .row-size .ensures) at (sym (k .before .same-fields .ensures) ∙ not-false _ (k .if1 .left)) in
-    let s = simp (n .nonce-at2 .ensures .0 .bytes, n .before .nonce-at .ensures .0 .bytes, r .before .before .row-size .ensures) at (sym (c .before .same-bytes .ensures) ∙ not-true _ (c .if2 .taken)) in
-    simp (q, s)
+    let w = r .before .before in
+    let q = simp (r .row-at2 .ensures, r .before .row-at .ensures, w .width2 .ensures, w .before .width .ensures) at (sym (k .before .same-fields .ensures) ∙ not-false _ (k .if1 .left)) in
+    let t = eq-eqb _ _ (sym (s .before .station-of .ensures) ∙ d .if2 .left ∙ s .station-of2 .ensures) in
+    let u = simp (n .nonce-at2 .ensures .0 .bytes, n .before .nonce-at .ensures .0 .bytes, w .width2 .ensures, w .before .width .ensures) at (sym (c .before .same-bytes .ensures) ∙ not-true _ (c .if3 .taken)) in
+    simp (q, t, u)
 
 body-of-requires : tie.Need-body-of-requires
 body-of-requires c κs =
-    let r = c .before .before .before .before .before .before .before in
-    rw (r .row-at .ensures, r .before .row-size .ensures) (r .before .before .before .before .pre .0 .body-in)
+    let r = c .before .before .before .before .before .before .before .before .before .before in
+    let w = r .before in
+    rw (r .row-at .ensures, w .before .width .ensures) (w .before .before .before .before .pre .0 .body-in)
 
 body-of-requires-2 : tie.Need-body-of-requires-2
 body-of-requires-2 c κs =
-    let r = c .before .before .before .before .before .before .before in
-    rw (r .row-at2 .ensures, r .before .before .row-size .ensures) (r .before .before .before .before .before .pre .1 .body-in)
+    let r = c .before .before .before .before .before .before .before .before .before .before in
+    let w = r .before .before in
+    rw (r .row-at2 .ensures, w .width2 .ensures) (w .before .before .before .before .pre .1 .body-in)
 
 same-bytes-requires-2 : tie.Need-same-bytes-requires-2
 same-bytes-requires-2 c κs = search needs
 
-returns-3 : tie.Need-returns-3
+returns-4 : tie.Need-returns-4
 unfolding sameEntry nonceAt
-returns-3 c =
-    let t = c .before .before .before in
-    let n = t .before .before in
-    let k = n .before .before in
+returns-4 c =
+    let m = c .before .before .before in
+    let n = m .before .before in
+    let d = n .before .before in
+    let s = d .before in
+    let k = s .before .before in
     let r = k .before .before in
-    let w = r .before .before .row-size .ensures in
-    let q = simp (r .row-at2 .ensures, r .before .row-at .ensures, w) at (sym (k .before .same-fields .ensures) ∙ not-false _ (k .if1 .left)) in
-    let s = simp (n .nonce-at2 .ensures .0 .bytes, n .before .nonce-at .ensures .0 .bytes, w) at (sym (t .before .same-bytes .ensures) ∙ not-false _ (t .if2 .left)) in
-    simp (q, s) (simp (c .before .body-of2 .ensures, c .before .before .body-of .ensures, r .row-at2 .ensures, r .before .row-at .ensures, w) at (c .same-bytes2 .ensures))
+    let w = r .before .before in
+    let q = simp (r .row-at2 .ensures, r .before .row-at .ensures, w .width2 .ensures, w .before .width .ensures) at (sym (k .before .same-fields .ensures) ∙ not-false _ (k .if1 .left)) in
+    let t = eq-eqb _ _ (sym (s .before .station-of .ensures) ∙ d .if2 .left ∙ s .station-of2 .ensures) in
+    let u = simp (n .nonce-at2 .ensures .0 .bytes, n .before .nonce-at .ensures .0 .bytes, w .width2 .ensures, w .before .width .ensures) at (sym (m .before .same-bytes .ensures) ∙ not-false _ (m .if3 .left)) in
+    simp (q, t, u)
+    (simp (c .before .body-of2 .ensures, c .before .before .body-of .ensures, r .row-at2 .ensures, r .before .row-at .ensures, w .width2 .ensures, w .before .width .ensures) at (c .same-bytes2 .ensures))
 
 pub same-entry-spec : {M : Type 1} → statement M
 same-entry-spec =
     tie.close
     (tie.spec
-    row-size-requires
+    width-requires
+    width-requires-2
     row-at-requires
     row-at-requires-2
     same-fields-requires
     returns
+    station-of-requires
+    station-of-requires-2
+    returns-2
     nonce-at-requires
     nonce-at-requires-2
     same-bytes-requires
-    returns-2
+    returns-3
     body-of-requires
     body-of-requires-2
     same-bytes-requires-2
-    returns-3)
+    returns-4)

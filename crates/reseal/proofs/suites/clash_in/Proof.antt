@@ -8,15 +8,15 @@ use native.Mathlib.Omega.{arith}
 use Prim.Native.Nat.{ℕ, _-_}
 use borrow.Rule.Slice.PartMut.{putMid, same-len-mid}
 use Rattle.reseal.specs.Answers.{seenFrom}
-use Rattle.reseal.proofs.Lent.{start-small, end-in, end-small, table-in, copied, copied-in, t-table, t-spared, t-seen}
+use Rattle.reseal.proofs.Lent.{head-fits, start-small, end-in, end-small, table-in, copied, copied-in, t-table, t-spared, t-seen}
 use Rattle.reseal.proofs.suites.clash_in.Statement.{statement}
 use Rattle.reseal.proofs.suites.clash_in.Tie as tie
 
-row-size-requires : tie.Need-row-size-requires
-row-size-requires c κs = search needs
+width-requires : tie.Need-width-requires
+width-requires c κs = let s = c .before .before in head-fits _ _ _ (table-in (now (s .args .f)) (s .args .n) (s .pre .0))
 
 row-start-requires : tie.Need-row-start-requires
-row-start-requires c κs = let s = c .before .before .before in start-small (now (s .args .f)) (s .args .n) (s .pre .0) _ (c .row-size .ensures)
+row-start-requires c κs = let s = c .before .before .before in start-small (now (s .args .f)) (s .args .n) (s .pre .0) _ (c .width .ensures)
 
 sub-copy : tie.Need-sub-copy
 sub-copy c = search needs
@@ -25,7 +25,7 @@ part-copy-start : tie.Need-part-copy-start
 part-copy-start c = search needs
 
 part-copy-end : tie.Need-part-copy-end
-part-copy-end c = let s = c .before .before .before .before in end-in (now (s .args .f)) (s .args .n) (s .pre .0) _ _ (c .row-start .ensures) (c .before .row-size .ensures)
+part-copy-end c = let s = c .before .before .before .before in end-in (now (s .args .f)) (s .args .n) (s .pre .0) _ _ (c .row-start .ensures) (c .before .width .ensures)
 
 sub-copy-2 : tie.Need-sub-copy-2
 sub-copy-2 c = search needs
@@ -36,7 +36,7 @@ part-copy-start-2 c = search needs
 part-copy-end-2 : tie.Need-part-copy-end-2
 part-copy-end-2 c =
     let s = c .before .before .before .before .before in
-    omega (arith, end-small (now (s .args .f)) (s .args .n) (s .pre .0) _ _ (c .before .row-start .ensures) (c .before .before .row-size .ensures), s .pre .1)
+    omega (arith, end-small (now (s .args .f)) (s .args .n) (s .pre .0) _ _ (c .before .row-start .ensures) (c .before .before .width .ensures), s .pre .1)
 
 copy-requires : tie.Need-copy-requires
 copy-requires c κs = search needs
@@ -49,7 +49,7 @@ put-suites-requires c κs =
     let copy = c .before .before .before .copy in
     let e = c .before .before .before .before .before .before .row-start .result in
     let x = copy .last .1 .0 in
-    (table-in f (s .args .n) (s .pre .0), copied-in f (s .args .n) (s .pre .0) e _ (c .before .before .before .before .before .before .row-start .ensures) (c .before .before .before .before .before .before .before .row-size .ensures) t x (s .pre .1) (same-len-mid 0 (e - 0) t x (copy .kept .1 .0)))
+    (table-in f (s .args .n) (s .pre .0), copied-in f (s .args .n) (s .pre .0) e _ (c .before .before .before .before .before .before .row-start .ensures) (c .before .before .before .before .before .before .before .width .ensures) t x (s .pre .1) (same-len-mid 0 (e - 0) t x (copy .kept .1 .0)))
 
 first-seen-requires : tie.Need-first-seen-requires
 first-seen-requires c κs =
@@ -61,7 +61,7 @@ first-seen-requires c κs =
     let copy = c .before .before .before .before .before .before .before .copy in
     let e = c .before .before .before .before .before .before .before .before .before .before .row-start .result in
     let q = c .before .before .before .before .before .before .before .before .before .before .row-start .ensures in
-    let v = c .before .before .before .before .before .before .before .before .before .before .before .row-size .ensures in
+    let v = c .before .before .before .before .before .before .before .before .before .before .before .width .ensures in
     let x = copy .last .1 .0 in
     let l = putMid 0 (e - 0) t x in
     let tl = copied-in f n p e _ q v t x (s .pre .1) (same-len-mid 0 (e - 0) t x (copy .kept .1 .0)) in
@@ -81,7 +81,7 @@ returns c =
     let copy = c .before .before .before .before .before .before .before .before .copy in
     let e = c .before .before .before .before .before .before .before .before .before .before .before .row-start .result in
     let q = c .before .before .before .before .before .before .before .before .before .before .before .row-start .ensures in
-    let v = c .before .before .before .before .before .before .before .before .before .before .before .before .row-size .ensures in
+    let v = c .before .before .before .before .before .before .before .before .before .before .before .before .width .ensures in
     let x = copy .last .1 .0 in
     let tl = copied-in f n p e _ q v t x (s .pre .1) (same-len-mid 0 (e - 0) t x (copy .kept .1 .0)) in
     c .first-seen .ensures
@@ -92,7 +92,7 @@ pub clash-in-spec : {M : Type 1} → statement M
 clash-in-spec =
     tie.close
     (tie.spec
-    row-size-requires
+    width-requires
     row-start-requires
     sub-copy
     part-copy-start

@@ -5,11 +5,11 @@ use mathlib.Core.Bool.{true, false}
 use mathlib.Core.Path.{_≡_, sym, ap, _∙_}
 use native.Mathlib.Omega.{arith}
 use Prim.Native.Nat.{ℕ, _≤_, _-_}
-use Rattle.table.specs.Format.{edition, rowSize}
+use Rattle.table.specs.Format.{widthOf}
 use Rattle.table.specs.Check.{nonceSeen}
 use Rattle.table.proofs.Searches.{first-hit, first-skip, first-end}
 use Rattle.reseal.specs.Answers.{seenFrom}
-use Rattle.reseal.proofs.Lent.{spared-part}
+use Rattle.reseal.proofs.Lent.{head-fits, spared-part}
 use Rattle.reseal.proofs.suites.first_seen.Statement.{statement}
 use Rattle.reseal.proofs.suites.first_seen.Tie as tie
 
@@ -22,21 +22,21 @@ abbrev μ-loop : tie.MeasureT-loop
 loop-holds : tie.Need-loop-holds Inv-loop μ-loop
 loop-holds c = search needs
 
-row-size-requires : tie.Need-row-size-requires Inv-loop μ-loop
-row-size-requires c κs = search needs
+width-requires : tie.Need-width-requires Inv-loop μ-loop
+width-requires c κs = head-fits _ _ _ (c .before .before .before .pre .0)
 
 nonce-seen-requires : tie.Need-nonce-seen-requires Inv-loop μ-loop
 nonce-seen-requires c κs =
     let p = c .before .before .before .before .pre in
     let l = c .before .loop-test .taken in
-    rw (c .row-size .ensures) (p .0, (l, spared-part _ _ _ _ (p .1) l))
+    rw (c .width .ensures) (p .0, (l, spared-part _ _ _ _ (p .1) l))
 
 returns : tie.Need-returns Inv-loop μ-loop
 unfolding seenFrom
 returns c =
     let t = now (c .before .before .before .before .before .before .args .t) in
     let i = c .before .before .before .before .loop .i in
-    let hit : nonceSeen (rowSize edition) t i ≡ true = ap (λ (w : ℕ). nonceSeen w t i) (sym (c .before .before .row-size .ensures)) ∙ sym (c .before .nonce-seen .ensures) ∙ c .if1 .taken in
+    let hit : nonceSeen (widthOf t) t i ≡ true = ap (λ (w : ℕ). nonceSeen w t i) (sym (c .before .before .width .ensures)) ∙ sym (c .before .nonce-seen .ensures) ∙ c .if1 .taken in
     sym (c .before .before .before .before .loop .inv .1 ∙ first-hit _ _ _ _ _ (c .before .before .before .loop-test .taken) hit)
 
 add-i : tie.Need-add-i Inv-loop μ-loop
@@ -50,7 +50,7 @@ unfolding seenFrom
 loop-again c =
     let t = now (c .before .before .before .before .before .before .args .t) in
     let i = c .before .before .before .before .loop .i in
-    let skip : nonceSeen (rowSize edition) t i ≡ false = ap (λ (w : ℕ). nonceSeen w t i) (sym (c .before .before .row-size .ensures)) ∙ sym (c .before .nonce-seen .ensures) ∙ c .if1 .left in
+    let skip : nonceSeen (widthOf t) t i ≡ false = ap (λ (w : ℕ). nonceSeen w t i) (sym (c .before .before .width .ensures)) ∙ sym (c .before .nonce-seen .ensures) ∙ c .if1 .left in
     (omega arith, c .before .before .before .before .loop .inv .1 ∙ first-skip _ _ _ _ _ (c .before .before .before .loop-test .taken) skip)
 
 returns-2 : tie.Need-returns-2 Inv-loop μ-loop
@@ -64,7 +64,7 @@ first-seen-spec =
     Inv-loop
     μ-loop
     loop-holds
-    row-size-requires
+    width-requires
     nonce-seen-requires
     returns
     add-i

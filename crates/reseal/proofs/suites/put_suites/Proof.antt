@@ -9,7 +9,7 @@ use Prim.Native.Nat.{ℕ, _≤_, _-_}
 use Rattle.table.proofs.Rows.{row-in}
 use Rattle.draft.specs.Put.{putAll}
 use Rattle.reseal.specs.Files.{resuited}
-use Rattle.reseal.proofs.Lent.{table-row, suite-step}
+use Rattle.reseal.proofs.Lent.{head-fits, table-row, suite-step}
 use Rattle.reseal.proofs.suites.put_suites.Statement.{statement}
 use Rattle.reseal.proofs.suites.put_suites.Tie as tie
 
@@ -26,14 +26,14 @@ loop-holds c = (omega arith, refl, refl)
 row-of-requires : tie.Need-row-of-requires Inv-loop μ-loop
 row-of-requires c κs = row-in _ _ _ _ (c .before .before .before .before .pre .0) (c .loop-test .taken)
 
-row-size-requires : tie.Need-row-size-requires Inv-loop μ-loop
-row-size-requires c κs = search needs
+width-requires : tie.Need-width-requires Inv-loop μ-loop
+width-requires c κs = head-fits _ _ _ (c .before .before .before .before .before .pre .0)
 
 new-suite-requires : tie.Need-new-suite-requires Inv-loop μ-loop
 new-suite-requires c κs = search needs
 
 set-suite-requires : tie.Need-set-suite-requires Inv-loop μ-loop
-set-suite-requires c κs = rw (c .before .before .row-size .ensures) (table-row _ _ _ _ (c .before .before .before .before .before .before .before .before .pre .1) (c .before .before .before .before .before .loop .inv .1) (c .before .before .before .before .loop-test .taken))
+set-suite-requires c κs = rw (c .before .before .width .ensures) (table-row _ _ _ _ (c .before .before .before .before .before .before .before .before .pre .1) (c .before .before .before .before .before .loop .inv .1) (c .before .before .before .before .loop-test .taken))
 
 add-i : tie.Need-add-i Inv-loop μ-loop
 add-i c = search needs
@@ -49,7 +49,7 @@ loop-again c =
       omega arith,
       call .kept .1 .0 ∙ at .inv .1,
       suite-step (now (a .args .f)) _ (now (a .args .out)) _ (at .i) _ _ _ (table-row _ _ _ _ (a .pre .1) (at .inv .1) (c .before .before .before .before .before .before .before .loop-test .taken))
-          (c .before .before .before .before .before .row-size .ensures) (c .before .before .before .new-suite .ensures) (c .before .before .before .before .before .before .row-of .ensures) (at .inv .2) (call .ensures),
+          (c .before .before .before .before .before .width .ensures) (c .before .before .before .new-suite .ensures) (c .before .before .before .before .before .before .row-of .ensures) (at .inv .2) (call .ensures),
     )
 
 same-length : tie.Need-same-length Inv-loop μ-loop
@@ -70,7 +70,7 @@ put-suites-spec =
     μ-loop
     loop-holds
     row-of-requires
-    row-size-requires
+    width-requires
     new-suite-requires
     set-suite-requires
     add-i

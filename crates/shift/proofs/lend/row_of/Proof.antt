@@ -1,16 +1,16 @@
--- The table's row at the edition's row size.
+-- The table's row at the row size of the file's own edition.
 use borrow.Author.Needs.{needs}
 use Rattle.shift.proofs.lend.row_of.Statement.{statement}
 use Rattle.shift.proofs.lend.row_of.Tie as tie
 
-row-size-requires : tie.Need-row-size-requires
-row-size-requires c κs = search needs
+width-requires : tie.Need-width-requires
+width-requires c κs = search needs
 
 row-at-requires : tie.Need-row-at-requires
-row-at-requires c κs = rw (c .row-size .ensures) (c .before .before .pre)
+row-at-requires c κs = rw (c .width .ensures) (c .before .before .pre)
 
 returns : tie.Need-returns
-returns c = rw (← c .before .row-size .ensures) (c .row-at .ensures)
+returns c = rw (← c .before .width .ensures) (c .row-at .ensures)
 
 pub row-of-spec : {M : Type 1} → statement M
-row-of-spec = tie.close (tie.spec row-size-requires row-at-requires returns)
+row-of-spec = tie.close (tie.spec width-requires row-at-requires returns)

@@ -13,7 +13,7 @@ answer-requires : tie.Need-answer-requires
 answer-requires c κs = search needs
 
 say-requires : tie.Need-say-requires
-say-requires c κs = rw (c .before .answer .ensures .1, c .before .before .check .ensures) (check-row _ _)
+say-requires c κs = rw (c .before .answer .ensures .1, c .before .before .check .ensures) (check-row _ _ _)
 
 returns : tie.Need-returns
 returns c = c .say .ensures ∙ same-answer (c .before .before .answer .ensures) ∙ c .before .before .before .check .ensures

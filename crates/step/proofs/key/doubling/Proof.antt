@@ -3,7 +3,7 @@ use borrow.Author.Needs.{needs}
 use native.Mathlib.Omega.{arith}
 use Prim.Native.Nat.{_^_, _<_}
 use Rattle.words.specs.Words.{xor}
-use Rattle.step.proofs.Words.{double-is}
+use Rattle.step.proofs.Halves.{double-is}
 use Rattle.step.proofs.key.doubling.Statement.{statement}
 use Rattle.step.proofs.key.doubling.Tie as tie
 

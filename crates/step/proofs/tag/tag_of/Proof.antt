@@ -1,18 +1,27 @@
--- `step::tag::tag_of` meets its contract: the last call is one turn.
+-- `step::tag::tag_of` meets its contract: the last call, under the key that the last mark makes.
 use borrow.Author.Needs.{needs}
-use mathlib.Core.Path.{ap}
-use Rattle.mode.specs.Walk.{States, tagged}
+use lib.ListN.{take}
+use mathlib.Core.List.{List}
+use mathlib.Core.Path.{ap, _∙_}
+use Prim.Native.Nat.{ℕ, _-_}
+use Rattle.words.specs.Blocks.{wide}
+use Rattle.cipher.specs.Cipher.{sizeOf, cipherOf}
+use Rattle.mode.specs.Walk.{tagged}
 use Rattle.step.proofs.tag.tag_of.Statement.{statement}
 use Rattle.step.proofs.tag.tag_of.Tie as tie
 
-turn-requires : tie.Need-turn-requires
-turn-requires c κs = search needs
+next-key-requires : tie.Need-next-key-requires
+next-key-requires c κs = search needs
+
+encipher-requires : tie.Need-encipher-requires
+encipher-requires c κs = search needs
 
 returns : tie.Need-returns
 unfolding tagged
 returns c =
-    let t = c .before .turn in
-    (ap (λ (w : States). w .Y) (t .ensures .two), t .ensures .clean)
+    let x = c .before .before .before .before .args in
+    let n = sizeOf (x .suite) in
+    (c .encipher .ensures .0 ∙ ap (λ (k : List ℕ). cipherOf (x .suite) .E k (take n (wide (x .s .y)))) (c .before .next-key .ensures), c .encipher .ensures .1)
 
 pub tag-of-spec : {M : Type 1} → statement M
-tag-of-spec = tie.close (tie.spec turn-requires returns)
+tag-of-spec = tie.close (tie.spec next-key-requires encipher-requires returns)

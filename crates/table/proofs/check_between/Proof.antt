@@ -3,12 +3,12 @@ use mathlib.Core.Path.{sym, ap, _∙_}
 use native.Mathlib.Omega.{arith}
 use denote.Ref.{now}
 use Rattle.table.specs.Answers.{checkedAnswer}
-use Rattle.table.specs.Check.{checkAs}
+use Rattle.table.specs.Check.{checkBetween}
 use Rattle.table.proofs.Sound.{headed}
 use Rattle.table.proofs.Passed.{passed-zero, refused-stands}
 use borrow.Author.Needs.{needs}
-use Rattle.table.proofs.check_as.Statement.{statement}
-use Rattle.table.proofs.check_as.Tie as tie
+use Rattle.table.proofs.check_between.Statement.{statement}
+use Rattle.table.proofs.check_between.Tie as tie
 
 check-head-requires : tie.Need-check-head-requires
 check-head-requires c κs = search needs
@@ -20,41 +20,44 @@ enum-told-2 : tie.Need-enum-told-2
 enum-told-2 c = search needs
 
 returns : tie.Need-returns
-unfolding checkAs
+unfolding checkBetween
 returns c = ap checkedAnswer (c .enum-told2 .given .1) ∙ sym (refused-stands _ _ _ _ (c .enum-told2 .given .1) (c .before .before .check-head .ensures))
 
-row-size-requires : tie.Need-row-size-requires
-row-size-requires c κs = search needs
+width-requires : tie.Need-width-requires
+width-requires c κs =
+    let h = c .before .before in
+    let a = h .before .before .args in
+    headed (a .low) (a .high) (now (a .f)) (passed-zero _ _ (c .enum-told .given .1) (h .check-head .ensures)) .long
 
 count-requires : tie.Need-count-requires
 count-requires c κs =
     let h = c .before .before .before in
     let a = h .before .before .args in
-    let k = headed (a .e) (now (a .f)) (passed-zero _ _ (c .before .enum-told .given .1) (h .check-head .ensures)) in
+    let k = headed (a .low) (a .high) (now (a .f)) (passed-zero _ _ (c .before .enum-told .given .1) (h .check-head .ensures)) in
     omega arith
 
 check-rows-requires : tie.Need-check-rows-requires
 check-rows-requires c κs =
     let h = c .before .before .before .before in
     let a = h .before .before .args in
-    let k = headed (a .e) (now (a .f)) (passed-zero _ _ (c .before .before .enum-told .given .1) (h .check-head .ensures)) in
-    rw (c .count .ensures, c .before .row-size .ensures) (k .table)
+    let k = headed (a .low) (a .high) (now (a .f)) (passed-zero _ _ (c .before .before .enum-told .given .1) (h .check-head .ensures)) in
+    rw (c .count .ensures, c .before .width .ensures) (k .table)
 
 returns-2 : tie.Need-returns-2
-unfolding checkAs
+unfolding checkBetween
 returns-2 c =
     let z = passed-zero _ _ (c .before .before .before .enum-told .given .1) (c .before .before .before .before .before .check-head .ensures) in
-    simp (z, ← c .before .count .ensures, ← c .before .before .row-size .ensures, c .check-rows .ensures)
+    simp (z, ← c .before .count .ensures, ← c .before .before .width .ensures, c .check-rows .ensures)
 
-pub check-as-spec : {M : Type 1} → statement M
-check-as-spec =
+pub check-between-spec : {M : Type 1} → statement M
+check-between-spec =
     tie.close
     (tie.spec
     check-head-requires
     enum-told
     enum-told-2
     returns
-    row-size-requires
+    width-requires
     count-requires
     check-rows-requires
     returns-2)

@@ -1,0 +1,10 @@
+pub mod Segments
+pub mod Laid
+pub mod Kept
+pub mod Back
+pub mod Passing
+pub mod Fronts
+pub mod Done
+pub mod Promised
+pub mod Reading
+pub mod Outcomes

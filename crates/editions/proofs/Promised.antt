@@ -1,0 +1,181 @@
+-- There and back, both ways round; the moved file passes; and the way back makes no file longer.
+use Prim.Native.Nat.{ℕ, zero, suc, _+_, _-_, _*_, _^_, _≤_, _<_}
+use native.Mathlib.Nat.{mul-le-mul-right}
+use native.Mathlib.Omega.{arith}
+use mathlib.Core.Path.{_≡_, refl, sym, ap, _∙_}
+use mathlib.Core.List.{List, _∷_}
+use lib.ListN.{length, replicate}
+use lib.Dec.{lit<}
+use Rattle.words.specs.Bytes.{AllBytes, bytes, value}
+use Rattle.words.proofs.Bytes.{unpack}
+use Rattle.table.specs.declared.answers.Answer.{Answer}
+use Rattle.table.specs.Part.{stretch}
+use Rattle.table.specs.Format.{editionOf, countOf, edition, newest, rowSize, widthOf, rowStart, bodyEnd, stationAt}
+use Rattle.table.specs.Answers.{answer}
+use Rattle.table.specs.Check.{checkAs}
+use Rattle.table.proofs.Rows.{row-broad, row-in, station-none}
+use Rattle.table.proofs.Passed.{Passes, passes, own-edition}
+use Rattle.table.proofs.Bodies.{after-table}
+use Rattle.editions.specs.Files.{carried, movedFrom, moved}
+use Rattle.editions.specs.Answers.{FileMoved, toEdition2, toEdition1}
+use Rattle.editions.specs.Promised.{done, ThereAndBack, BackAndThere, UpPasses, BackPasses, BackShort}
+use Rattle.editions.proofs.Segments.{word-stretch}
+use Rattle.editions.proofs.Laid.{file-long}
+use Rattle.editions.proofs.Kept.{edition-is, count-is, station-part, table-in}
+use Rattle.editions.proofs.Back.{Whole, file-back}
+use Rattle.editions.proofs.Passing.{file-passes}
+use Rattle.editions.proofs.Done.{NoStation, up-goes, goes-up, back-goes, goes-back, up-is, back-is}
+
+-- a station of 0, as bytes, and read again
+zero-bytes : (m : ℕ) → bytes m 0 ≡ replicate m 0
+unfolding bytes
+zero-bytes zero = refl
+zero-bytes (suc m) = ap (λ (l : List ℕ). 0 ∷ l) (zero-bytes m)
+
+zeros-value : (m : ℕ) → value (replicate m 0) ≡ 0
+unfolding value
+zeros-value zero = refl
+zeros-value (suc m) = ap (λ (x : ℕ). 0 + 256 * x) (zeros-value m)
+
+-- a file of edition a that passes, moved to edition b
+module _ (a b : ℕ) (ha : a < 256 ^ 2) (hb : b < 256 ^ 2) (f : List ℕ) (z : checkAs a f .number ≡ 0) where
+  ok : Passes a a f
+  ok = passes a a f z
+
+  own : editionOf f ≡ a
+  own = own-edition a f ok
+
+  abbrev w : ℕ
+  w = widthOf f
+
+  abbrev v : ℕ
+  v = rowSize b
+
+  abbrev n : ℕ
+  n = countOf f
+
+  abbrev g : List ℕ
+  g = moved b f
+
+  small-count : n < 256 ^ 2
+  small-count = omega (arith, ok .head .few)
+
+  pub new-width : widthOf g ≡ v
+  new-width = ap rowSize (edition-is b w v f n (ok .head .table) (row-broad b) hb)
+
+  pub new-count : countOf g ≡ n
+  new-count = count-is b w v f n (ok .head .table) (row-broad b) small-count
+
+  -- it has no station
+  new-none : NoStation g
+  unfolding stationAt
+  new-none i l =
+      let t = ok .head .table in
+      let m : i < n = rw (sym new-count) l in
+      let fits = row-in v g n i (table-in b w v f n t (row-broad b)) m .fits in
+      ap (λ (x : ℕ). stationAt x g i) new-width
+      ∙ word-stretch (v - 32) g (rowStart v i + 4) (omega (arith, fits, row-broad b))
+      ∙ ap value (station-part b w v f n t (row-broad b) i m)
+      ∙ zeros-value (v - 32)
+
+  module _ (short : length g ≤ 1048576) where
+    small : carried w v n (length f) < 256 ^ 4
+    small = omega (arith, file-long w v f n (ok .head .table) (row-broad b) b)
+
+    pub new-passes : checkAs b g ≡ answer 0 0
+    new-passes = file-passes b w v f n (ok .head .table) (row-broad b) (ok .walk) small hb (ok .head .few) short refl
+
+    module _ (all : AllBytes f) (none : NoStation f) where
+      station : (i : ℕ) → i < n → stretch f (rowStart w i + 4) (w - 32) ≡ replicate (w - 32) 0
+      unfolding stationAt
+      station i l =
+          let fits = row-in w f n i (ok .head .table) l .fits in
+          sym (unpack (w - 32) f (rowStart w i + 4) all (omega (arith, row-broad (editionOf f)))) ∙ ap (bytes (w - 32)) (none i l) ∙ zero-bytes (w - 32)
+
+      whole : Whole w v f n
+      unfolding carried bodyEnd
+      whole = record {
+        bytes = all;
+        table = ok .head .table;
+        count = refl;
+        total = ok .head .total;
+        behind = λ i l. omega (arith, after-table w f n (ok .walk) i (omega arith), ok .walk .rows i l .place .starts);
+        small = λ i l. omega (arith, ok .walk .rows i l .place .ends, small);
+        station = station;
+      }
+
+      back-again : moved a g ≡ f
+      back-again =
+          let old : rowSize a ≡ w = ap rowSize (sym own) in
+          ap (λ (x : ℕ). movedFrom a x (rowSize a) g (countOf g)) new-width
+          ∙ ap (λ (x : ℕ). movedFrom a v x g (countOf g)) old
+          ∙ ap (movedFrom a v w g) new-count
+          ∙ ap (λ (x : ℕ). movedFrom x v w g n) (sym own)
+          ∙ file-back b w v f n whole (row-broad b)
+
+one : edition < 256 ^ 2
+one = lit< tt
+
+two : newest < 256 ^ 2
+two = lit< tt
+
+one-size : rowSize edition ≡ 32
+unfolding rowSize
+one-size = refl
+
+-- edition 1 has no station
+one-none : (f : List ℕ) → checkAs edition f .number ≡ 0 → NoStation f
+one-none f z i l = sym (station-none f i (widthOf f) (ap rowSize (own edition newest one two f z) ∙ one-size))
+
+-- the way back makes no file longer
+pub back-short : BackShort
+unfolding carried rowStart
+back-short f z =
+    let p = passes newest newest f z in
+    let n = countOf f in
+    let m : rowSize edition * n ≤ widthOf f * n = rw one-size (mul-le-mul-right n (row-broad (editionOf f))) in
+    omega (arith, file-long (widthOf f) (rowSize edition) f n (p .head .table) (row-broad edition) edition, p .head .short, p .head .table .fits)
+
+-- ---- the routines
+
+abbrev numberOf : Answer → ℕ
+numberOf x = x .number
+
+abbrev pub outOf : FileMoved → List ℕ
+outOf x = x .out
+
+pub up-passes : UpPasses
+unfolding toEdition2
+up-passes f out₀ z =
+    let d = up-goes f (length out₀) z in
+    ap (λ (x : List ℕ). checkAs newest x .number) (ap outOf (up-is f out₀ (d .zero))) ∙ ap numberOf (new-passes edition newest one two f (d .passed) (d .room .short))
+
+pub back-passes : BackPasses
+unfolding toEdition1
+back-passes f out₀ z =
+    let d = back-goes f (length out₀) z .0 in
+    ap (λ (x : List ℕ). checkAs edition x .number) (ap outOf (back-is f out₀ (d .zero))) ∙ ap numberOf (new-passes newest edition two one f (d .passed) (d .room .short))
+
+pub there-and-back : ThereAndBack
+unfolding toEdition2
+there-and-back f out₀ out₁ all z o =
+    let d = up-goes f (length out₀) z in
+    let g = moved newest f in
+    let again : moved edition g ≡ f = back-again edition newest one two f (d .passed) (d .room .short) all (one-none f (d .passed)) in
+    let passed : checkAs newest g .number ≡ 0 = ap numberOf (new-passes edition newest one two f (d .passed) (d .room .short)) in
+    ap (λ (x : List ℕ). toEdition1 x out₁) (ap outOf (up-is f out₀ (d .zero)))
+    ∙ back-is g out₁ (goes-back g (length out₁) passed (new-none edition newest one two f (d .passed))
+    (record { short = back-short g passed; fits = o ∙ sym (ap length again) }))
+    ∙ ap done again
+
+pub back-and-there : BackAndThere
+unfolding toEdition1
+back-and-there f out₀ out₁ all z o =
+    let d = back-goes f (length out₀) z .0 in
+    let g = moved edition f in
+    let again : moved newest g ≡ f = back-again newest edition two one f (d .passed) (d .room .short) all (back-goes f (length out₀) z .1) in
+    let passed : checkAs edition g .number ≡ 0 = ap numberOf (new-passes newest edition two one f (d .passed) (d .room .short)) in
+    let long : length (moved newest g) ≤ 1048576 = rw (ap length again) (passes newest newest f (d .passed) .head .short) in
+    ap (λ (x : List ℕ). toEdition2 x out₁) (ap outOf (back-is f out₀ (d .zero)))
+    ∙ up-is g out₁ (goes-up g (length out₁) passed (record { short = long; fits = o ∙ sym (ap length again) }))
+    ∙ ap done again

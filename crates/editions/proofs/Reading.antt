@@ -1,0 +1,200 @@
+-- Two files that pass, with the same rows but for their offsets and the same bodies from there on, read the same; a file and the moved one are such.
+use Prim.Native.Nat.{ℕ, _+_, _^_, _≤_, _<_}
+use native.Mathlib.Omega.{arith}
+use mathlib.Core.Path.{_≡_, refl, sym, ap, ap₂, _∙_}
+use mathlib.Core.Bool.{Bool, true, false, cond}
+use mathlib.Core.List.{List}
+use lib.ListN.{length, take, drop}
+use lib.Seq.{drop-drop}
+use lib.Dec.{eqb, lit≤}
+use borrow.Author.Tests.{eqb-true}
+use Rattle.cipher.specs.Cipher.{sizeOf}
+use Rattle.comet.specs.Answers as comet
+use Rattle.table.specs.declared.row.Row.{Row}
+use Rattle.table.specs.declared.answers.Answer.{Answer}
+use Rattle.table.specs.Part.{stretch}
+use Rattle.table.specs.Format.{editionOf, countOf, edition, newest, rowSize, widthOf, rowAt, nonceReadAt, rowOf, dataOf, textOf, tagOf}
+use Rattle.table.specs.Answers.{answer}
+use Rattle.table.specs.Check.{outside, headNumber, checkBetween, checkAs, checkFile}
+use Rattle.table.proofs.Rows.{row-broad}
+use Rattle.table.proofs.Passed.{passes, own-edition}
+use Rattle.table.proofs.Kept.{taken}
+use Rattle.shift.specs.Lookup.{lookupJob}
+use Rattle.shift.specs.Entry.{dataStart, dataLength}
+use Rattle.shift.specs.Opening.{ringKey, nonceRead, entryOpening, left, rowOpening, jobOpening}
+use Rattle.shift.proofs.Lookups.{holding}
+use Rattle.search.specs.Halving.{Walk, halving, jobsOf, searching}
+use Rattle.search.proofs.Halves.{jobs-same}
+use Rattle.search.proofs.Promised.{goes, same-as-lookup}
+use Rattle.editions.specs.Files.{carried, moved}
+use Rattle.editions.specs.Answers.{toEdition2, toEdition1}
+use Rattle.editions.specs.Promised.{SameRead, UpReads, BackReads}
+use Rattle.editions.proofs.Laid.{file-long}
+use Rattle.editions.proofs.Kept.{body-from}
+use Rattle.editions.proofs.Passing.{low, row, reads}
+use Rattle.editions.proofs.Done.{Goes, up-goes, back-goes, up-is, back-is}
+use Rattle.editions.proofs.Promised.{new-width, new-count, new-passes, outOf}
+
+-- a row, its body carried
+abbrev carriedRow : ℕ → ℕ → ℕ → Row → Row
+carriedRow w v n r = record { job = r .job; suite = r .suite; key = r .key; ad = r .ad; at = carried w v n (r .at); len = r .len }
+
+-- both pass, and every row of g is that of f, but for where its body lies
+pub record Alike (f g : List ℕ) : Type 0 where
+  pub old : checkFile f .number ≡ 0
+  pub new : checkFile g .number ≡ 0
+  pub count : countOf g ≡ countOf f
+  pub job : (i : ℕ) → i < countOf f → rowOf g i .job ≡ rowOf f i .job
+  pub suite : (i : ℕ) → i < countOf f → rowOf g i .suite ≡ rowOf f i .suite
+  pub key : (i : ℕ) → i < countOf f → rowOf g i .key ≡ rowOf f i .key
+  pub extra : (i : ℕ) → i < countOf f → rowOf g i .ad ≡ rowOf f i .ad
+  pub len : (i : ℕ) → i < countOf f → rowOf g i .len ≡ rowOf f i .len
+  pub nonce : (i : ℕ) → i < countOf f → nonceRead g i ≡ nonceRead f i
+  pub body : (i : ℕ) → i < countOf f → drop (rowOf g i .at) g ≡ drop (rowOf f i .at) f
+
+module _ (f g : List ℕ) (h : Alike f g) where
+  -- the same rows are looked at
+  searched : (job : ℕ) → searching g job ≡ searching f job
+  searched job =
+      let n = countOf f in
+      goes g job (passes edition newest g (h .new) .zero)
+      ∙ ap (halving (jobsOf (widthOf g) g) job 0) (h .count)
+      ∙ jobs-same (jobsOf (widthOf g) g) (jobsOf (widthOf f) f) job n 0 n (omega arith) (λ i a b. h .job i (omega arith))
+      ∙ sym (goes f job (passes edition newest f (h .old) .zero))
+
+  found : (job : ℕ) → lookupJob g job ≡ lookupJob f job
+  found job = sym (same-as-lookup g job (h .new)) ∙ ap (λ (x : Walk). x .says) (searched job) ∙ same-as-lookup f job (h .old)
+
+  -- a row that was found is one of the table
+  within : (job : ℕ) → eqb (lookupJob f job .number) 0 ≡ true → lookupJob f job .row < countOf f
+  within job e = let i = lookupJob f job .row in holding f job i (ap (λ (m : ℕ). answer m i) (eqb-true _ _ e)) .within
+
+  module _ (i : ℕ) (l : i < countOf f) where
+    -- k bytes on in the body, m bytes
+    part : (k k′ m m′ : ℕ) → k ≡ k′ → m ≡ m′ → stretch g (rowOf g i .at + k) m ≡ stretch f (rowOf f i .at + k′) m′
+    part k k′ m m′ q r =
+        ap (take m) (sym (drop-drop k (rowOf g i .at) g))
+        ∙ (λ t. take (r t) (drop (q t) (h .body i l t)))
+        ∙ ap (take m′) (drop-drop k′ (rowOf f i .at) f)
+
+    data-same : dataOf g (rowOf g i) ≡ dataOf f (rowOf f i)
+    data-same = ap₂ take (h .extra i l) (h .body i l)
+
+    text-same : textOf g (rowOf g i) ≡ textOf f (rowOf f i)
+    text-same = part (rowOf g i .ad) (rowOf f i .ad) (rowOf g i .len) (rowOf f i .len) (h .extra i l) (h .len i l)
+
+    tag-same : tagOf g (rowOf g i) ≡ tagOf f (rowOf f i)
+    tag-same =
+        let r = rowOf g i in
+        let s = rowOf f i in
+        let a : r .at + r .ad + r .len ≡ r .at + (r .ad + r .len) = omega arith in
+        let b : s .at + (s .ad + s .len) ≡ s .at + s .ad + s .len = omega arith in
+        ap (λ (k : ℕ). stretch g k (sizeOf (r .suite))) a
+        ∙ part (r .ad + r .len) (s .ad + s .len) (sizeOf (r .suite)) (sizeOf (s .suite)) (ap₂ (λ (x y : ℕ). x + y) (h .extra i l) (h .len i l)) (ap sizeOf (h .suite i l))
+        ∙ ap (λ (k : ℕ). stretch f k (sizeOf (s .suite))) b
+
+    opener-same : (ring out : List ℕ) → entryOpening g ring i out ≡ entryOpening f ring i out
+    unfolding entryOpening
+    opener-same ring out =
+        λ t. comet.opening (h .suite i l t) (ringKey ring (h .key i l t)) (h .nonce i l t) (data-same t) (text-same t) (tag-same t) out
+
+    row-opened : (ring out : List ℕ) → rowOpening g ring i out ≡ rowOpening f ring i out
+    unfolding rowOpening
+    row-opened ring out = simp (h .len i l, opener-same ring out)
+
+  associated : (job : ℕ)
+      → stretch g (dataStart g (lookupJob g job)) (dataLength g (lookupJob g job)) ≡ stretch f (dataStart f (lookupJob f job)) (dataLength f (lookupJob f job))
+  unfolding dataStart dataLength
+  associated job =
+      let x = lookupJob f job in
+      ap (λ (y : Answer). stretch g (dataStart g y) (dataLength g y)) (found job) ∙ data-case (eqb (x .number) 0) refl
+    where
+      i : ℕ
+      i = lookupJob f job .row
+
+      data-case : (b : Bool) → eqb (lookupJob f job .number) 0 ≡ b
+          → stretch g (cond b (rowOf g i .at) 0) (cond b (rowOf g i .ad) 0) ≡ stretch f (cond b (rowOf f i .at) 0) (cond b (rowOf f i .ad) 0)
+      data-case true e = data-same i (within job e)
+      data-case false e = refl
+
+  opened : (ring : List ℕ) (job : ℕ) (out : List ℕ) → jobOpening g ring job out ≡ jobOpening f ring job out
+  unfolding jobOpening
+  opened ring job out =
+      ap (λ (y : Answer). cond (eqb (y .number) 0) (rowOpening g ring (y .row) out) (left y out)) (found job) ∙ row-case (eqb (lookupJob f job .number) 0) refl
+    where
+      row-case : (b : Bool) → eqb (lookupJob f job .number) 0 ≡ b
+          → cond b (rowOpening g ring (lookupJob f job .row) out) (left (lookupJob f job) out) ≡ cond b (rowOpening f ring (lookupJob f job .row) out) (left (lookupJob f job) out)
+      row-case true e = row-opened (lookupJob f job .row) (within job e) ring out
+      row-case false e = refl
+
+  same-read : SameRead f g
+  same-read = record { found = found; searched = searched; associated = associated; opened = opened }
+
+-- ---- the moved file
+
+-- both editions are taken
+same-head : (e : ℕ) (f : List ℕ) → outside edition newest (editionOf f) ≡ false → outside e e (editionOf f) ≡ false → headNumber edition newest f ≡ headNumber e e f
+unfolding headNumber
+same-head e f a b = simp (a, b)
+
+-- a file that passes at its own edition passes the readers' check, if readers take that
+wider : (e : ℕ) (f : List ℕ) → edition ≤ e → e ≤ newest → checkAs e f .number ≡ 0 → checkFile f .number ≡ 0
+unfolding checkBetween
+wider e f low high z =
+    let p = passes e e f z in
+    let q = own-edition e f p in
+    rw (same-head e f (taken edition newest (editionOf f) (omega arith) (omega arith)) (taken e e (editionOf f) (omega arith) (omega arith))) z
+
+module _ (a b : ℕ) (la : edition ≤ a) (ma : a ≤ newest) (lb : edition ≤ b) (mb : b ≤ newest) (f : List ℕ) (out : ℕ) (x : Answer) (d : Goes a b f out x) where
+  wa : a < 256 ^ 2
+  wa = omega arith
+
+  wb : b < 256 ^ 2
+  wb = omega arith
+
+  abbrev w : ℕ
+  w = widthOf f
+
+  abbrev v : ℕ
+  v = rowSize b
+
+  abbrev n : ℕ
+  n = countOf f
+
+  abbrev g : List ℕ
+  g = moved b f
+
+  alike : Alike f g
+  unfolding carried
+  alike =
+      let p = passes a a f (d .passed) in
+      let t = p .head .table in
+      let broad = row-broad b in
+      let small : carried w v n (length f) < 256 ^ 4 = omega (arith, file-long w v f n t broad b, d .room .short) in
+      let wide = new-width a b wa wb f (d .passed) in
+      let is : (i : ℕ) → i < n → rowOf g i ≡ rowAt v g i = λ i l. ap (λ (k : ℕ). rowAt k g i) wide in
+      let carries : (i : ℕ) → i < n → rowOf g i ≡ carriedRow w v n (rowOf f i) = λ i l. is i l ∙ row b w v f n t broad (p .walk) small i l in
+      record {
+        old = wider a f la ma (d .passed);
+        new = wider b g lb mb (ap (λ (y : Answer). y .number) (new-passes a b wa wb f (d .passed) (d .room .short)));
+        count = new-count a b wa wb f (d .passed);
+        job = λ i l. ap (λ (r : Row). r .job) (carries i l);
+        suite = λ i l. ap (λ (r : Row). r .suite) (carries i l);
+        key = λ i l. ap (λ (r : Row). r .key) (carries i l);
+        extra = λ i l. ap (λ (r : Row). r .ad) (carries i l);
+        len = λ i l. ap (λ (r : Row). r .len) (carries i l);
+        nonce = λ i l. ap (λ (k : ℕ). nonceReadAt k g i) wide ∙ reads b w v f n t broad (p .walk) small i l;
+        body = λ i l. ap (λ (r : Row). drop (r .at) g) (carries i l) ∙ body-from b w v f n t broad (rowAt w f i .at) (low b w v f n t broad (p .walk) small i l);
+      }
+
+pub up-reads : UpReads
+unfolding toEdition2
+up-reads f out₀ z =
+    let d = up-goes f (length out₀) z in
+    rw (ap outOf (up-is f out₀ (d .zero))) (same-read f (moved newest f) (alike edition newest (lit≤ tt) (lit≤ tt) (lit≤ tt) (lit≤ tt) f (length out₀) _ d))
+
+pub back-reads : BackReads
+unfolding toEdition1
+back-reads f out₀ z =
+    let d = back-goes f (length out₀) z .0 in
+    rw (ap outOf (back-is f out₀ (d .zero))) (same-read f (moved edition f) (alike newest edition (lit≤ tt) (lit≤ tt) (lit≤ tt) (lit≤ tt) f (length out₀) _ d))

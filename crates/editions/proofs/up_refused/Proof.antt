@@ -1,0 +1,49 @@
+-- A refused check stands; then the lengths.
+use mathlib.Core.Path.{sym, ap, _∙_}
+use Prim.Native.Nat.{ℕ}
+use denote.Ref.{now}
+use Rattle.table.specs.Format.{edition}
+use Rattle.table.proofs.Passed.{passed-zero, refused-stands}
+use Rattle.editions.specs.Answers.{lengthAnswer, upAnswer}
+use Rattle.editions.proofs.Done.{source}
+use borrow.Author.Needs.{needs}
+use Rattle.editions.proofs.up_refused.Statement.{statement}
+use Rattle.editions.proofs.up_refused.Tie as tie
+
+check-as-requires : tie.Need-check-as-requires
+check-as-requires c κs = search needs
+
+enum-known-x : tie.Need-enum-known-x
+enum-known-x c = search needs
+
+returns : tie.Need-returns
+unfolding upAnswer
+returns c = sym (refused-stands _ _ _ _ (c .before .x .given .1) (c .before .before .before .check-as .ensures))
+
+enum-told : tie.Need-enum-told
+enum-told c = search needs
+
+moved-length-requires : tie.Need-moved-length-requires
+moved-length-requires c κs = source edition (now (c .before .before .before .before .args .f)) (passed-zero _ _ (c .enum-told .given .1) (c .before .before .check-as .ensures))
+
+length-refused-requires : tie.Need-length-refused-requires
+length-refused-requires c κs = search needs
+
+returns-2 : tie.Need-returns-2
+unfolding upAnswer
+returns-2 c =
+    let h = c .before .before .before .before in
+    let z = passed-zero _ _ (c .before .before .enum-told .given .1) (h .check-as .ensures) in
+    simp z (c .length-refused .ensures ∙ ap (λ (k : ℕ). lengthAnswer k (h .before .before .args .out)) (c .before .moved-length .ensures))
+
+pub up-refused-spec : {M : Type 1} → statement M
+up-refused-spec =
+    tie.close
+    (tie.spec
+    check-as-requires
+    enum-known-x
+    returns
+    enum-told
+    moved-length-requires
+    length-refused-requires
+    returns-2)

@@ -1,0 +1,60 @@
+-- What the moves are worth (document 02, W10).
+use Prim.Native.Nat.{ℕ, _≤_}
+use mathlib.Core.Path.{_≡_}
+use mathlib.Core.List.{List}
+use lib.ListN.{length}
+use Rattle.words.specs.Bytes.{AllBytes}
+use Rattle.table.specs.Part.{stretch}
+use Rattle.table.specs.Format.{edition, newest}
+use Rattle.table.specs.Answers.{answer}
+use Rattle.table.specs.Check.{checkAs}
+use Rattle.shift.specs.Lookup.{lookupJob}
+use Rattle.shift.specs.Entry.{dataStart, dataLength}
+use Rattle.shift.specs.Opening.{jobOpening}
+use Rattle.search.specs.Halving.{searching}
+use Rattle.editions.specs.Files.{moved}
+use Rattle.editions.specs.Answers.{FileMoved, toEdition2, toEdition1}
+
+-- a move done: number 0, row 0, and the output is the file g
+abbrev pub done : List ℕ → FileMoved
+done g = record { answer = answer 0 0; out = g }
+
+-- there and back gives the old file
+abbrev pub ThereAndBack : Type 0
+ThereAndBack =
+    (f out₀ out₁ : List ℕ) → AllBytes f → toEdition2 f out₀ .answer .number ≡ 0 → length out₁ ≡ length f
+    → toEdition1 (toEdition2 f out₀ .out) out₁ ≡ done f
+
+-- and so does back and there
+abbrev pub BackAndThere : Type 0
+BackAndThere =
+    (f out₀ out₁ : List ℕ) → AllBytes f → toEdition1 f out₀ .answer .number ≡ 0 → length out₁ ≡ length f
+    → toEdition2 (toEdition1 f out₀ .out) out₁ ≡ done f
+
+-- the moved file passes the checks of its new edition
+abbrev pub UpPasses : Type 0
+UpPasses = (f out₀ : List ℕ) → toEdition2 f out₀ .answer .number ≡ 0 → checkAs newest (toEdition2 f out₀ .out) .number ≡ 0
+
+abbrev pub BackPasses : Type 0
+BackPasses = (f out₀ : List ℕ) → toEdition1 f out₀ .answer .number ≡ 0 → checkAs edition (toEdition1 f out₀ .out) .number ≡ 0
+
+-- going back, no file gets too long: 20 is the check's alone
+abbrev pub BackShort : Type 0
+BackShort = (f : List ℕ) → checkAs newest f .number ≡ 0 → length (moved edition f) ≤ 1048576
+
+-- a reader gets from g what it gets from f: lookup and search the same number and row, the search at the same looks;
+-- the same associated data; and opening the same number, row and message
+pub record SameRead (f g : List ℕ) : Type 0 where
+  pub found : (job : ℕ) → lookupJob g job ≡ lookupJob f job
+  pub searched : (job : ℕ) → searching g job ≡ searching f job
+  pub associated : (job : ℕ)
+      → stretch g (dataStart g (lookupJob g job)) (dataLength g (lookupJob g job))
+      ≡ stretch f (dataStart f (lookupJob f job)) (dataLength f (lookupJob f job))
+  pub opened : (ring : List ℕ) (job : ℕ) (out : List ℕ) → jobOpening g ring job out ≡ jobOpening f ring job out
+
+-- so it is with a file and the moved one, in either direction
+abbrev pub UpReads : Type 0
+UpReads = (f out₀ : List ℕ) → toEdition2 f out₀ .answer .number ≡ 0 → SameRead f (toEdition2 f out₀ .out)
+
+abbrev pub BackReads : Type 0
+BackReads = (f out₀ : List ℕ) → toEdition1 f out₀ .answer .number ≡ 0 → SameRead f (toEdition1 f out₀ .out)

@@ -1,0 +1,150 @@
+// A shift file in another edition: the move from edition 1 to 2, and back.
+pub mod answers;
+mod front;
+mod rows;
+
+use answers::Moved;
+use front::put;
+use front::put_part;
+use rows::put_rows;
+use table::answers::Checked;
+use table::answers::Refusal;
+use table::check_as;
+use table::row::EDITION;
+use table::row::NEWEST;
+use table::row::count;
+use table::row::row_size;
+use table::row::row_start;
+use table::row::station_of;
+use table::row::width;
+ghost use mathlib.Core.Path.{_≡_};
+ghost use mathlib.Core.List.{_++_};
+ghost use Prim.Native.Nat.{_≤_, _<_};
+ghost use lib.ListN.{length, take};
+ghost use Rattle.words.specs.Bytes.{bytes};
+ghost use Rattle.table.specs.Format.{widthOf};
+ghost use Rattle.table.specs.Inside.{TableIn};
+ghost use Rattle.editions.specs.Files.{carried, movedFrom, moved};
+ghost use Rattle.editions.specs.Answers.{movedAnswer, stationsFrom, lengthAnswer, upAnswer, backAnswer, FileMoved, toEdition2, toEdition1};
+ghost use Rattle.editions.specs.Inside.{Movable, Source, Room};
+
+// Writes the header: edition, row count, and the output's own length.
+fn put_header(out: &mut [u8], e: u16, n: usize)
+    requires { ⌜ (n < 65536) × ((8 ≤ length (now out)) × (length (now out) < 0x1_0000_0000)) ⌝ }
+    ensures { λ _. ⌜ take 8 (now (out .exit)) ≡ bytes 2 e ++ (bytes 2 n ++ bytes 4 (length (now (out .entry)))) ⌝ }
+{
+    let top = e as u32 + 65536 * (n as u32);
+    let b = words::arx::store2_32(top, out.len() as u32);
+    put(out, 0, &b[0..8]);
+}
+
+// Writes header, rows and bodies.
+fn put_file(out: &mut [u8], e: u16, w: usize, v: usize, f: &[u8], n: usize)
+    requires { ⌜ Movable w v (now f) n × ((n < 65536) × (length (now out) ≡ carried w v n (length (now f)))) ⌝ }
+    ensures { λ _. ⌜ now (out .exit) ≡ movedFrom e w v (now (f .entry)) n ⌝ }
+{
+    put_header(out, e, n);
+    put_rows(out, w, v, f, n);
+    let p = row_start(w, n);
+    put_part(out, row_start(v, n), f, p, f.len() - p);
+}
+
+// Writes the file in edition e.
+fn write(e: u16, f: &[u8], out: &mut [u8])
+    requires { ⌜ Source (now f) × Room (length (moved e (now f))) (length (now out)) ⌝ }
+    ensures { λ _. ⌜ now (out .exit) ≡ moved e (now (f .entry)) ⌝ }
+{
+    put_file(out, e, width(f), row_size(e), f, count(f));
+}
+
+// The length of the file in edition e.
+fn moved_length(e: u16, f: &[u8]) -> usize
+    requires { ⌜ Source (now f) ⌝ }
+    ensures { λ r. ⌜ r ≡ length (moved e (now (f .entry))) ⌝ }
+{
+    let n = count(f);
+    let old = row_start(width(f), n);
+    f.len() - old + row_start(row_size(e), n)
+}
+
+// 20 and 6, from the lengths of the moved file and the output.
+fn length_refused(moved: usize, out: usize) -> Moved
+    ensures { λ r. ⌜ movedAnswer r ≡ lengthAnswer moved out ⌝ }
+{
+    if 1048576 < moved {
+        return Moved::Refused(Refusal::Size);
+    }
+    if out != moved {
+        return Moved::Room;
+    }
+    Moved::Done
+}
+
+// 35: the first of n rows whose station is not 0.
+fn first_station(f: &[u8], n: usize) -> Moved
+    requires { ⌜ TableIn (widthOf (now f)) (now f) n ⌝ }
+    ensures { λ r. ⌜ movedAnswer r ≡ stationsFrom (now (f .entry)) n 0 ⌝ }
+{
+    let mut i: usize = 0;
+    while i < n {
+        if station_of(f, i) != 0 {
+            return Moved::Station(i);
+        }
+        i += 1;
+    }
+    Moved::Done
+}
+
+// The refusals of the move to edition 2: the checks, 20, 6.
+fn up_refused(f: &[u8], out: usize) -> Moved
+    ensures { λ r. ⌜ movedAnswer r ≡ upAnswer (now (f .entry)) out ⌝ }
+{
+    match check_as(EDITION, f) {
+        Checked::Refused(x) => {
+            return Moved::Refused(x);
+        }
+        Checked::Passed => {}
+    }
+    length_refused(moved_length(NEWEST, f), out)
+}
+
+// The refusals of the move back: the checks, 35, 6.
+fn back_refused(f: &[u8], out: usize) -> Moved
+    ensures { λ r. ⌜ movedAnswer r ≡ backAnswer (now (f .entry)) out ⌝ }
+{
+    match check_as(NEWEST, f) {
+        Checked::Refused(x) => {
+            return Moved::Refused(x);
+        }
+        Checked::Passed => {}
+    }
+    let station = first_station(f, count(f));
+    let Moved::Done = station else {
+        return station;
+    };
+    length_refused(moved_length(EDITION, f), out)
+}
+
+// Writes a file of edition 1 in edition 2, station 0 everywhere: the checks, 20, 6.
+pub fn to_edition2(file: &[u8], out: &mut [u8]) -> Moved
+    ensures { λ r. ⌜ _≡_ {A = FileMoved} (record { answer = movedAnswer r; out = now (out .exit) }) (toEdition2 (now (file .entry)) (now (out .entry))) ⌝ }
+{
+    let refused = up_refused(file, out.len());
+    let Moved::Done = refused else {
+        return refused;
+    };
+    write(NEWEST, file, out);
+    Moved::Done
+}
+
+// Writes a file of edition 2 in edition 1, if every station is 0: the checks, 35, 6.
+pub fn to_edition1(file: &[u8], out: &mut [u8]) -> Moved
+    ensures { λ r. ⌜ _≡_ {A = FileMoved} (record { answer = movedAnswer r; out = now (out .exit) }) (toEdition1 (now (file .entry)) (now (out .entry))) ⌝ }
+{
+    let refused = back_refused(file, out.len());
+    let Moved::Done = refused else {
+        return refused;
+    };
+    write(EDITION, file, out);
+    Moved::Done
+}

@@ -1,0 +1,231 @@
+//! The programs `moving` and `moves`: files moved from one edition to the other.
+
+use super::writing::all_suites;
+use super::{files, parts_of, samples, Part};
+use crate::calls::{Case, Library, FILLER, REFERENCE};
+use crate::plan::{Entry, Plan};
+use crate::random::Random;
+use crate::shift::{self, fields_at, row_at, rows};
+use crate::show::shown;
+use crate::trials::edit;
+
+/// A file moved to an edition.
+#[derive(Clone)]
+pub struct MoveCall {
+    pub to: usize,
+    pub file: Vec<u8>,
+    pub out: usize,
+}
+
+#[derive(PartialEq, Debug)]
+pub struct MoveOutcome {
+    pub answer: shift::Answer,
+    pub out: Vec<u8>,
+}
+
+impl Case for MoveCall {
+    type Outcome = MoveOutcome;
+
+    fn answer(&self, by: &Library) -> MoveOutcome {
+        let mut out = vec![FILLER; self.out];
+        let pass = if self.to == 2 { by.to_edition2 } else { by.to_edition1 };
+        MoveOutcome { answer: pass(&self.file, &mut out), out }
+    }
+
+    fn record(&self) -> Vec<u8> {
+        let lengths = [self.file.len(), self.out].map(|length| (length as u32).to_le_bytes());
+        [&[2 - self.to as u8], &lengths.concat()[..], &self.file].concat()
+    }
+
+    fn lines(&self, by: &Library) -> String {
+        let MoveOutcome { answer: (number, row), out } = self.answer(by);
+        format!("{number} {row} {}\n", shown(&out))
+    }
+}
+
+/// The call, once it is seen to give the number and the row that it was made for.
+fn expected(call: MoveCall, number: u32, row: usize) -> MoveCall {
+    assert_eq!(call.answer(&REFERENCE).answer, (number, row as u32));
+    call
+}
+
+/// A file of as many rows, with an output that is as long as it has to be.
+fn call(to: usize, rows: usize, file: Vec<u8>) -> MoveCall {
+    let out = if to == 2 { file.len() + 4 * rows } else { file.len().max(4 * rows) - 4 * rows };
+    MoveCall { to, file, out }
+}
+
+/// A plan's file of either edition, moved to the other: there and back.
+fn both_ways(plan: &Plan) -> [MoveCall; 2] {
+    let plan = plan.without_stations();
+    let [one, two] = [1, 2].map(|edition| plan.in_edition(edition).file(&samples::ring()));
+    let rows = plan.entries.len();
+    let (there, back) = (call(2, rows, one.clone()), call(1, rows, two.clone()));
+    assert_eq!(there.answer(&REFERENCE), MoveOutcome { answer: (0, 0), out: two });
+    assert_eq!(back.answer(&REFERENCE), MoveOutcome { answer: (0, 0), out: one });
+    [there, back]
+}
+
+/// No rows, one, three, one of each suite, as many as there can be; and random ones.
+fn good(random: &mut Random) -> Vec<MoveCall> {
+    let mut plans = vec![Plan::new(vec![]), files::smallest_plan(), files::three_rows(), all_suites()];
+    plans.push(files::many_rows_plan(512));
+    plans.extend((1..10).map(|rows| files::random_plan(random, rows, 90)));
+    plans.iter().flat_map(both_ways).collect()
+}
+
+/// No tag is looked at: what is wrong in a body goes along.
+fn bodies(_: &mut Random) -> Vec<MoveCall> {
+    let mut calls = vec![];
+    for good in both_ways(&files::three_rows()) {
+        for row in rows(&good.file) {
+            for place in [row.text().start, row.tag().start, row.tag().end - 1] {
+                let mut wrong = good.clone();
+                wrong.file[place] ^= 0x11;
+                calls.push(expected(wrong, 0, 0));
+            }
+        }
+    }
+    calls
+}
+
+/// The source's plan for a move.
+fn source(to: usize) -> Plan {
+    files::three_rows().without_stations().in_edition(3 - to)
+}
+
+/// Each number of the source's check, alone and beside all that comes after it; every edition but its own is 21.
+fn refused_checks(_: &mut Random) -> Vec<MoveCall> {
+    let mut calls = vec![];
+    for to in [1, 2] {
+        for number in [20].into_iter().chain(files::ORDER) {
+            let (mut plan, row) = (source(to), files::OF_ROWS.contains(&number) as usize);
+            if number > 20 {
+                files::fault(&mut plan, number, 1);
+            }
+            let stations = Plan { entries: plan.entries.iter().map(at_station).collect(), ..plan.clone() };
+            let [mut file, mut other] = [plan, stations].map(|plan| plan.file(&samples::ring()));
+            if number == 20 {
+                file.truncate(7);
+                other.truncate(0);
+            }
+            calls.push(expected(call(to, 3, file), number, row));
+            calls.push(expected(MoveCall { to, file: other, out: 5 }, number, row));
+        }
+        for edition in [0, 3, 4, 0x0100, 0x0200, 0xffff] {
+            let plan = Plan { edition: Some(edition), ..source(to) };
+            calls.push(expected(call(to, 3, plan.file(&samples::ring())), 21, 0));
+        }
+        calls.push(expected(call(to, 3, source(3 - to).file(&samples::ring())), 21, 0));
+        calls.push(expected(call(to, 0, Plan::new(vec![]).in_edition(to).file(&[])), 21, 0));
+        calls.push(expected(call(to, 3, source(to).draft()), 21, 0));
+    }
+    calls
+}
+
+fn at_station(entry: &Entry) -> Entry {
+    Entry { station: 9, ..entry.clone() }
+}
+
+/// 35 with the first row that has a station, in each of its bytes, before 6.
+fn refused_stations(_: &mut Random) -> Vec<MoveCall> {
+    let mut calls = vec![];
+    let good = call(1, 3, source(1).file(&samples::ring()));
+    for (row, place) in (0..3).flat_map(|row| (4..8).map(move |place| (row, place))) {
+        let mut stationed = good.clone();
+        stationed.file[row_at(2, row) + place] = [1, 0x80, 0xff][row];
+        calls.push(expected(stationed.clone(), 35, row));
+        if place == 7 {
+            calls.push(expected(MoveCall { out: 0, ..stationed.clone() }, 35, row));
+            stationed.file[row_at(2, 2) + 4] = 1;
+            calls.push(expected(stationed, 35, row));
+        }
+    }
+    calls
+}
+
+/// 6: outputs too short and too long, the source's own length among them.
+fn refused_lengths(_: &mut Random) -> Vec<MoveCall> {
+    let mut calls = vec![];
+    for to in [1, 2] {
+        let good = call(to, 3, source(to).file(&samples::ring()));
+        let length = good.file.len();
+        for out in [0, good.out - 1, good.out + 1, length, length - 1, length + 1, 2 * length] {
+            calls.push(expected(MoveCall { out, ..good.clone() }, 6, 0));
+        }
+        let empty = call(to, 0, Plan::new(vec![]).in_edition(3 - to).file(&[]));
+        for out in [0, 7, 9, 12] {
+            calls.push(expected(MoveCall { out, ..empty.clone() }, 6, 0));
+        }
+    }
+    calls
+}
+
+/// All calls of the program.
+pub fn calls() -> Vec<MoveCall> {
+    let mut random = Random::new(14);
+    let groups = [good, bodies, refused_checks, refused_stations, refused_lengths];
+    groups.into_iter().flat_map(|group| group(&mut random)).collect()
+}
+
+pub fn parts() -> [Part; 2] {
+    parts_of(&calls())
+}
+
+/// Random files, good and edited, most of them with no station, and now and then with another output.
+pub fn trials(random: &mut Random, count: usize, mut each: impl FnMut(&MoveCall)) {
+    for _ in 0..count {
+        let (to, row_count) = (1 + random.below(2), random.below(9));
+        let mut plan = files::random_plan(random, row_count, 30);
+        if random.below(4) > 0 {
+            plan = plan.without_stations();
+        }
+        let mut file = plan.in_edition(3 - to).file(&samples::ring());
+        for _ in 0..random.below(3) {
+            edit(random, &mut file, row_count);
+        }
+        let mut call = call(to, row_count, file);
+        if random.below(12) == 0 {
+            call.out = [call.out + 1, call.out.max(1) - 1, 0, call.file.len()][random.below(4)];
+        }
+        each(&call);
+    }
+}
+
+/// Around the longest file: what just fits, what would be too long, before 6 and behind the check; and back.
+pub fn longest(mut each: impl FnMut(&MoveCall)) {
+    let rows = 16;
+    let most = shift::LONGEST - 4 * rows;
+    for length in [most - 1, most, most + 1, shift::LONGEST] {
+        let good = call(2, rows, files::long_file(1, length));
+        let mut faulty = good.clone();
+        faulty.file[fields_at(1, 3) + 1] = 16;
+        for call in
+            [MoveCall { out: shift::LONGEST, ..good.clone() }, MoveCall { out: 0, ..good.clone() }, good, faulty]
+        {
+            let expected = if call.file[fields_at(1, 3) + 1] == 16 {
+                (26, 3)
+            } else if length > most {
+                (20, 0)
+            } else {
+                (if call.out == length + 4 * rows { 0 } else { 6 }, 0)
+            };
+            assert_eq!(call.answer(&REFERENCE).answer, expected);
+            each(&call);
+        }
+    }
+    for length in [shift::LONGEST - 1, shift::LONGEST] {
+        each(&call(1, rows, files::long_file(2, length)));
+    }
+}
+
+/// The folder of the program `moves`: the sample's day becomes edition 2.
+pub fn move_parts() -> [Part; 3] {
+    let file = samples::day();
+    let (number, row) = call(2, rows(&file).len(), file.clone()).answer(&REFERENCE).answer;
+    [
+        ("args", b"day.shift\nstations.shift\n".to_vec()),
+        ("data/day.shift", file),
+        ("stdout", format!("{number} {row}\n").into_bytes()),
+    ]
+}
