@@ -37,7 +37,6 @@ extern "C" {
 /* Numbers of comet_seal and comet_open: the first that applies, in this order.
  *   0  done
  *   1  suite is not 1 to 6
- *   1  suite is not 1 to 4
  *  10  comet_seal alone: suite is 4
  *   2  key_len is not 16
  *   3  nonce_len is not the suite's
@@ -74,9 +73,8 @@ uint32_t comet_open(uint8_t suite,
  *
  * A session is a plain struct that goes in and comes back by value: each call hands back a step, and its session `next`
  * takes the place of the one that was given. The fields are for the functions alone, and hold what the key makes: keep
- * them as secret as the key. Any value may arrive: one whose suite is not 1 to 6 or whose totals are over 65,536 (as a
- * them as secret as the key. Any value may arrive: one whose suite is not 1 to 3 or whose totals are over 65,536 (as a
- * session that was refused at the start, or has ended) is answered by 9; any other is taken as what it says. Going on
+ * them as secret as the key. Any value may arrive: one whose suite seals no record (is not 1 to 6, or is 4) or whose
+ * totals are over 65,536 (as a session that was refused at the start, or has ended) is answered by 9; any other is taken as what it says. Going on
  * from one session value twice, with different messages, is sealing two records with one key and one nonce.
  */
 typedef struct {
@@ -96,7 +94,6 @@ typedef struct {
 /* Numbers of a session: the first that applies, in the order that stands with each function.
  *   0  done
  *   1  suite is not 1 to 6
- *   1  suite is not 1 to 4
  *  10  suite is 4
  *   2  key_len is not 16
  *   3  nonce_len is not the suite's
