@@ -6,7 +6,7 @@ use mathlib.Core.Bool.{Bool, true, false, cond}
 use mathlib.Core.List.{List}
 use lib.ListN.{length}
 use Rattle.comet.specs.Answers.{Opened, openedAs}
-use Rattle.table.specs.Format.{edition, rowSize, rowOf}
+use Rattle.table.specs.Format.{widthOf, rowOf}
 use Rattle.table.specs.Inside.{EntryIn}
 use Rattle.shift.specs.Opening.{entryOpening}
 use Rattle.draft.specs.Files.{entryOut}
@@ -19,7 +19,7 @@ opened-number true x o = refl
 opened-number false x o = refl
 
 -- the opener's number, into an output of the message's length
-pub number-is : (f ring : List ℕ) (i : ℕ) → EntryIn (rowSize edition) f i → length ring ≡ 256 → (m : ℕ) (x o : List ℕ) → length o ≡ rowOf f i .len
+pub number-is : (f ring : List ℕ) (i : ℕ) → EntryIn (widthOf f) f i → length ring ≡ 256 → (m : ℕ) (x o : List ℕ) → length o ≡ rowOf f i .len
     → _≡_ {A = Opened} (record { number = m; out = x }) (entryOpening f ring i o) → m ≡ tagNumber f ring i
 unfolding tagNumber
 number-is f ring i h g m x o l e =

@@ -4,14 +4,14 @@ use mathlib.Core.Path.{_≡_}
 use mathlib.Core.List.{List}
 use lib.ListN.{length}
 use Rattle.table.specs.declared.row.Row.{Row}
-use Rattle.table.specs.Format.{countOf, edition, rowSize, rowOf}
+use Rattle.table.specs.Format.{widthOf, countOf, rowOf}
 use Rattle.table.specs.Check.{checkFile}
 use Rattle.table.specs.Inside.{EntryIn}
 
 -- row i can be opened under the ring, and any message has room
 pub record Openable (f ring : List ℕ) (i : ℕ) (r : Row) (scratch : List ℕ) : Type 0 where
   pub is-row : r ≡ rowOf f i
-  pub entry : EntryIn (rowSize edition) f i
+  pub entry : EntryIn (widthOf f) f i
   pub ring-long : length ring ≡ 256
   pub room : 65536 ≤ length scratch
 

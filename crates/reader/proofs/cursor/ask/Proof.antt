@@ -3,7 +3,7 @@ use native.Mathlib.Omega.{arith}
 use mathlib.Core.Path.{sym, ap, _∙_}
 use denote.Ref.{now}
 use borrow.Author.Tests.{eq-eqb, ne-eqb, lt-ltb, le-ltb}
-use Rattle.table.specs.Format.{edition}
+use Rattle.table.specs.Format.{edition, newest}
 use Rattle.table.proofs.Passed.{passes, entry-in}
 use Rattle.reader.specs.Reading.{askOf}
 use Rattle.reader.proofs.Asking.{row-there}
@@ -29,7 +29,7 @@ row-of-requires c κs =
     let r = c .before .before in
     let f = now (r .before .before .args .file) in
     let t = row-there f _ (rw (r .rows .ensures) at (c .if2 .left)) in
-    entry-in edition f (passes edition f (t .passed)) _ (t .within) .row-in
+    entry-in edition newest f (passes edition newest f (t .passed)) _ (t .within) .row-in
 
 add-t10 : tie.Need-add-t10
 add-t10 c = search needs

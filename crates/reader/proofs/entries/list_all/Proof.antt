@@ -7,7 +7,7 @@ use denote.Ref.{now}
 use lib.ListN.{length, length-set, length-replicate}
 use borrow.Author.Needs.{needs}
 use Rattle.table.specs.declared.row.Row.{Row}
-use Rattle.table.specs.Format.{countOf, edition}
+use Rattle.table.specs.Format.{edition, newest, countOf}
 use Rattle.table.proofs.Passed.{passes, entry-in}
 use Rattle.reader.specs.Reporting.{jobOf, tagNumber, front}
 use Rattle.reader.proofs.Fronts.{front-none, front-step, front-length}
@@ -28,7 +28,7 @@ row-of-requires c κs =
     let p = c .before .before .before .before .before .before in
     let f = now (p .args .f) in
     let l : c .before .loop .i < countOf f = omega (arith, p .pre .all, c .loop-test .taken) in
-    entry-in edition f (passes edition f (p .pre .passed)) _ l .row-in
+    entry-in edition newest f (passes edition newest f (p .pre .passed)) _ l .row-in
 
 mul-jobs : tie.Need-mul-jobs Inv-loop μ-loop
 mul-jobs c =
@@ -50,7 +50,7 @@ tag-number-requires c κs =
     let p = c .before .before .before .before .before .before .before .before in
     let f = now (p .args .f) in
     let l : c .before .before .before .loop .i < countOf f = omega (arith, p .pre .all, c .before .before .loop-test .taken) in
-    let e = entry-in edition f (passes edition f (p .pre .passed)) _ l in
+    let e = entry-in edition newest f (passes edition newest f (p .pre .passed)) _ l in
     record { is-row = c .before .row-of .ensures; entry = e; ring-long = p .pre .ring-long; room = omega (arith, c .before .before .before .loop .inv .3) }
 
 slice-write-numbers : tie.Need-slice-write-numbers Inv-loop μ-loop
