@@ -15,12 +15,12 @@
  * Nonce bytes  16          16               15               15
  * Tag bytes    16          16               8                8
  *
+ * Suite 4 is retired: it is opened as before, and sealed no more (number 10).
  * Suites 1 to 4 are COMET version 1. Version 2:
  * Suite        5 AES-128   6 Speck-64/128
  * Key bytes    16          16
  * Nonce bytes  16          15
  * Tag bytes    16          8
- * Suite 4 is retired: it is opened as before, and sealed no more (number 10).
  *
  * Never seal two records with one key and one nonce.
  */
@@ -36,8 +36,10 @@ extern "C" {
 
 /* Numbers of comet_seal and comet_open: the first that applies, in this order.
  *   0  done
+ *   1  suite is not 1 to 4
  *   1  suite is not 1 to 6
  *  10  comet_seal alone: suite is 4
+ *   1  suite is not 1 to 6
  *   2  key_len is not 16
  *   3  nonce_len is not the suite's
  *   4  ad_len is over 65,536
@@ -69,10 +71,35 @@ uint32_t comet_open(uint8_t suite,
                     const uint8_t *tag, size_t tag_len,
                     uint8_t *out, size_t out_len);
 
+/* As comet_seal and comet_open, and *calls is how many block cipher calls were made; it is written always.
+ * With a and m the block counts of associated data and text (16 bytes a block for suites 1, 2 and 5, else 8; the last may
+ * be short, and no bytes are no block) it is a + m + 2 after 0 and after 8, and 0 after 1 to 7 and 10.
+ */
+uint32_t comet_seal_counted(uint8_t suite,
+                            const uint8_t *key, size_t key_len,
+                            const uint8_t *nonce, size_t nonce_len,
+                            const uint8_t *ad, size_t ad_len,
+                            const uint8_t *msg, size_t msg_len,
+                            uint8_t *out, size_t out_len,
+                            uint8_t *tag, size_t tag_len,
+                            uint64_t *calls);
+
+uint32_t comet_open_counted(uint8_t suite,
+                            const uint8_t *key, size_t key_len,
+                            const uint8_t *nonce, size_t nonce_len,
+                            const uint8_t *ad, size_t ad_len,
+                            const uint8_t *text, size_t text_len,
+                            const uint8_t *tag, size_t tag_len,
+                            uint8_t *out, size_t out_len,
+                            uint64_t *calls);
+
 /* Sealing in parts: a session seals a record while its message is still being measured, and comet_open opens it.
  *
  * A session is a plain struct that goes in and comes back by value: each call hands back a step, and its session `next`
  * takes the place of the one that was given. The fields are for the functions alone, and hold what the key makes: keep
+ * them as secret as the key. Any value may arrive: one whose suite is not 1 to 3 or whose totals are over 65,536 (as a
+ * them as secret as the key. Any value may arrive: one whose suite is not 1 to 6 or whose totals are over 65,536 (as a
+ * session that was refused at the start, or has ended) is answered by 9; any other is taken as what it says. Going on
  * them as secret as the key. Any value may arrive: one whose suite seals no record (is not 1 to 6, or is 4) or whose
  * totals are over 65,536 (as a session that was refused at the start, or has ended) is answered by 9; any other is taken as what it says. Going on
  * from one session value twice, with different messages, is sealing two records with one key and one nonce.
@@ -93,8 +120,10 @@ typedef struct {
 
 /* Numbers of a session: the first that applies, in the order that stands with each function.
  *   0  done
+ *   1  suite is not 1 to 4
  *   1  suite is not 1 to 6
  *  10  suite is 4
+ *   1  suite is not 1 to 6
  *   2  key_len is not 16
  *   3  nonce_len is not the suite's
  *   4  more than 65,536 bytes of associated data in all

@@ -58,6 +58,10 @@ static uint32_t *lent_number(void) {
     return (uint32_t *)lent().at;
 }
 
+static uint64_t *lent_long(void) {
+    return (uint64_t *)lent().at;
+}
+
 /* ---- the functions ---- */
 
 static uint32_t seal(void) {
@@ -197,6 +201,20 @@ static uint32_t open_amended(void) {
     return shift_open_amended(SLICE(amendment), SLICE(day), SLICE(ring), job, SLICE(out), file, row);
 }
 
+static uint32_t seal_counted(void) {
+    uint8_t suite = (uint8_t)number();
+    bytes key = given(), nonce = given(), ad = given(), msg = given(), out = lent(), tag = lent();
+    return comet_seal_counted(suite, SLICE(key), SLICE(nonce), SLICE(ad), SLICE(msg), SLICE(out), SLICE(tag),
+                              lent_long());
+}
+
+static uint32_t open_counted(void) {
+    uint8_t suite = (uint8_t)number();
+    bytes key = given(), nonce = given(), ad = given(), text = given(), tag = given(), out = lent();
+    return comet_open_counted(suite, SLICE(key), SLICE(nonce), SLICE(ad), SLICE(text), SLICE(tag), SLICE(out),
+                              lent_long());
+}
+
 static uint32_t (*const functions[])(void) = {
     seal, open_record, check, lookup, associated, open_job, entry,
     session_start, session_data, session_part, session_end,
@@ -206,6 +224,7 @@ static uint32_t (*const functions[])(void) = {
     compare,
     to_edition2, to_edition1,
     amended, open_amended,
+    seal_counted, open_counted,
 };
 
 int main(void) {

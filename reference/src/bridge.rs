@@ -237,6 +237,28 @@ fn open_current(amendment: &[u8], day: &[u8], ring: &[u8], job: u32, out: &mut [
     (number, file, row)
 }
 
+#[rustfmt::skip]
+fn seal_counted(
+    suite: u8, key: &[u8], nonce: &[u8], ad: &[u8], msg: &[u8], out: &mut [u8], tag: &mut [u8],
+) -> (u32, u64) {
+    let mut calls = [0xa5; 8];
+    let mut given = vec![Number(suite.into()), Given(key), Given(nonce), Given(ad), Given(msg), Lent(out), Lent(tag)];
+    given.push(Lent(&mut calls));
+    let (number, []) = ask(20, given);
+    (number, u64::from_le_bytes(calls))
+}
+
+#[rustfmt::skip]
+fn open_counted(
+    suite: u8, key: &[u8], nonce: &[u8], ad: &[u8], text: &[u8], tag: &[u8], out: &mut [u8],
+) -> (u32, u64) {
+    let mut calls = [0xa5; 8];
+    let mut given = vec![Number(suite.into()), Given(key), Given(nonce), Given(ad), Given(text), Given(tag), Lent(out)];
+    given.push(Lent(&mut calls));
+    let (number, []) = ask(21, given);
+    (number, u64::from_le_bytes(calls))
+}
+
 pub const PROVED: Library = Library {
     seal,
     open,
@@ -258,4 +280,6 @@ pub const PROVED: Library = Library {
     to_edition1,
     amended,
     open_current,
+    seal_counted,
+    open_counted,
 };

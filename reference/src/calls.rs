@@ -15,6 +15,10 @@ pub const FILLER_NUMBER: u32 = u32::from_le_bytes([FILLER; 4]);
 pub type Seal = fn(u8, &[u8], &[u8], &[u8], &[u8], &mut [u8], &mut [u8]) -> u32;
 pub type Open = fn(u8, &[u8], &[u8], &[u8], &[u8], &[u8], &mut [u8]) -> u32;
 
+/// The sealer and the opener that give the number and how often the cipher was called.
+pub type SealCounted = fn(u8, &[u8], &[u8], &[u8], &[u8], &mut [u8], &mut [u8]) -> (u32, u64);
+pub type OpenCounted = fn(u8, &[u8], &[u8], &[u8], &[u8], &[u8], &mut [u8]) -> (u32, u64);
+
 /// Takes a file and a ring, and writes a file.
 pub type Rewrite = fn(&[u8], &[u8], &mut [u8]) -> shift::Answer;
 
@@ -41,6 +45,8 @@ pub struct Library {
     pub to_edition1: fn(&[u8], &mut [u8]) -> shift::Answer,
     pub amended: fn(&[u8], &[u8], u32) -> Amended,
     pub open_current: fn(&[u8], &[u8], &[u8], u32, &mut [u8]) -> (u32, u32, u32),
+    pub seal_counted: SealCounted,
+    pub open_counted: OpenCounted,
 }
 
 pub const REFERENCE: Library = Library {
@@ -67,6 +73,8 @@ pub const REFERENCE: Library = Library {
     to_edition1: editions::to_edition1,
     amended: amendment::amended,
     open_current: amendment::open_current,
+    seal_counted: comet::seal_counted,
+    open_counted: comet::open_counted,
 };
 
 /// A call, or a run of calls.
@@ -148,6 +156,39 @@ impl Case for Call {
             format!("{number} {}\n", shown(&out))
         } else {
             format!("{number} {} {}\n", shown(&out), shown(&tag))
+        }
+    }
+}
+
+/// The same call, of the sealer and the opener that report the cipher's calls.
+#[derive(Clone)]
+pub struct CountedCall(pub Call);
+
+impl Case for CountedCall {
+    type Outcome = (u64, Outcome);
+
+    fn answer(&self, by: &Library) -> (u64, Outcome) {
+        let Call { opens, suite, key, nonce, ad, text, .. } = &self.0;
+        let mut out = vec![FILLER; self.0.out];
+        let mut tag = self.0.tag.clone();
+        let (number, calls) = if *opens {
+            (by.open_counted)(*suite, key, nonce, ad, text, &tag, &mut out)
+        } else {
+            (by.seal_counted)(*suite, key, nonce, ad, text, &mut out, &mut tag)
+        };
+        (calls, Outcome { number, out, tag })
+    }
+
+    fn record(&self) -> Vec<u8> {
+        self.0.record()
+    }
+
+    fn lines(&self, by: &Library) -> String {
+        let (calls, Outcome { number, out, tag }) = self.answer(by);
+        if self.0.opens {
+            format!("{number} {calls} {}\n", shown(&out))
+        } else {
+            format!("{number} {calls} {} {}\n", shown(&out), shown(&tag))
         }
     }
 }

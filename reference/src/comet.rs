@@ -1,5 +1,7 @@
 //! COMET versions 1 and 2 over the ciphers: the sealer and the opener, with document 01's numbers.
 
+use std::cell::Cell;
+
 /// The longest associated data, message and ciphertext.
 pub const LIMIT: usize = 65_536;
 
@@ -196,19 +198,29 @@ impl<const N: usize, E: Cipher<N>> State<N, E> {
     }
 }
 
-/// The whole of a record; gives its tag.
+/// The cipher, with a count of its calls.
+fn counting<'a, const N: usize>(encrypt: impl Cipher<N> + 'a, calls: &'a Cell<u64>) -> impl Cipher<N> + 'a {
+    move |key: &[u8; 16], block: &[u8; N]| {
+        calls.set(calls.get() + 1);
+        encrypt(key, block)
+    }
+}
+
+/// The whole of a record; gives its tag, and how often the cipher was called.
 #[rustfmt::skip]
 fn record<const N: usize>(
     encrypt: impl Cipher<N>, version: Version, kind: Text, key: &[u8], nonce: &[u8], ad: &[u8], text: &[u8], out: &mut [u8],
-) -> Vec<u8> {
-    let mut state = State::start(encrypt, version, key, nonce);
+) -> (Vec<u8>, u64) {
+    let calls = Cell::new(0);
+    let mut state = State::start(counting(encrypt, &calls), version, key, nonce);
     state.absorb(true, ad);
     state.crypt(kind, true, text, out);
-    state.tag().to_vec()
+    let tag = state.tag().to_vec();
+    (tag, calls.get())
 }
 
-/// Works on a record whose lengths were checked; gives the tag.
-fn run(suite: u8, kind: Text, key: &[u8], nonce: &[u8], ad: &[u8], text: &[u8], out: &mut [u8]) -> Vec<u8> {
+/// Works on a record whose lengths were checked; gives the tag, and how often the cipher was called.
+fn run(suite: u8, kind: Text, key: &[u8], nonce: &[u8], ad: &[u8], text: &[u8], out: &mut [u8]) -> (Vec<u8>, u64) {
     by_suite!(suite, record(version_of(suite), kind, key, nonce, ad, text, out))
 }
 
@@ -243,44 +255,63 @@ fn refusal(kind: Text, suite: u8, l: Lengths) -> u32 {
 
 /// Seals a message: the ciphertext into `out`, the tag into `tag`. On a refusal both are unchanged.
 pub fn seal(suite: u8, key: &[u8], nonce: &[u8], ad: &[u8], msg: &[u8], out: &mut [u8], tag: &mut [u8]) -> u32 {
+    seal_counted(suite, key, nonce, ad, msg, out, tag).0
+}
+
+/// The same, and how often the cipher was called (document 02, W12): 0 on a refusal.
+#[rustfmt::skip]
+pub fn seal_counted(
+    suite: u8, key: &[u8], nonce: &[u8], ad: &[u8], msg: &[u8], out: &mut [u8], tag: &mut [u8],
+) -> (u32, u64) {
     let number = refusal(
         Text::Message,
         suite,
         Lengths { key: key.len(), nonce: nonce.len(), ad: ad.len(), text: msg.len(), out: out.len(), tag: tag.len() },
     );
-    if number == 0 {
-        tag.copy_from_slice(&run(suite, Text::Message, key, nonce, ad, msg, out));
+    if number != 0 {
+        return (number, 0);
     }
-    number
+    let (made, calls) = run(suite, Text::Message, key, nonce, ad, msg, out);
+    tag.copy_from_slice(&made);
+    (0, calls)
 }
 
 /// Opens a ciphertext into `out`. On 8 every byte of `out` is 0; on another refusal it is unchanged.
 pub fn open(suite: u8, key: &[u8], nonce: &[u8], ad: &[u8], text: &[u8], tag: &[u8], out: &mut [u8]) -> u32 {
+    open_counted(suite, key, nonce, ad, text, tag, out).0
+}
+
+/// The same, and how often the cipher was called: on 8 as on 0, and 0 on another refusal.
+#[rustfmt::skip]
+pub fn open_counted(
+    suite: u8, key: &[u8], nonce: &[u8], ad: &[u8], text: &[u8], tag: &[u8], out: &mut [u8],
+) -> (u32, u64) {
     let number = refusal(
         Text::Ciphertext,
         suite,
         Lengths { key: key.len(), nonce: nonce.len(), ad: ad.len(), text: text.len(), out: out.len(), tag: tag.len() },
     );
     if number != 0 {
-        return number;
+        return (number, 0);
     }
-    if run(suite, Text::Ciphertext, key, nonce, ad, text, out) != tag {
+    let (made, calls) = run(suite, Text::Ciphertext, key, nonce, ad, text, out);
+    if made != tag {
         out.fill(0);
-        return 8;
+        return (8, calls);
     }
-    0
+    (0, calls)
 }
 
 /// The specification's ciphertext and tag of a message, under a retired suite too. Every length is right.
 pub fn specified(suite: u8, key: &[u8], nonce: &[u8], ad: &[u8], msg: &[u8]) -> (Vec<u8>, Vec<u8>) {
     let mut text = vec![0; msg.len()];
-    let tag = run(suite, Text::Message, key, nonce, ad, msg, &mut text);
+    let (tag, _) = run(suite, Text::Message, key, nonce, ad, msg, &mut text);
     (text, tag)
 }
 
 /// The tag that fits a ciphertext, whatever the message behind it. Every length is right.
 pub fn fitting_tag(suite: u8, key: &[u8], nonce: &[u8], ad: &[u8], text: &[u8]) -> Vec<u8> {
-    run(suite, Text::Ciphertext, key, nonce, ad, text, &mut vec![0; text.len()])
+    run(suite, Text::Ciphertext, key, nonce, ad, text, &mut vec![0; text.len()]).0
 }
 
 /// Associated data of two full blocks with another first block and one tag: the second block makes up for
@@ -363,5 +394,70 @@ mod tests {
         assert_eq!(marks_128(16, 16), [0, 0x08, 0xa0]);
         assert_eq!(marks_64(1, 1), [0, 0x18, 0xe0]);
         assert_eq!(marks_64(24, 17), [0, 0x08, 0, 0, 0x20, 0, 0xc0]);
+    }
+
+    /// The cipher outputs of an opening's message blocks, and its tag, under a cipher that does nothing: what is changed
+    /// then goes on unmixed, and slips (document 02, W13) can be made at will.
+    fn opened(ad: &[u8], text: &[u8]) -> (Vec<[u8; 8]>, [u8; 8]) {
+        let seen = RefCell::new(vec![]);
+        let encrypt = |_: &[u8; 16], y: &[u8; 8]| {
+            seen.borrow_mut().push(*y);
+            *y
+        };
+        let mut state = State { y: [5; 8], z: [0; 16], version: Version::One, encrypt };
+        state.absorb(true, ad);
+        let before = seen.borrow().len();
+        state.crypt(Text::Ciphertext, true, text, &mut vec![0; text.len()]);
+        let after = seen.borrow().len();
+        let tag = state.tag();
+        let outputs = seen.borrow()[before..after].to_vec();
+        (outputs, tag)
+    }
+
+    /// Shuffle XOR identity takes two blocks to zero: all zeros and all ones. It is linear; so the blocks that it takes to
+    /// a given one, if any, are one and its complement.
+    fn taken_to(block: u64) -> Option<u64> {
+        let image = |x: u64| x ^ u64::from_le_bytes(shuffle(&x.to_le_bytes()));
+        let mut rows: Vec<(u64, u64)> = vec![];
+        let reduced = |rows: &[(u64, u64)], pair: (u64, u64)| {
+            rows.iter().fold(pair, |(x, y), (from, to)| if y ^ to < y { (x ^ from, y ^ to) } else { (x, y) })
+        };
+        for bit in 0..64 {
+            let (x, y) = reduced(&rows, (1 << bit, image(1 << bit)));
+            if y == 0 {
+                assert_eq!(x, u64::MAX);
+            } else {
+                rows.push((x, y));
+                rows.sort_by_key(|row| std::cmp::Reverse(row.1));
+            }
+        }
+        assert_eq!(rows.len(), 63);
+        let (x, rest) = reduced(&rows, (0, block));
+        (rest == 0).then_some(x)
+    }
+
+    /// A change inside one block of associated data or of ciphertext, with full message blocks behind it, is accepted
+    /// exactly if the cipher's outputs of the two openings are complements at some message block behind it.
+    #[test]
+    fn when_a_change_slips_through() {
+        let mut changes = vec![1, 0x8000_0000_0000_0000, 0x0123_4567_89ab_cdef, u64::MAX];
+        while let Some(before) = taken_to(*changes.last().unwrap()) {
+            changes.push(before);
+        }
+        let (ad, text): (Vec<u8>, Vec<u8>) = ((0..16).collect(), (100..140).collect());
+        let (outputs, tag) = opened(&ad, &text);
+        let mut accepted = 0;
+        for (change, place) in changes.iter().flat_map(|change| (0..7).map(move |place| (change, place))) {
+            let (mut other_ad, mut other_text) = (ad.clone(), text.clone());
+            let block =
+                if place < 2 { &mut other_ad[8 * place..][..8] } else { &mut other_text[8 * (place - 2)..][..8] };
+            block.iter_mut().zip(change.to_le_bytes()).for_each(|(byte, x)| *byte ^= x);
+            let (others, other_tag) = opened(&other_ad, &other_text);
+            let behind = if place < 2 { 0 } else { place - 1 };
+            let are_complements = |t: usize| outputs[t].iter().zip(&others[t]).all(|(x, other)| *x == !*other);
+            assert_eq!(other_tag == tag, (behind..5).any(are_complements));
+            accepted += (other_tag == tag) as u32;
+        }
+        assert!(accepted >= 6);
     }
 }

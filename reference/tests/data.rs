@@ -2,7 +2,7 @@
 
 use reference::calls::{Case, REFERENCE};
 use reference::data::{
-    amending, cases, comparing, files, moving, parts, resealing, searching, sessions, writing, FOLDERS,
+    amending, cases, comparing, counted, files, moving, parts, resealing, searching, sessions, writing, FOLDERS,
 };
 use reference::random::Random;
 use reference::trials;
@@ -91,6 +91,16 @@ fn amending_provokes_every_number() {
     assert_eq!(numbers(0), [32].into());
     assert_eq!(numbers(1), [0, 2, 6, 8, 34].into_iter().chain(20..=31).collect());
     assert_eq!(numbers(2), numbers(1));
+}
+
+#[test]
+fn counted_provokes_every_number() {
+    let numbers = |opens: bool| -> BTreeSet<u32> {
+        let calls = counted::calls().into_iter().filter(|call| call.0.opens == opens);
+        calls.map(|call| call.answer(&REFERENCE).1.number).collect()
+    };
+    assert_eq!(numbers(false), [0, 1, 2, 3, 4, 6, 7, 10].into());
+    assert_eq!(numbers(true), [0, 1, 2, 3, 6, 7, 8].into());
 }
 
 /// The random files of the comparison are of all kinds too.

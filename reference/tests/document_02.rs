@@ -1,7 +1,7 @@
 //! What document 02 says of each request, at its edges.
 
 use reference::amendment::{amended, current, open_current};
-use reference::comet::{double_120, encipher, open, pad, seal, shuffle, specified, LIMIT};
+use reference::comet::{double_120, encipher, open, open_counted, pad, seal, seal_counted, shuffle, specified, LIMIT};
 use reference::data::{files, samples};
 use reference::difference::{compare, printed, PROGRAM_LONGEST};
 use reference::editions::{to_edition1, to_edition2};
@@ -534,5 +534,49 @@ mod w11 {
         assert_eq!(open_current(&amendment, &day, &[], 4102, &mut []), (26, 2, 1));
         amendment[0] = 3;
         assert_eq!((amended(&amendment, &day, 4102).number, amended(&amendment, &day, 4102).file), (21, 1));
+    }
+}
+
+mod w12 {
+    use super::*;
+
+    /// Source 000, section 3.2, but that its fourth example is 2 for an empty message.
+    #[test]
+    fn examples() {
+        for (suite, n) in [(1, 16), (2, 16), (3, 8), (5, 16), (6, 8)] {
+            let nonce = vec![2; if n == 16 { 16 } else { 15 }];
+            let examples: [(usize, usize, u64); 8] = [
+                (0, 0, 2),
+                (1, 0, 3),
+                (4 * n, 0, 6),
+                (0, n, 3),
+                (0, 3 * n + 1, 6),
+                (n, 1, 4),
+                (4 * n, 3 * n + 1, 10),
+                (0, 4 * n, 6),
+            ];
+            for (a, m, calls) in examples {
+                let (mut out, mut tag) = (vec![0; m], vec![0; n]);
+                let sealed = seal_counted(suite, &[1; 16], &nonce, &vec![3; a], &vec![4; m], &mut out, &mut tag);
+                assert_eq!(sealed, (0, calls));
+                let mut back = vec![0; m];
+                assert_eq!(open_counted(suite, &[1; 16], &nonce, &vec![3; a], &out, &tag, &mut back), (0, calls));
+                tag[0] ^= 1;
+                assert_eq!(open_counted(suite, &[1; 16], &nonce, &vec![3; a], &out, &tag, &mut back), (8, calls));
+            }
+        }
+    }
+
+    /// A refusal before the text is worked on reports none; suite 4 is opened, and not sealed.
+    #[test]
+    fn refusals() {
+        let mut tag = [0; 8];
+        for (suite, key, number) in [(0, 16, 1), (4, 16, 10), (3, 15, 2)] {
+            assert_eq!(seal_counted(suite, &vec![0; key], &[0; 15], &[], &[], &mut [], &mut tag), (number, 0));
+        }
+        assert_eq!(seal_counted(3, &[0; 16], &[0; 15], &[], &[], &mut [], &mut [0; 7]), (7, 0));
+        let (text, tag) = specified(4, &[1; 16], &[2; 15], b"ad", b"nine bytes");
+        assert_eq!(open_counted(4, &[1; 16], &[2; 15], b"ad", &text, &tag, &mut [0; 10]), (0, 5));
+        assert_eq!(open_counted(4, &[1; 16], &[2; 15], b"ad", &text, &tag, &mut [0; 9]), (6, 0));
     }
 }

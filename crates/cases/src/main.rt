@@ -3,11 +3,9 @@
 // A call is op (0 seals, 1 opens), suite, six lengths of 4 bytes, little-endian (key, nonce, associated data, text,
 // output, tag), and the bytes of key, nonce, associated data and text; to open, then those of the tag.
 // Its line is the number, the output and, to seal, the tag. The lent buffers hold 0xa5 before the call.
-mod read;
-
 use libc::STDIN_FILENO;
 use libc::STDOUT_FILENO;
-use read::Call;
+use lines::call::Call;
 
 fn seal(
     suite: u8,
@@ -107,7 +105,7 @@ fn turn() -> bool {
     if n == 0 {
         return false;
     }
-    if n == 26 && run(read::call_of(&head)) {
+    if n == 26 && run(lines::call::call_of(&head)) {
         return true;
     }
     io::write_all(STDOUT_FILENO, b"bad input\n");

@@ -1,3 +1,4 @@
 pub mod Turns
 pub mod Refuse
 pub mod Outcomes
+pub mod Counts

@@ -1,13 +1,19 @@
--- Every public function of `comet` leaves one outcome: each answer has a number of its own, and the contract says what number and buffers equal.
+-- Every public function of `comet` leaves one outcome: each answer has a number of its own, and the contract says what number, buffers and count equal.
 use mathlib.Core.Path.{_≡_, refl, sym, ap, ap₂, _∙_}
 use mathlib.Core.List.{List}
 use Prim.Native.Nat.{ℕ, zero, suc}
 use Rattle.words.specs.Outcome.{OneOutcome}
 use Rattle.comet.specs.declared.Verdict.{Verdict}
 use Rattle.comet.specs.declared.Verdict.the-variants.{Done, Suite, Key, Nonce, Data, Text, Room, Tag, Forged, Retired}
+use Rattle.comet.specs.declared.Counted.{Counted}
 use Rattle.comet.specs.Answers.{numberOf, Sealed, Opened}
+use Rattle.comet.specs.Counted.{Counting}
 use Rattle.comet.proofs.Verdict.number.Kinds as number-kinds
 use Rattle.comet.proofs.Verdict.number.Reads as number-reads
+use Rattle.comet.proofs.seal_counted.Kinds as seal-counted-kinds
+use Rattle.comet.proofs.seal_counted.Reads as seal-counted-reads
+use Rattle.comet.proofs.unseal_counted.Kinds as unseal-counted-kinds
+use Rattle.comet.proofs.unseal_counted.Reads as unseal-counted-reads
 use Rattle.comet.proofs.seal.Kinds as seal-kinds
 use Rattle.comet.proofs.seal.Reads as seal-reads
 use Rattle.comet.proofs.unseal.Kinds as unseal-kinds
@@ -43,6 +49,23 @@ number-tells a b e = sym (answer-back a) ∙ ap answerOf e ∙ answer-back b
 
 pub number : OneOutcome number-kinds.ps number-kinds.r number-reads.Pre number-reads.Post
 number κs a h x y = (x .ensures ∙ sym (y .ensures), refl)
+
+counted-told : {x y : Verdict} {j k : ℕ} → x ≡ y → j ≡ k → _≡_ {A = Counted} (record { verdict = x; calls = j }) (record { verdict = y; calls = k })
+counted-told p q = λ i. record { verdict = p i; calls = q i }
+
+pub seal-counted : OneOutcome seal-counted-kinds.ps seal-counted-kinds.r seal-counted-reads.Pre seal-counted-reads.Post
+seal-counted κs a h x y =
+    let e = x .ensures ∙ sym (y .ensures) in (
+      counted-told (number-tells (x .result .verdict) (y .result .verdict) (ap (λ (w : Counting Sealed). w .leaves .number) e)) (ap (λ (w : Counting Sealed). w .calls) e),
+      ap₂ (λ (o t : List ℕ). (tt, (tt, (tt, (tt, (tt, (o, (t, tt)))))))) (ap (λ (w : Counting Sealed). w .leaves .out) e) (ap (λ (w : Counting Sealed). w .leaves .tag) e),
+    )
+
+pub unseal-counted : OneOutcome unseal-counted-kinds.ps unseal-counted-kinds.r unseal-counted-reads.Pre unseal-counted-reads.Post
+unseal-counted κs a h x y =
+    let e = x .ensures ∙ sym (y .ensures) in (
+      counted-told (number-tells (x .result .verdict) (y .result .verdict) (ap (λ (w : Counting Opened). w .leaves .number) e)) (ap (λ (w : Counting Opened). w .calls) e),
+      ap (λ (o : List ℕ). (tt, (tt, (tt, (tt, (tt, (tt, (o, tt)))))))) (ap (λ (w : Counting Opened). w .leaves .out) e),
+    )
 
 pub seal : OneOutcome seal-kinds.ps seal-kinds.r seal-reads.Pre seal-reads.Post
 seal κs a h x y =

@@ -1,18 +1,20 @@
 // The sealer and the opener: COMET under every suite.
 use cipher::Lent;
-use words::block::Block;
+use step::tag::Last;
 
 mod text;
 
 ghost use mathlib.Core.Path.{_≡_};
 ghost use mathlib.Core.Bool.{true, false, cond, not};
+ghost use Prim.Native.Nat.{_≤_};
 ghost use lib.Dec.{ltb, eqb};
 ghost use lib.ListN.{length, take};
 ghost use Rattle.words.specs.Blocks.{wide};
 ghost use Rattle.cipher.specs.Cipher.{Ready, IsSuite, sizeOf, nonceOf, cipherOf};
-ghost use Rattle.mode.specs.Mode.{textOut, tagOut};
+ghost use Rattle.mode.specs.Mode.{textOut, tagOut, calls};
 ghost use Rattle.step.specs.Two.{Clean};
 ghost use Rattle.comet.specs.Answers.{numberOf, takes, refusal, Sealed, sealing, Opened, opening};
+ghost use Rattle.comet.specs.Counted.{Counting, sealingCounted, openingCounted};
 
 // What a call answers: Done, or why it refused.
 pub enum Verdict {
@@ -46,6 +48,12 @@ impl Verdict {
             Verdict::Retired => 10,
         }
     }
+}
+
+// What a call answers, and how many cipher calls it took.
+pub struct Counted {
+    pub verdict: Verdict,
+    pub calls: u64,
 }
 
 // Whether the suite, one that we have, is taken: it is always opened, and sealed if it seals.
@@ -109,7 +117,7 @@ fn refused(
     texts_refused(suite, ad, text, out, tag)
 }
 
-// The text that goes out and the tag, once every length is right: the cipher is lent what it needs.
+// The text that goes out, the tag and the count of the calls, once every length is right: the cipher is lent what it needs.
 fn crypt(
     tb: &[Lent],
     opening: bool,
@@ -119,11 +127,12 @@ fn crypt(
     ad: &[u8],
     text: &[u8],
     out: &mut [u8],
-) -> Block
-    requires { ⌜ Ready suite (now tb) × IsSuite suite × (length (now key) ≡ 16) × (length (now nonce) ≡ nonceOf suite) × (length (now out) ≡ length (now text)) ⌝ }
+) -> Last
+    requires { ⌜ Ready suite (now tb) × IsSuite suite × (length (now key) ≡ 16) × (length (now nonce) ≡ nonceOf suite) × (length (now out) ≡ length (now text)) × (length (now ad) ≤ 65536) × (length (now text) ≤ 65536) ⌝ }
     ensures text { λ _. ⌜ now (out .exit) ≡ textOut (cipherOf suite) opening (now (key .entry)) (now (nonce .entry)) (now (ad .entry)) (now (text .entry)) ⌝ }
-    ensures tag { λ r. ⌜ take (sizeOf suite) (wide r) ≡ tagOut (cipherOf suite) opening (now (key .entry)) (now (nonce .entry)) (now (ad .entry)) (now (text .entry)) ⌝ }
-    ensures clean { λ r. ⌜ Clean suite r ⌝ }
+    ensures tag { λ r. ⌜ take (sizeOf suite) (wide (r .tag)) ≡ tagOut (cipherOf suite) opening (now (key .entry)) (now (nonce .entry)) (now (ad .entry)) (now (text .entry)) ⌝ }
+    ensures rest { λ r. ⌜ Clean suite (r .tag)
+        × (r .calls ≡ length (calls (cipherOf suite) opening (now (key .entry)) (now (nonce .entry)) (now (ad .entry)) (now (text .entry)))) ⌝ }
 {
     let s = step::state::start(tb, suite, key, nonce);
     let d = text::absorb_all(tb, suite, s, ad);
@@ -141,18 +150,22 @@ fn seal_with(
     msg: &[u8],
     out: &mut [u8],
     tag: &mut [u8],
-) -> Verdict
+) -> Counted
     requires { ⌜ Ready suite (now tb) × (refusal false suite (length (now key)) (length (now nonce)) (length (now ad)) (length (now msg)) (length (now out)) (length (now tag)) ≡ 0) ⌝ }
-    ensures { λ r. ⌜ _≡_ {A = Sealed} (record { number = numberOf r; out = now (out .exit); tag = now (tag .exit) })
-        (sealing suite (now (key .entry)) (now (nonce .entry)) (now (ad .entry)) (now (msg .entry)) (now (out .entry)) (now (tag .entry))) ⌝ }
+    ensures { λ r. ⌜ _≡_ {A = Counting Sealed} (record { leaves = record { number = numberOf (r .verdict); out = now (out .exit); tag = now (tag .exit) }; calls = r .calls })
+        (sealingCounted suite (now (key .entry)) (now (nonce .entry)) (now (ad .entry)) (now (msg .entry)) (now (out .entry)) (now (tag .entry))) ⌝ }
 {
     let t = crypt(tb, false, suite, key, nonce, ad, msg, out);
-    words::block::put(t, tag);
-    Verdict::Done
+    let g = t.tag;
+    words::block::put(g, tag);
+    Counted {
+        verdict: Verdict::Done,
+        calls: t.calls,
+    }
 }
 
-// Seals msg into out, and its tag into tag. Only a suite whose engine is lent tables pays for them.
-pub fn seal(
+// Seals msg into out, and its tag into tag, and counts the cipher calls. Only a suite whose engine is lent tables pays for them.
+pub fn seal_counted(
     suite: u8,
     key: &[u8],
     nonce: &[u8],
@@ -160,9 +173,9 @@ pub fn seal(
     msg: &[u8],
     out: &mut [u8],
     tag: &mut [u8],
-) -> Verdict
-    ensures { λ r. ⌜ _≡_ {A = Sealed} (record { number = numberOf r; out = now (out .exit); tag = now (tag .exit) })
-        (sealing suite (now (key .entry)) (now (nonce .entry)) (now (ad .entry)) (now (msg .entry)) (now (out .entry)) (now (tag .entry))) ⌝ }
+) -> Counted
+    ensures { λ r. ⌜ _≡_ {A = Counting Sealed} (record { leaves = record { number = numberOf (r .verdict); out = now (out .exit); tag = now (tag .exit) }; calls = r .calls })
+        (sealingCounted suite (now (key .entry)) (now (nonce .entry)) (now (ad .entry)) (now (msg .entry)) (now (out .entry)) (now (tag .entry))) ⌝ }
 {
     let a = refused(
         false,
@@ -175,13 +188,32 @@ pub fn seal(
         tag.len(),
     );
     let Verdict::Done = a else {
-        return a;
+        return Counted {
+            verdict: a,
+            calls: 0,
+        };
     };
     if cipher::lends(suite) {
         let tb = cipher::tables(suite);
         return seal_with(&tb, suite, key, nonce, ad, msg, out, tag);
     }
     seal_with(&[], suite, key, nonce, ad, msg, out, tag)
+}
+
+// Seals msg into out, and its tag into tag.
+pub fn seal(
+    suite: u8,
+    key: &[u8],
+    nonce: &[u8],
+    ad: &[u8],
+    msg: &[u8],
+    out: &mut [u8],
+    tag: &mut [u8],
+) -> Verdict
+    ensures { λ r. ⌜ _≡_ {A = Sealed} (record { number = numberOf r; out = now (out .exit); tag = now (tag .exit) })
+        (sealing suite (now (key .entry)) (now (nonce .entry)) (now (ad .entry)) (now (msg .entry)) (now (out .entry)) (now (tag .entry))) ⌝ }
+{
+    seal_counted(suite, key, nonce, ad, msg, out, tag).verdict
 }
 
 // Opens, once every length is right: the cipher is lent what it needs.
@@ -194,17 +226,61 @@ fn unseal_with(
     text: &[u8],
     tag: &[u8],
     out: &mut [u8],
-) -> Verdict
+) -> Counted
     requires { ⌜ Ready suite (now tb) × (refusal true suite (length (now key)) (length (now nonce)) (length (now ad)) (length (now text)) (length (now out)) (length (now tag)) ≡ 0) ⌝ }
-    ensures { λ r. ⌜ _≡_ {A = Opened} (record { number = numberOf r; out = now (out .exit) })
-        (opening suite (now (key .entry)) (now (nonce .entry)) (now (ad .entry)) (now (text .entry)) (now (tag .entry)) (now (out .entry))) ⌝ }
+    ensures { λ r. ⌜ _≡_ {A = Counting Opened} (record { leaves = record { number = numberOf (r .verdict); out = now (out .exit) }; calls = r .calls })
+        (openingCounted suite (now (key .entry)) (now (nonce .entry)) (now (ad .entry)) (now (text .entry)) (now (tag .entry)) (now (out .entry))) ⌝ }
 {
     let t = crypt(tb, true, suite, key, nonce, ad, text, out);
-    if step::tag::same(t, tag) {
-        return Verdict::Done;
+    let g = t.tag;
+    let right = step::tag::same(g, tag);
+    if !right {
+        words::zeros::wipe(out);
+        return Counted {
+            verdict: Verdict::Forged,
+            calls: t.calls,
+        };
     }
-    words::zeros::wipe(out);
-    Verdict::Forged
+    Counted {
+        verdict: Verdict::Done,
+        calls: t.calls,
+    }
+}
+
+// Opens text into out, if its tag is right, and counts the cipher calls; else every byte of out is 0.
+pub fn unseal_counted(
+    suite: u8,
+    key: &[u8],
+    nonce: &[u8],
+    ad: &[u8],
+    text: &[u8],
+    tag: &[u8],
+    out: &mut [u8],
+) -> Counted
+    ensures { λ r. ⌜ _≡_ {A = Counting Opened} (record { leaves = record { number = numberOf (r .verdict); out = now (out .exit) }; calls = r .calls })
+        (openingCounted suite (now (key .entry)) (now (nonce .entry)) (now (ad .entry)) (now (text .entry)) (now (tag .entry)) (now (out .entry))) ⌝ }
+{
+    let a = refused(
+        true,
+        suite,
+        key.len(),
+        nonce.len(),
+        ad.len(),
+        text.len(),
+        out.len(),
+        tag.len(),
+    );
+    let Verdict::Done = a else {
+        return Counted {
+            verdict: a,
+            calls: 0,
+        };
+    };
+    if cipher::lends(suite) {
+        let tb = cipher::tables(suite);
+        return unseal_with(&tb, suite, key, nonce, ad, text, tag, out);
+    }
+    unseal_with(&[], suite, key, nonce, ad, text, tag, out)
 }
 
 // Opens text into out, if its tag is right; else every byte of out is 0.
@@ -220,22 +296,5 @@ pub fn unseal(
     ensures { λ r. ⌜ _≡_ {A = Opened} (record { number = numberOf r; out = now (out .exit) })
         (opening suite (now (key .entry)) (now (nonce .entry)) (now (ad .entry)) (now (text .entry)) (now (tag .entry)) (now (out .entry))) ⌝ }
 {
-    let a = refused(
-        true,
-        suite,
-        key.len(),
-        nonce.len(),
-        ad.len(),
-        text.len(),
-        out.len(),
-        tag.len(),
-    );
-    let Verdict::Done = a else {
-        return a;
-    };
-    if cipher::lends(suite) {
-        let tb = cipher::tables(suite);
-        return unseal_with(&tb, suite, key, nonce, ad, text, tag, out);
-    }
-    unseal_with(&[], suite, key, nonce, ad, text, tag, out)
+    unseal_counted(suite, key, nonce, ad, text, tag, out).verdict
 }

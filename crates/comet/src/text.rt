@@ -7,16 +7,18 @@ use step::block::crypt_short;
 use step::state::State;
 ghost use mathlib.Core.Path.{_≡_};
 ghost use mathlib.Core.Bool.{false};
+ghost use Prim.Native.Nat.{_+_, _^_, _<_};
 ghost use lib.ListN.{length};
 ghost use Rattle.cipher.specs.Cipher.{Ready, IsSuite, sizeOf, cipherOf};
 ghost use Rattle.mode.specs.Blocks.{blocks};
 ghost use Rattle.mode.specs.Walk.{walked, covered};
 ghost use Rattle.step.specs.Two.{twoOf};
 
-// All blocks of the associated data.
+// All blocks of the associated data, a call each.
 pub(crate) fn absorb_all(tb: &[Lent], suite: u8, s: State, ad: &[u8]) -> State
-    requires { ⌜ Ready suite (now tb) × IsSuite suite ⌝ }
-    ensures { λ r. ⌜ twoOf suite r ≡ walked (cipherOf suite) false 0x08 0x10 (twoOf suite s) (blocks (sizeOf suite) (now (ad .entry))) ⌝ }
+    requires { ⌜ Ready suite (now tb) × IsSuite suite × (s .calls + length (blocks (sizeOf suite) (now ad)) < 2 ^ 64) ⌝ }
+    ensures state { λ r. ⌜ twoOf suite r ≡ walked (cipherOf suite) false 0x08 0x10 (twoOf suite s) (blocks (sizeOf suite) (now (ad .entry))) ⌝ }
+    ensures calls { λ r. ⌜ r .calls ≡ s .calls + length (blocks (sizeOf suite) (now (ad .entry))) ⌝ }
 {
     let n = cipher::size_of(suite);
     let mut t = s;
@@ -34,7 +36,7 @@ pub(crate) fn absorb_all(tb: &[Lent], suite: u8, s: State, ad: &[u8]) -> State
     t
 }
 
-// All blocks of a text.
+// All blocks of a text, a call each.
 pub(crate) fn crypt_all(
     tb: &[Lent],
     opening: bool,
@@ -43,9 +45,10 @@ pub(crate) fn crypt_all(
     text: &[u8],
     out: &mut [u8],
 ) -> State
-    requires { ⌜ Ready suite (now tb) × IsSuite suite × (length (now out) ≡ length (now text)) ⌝ }
+    requires { ⌜ Ready suite (now tb) × IsSuite suite × (length (now out) ≡ length (now text)) × (s .calls + length (blocks (sizeOf suite) (now text)) < 2 ^ 64) ⌝ }
     ensures text { λ _. ⌜ now (out .exit) ≡ covered (cipherOf suite) opening 0x20 0x40 (twoOf suite s) (blocks (sizeOf suite) (now (text .entry))) ⌝ }
-    ensures state { λ r. ⌜ twoOf suite r ≡ walked (cipherOf suite) opening 0x20 0x40 (twoOf suite s) (blocks (sizeOf suite) (now (text .entry))) ⌝ }
+    ensures state { λ r. ⌜ (twoOf suite r ≡ walked (cipherOf suite) opening 0x20 0x40 (twoOf suite s) (blocks (sizeOf suite) (now (text .entry))))
+        × (r .calls ≡ s .calls + length (blocks (sizeOf suite) (now (text .entry)))) ⌝ }
 {
     let n = cipher::size_of(suite);
     let mut t = s;

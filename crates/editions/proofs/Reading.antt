@@ -15,10 +15,10 @@ use Rattle.table.specs.declared.answers.Answer.{Answer}
 use Rattle.table.specs.Part.{stretch}
 use Rattle.table.specs.Format.{editionOf, countOf, edition, newest, rowSize, widthOf, rowAt, nonceReadAt, rowOf, dataOf, textOf, tagOf}
 use Rattle.table.specs.Answers.{answer}
-use Rattle.table.specs.Check.{outside, headNumber, checkBetween, checkAs, checkFile}
+use Rattle.table.specs.Check.{checkFile}
 use Rattle.table.proofs.Rows.{row-broad}
-use Rattle.table.proofs.Passed.{passes, own-edition}
-use Rattle.table.proofs.Kept.{taken}
+use Rattle.table.proofs.Passed.{passes}
+use Rattle.table.proofs.Kept.{wider}
 use Rattle.shift.specs.Lookup.{lookupJob}
 use Rattle.shift.specs.Entry.{dataStart, dataLength}
 use Rattle.shift.specs.Opening.{ringKey, nonceRead, entryOpening, left, rowOpening, jobOpening}
@@ -131,19 +131,6 @@ module _ (f g : List ℕ) (h : Alike f g) where
   same-read = record { found = found; searched = searched; associated = associated; opened = opened }
 
 -- ---- the moved file
-
--- both editions are taken
-same-head : (e : ℕ) (f : List ℕ) → outside edition newest (editionOf f) ≡ false → outside e e (editionOf f) ≡ false → headNumber edition newest f ≡ headNumber e e f
-unfolding headNumber
-same-head e f a b = simp (a, b)
-
--- a file that passes at its own edition passes the readers' check, if readers take that
-wider : (e : ℕ) (f : List ℕ) → edition ≤ e → e ≤ newest → checkAs e f .number ≡ 0 → checkFile f .number ≡ 0
-unfolding checkBetween
-wider e f low high z =
-    let p = passes e e f z in
-    let q = own-edition e f p in
-    rw (same-head e f (taken edition newest (editionOf f) (omega arith) (omega arith)) (taken e e (editionOf f) (omega arith) (omega arith))) z
 
 module _ (a b : ℕ) (la : edition ≤ a) (ma : a ≤ newest) (lb : edition ≤ b) (mb : b ≤ newest) (f : List ℕ) (out : ℕ) (x : Answer) (d : Goes a b f out x) where
   wa : a < 256 ^ 2

@@ -111,6 +111,9 @@ module _ (n : ℕ) (pos : 0 < n) where
   pub count-same : (l : List ℕ) → length (blocks n l) ≡ length (lengths n (length l))
   count-same l = sym (length-sizes (blocks n l)) ∙ ap length (blocks-sizes (length l) l (le-refl (length l)))
 
+  pub as-many : (s t : List ℕ) → length s ≡ length t → length (blocks n s) ≡ length (blocks n t)
+  as-many s t e = count-same s ∙ ap (λ (l : ℕ). length (lengths n l)) e ∙ sym (count-same t)
+
   -- a block in front: full, or nothing behind it
   pub blocks-cons : (x r : List ℕ) → 0 < length x → length x ≤ n → (length x ≡ n) ⊎ (r ≡ []) → blocks n (x ++ r) ≡ x ∷ blocks n r
   blocks-cons x r p h (inl e) =
@@ -145,6 +148,17 @@ module _ (n : ℕ) (pos : 0 < n) where
       ∙ ap (λ (x : List (List ℕ)). f ∷ x) ih
       ∙ ap₂ (λ (x : List (List ℕ)) (y : List ℕ). x ++ (take n y ∷ blocks n (drop (j * n + n) r))) (sym front) (drop-drop (j * n) n l ∙ ap (λ (x : ℕ). drop x l) (sym e))
       ∙ ap (λ (y : List ℕ). blocks n (take (suc j * n) l) ++ (take n (drop (suc j * n) l) ∷ blocks n y)) (drop-drop (j * n + n) n l ∙ ap (λ (x : ℕ). drop x l) (sym e2))
+
+  -- the first j * n bytes are j blocks
+  pub first-blocks : (j : ℕ) (l : List ℕ) → j * n ≤ length l → length (blocks n (take (j * n) l)) ≡ j
+  first-blocks zero l h = ap (λ (k : ℕ). length (blocks n (take k l))) (zero-mul n) ∙ ap length blocks-nil
+  first-blocks (suc j) l h =
+      let e : suc j * n ≡ n + j * n = suc-mul j n ∙ add-comm (j * n) n in
+      let lf : length (take n l) ≡ n = length-take-le n l (omega arith) in
+      ap (λ (k : ℕ). length (blocks n (take k l))) e
+      ∙ ap (λ (x : List ℕ). length (blocks n x)) (take-add n (j * n) l)
+      ∙ ap length (blocks-cons (take n l) (take (j * n) (drop n l)) (omega arith) (omega arith) (inl lf))
+      ∙ ap suc (first-blocks j (drop n l) (omega (arith, length-drop n l)))
 
 -- blocks of at most n bytes
 pub data AllBlocks (n : ℕ) : List (List ℕ) → Type 0 where

@@ -16,16 +16,16 @@ use Rattle.words.proofs.Xors.{xors-comm, xors-inj}
 use Rattle.cipher.specs.Cipher.{Cipher, Lawful, Block}
 use Rattle.mode.specs.Blocks.{blocks}
 use Rattle.mode.specs.Words.{pad}
-use Rattle.mode.specs.Mode.{Chain, firstKey, laterKeys, image, nonceSize, start, absorbed, absorb, message, after, afterData, tagOut, tag}
+use Rattle.mode.specs.Mode.{Chain, firstKey, laterKeys, image, nonceSize, start, absorbed, message, run, absorb, afterData, tagOut, tag}
 use Rattle.mode.proofs.Blocks.{AllBlocks, none, more, all-blocks, blocks-split}
 use Rattle.mode.proofs.Words.{pad-block, pad-front}
 use Rattle.mode.proofs.Keys.{enough-first}
-use Rattle.mode.proofs.Chain.{Good, good-absorbed, good-absorb, image-block, some}
+use Rattle.mode.proofs.Chain.{Good, good-absorbed, good-after, image-block, some}
 use Rattle.mode.proofs.Start.{good-start-blocks}
 
 module _ (κ : Cipher) (L : Lawful κ) where
   -- two chains with the same keys: what differs in Y still differs after the cipher,
-  image-told : (f : ℕ) (c c′ : Chain) → Good κ f c → Good κ f c′ → c .left ≡ c′ .left → image κ c ≡ image κ c′ → c .Y ≡ c′ .Y
+  pub image-told : (f : ℕ) (c c′ : Chain) → Good κ f c → Good κ f c′ → c .left ≡ c′ .left → image κ c ≡ image κ c′ → c .Y ≡ c′ .Y
   image-told f c c′ g g′ el e =
       L .one-to-one (firstKey (c .left)) (c .Y) (c′ .Y) (enough-first f (c .left) (g .enough)) (g .y) (g′ .y)
       (e ∙ ap (λ (ks : List (List ℕ)). κ .E (firstKey ks) (c′ .Y)) (sym el))
@@ -42,21 +42,21 @@ module _ (κ : Cipher) (L : Lawful κ) where
       image-told (suc f) c c′ g g′ el
       (xors-inj p (image κ c) (image κ c′) (omega arith) (omega arith) (xors-comm p (image κ c) ∙ e ∙ xors-comm (image κ c′) p))
 
-  absorbed-left : (c c′ : Chain) (b b′ : List ℕ) → c .left ≡ c′ .left → absorbed κ c b .left ≡ absorbed κ c′ b′ .left
+  pub absorbed-left : (c c′ : Chain) (b b′ : List ℕ) → c .left ≡ c′ .left → absorbed κ c b .left ≡ absorbed κ c′ b′ .left
   unfolding absorbed
   absorbed-left c c′ b b′ e = ap laterKeys e
 
   -- and after any number of equal blocks
   blocks-told : (c c′ : Chain) {bs : List (List ℕ)} → AllBlocks (κ .size) bs → Good κ (length bs) c → Good κ (length bs) c′ → c .left ≡ c′ .left
       → image κ (absorb κ c bs) ≡ image κ (absorb κ c′ bs) → c .Y ≡ c′ .Y
-  unfolding absorb
+  unfolding run message
   blocks-told c c′ none g g′ el e = image-told 0 c c′ g g′ el e
   blocks-told c c′ (more {b = b} {bs = bs} hb lb hbs) g g′ el e =
       absorbed-told (length bs) c c′ b g g′ hb lb el
       (blocks-told (absorbed κ c b) (absorbed κ c′ b) hbs (good-absorbed κ L (length bs) c b g hb lb) (good-absorbed κ L (length bs) c′ b g′ hb lb) (absorbed-left c c′ b b el) e)
 
   -- two blocks of one length put different Ys
-  block-told : (f : ℕ) (c : Chain) (b b′ : List ℕ) → Good κ (suc f) c → AllBytes b → AllBytes b′ → length b ≡ length b′ → length b ≤ κ .size
+  pub block-told : (f : ℕ) (c : Chain) (b b′ : List ℕ) → Good κ (suc f) c → AllBytes b → AllBytes b′ → length b ≡ length b′ → length b ≤ κ .size
       → absorbed κ c b .Y ≡ absorbed κ c b′ .Y → b ≡ b′
   unfolding absorbed
   block-told f c b b′ g hb hb′ l h e =
@@ -68,23 +68,18 @@ module _ (κ : Cipher) (L : Lawful κ) where
       sym (pad-front n b h) ∙ ap₂ take l same ∙ pad-front n b′ (omega arith)
 
   absorb-append : (c : Chain) (xs bs : List (List ℕ)) → absorb κ c (xs ++ bs) ≡ absorb κ (absorb κ c xs) bs
-  unfolding absorb
+  unfolding run message
   absorb-append c [] bs = refl
   absorb-append c (b ∷ xs) bs = absorb-append (absorbed κ c b) xs bs
-
-  after-absorb : (c : Chain) (bs : List (List ℕ)) → after κ false c bs ≡ absorb κ c bs
-  unfolding after absorb message
-  after-absorb c [] = refl
-  after-absorb c (b ∷ bs) = after-absorb (absorbed κ c b) bs
 
   -- one block of another content, before and behind it the same blocks
   one-block : (c : Chain) {pre post : List (List ℕ)} (b b′ : List ℕ) → AllBlocks (κ .size) pre → AllBlocks (κ .size) post → AllBytes b → AllBytes b′
       → length b ≡ length b′ → length b ≤ κ .size → Good κ (length pre + suc (length post)) c
       → image κ (absorb κ c (pre ++ (b ∷ post))) ≡ image κ (absorb κ c (pre ++ (b′ ∷ post))) → b ≡ b′
-  unfolding absorb
+  unfolding run message
   one-block c {pre} {post} b b′ hpre hpost hb hb′ l h g e =
       let u = absorb κ c pre in
-      let gu : Good κ (suc (length post)) u = good-absorb κ L (suc (length post)) c hpre g in
+      let gu : Good κ (suc (length post)) u = good-after κ L false (suc (length post)) c hpre g in
       block-told (length post) u b b′ gu hb hb′ l h
       (blocks-told (absorbed κ u b) (absorbed κ u b′) hpost (good-absorbed κ L (length post) u b gu hb h) (good-absorbed κ L (length post) u b′ gu hb′ (omega arith)) (absorbed-left u u b b′ refl)
       (sym (ap (image κ) (absorb-append c pre (b ∷ post))) ∙ e ∙ ap (image κ) (absorb-append c pre (b′ ∷ post))))
@@ -92,9 +87,7 @@ module _ (κ : Cipher) (L : Lawful κ) where
   -- the tag is what the cipher makes of all blocks, those of the associated data first
   tag-chain : (key nonce a m : List ℕ) → tag κ key nonce a m ≡ image κ (absorb κ (start κ key nonce (length a) (length m)) (blocks (κ .size) a ++ blocks (κ .size) m))
   unfolding tagOut afterData
-  tag-chain key nonce a m =
-      let c = start κ key nonce (length a) (length m) in
-      ap (image κ) (after-absorb (absorb κ c (blocks (κ .size) a)) (blocks (κ .size) m) ∙ sym (absorb-append c (blocks (κ .size) a) (blocks (κ .size) m)))
+  tag-chain key nonce a m = sym (ap (image κ) (absorb-append (start κ key nonce (length a) (length m)) (blocks (κ .size) a) (blocks (κ .size) m)))
 
 -- ---- lists that differ only inside block j
 
@@ -121,7 +114,7 @@ module _ (n j : ℕ) (x y : List ℕ) (l : length x ≡ length y)
       (λ i h. getD-drop (j * n + n) x i 0 ∙ same-at (j * n + n + i) (λ w. omega (arith, w .1)) ∙ sym (getD-drop (j * n + n) y i 0))
 
 -- a list is what stands before, in and behind block j
-parts : (n j : ℕ) (x : List ℕ) → take (j * n) x ++ (take n (drop (j * n) x) ++ drop (j * n + n) x) ≡ x
+pub parts : (n j : ℕ) (x : List ℕ) → take (j * n) x ++ (take n (drop (j * n) x) ++ drop (j * n + n) x) ≡ x
 parts n j x =
     ap (λ (y : List ℕ). take (j * n) x ++ (take n (drop (j * n) x) ++ y)) (sym (drop-drop n (j * n) x))
     ∙ ap (λ (y : List ℕ). take (j * n) x ++ y) (take-append-drop n (drop (j * n) x))

@@ -1,5 +1,6 @@
 pub mod Blocks
 pub mod Words
+pub mod Shuffle
 pub mod Keys
 pub mod Versions
 pub mod Chain
@@ -9,3 +10,7 @@ pub mod Start
 pub mod Demand2
 pub mod Demand3
 pub mod LastBlock
+pub mod Calls
+pub mod Meets
+pub mod Slips
+pub mod Toy

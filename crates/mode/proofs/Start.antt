@@ -21,7 +21,7 @@ use Rattle.mode.specs.Keys.{marks}
 use Rattle.mode.specs.Mode.{nonceSize, startY, startZ, start, afterData}
 use Rattle.mode.proofs.Blocks.{count-same, all-blocks}
 use Rattle.mode.proofs.Keys.{marks-bytes, marks-count, enough-keys}
-use Rattle.mode.proofs.Chain.{Good, good-absorb, some}
+use Rattle.mode.proofs.Chain.{Good, good-after, some}
 
 module _ (κ : Cipher) where
   -- blocks of 16
@@ -48,23 +48,22 @@ module _ (κ : Cipher) where
       two true = omega arith
       two false = omega arith
 
-  module _ (key : List ℕ) where
-    pub startY-wide : κ .size ≡ 16 → startY κ key ≡ key
+  module _ (key nonce : List ℕ) where
+    pub startY-wide : κ .size ≡ 16 → startY κ key nonce ≡ key
     unfolding startY
-    startY-wide e = ap (λ (t : Bool). cond t key (κ .E key (replicate 8 0))) (wide-test e)
+    startY-wide e = ap (λ (t : Bool). cond t key (κ .E key (cond t nonce (replicate 8 0)))) (wide-test e)
 
-    pub startY-narrow : κ .size ≡ 8 → startY κ key ≡ κ .E key (replicate 8 0)
+    pub startY-narrow : κ .size ≡ 8 → startY κ key nonce ≡ κ .E key (replicate 8 0)
     unfolding startY
-    startY-narrow e = ap (λ (t : Bool). cond t key (κ .E key (replicate 8 0))) (narrow-test e)
+    startY-narrow e = ap (λ (t : Bool). cond t key (κ .E key (cond t nonce (replicate 8 0)))) (narrow-test e)
 
-    module _ (nonce : List ℕ) where
-      pub startZ-wide : κ .size ≡ 16 → startZ κ key nonce ≡ κ .E key nonce
-      unfolding startZ
-      startZ-wide e = ap (λ (t : Bool). cond t (κ .E key nonce) (xors (take 15 key) nonce ++ drop 15 key)) (wide-test e)
+    pub startZ-wide : κ .size ≡ 16 → startZ κ key nonce ≡ κ .E key nonce
+    unfolding startZ
+    startZ-wide e = ap (λ (t : Bool). cond t (κ .E key (cond t nonce (replicate 8 0))) (xors (take 15 key) nonce ++ drop 15 key)) (wide-test e)
 
-      pub startZ-narrow : κ .size ≡ 8 → startZ κ key nonce ≡ xors (take 15 key) nonce ++ drop 15 key
-      unfolding startZ
-      startZ-narrow e = ap (λ (t : Bool). cond t (κ .E key nonce) (xors (take 15 key) nonce ++ drop 15 key)) (narrow-test e)
+    pub startZ-narrow : κ .size ≡ 8 → startZ κ key nonce ≡ xors (take 15 key) nonce ++ drop 15 key
+    unfolding startZ
+    startZ-narrow e = ap (λ (t : Bool). cond t (κ .E key (cond t nonce (replicate 8 0))) (xors (take 15 key) nonce ++ drop 15 key)) (narrow-test e)
 
 -- the table's nonce is the mode's
 pub suite-nonce : (s : ℕ) → nonceSize (cipherOf s) ≡ nonceOf s
@@ -75,10 +74,10 @@ suite-nonce s = two (suites.sizes-two s)
     two (inr e) = nonce-narrow (cipherOf s) e ∙ sym (suites.nonce-narrow s e)
 
 module _ (κ : Cipher) (L : Lawful κ) (key nonce : List ℕ) (hk : Block 16 key) (hv : AllBytes nonce) (lv : length nonce ≡ nonceSize κ) where
-  pub y-block : (κ .size ≡ 16) ⊎ (κ .size ≡ 8) → Block (κ .size) (startY κ key)
-  y-block (inl e) = subst (Block (κ .size)) (sym (startY-wide κ key e)) (subst (λ (n : ℕ). Block n key) (sym e) hk)
+  pub y-block : (κ .size ≡ 16) ⊎ (κ .size ≡ 8) → Block (κ .size) (startY κ key nonce)
+  y-block (inl e) = subst (Block (κ .size)) (sym (startY-wide κ key nonce e)) (subst (λ (n : ℕ). Block n key) (sym e) hk)
   y-block (inr e) =
-      subst (Block (κ .size)) (sym (startY-narrow κ key e))
+      subst (Block (κ .size)) (sym (startY-narrow κ key nonce e))
       (L .image key (replicate 8 0) hk (record { long = sym e; bytes = all-replicate 8 0 (omega arith) }))
 
   pub z-block : (κ .size ≡ 16) ⊎ (κ .size ≡ 8) → Block 16 (startZ κ key nonce)
@@ -118,5 +117,5 @@ module _ (κ : Cipher) (L : Lawful κ) (key nonce : List ℕ) (hk : Block 16 key
   pub good-data : (a m : List ℕ) → AllBytes a → Good κ (length (blocks (κ .size) m)) (afterData κ key nonce a (length m))
   unfolding afterData
   good-data a m ha =
-      good-absorb κ L (length (blocks (κ .size) m)) (start κ key nonce (length a) (length m))
+      good-after κ L false (length (blocks (κ .size) m)) (start κ key nonce (length a) (length m))
       (all-blocks (length a) (κ .size) (some κ L) a (le-refl (length a)) ha) (good-start-blocks a m)

@@ -17,7 +17,7 @@ use Rattle.cipher.specs.Cipher.{Cipher, Lawful, Block}
 use Rattle.mode.specs.Blocks.{blocks, lengths}
 use Rattle.mode.specs.Words.{shuffle, pad}
 use Rattle.mode.specs.Keys.{shortMark, textMarks, placed, marks, keys}
-use Rattle.mode.specs.Mode.{Chain, firstKey, laterKeys, start, image, absorbed, absorb, masked, message, after, crypted, afterData, textOut, tagOut}
+use Rattle.mode.specs.Mode.{Chain, firstKey, laterKeys, start, image, absorbed, masked, message, run, after, crypted, absorb, afterData, textOut, tagOut}
 use Rattle.mode.specs.Walk.{States, chainOf, whole, blockKey, blockZ, markOf, imageOf, turned, hidden, messageOf, walked, covered, tagged, origin, dataDone}
 use Rattle.mode.proofs.Blocks.{sizes, blocks-sizes, blocks-nil, blocks-more, blocks-turn, AllBlocks, none, more}
 use Rattle.mode.proofs.Words.{pad-block}
@@ -79,7 +79,7 @@ module _ (κ : Cipher) where
 
   pub after-walk : (d : Bool) (first short : ℕ) (s : States) (bs : List (List ℕ)) (ms : List ℕ)
       → after κ d (chainOf (κ .version) s (marksOf first short bs ms)) bs ≡ chainOf (κ .version) (walked κ d first short s bs) ms
-  unfolding after walked textMarks
+  unfolding run walked textMarks
   after-walk d first short s [] ms = refl
   after-walk d first short s (b ∷ bs) ms =
       let m = markOf κ first short b in
@@ -88,23 +88,13 @@ module _ (κ : Cipher) where
 
   pub crypted-walk : (d : Bool) (first short : ℕ) (s : States) (bs : List (List ℕ)) (ms : List ℕ)
       → crypted κ d (chainOf (κ .version) s (marksOf first short bs ms)) bs ≡ covered κ d first short s bs
-  unfolding crypted covered textMarks
+  unfolding run covered textMarks
   crypted-walk d first short s [] ms = refl
   crypted-walk d first short s (b ∷ bs) ms =
       let m = markOf κ first short b in
       let ms′ = marksOf 0 short bs ms in
       ap₂ (λ (x : List ℕ) (c : Chain). x ++ crypted κ d c bs) (hidden-chain m s b ms′) (step-chain d m s b ms′)
       ∙ ap (λ (x : List ℕ). hidden κ m s b ++ x) (crypted-walk d 0 short (turned κ m s (messageOf κ d m s b)) bs ms)
-
-  -- associated data goes in as a message does in sealing
-  absorb-after : (c : Chain) (bs : List (List ℕ)) → absorb κ c bs ≡ after κ false c bs
-  unfolding absorb after message
-  absorb-after c [] = refl
-  absorb-after c (b ∷ bs) = absorb-after (absorbed κ c b) bs
-
-  pub absorb-walk : (first short : ℕ) (s : States) (bs : List (List ℕ)) (ms : List ℕ)
-      → absorb κ (chainOf (κ .version) s (marksOf first short bs ms)) bs ≡ chainOf (κ .version) (walked κ false first short s bs) ms
-  absorb-walk first short s bs ms = absorb-after _ bs ∙ after-walk false first short s bs ms
 
   -- ---- the whole of it
 
@@ -120,7 +110,7 @@ module _ (κ : Cipher) where
         let q : textMarks (κ .size) 0x20 0x40 (lengths (κ .size) (length t)) ≡ ms = sym (append-nil _) ∙ marks-walk 0x20 0x40 t [] in
         ap (λ (x : List ℕ). absorb κ (chainOf (κ .version) s (textMarks (κ .size) 0x08 0x10 (lengths (κ .size) (length a)) ++ x)) (blocks (κ .size) a)) q
         ∙ ap (λ (x : List ℕ). absorb κ (chainOf (κ .version) s x) (blocks (κ .size) a)) (marks-walk 0x08 0x10 a ms)
-        ∙ absorb-walk 0x08 0x10 s (blocks (κ .size) a) ms
+        ∙ after-walk false 0x08 0x10 s (blocks (κ .size) a) ms
 
     pub text-walk : (d : Bool) → textOut κ d key nonce a t ≡ covered κ d 0x20 0x40 (dataDone κ key nonce a) (blocks (κ .size) t)
     unfolding textOut

@@ -65,7 +65,7 @@ four-bytes w x =
     (all-append (bytes w (x .X0)) (bytes w (x .X1)) (all-bytes w (x .X0)) (all-bytes w (x .X1)))
     (all-append (bytes w (x .X2)) (bytes w (x .X3)) (all-bytes w (x .X2)) (all-bytes w (x .X3)))
 
-four-times : (n : ℕ) → (n ≡ 16) ⊎ (n ≡ 8) → (n / 4 + n / 4) + (n / 4 + n / 4) ≡ n
+pub four-times : (n : ℕ) → (n ≡ 16) ⊎ (n ≡ 8) → (n / 4 + n / 4) + (n / 4 + n / 4) ≡ n
 four-times n (inl e) = omega arith
 four-times n (inr e) = omega arith
 

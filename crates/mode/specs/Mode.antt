@@ -1,4 +1,4 @@
--- COMET over a block cipher, in version 1 (document 01, "Bytes, words and the two states"; source 000, algorithms 1 to 3) or 2 (source 004, sections 3 and 7): the start, the chain, the ciphertext and the tag. The versions differ in the marks' places and in the doubling, so in the block keys alone.
+-- COMET over a block cipher, in version 1 (document 01, "Bytes, words and the two states"; source 000, algorithms 1 to 3) or 2 (source 004, sections 3 and 7): the start, the chain, the ciphertext, the tag, and the cipher calls that make them. The versions differ in the marks' places and in the doubling, so in the block keys alone.
 use Prim.Native.Nat.{ℕ}
 use mathlib.Core.Bool.{Bool, false, cond}
 use mathlib.Core.List.{List, [], _∷_, _++_}
@@ -15,6 +15,17 @@ pub record Chain : Type 0 where
   pub Y : List ℕ
   pub left : List (List ℕ)
 
+-- a call of the cipher: a key, and the block that is enciphered under it
+pub record Call : Type 0 where
+  pub key : List ℕ
+  pub block : List ℕ
+
+-- what the blocks of a text leave: the calls that they made, the text that went out, and the chain behind them
+pub record Run : Type 0 where
+  pub made : List Call
+  pub out : List ℕ
+  pub end : Chain
+
 abbrev pub firstKey : List (List ℕ) → List ℕ
 firstKey [] = []
 firstKey (k ∷ ks) = k
@@ -28,30 +39,37 @@ module _ (κ : Cipher) where
   unfoldable pub nonceSize : ℕ
   nonceSize = cond (eqb (κ .size) 16) 16 15
 
-  -- Y at the start: the key where a block has 16 bytes, else E(key, eight zero bytes)
-  unfoldable pub startY : List ℕ → List ℕ
-  startY key = cond (eqb (κ .size) 16) key (κ .E key (replicate 8 0))
+  -- what a call gives; the cipher is used nowhere else
+  abbrev pub enciphered : Call → List ℕ
+  enciphered q = κ .E (q .key) (q .block)
 
-  -- Z at the start: E(key, nonce), else the key, XORed with the nonce in bytes 0 to 14
+  -- the start's call, under the key: the nonce where a block has 16 bytes, else eight zero bytes
+  abbrev pub startCall : List ℕ → List ℕ → Call
+  startCall key nonce = record { key = key; block = cond (eqb (κ .size) 16) nonce (replicate 8 0) }
+
+  -- Y at the start: the key where a block has 16 bytes, else what the call gives
+  unfoldable pub startY : List ℕ → List ℕ → List ℕ
+  startY key nonce = cond (eqb (κ .size) 16) key (enciphered (startCall key nonce))
+
+  -- Z at the start: what the call gives, else the key, XORed with the nonce in bytes 0 to 14
   unfoldable pub startZ : List ℕ → List ℕ → List ℕ
-  startZ key nonce = cond (eqb (κ .size) 16) (κ .E key nonce) (xors (take 15 key) nonce ++ drop 15 key)
+  startZ key nonce = cond (eqb (κ .size) 16) (enciphered (startCall key nonce)) (xors (take 15 key) nonce ++ drop 15 key)
 
   -- the chain at the start: the block keys come from Z and the lengths of associated data and message
   unfoldable pub start : List ℕ → List ℕ → ℕ → ℕ → Chain
-  start key nonce a m = record { Y = startY key; left = keys (κ .version) (startZ key nonce) (marks (κ .version) (κ .size) a m) }
+  start key nonce a m = record { Y = startY key nonce; left = keys (κ .version) (startZ key nonce) (marks (κ .version) (κ .size) a m) }
 
-  -- X = E(key, Y) for the next block key
+  -- the next call: Y under the next block key
+  abbrev pub nextCall : Chain → Call
+  nextCall c = record { key = firstKey (c .left); block = c .Y }
+
+  -- X, what it gives
   abbrev pub image : Chain → List ℕ
-  image c = κ .E (firstKey (c .left)) (c .Y)
+  image c = enciphered (nextCall c)
 
   -- one block: Y = X XOR padded block, and its key is used
   unfoldable pub absorbed : Chain → List ℕ → Chain
   absorbed c b = record { Y = xors (image c) (pad (κ .size) b); left = laterKeys (c .left) }
-
-  -- the blocks of the associated data
-  unfoldable pub absorb : Chain → List (List ℕ) → Chain
-  absorb c [] = c
-  absorb c (b ∷ bs) = absorb (absorbed c b) bs
 
   -- what goes out for a block of text: the block XOR as many first bytes of shuffle(X)
   unfoldable pub masked : Chain → List ℕ → List ℕ
@@ -61,26 +79,41 @@ module _ (κ : Cipher) where
   unfoldable pub message : Bool → Chain → List ℕ → List ℕ
   message opening c b = cond opening (masked c b) b
 
-  -- the chain after the blocks of a text: the message's blocks go in
-  unfoldable pub after : Bool → Chain → List (List ℕ) → Chain
-  after opening c [] = c
-  after opening c (b ∷ bs) = after opening (absorbed c (message opening c b)) bs
+  -- the blocks of a text, a call for each: the message's blocks go in
+  unfoldable pub run : Bool → Chain → List (List ℕ) → Run
+  run opening c [] = record { made = []; out = []; end = c }
+  run opening c (b ∷ bs) =
+      let r : Run = run opening (absorbed c (message opening c b)) bs in
+      record { made = nextCall c ∷ r .made; out = masked c b ++ r .out; end = r .end }
 
-  -- the text that goes out
-  unfoldable pub crypted : Bool → Chain → List (List ℕ) → List ℕ
-  crypted opening c [] = []
-  crypted opening c (b ∷ bs) = masked c b ++ crypted opening (absorbed c (message opening c b)) bs
+  -- the chain behind them, and the text that goes out
+  abbrev pub after : Bool → Chain → List (List ℕ) → Chain
+  after opening c bs = run opening c bs .end
+
+  abbrev pub crypted : Bool → Chain → List (List ℕ) → List ℕ
+  crypted opening c bs = run opening c bs .out
+
+  -- the blocks of the associated data go in as a message's do in sealing, and nothing goes out
+  abbrev pub absorb : Chain → List (List ℕ) → Chain
+  absorb c bs = after false c bs
 
   -- the chain between associated data and text, for a text of l bytes
   unfoldable pub afterData : List ℕ → List ℕ → List ℕ → ℕ → Chain
   afterData key nonce ad l = absorb (start key nonce (length ad) l) (blocks (κ .size) ad)
 
-  -- the whole text that goes out, and the tag: E of the last key and the last Y
+  -- the whole text that goes out, and the tag: what the last call gives
   unfoldable pub textOut : Bool → List ℕ → List ℕ → List ℕ → List ℕ → List ℕ
   textOut opening key nonce ad text = crypted opening (afterData key nonce ad (length text)) (blocks (κ .size) text)
 
   unfoldable pub tagOut : Bool → List ℕ → List ℕ → List ℕ → List ℕ → List ℕ
   tagOut opening key nonce ad text = image (after opening (afterData key nonce ad (length text)) (blocks (κ .size) text))
+
+  -- every call that they take, in order: the start's, those of the blocks of associated data and text, the tag's
+  unfoldable pub calls : Bool → List ℕ → List ℕ → List ℕ → List ℕ → List Call
+  calls opening key nonce ad text =
+      let r : Run = run false (start key nonce (length ad) (length text)) (blocks (κ .size) ad) in
+      let t : Run = run opening (r .end) (blocks (κ .size) text) in
+      startCall key nonce ∷ (r .made ++ (t .made ++ (nextCall (t .end) ∷ [])))
 
   -- sealing: the ciphertext and the tag of a message
   abbrev pub ciphertext : List ℕ → List ℕ → List ℕ → List ℕ → List ℕ

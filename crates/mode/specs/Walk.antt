@@ -83,7 +83,7 @@ module _ (κ : Cipher) where
   module _ (key nonce : List ℕ) where
     -- the states that key and nonce start
     abbrev pub origin : States
-    origin = record { Y = startY κ key; Z = startZ κ key nonce }
+    origin = record { Y = startY κ key nonce; Z = startZ κ key nonce }
 
     -- the states after associated data a: a block of it goes in as a message's does in sealing
     abbrev pub dataDone : List ℕ → States

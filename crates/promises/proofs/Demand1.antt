@@ -49,6 +49,8 @@ entry-points =
       ask = record { asks-nothing = λ κs a. tt; one-outcome = reading.ask };
       report = record { asks-nothing = λ κs a. tt; one-outcome = reading.report };
       reseal = record { asks-nothing = λ κs a. tt; one-outcome = resealer.reseal };
+      seal-counted = record { asks-nothing = λ κs a. tt; one-outcome = comet.seal-counted };
+      unseal-counted = record { asks-nothing = λ κs a. tt; one-outcome = comet.unseal-counted };
     }
 
 sealed-keeps : (n : ℕ) (x y o t : List ℕ) → (n ≤ 7) ⊎ (n ≡ 10) → ((sealedAs n x y o t .number ≤ 7) ⊎ (sealedAs n x y o t .number ≡ 10)) × (0 < sealedAs n x y o t .number → (sealedAs n x y o t .out ≡ o) × (sealedAs n x y o t .tag ≡ t))

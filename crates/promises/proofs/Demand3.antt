@@ -16,7 +16,7 @@ use Rattle.promises.specs.Input.{Texts, Input}
 use Rattle.promises.specs.Demand3.{OneBlock, LastBlock, EmptyMessage}
 use Rattle.promises.proofs.Answers.{nonce-right, opened-tag, refuses}
 
-key-block : (suite : ℕ) (key nonce ad text : List ℕ) → Texts suite key nonce ad text → Block 16 key
+pub key-block : (suite : ℕ) (key nonce ad text : List ℕ) → Texts suite key nonce ad text → Block 16 key
 key-block suite key nonce ad text i = record { long = i .key-length; bytes = i .key-bytes }
 
 pub one-block : OneBlock

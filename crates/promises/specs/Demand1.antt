@@ -13,6 +13,10 @@ use Rattle.comet.proofs.seal.Kinds as seal-kinds
 use Rattle.comet.proofs.seal.Reads as seal-reads
 use Rattle.comet.proofs.unseal.Kinds as unseal-kinds
 use Rattle.comet.proofs.unseal.Reads as unseal-reads
+use Rattle.comet.proofs.seal_counted.Kinds as seal-counted-kinds
+use Rattle.comet.proofs.seal_counted.Reads as seal-counted-reads
+use Rattle.comet.proofs.unseal_counted.Kinds as unseal-counted-kinds
+use Rattle.comet.proofs.unseal_counted.Reads as unseal-counted-reads
 use Rattle.session.proofs.Session.start.Kinds as session-start-kinds
 use Rattle.session.proofs.Session.start.Reads as session-start-reads
 use Rattle.session.proofs.Session.associated.Kinds as session-data-kinds
@@ -100,6 +104,9 @@ pub record EntryPoints : Type 0 where
   pub report : Answers report-kinds.ps report-kinds.r report-reads.Pre report-reads.Post
   -- W7
   pub reseal : Answers reseal-kinds.ps reseal-kinds.r reseal-reads.Pre reseal-reads.Post
+  -- W12
+  pub seal-counted : Answers seal-counted-kinds.ps seal-counted-kinds.r seal-counted-reads.Pre seal-counted-reads.Post
+  pub unseal-counted : Answers unseal-counted-kinds.ps unseal-counted-kinds.r unseal-counted-reads.Pre unseal-counted-reads.Post
 
 -- the sealer gives 0 to 7 and 10, and on any but 0 both buffers are as they were
 abbrev pub SealKeeps : Type 0

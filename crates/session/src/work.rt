@@ -108,7 +108,11 @@ pub(crate) fn take_in(tb: &[Lent], s: Session, part: &[u8]) -> Step
     let n = cipher::size_of(suite);
     let m = first_mark(suite, 0x08, came);
     let h = came % n;
-    let two = State { y: y, z: z };
+    let two = State {
+        y: y,
+        z: z,
+        calls: 0,
+    };
     let f = crate::blocks::absorb_part(tb, suite, two, m, held, h, part);
     let next = packed(suite, f, came + part.len(), text);
     Step {
@@ -129,7 +133,11 @@ fn begin(tb: &[Lent], s: Session) -> State
     let held = s.held;
     let came = s.came;
     let text = s.text;
-    let two = State { y: y, z: z };
+    let two = State {
+        y: y,
+        z: z,
+        calls: 0,
+    };
     if text != 0 {
         return two;
     }
@@ -179,7 +187,8 @@ pub(crate) fn close(tb: &[Lent], s: Session, out: &mut [u8], tag: &mut [u8]) -> 
     let m = first_mark(suite, 0x20, text);
     let h = text % n;
     let t = crate::blocks::last_in(tb, suite, two, m, held, h, out);
-    let g = step::tag::tag_of(tb, suite, t);
+    let l = step::tag::tag_of(tb, suite, t);
+    let g = l.tag;
     words::block::put(g, tag);
     let next = ended();
     Step {

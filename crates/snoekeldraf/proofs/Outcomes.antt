@@ -7,6 +7,7 @@ use Rattle.words.specs.Outcome.{OneOutcome}
 use Rattle.words.specs.declared.block.Block.{Block}
 use Rattle.words.proofs.Blocks.{wide-told}
 use Rattle.comet.specs.Answers.{Sealed, Opened}
+use Rattle.comet.specs.Counted.{Counting}
 use Rattle.session.specs.Value.{Value, Given}
 use Rattle.table.specs.declared.answers.Answer.{Answer}
 use Rattle.shift.specs.declared.answers.Entry.{Entry}
@@ -19,6 +20,10 @@ use Rattle.snoekeldraf.proofs.record.comet_seal.Kinds as seal-kinds
 use Rattle.snoekeldraf.proofs.record.comet_seal.Reads as seal-reads
 use Rattle.snoekeldraf.proofs.record.comet_open.Kinds as open-kinds
 use Rattle.snoekeldraf.proofs.record.comet_open.Reads as open-reads
+use Rattle.snoekeldraf.proofs.counting.comet_seal_counted.Kinds as seal-counted-kinds
+use Rattle.snoekeldraf.proofs.counting.comet_seal_counted.Reads as seal-counted-reads
+use Rattle.snoekeldraf.proofs.counting.comet_open_counted.Kinds as open-counted-kinds
+use Rattle.snoekeldraf.proofs.counting.comet_open_counted.Reads as open-counted-reads
 use Rattle.snoekeldraf.proofs.parts.comet_session_start.Kinds as session-start-kinds
 use Rattle.snoekeldraf.proofs.parts.comet_session_start.Reads as session-start-reads
 use Rattle.snoekeldraf.proofs.parts.comet_session_data.Kinds as session-data-kinds
@@ -73,6 +78,16 @@ pub comet-open : OneOutcome open-kinds.ps open-kinds.r open-reads.Pre open-reads
 comet-open κs a h x y =
     let e = x .ensures ∙ sym (y .ensures) in
     (ap (λ (w : Opened). w .number) e, ap (λ (w : Opened). (tt, (tt, (tt, (tt, (tt, (tt, (w .out, tt)))))))) e)
+
+pub comet-seal-counted : OneOutcome seal-counted-kinds.ps seal-counted-kinds.r seal-counted-reads.Pre seal-counted-reads.Post
+comet-seal-counted κs a h x y =
+    let e = x .ensures ∙ sym (y .ensures) in
+    (ap (λ (w : Counting Sealed). w .leaves .number) e, ap (λ (w : Counting Sealed). (tt, (tt, (tt, (tt, (tt, (w .leaves .out, (w .leaves .tag, (w .calls, tt))))))))) e)
+
+pub comet-open-counted : OneOutcome open-counted-kinds.ps open-counted-kinds.r open-counted-reads.Pre open-counted-reads.Post
+comet-open-counted κs a h x y =
+    let e = x .ensures ∙ sym (y .ensures) in
+    (ap (λ (w : Counting Opened). w .leaves .number) e, ap (λ (w : Counting Opened). (tt, (tt, (tt, (tt, (tt, (tt, (w .leaves .out, (w .calls, tt))))))))) e)
 
 pub shift-check : OneOutcome check-kinds.ps check-kinds.r check-reads.Pre check-reads.Post
 shift-check κs a h x y =

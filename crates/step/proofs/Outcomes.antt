@@ -1,4 +1,4 @@
--- Every public function of `step` leaves one outcome: the two states and the zeros beside them tell the code's state.
+-- Every public function of `step` leaves one outcome: the two states, the zeros beside them and the count tell the code's state.
 use mathlib.Core.Path.{_≡_, refl, sym, ap, ap₂, _∙_}
 use mathlib.Core.List.{List}
 use Prim.Native.Nat.{ℕ, _^_, _<_}
@@ -11,6 +11,7 @@ use Rattle.words.proofs.Blocks.{wide-told}
 use Rattle.cipher.specs.Cipher.{sizeOf}
 use Rattle.mode.specs.Walk.{States}
 use Rattle.step.specs.declared.state.State.{State}
+use Rattle.step.specs.declared.tag.Last.{Last}
 use Rattle.step.specs.Two.{Holds}
 use Rattle.step.proofs.state.start.Kinds as start-kinds
 use Rattle.step.proofs.state.start.Reads as start-reads
@@ -34,38 +35,47 @@ record Small (s : State) : Type 0 where
   za : s .z .a < 2 ^ 64
   zb : s .z .b < 2 ^ 64
 
-held-told : (suite : ℕ) (r q : State) (t : States) → Small r → Small q → Holds suite r t → Holds suite q t → r ≡ q
-held-told suite r q t a b h k =
+state-path : {x y u v : Block} {j k : ℕ} → x ≡ y → u ≡ v → j ≡ k → _≡_ {A = State} (record { y = x; z = u; calls = j }) (record { y = y; z = v; calls = k })
+state-path p q r = λ i. record { y = p i; z = q i; calls = r i }
+
+held-told : (suite : ℕ) (r q : State) (t : States) (n : ℕ) → Small r → Small q → Holds suite r t n → Holds suite q t n → r ≡ q
+held-told suite r q t n a b h k =
     let e = h .two ∙ sym (k .two) in
-    ap₂ (λ (x y : Block). record { y = x; z = y })
+    state-path
     (wide-told (r .y) (q .y) (a .ya) (a .yb) (b .ya) (b .yb) (parts-told (sizeOf suite) (wide (r .y)) (wide (q .y)) (ap (λ (w : States). w .Y) e) (h .clean ∙ sym (k .clean))))
     (wide-told (r .z) (q .z) (a .za) (a .zb) (b .za) (b .zb) (ap (λ (w : States). w .Z) e))
+    (h .made ∙ sym (k .made))
 
 pub start : OneOutcome start-kinds.ps start-kinds.r start-reads.Pre start-reads.Post
-start κs a h x y = (held-told _ (x .result) (y .result) _ (omega arith) (omega arith) (x .ensures) (y .ensures), refl)
+start κs a h x y = (held-told _ (x .result) (y .result) _ _ (omega arith) (omega arith) (x .ensures) (y .ensures), refl)
 
 pub absorb-full : OneOutcome absorb-full-kinds.ps absorb-full-kinds.r absorb-full-reads.Pre absorb-full-reads.Post
-absorb-full κs a h x y = (held-told _ (x .result) (y .result) _ (omega arith) (omega arith) (x .ensures) (y .ensures), refl)
+absorb-full κs a h x y = (held-told _ (x .result) (y .result) _ _ (omega arith) (omega arith) (x .ensures) (y .ensures), refl)
 
 pub absorb-short : OneOutcome absorb-short-kinds.ps absorb-short-kinds.r absorb-short-reads.Pre absorb-short-reads.Post
-absorb-short κs a h x y = (held-told _ (x .result) (y .result) _ (omega arith) (omega arith) (x .ensures) (y .ensures), refl)
+absorb-short κs a h x y = (held-told _ (x .result) (y .result) _ _ (omega arith) (omega arith) (x .ensures) (y .ensures), refl)
 
 pub crypt-full : OneOutcome crypt-full-kinds.ps crypt-full-kinds.r crypt-full-reads.Pre crypt-full-reads.Post
 crypt-full κs a h x y = (
-  held-told _ (x .result) (y .result) _ (omega arith) (omega arith) (x .ensures .1) (y .ensures .1),
+  held-told _ (x .result) (y .result) _ _ (omega arith) (omega arith) (x .ensures .1) (y .ensures .1),
   ap (λ (l : List ℕ). (tt, (tt, (tt, (tt, (tt, (tt, (l, tt)))))))) (x .ensures .0 ∙ sym (y .ensures .0)),
 )
 
 pub crypt-short : OneOutcome crypt-short-kinds.ps crypt-short-kinds.r crypt-short-reads.Pre crypt-short-reads.Post
 crypt-short κs a h x y = (
-  held-told _ (x .result) (y .result) _ (omega arith) (omega arith) (x .ensures .1) (y .ensures .1),
+  held-told _ (x .result) (y .result) _ _ (omega arith) (omega arith) (x .ensures .1) (y .ensures .1),
   ap (λ (l : List ℕ). (tt, (tt, (tt, (tt, (tt, (tt, (l, tt)))))))) (x .ensures .0 ∙ sym (y .ensures .0)),
 )
 
+last-path : {x y : Block} {j k : ℕ} → x ≡ y → j ≡ k → _≡_ {A = Last} (record { tag = x; calls = j }) (record { tag = y; calls = k })
+last-path p q = λ i. record { tag = p i; calls = q i }
+
 pub tag-of : OneOutcome tag-of-kinds.ps tag-of-kinds.r tag-of-reads.Pre tag-of-reads.Post
 tag-of κs a h x y = (
-  wide-told (x .result) (y .result) (omega arith) (omega arith) (omega arith) (omega arith)
-      (parts-told (sizeOf (a .1 .0)) (wide (x .result)) (wide (y .result)) (x .ensures .0 ∙ sym (y .ensures .0)) (x .ensures .1 ∙ sym (y .ensures .1))),
+  last-path
+      (wide-told (x .result .tag) (y .result .tag) (omega arith) (omega arith) (omega arith) (omega arith)
+      (parts-told (sizeOf (a .1 .0)) (wide (x .result .tag)) (wide (y .result .tag)) (x .ensures .0 ∙ sym (y .ensures .0)) (x .ensures .1 .0 ∙ sym (y .ensures .1 .0))))
+      (x .ensures .1 .1 ∙ sym (y .ensures .1 .1)),
   refl,
 )
 

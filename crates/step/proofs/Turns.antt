@@ -15,7 +15,7 @@ use Rattle.cipher.proofs.Suites.{size-most}
 use Rattle.mode.specs.Words.{shuffle, pad}
 use Rattle.mode.specs.Walk.{States, turned, hidden}
 use Rattle.step.specs.declared.state.State.{State}
-use Rattle.step.specs.Two.{twoOf, Clean, Holds, imaged}
+use Rattle.step.specs.Two.{twoOf, Clean, Holds, oneMore, imaged}
 use Rattle.step.proofs.Words.{pad-kept, pad-cut, zeros-kept, zeros-cut}
 
 pub states-path : {a b c d : List ℕ} → a ≡ b → c ≡ d → _≡_ {A = States} (record { Y = a; Z = c }) (record { Y = b; Z = d })
@@ -57,7 +57,7 @@ short-goes suite b p h q =
       clean = ap (drop (sizeOf suite)) q ∙ zeros-cut (sizeOf suite) b h (size-most suite);
     }
 
-module _ (suite m : ℕ) (s t : State) (h : Holds suite t (imaged suite m (twoOf suite s))) where
+module _ (suite m : ℕ) (s t : State) (h : Holds suite t (imaged suite m (twoOf suite s)) (oneMore (s .calls))) where
   -- what goes out for b, by the shuffle x of X
   pub mask-out : (b x : List ℕ) → length b ≤ sizeOf suite → take (sizeOf suite) x ≡ shuffle (sizeOf suite) (take (sizeOf suite) (wide (t .y)))
       → xors b x ≡ hidden (cipherOf suite) m (twoOf suite s) b
@@ -65,14 +65,15 @@ module _ (suite m : ℕ) (s t : State) (h : Holds suite t (imaged suite m (twoOf
   mask-out b x l e = sym (xors-take b x (sizeOf suite) l) ∙ ap (xors b) (e ∙ ap (λ (w : States). shuffle (sizeOf suite) (w .Y)) (h .two))
 
   -- the state r after v went in as p
-  pub put-in : (v : List ℕ) (p : Block) (r : State) → Goes suite v p → wide (r .y) ≡ xors (wide (t .y)) (wide p) → wide (r .z) ≡ wide (t .z)
-      → Holds suite r (turned (cipherOf suite) m (twoOf suite s) v)
+  pub put-in : (v : List ℕ) (p : Block) (r : State) → Goes suite v p → wide (r .y) ≡ xors (wide (t .y)) (wide p) → (wide (r .z) ≡ wide (t .z)) × (r .calls ≡ t .calls)
+      → Holds suite r (turned (cipherOf suite) m (twoOf suite s) v) (oneMore (s .calls))
   unfolding turned
-  put-in v p r g ey ez =
+  put-in v p r g ey e =
       record {
         two =
             states-path
             (ap (take (sizeOf suite)) ey ∙ take-xors (sizeOf suite) (wide (t .y)) (wide p) ∙ ap₂ xors (ap (λ (w : States). w .Y) (h .two)) (g .front))
-            (ez ∙ ap (λ (w : States). w .Z) (h .two));
+            (e .0 ∙ ap (λ (w : States). w .Z) (h .two));
         clean = clean-xor suite (t .y) p (r .y) (h .clean) (g .clean) ey;
+        made = e .1 ∙ h .made;
       }

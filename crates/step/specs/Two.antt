@@ -4,6 +4,7 @@ use Prim.Native.Nat.{ℕ, _-_}
 use lib.ListN.{take, drop, replicate}
 use Rattle.words.specs.declared.block.Block.{Block}
 use Rattle.words.specs.Blocks.{wide}
+use Rattle.words.specs.Words.{add}
 use Rattle.cipher.specs.Cipher.{sizeOf, versionOf, cipherOf}
 use Rattle.mode.specs.Walk.{States, blockZ, imageOf}
 use Rattle.step.specs.declared.state.State.{State}
@@ -16,10 +17,15 @@ twoOf suite s = record { Y = take (sizeOf suite) (wide (s .y)); Z = wide (s .z) 
 abbrev pub Clean : ℕ → Block → Type 0
 Clean suite x = drop (sizeOf suite) (wide x) ≡ replicate (16 - sizeOf suite) 0
 
--- the code's state holds these two states, and nothing else
-pub record Holds (suite : ℕ) (r : State) (t : States) : Type 0 where
+-- the code's state holds these two states, after k cipher calls, and nothing else
+pub record Holds (suite : ℕ) (r : State) (t : States) (k : ℕ) : Type 0 where
   pub two : twoOf suite r ≡ t
   pub clean : Clean suite (r .y)
+  pub made : r .calls ≡ k
+
+-- one call more, counted in 64 bits
+abbrev pub oneMore : ℕ → ℕ
+oneMore k = add 64 k 1
 
 -- X in the place of Y, and the Z that is kept, for a block with the mark m
 abbrev pub imaged : ℕ → ℕ → States → States

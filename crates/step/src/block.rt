@@ -1,4 +1,4 @@
-// One block of associated data or of text, full or short: a full one goes by whole words.
+// One block of associated data or of text, full or short, by one cipher call: a full one goes by whole words.
 use crate::state::State;
 use cipher::Lent;
 use words::block::Block;
@@ -9,12 +9,12 @@ ghost use Rattle.words.specs.Xors.{xors};
 ghost use Rattle.words.specs.Blocks.{wide};
 ghost use Rattle.cipher.specs.Cipher.{Ready, IsSuite, sizeOf, cipherOf};
 ghost use Rattle.mode.specs.Walk.{turned, hidden, messageOf};
-ghost use Rattle.step.specs.Two.{twoOf, Holds};
+ghost use Rattle.step.specs.Two.{twoOf, Holds, oneMore};
 
 // A full block of associated data, under the mark m.
 pub fn absorb_full(tb: &[Lent], suite: u8, s: State, m: u8, b: &[u8]) -> State
     requires { ⌜ Ready suite (now tb) × IsSuite suite × (length (now b) ≡ sizeOf suite) ⌝ }
-    ensures { λ r. ⌜ Holds suite r (turned (cipherOf suite) m (twoOf suite s) (now (b .entry))) ⌝ }
+    ensures { λ r. ⌜ Holds suite r (turned (cipherOf suite) m (twoOf suite s) (now (b .entry))) (oneMore (s .calls)) ⌝ }
 {
     let t = crate::state::turn(tb, suite, s, m);
     let p = words::block::whole(b);
@@ -24,7 +24,7 @@ pub fn absorb_full(tb: &[Lent], suite: u8, s: State, m: u8, b: &[u8]) -> State
 // A short block of associated data.
 pub fn absorb_short(tb: &[Lent], suite: u8, s: State, m: u8, b: &[u8]) -> State
     requires { ⌜ Ready suite (now tb) × IsSuite suite × (length (now b) < sizeOf suite) ⌝ }
-    ensures { λ r. ⌜ Holds suite r (turned (cipherOf suite) m (twoOf suite s) (now (b .entry))) ⌝ }
+    ensures { λ r. ⌜ Holds suite r (turned (cipherOf suite) m (twoOf suite s) (now (b .entry))) (oneMore (s .calls)) ⌝ }
 {
     let t = crate::state::turn(tb, suite, s, m);
     let p = crate::pad::padded(b);
@@ -43,7 +43,7 @@ pub fn crypt_full(
 ) -> State
     requires { ⌜ Ready suite (now tb) × IsSuite suite × (length (now b) ≡ sizeOf suite) × (length (now out) ≡ length (now b)) ⌝ }
     ensures text { λ _. ⌜ now (out .exit) ≡ hidden (cipherOf suite) m (twoOf suite s) (now (b .entry)) ⌝ }
-    ensures state { λ r. ⌜ Holds suite r (turned (cipherOf suite) m (twoOf suite s) (messageOf (cipherOf suite) opening m (twoOf suite s) (now (b .entry)))) ⌝ }
+    ensures state { λ r. ⌜ Holds suite r (turned (cipherOf suite) m (twoOf suite s) (messageOf (cipherOf suite) opening m (twoOf suite s) (now (b .entry)))) (oneMore (s .calls)) ⌝ }
 {
     let t = crate::state::turn(tb, suite, s, m);
     let x = t.y;
@@ -77,7 +77,7 @@ pub fn crypt_short(
 ) -> State
     requires { ⌜ Ready suite (now tb) × IsSuite suite × (length (now b) < sizeOf suite) × (length (now out) ≡ length (now b)) ⌝ }
     ensures text { λ _. ⌜ now (out .exit) ≡ hidden (cipherOf suite) m (twoOf suite s) (now (b .entry)) ⌝ }
-    ensures state { λ r. ⌜ Holds suite r (turned (cipherOf suite) m (twoOf suite s) (messageOf (cipherOf suite) opening m (twoOf suite s) (now (b .entry)))) ⌝ }
+    ensures state { λ r. ⌜ Holds suite r (turned (cipherOf suite) m (twoOf suite s) (messageOf (cipherOf suite) opening m (twoOf suite s) (now (b .entry)))) (oneMore (s .calls)) ⌝ }
 {
     let t = crate::state::turn(tb, suite, s, m);
     let x = t.y;

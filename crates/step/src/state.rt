@@ -7,53 +7,67 @@ ghost use Rattle.words.specs.Xors.{xors};
 ghost use Rattle.words.specs.Blocks.{wide};
 ghost use Rattle.cipher.specs.Cipher.{Ready, IsSuite, nonceOf, cipherOf};
 ghost use Rattle.mode.specs.Walk.{origin};
-ghost use Rattle.step.specs.Two.{twoOf, Holds, imaged};
+ghost use Rattle.step.specs.Two.{twoOf, Holds, oneMore, imaged};
 
-// Y in the first bytes of y, as many as the suite's block has, and Z.
+// Y in the first bytes of y, as many as the suite's block has, Z, and how many cipher calls were made. The count goes round at 64 bits, so nothing is asked of a caller who does not read it.
 pub struct State {
     pub y: Block,
     pub z: Block,
+    pub calls: u64,
 }
 
-// The state that key and nonce start.
+// The state that key and nonce start, by one call.
 pub fn start(tb: &[Lent], suite: u8, key: &[u8], nonce: &[u8]) -> State
     requires { ⌜ Ready suite (now tb) × IsSuite suite × (length (now key) ≡ 16) × (length (now nonce) ≡ nonceOf suite) ⌝ }
-    ensures { λ r. ⌜ Holds suite r (origin (cipherOf suite) (now (key .entry)) (now (nonce .entry))) ⌝ }
+    ensures { λ r. ⌜ Holds suite r (origin (cipherOf suite) (now (key .entry)) (now (nonce .entry))) 1 ⌝ }
 {
     let k = words::block::filled(key);
     let v = words::block::filled(nonce);
     if cipher::size_of(suite) == 16 {
         let z = cipher::encipher16(tb, suite, k, v);
-        return State { y: k, z: z };
+        return State {
+            y: k,
+            z: z,
+            calls: 1,
+        };
     }
     let y = cipher::encipher8(suite, k.a, k.b, 0);
     let z = words::block::xor(k, v);
     State {
         y: Block { a: y, b: 0 },
         z: z,
+        calls: 1,
     }
 }
 
-// The key of a block with the mark m; X, the image of Y under it; and the Z that is kept behind the block.
+// The key of a block with the mark m; X, the image of Y under it, by one call; and the Z that is kept behind the block.
 pub(crate) fn turn(tb: &[Lent], suite: u8, s: State, m: u8) -> State
     requires { ⌜ Ready suite (now tb) × IsSuite suite ⌝ }
-    ensures { λ r. ⌜ Holds suite r (imaged suite m (twoOf suite s)) ⌝ }
+    ensures { λ r. ⌜ Holds suite r (imaged suite m (twoOf suite s)) (oneMore (s .calls)) ⌝ }
 {
     let y = s.y;
     let z0 = s.z;
     let k = crate::key::block_key(suite, z0, m);
     let x = cipher::encipher(tb, suite, k, y);
     let z = crate::key::kept(suite, k, m);
-    State { y: x, z: z }
+    State {
+        y: x,
+        z: z,
+        calls: std::num::wrapping_add_u64(s.calls, 1),
+    }
 }
 
 // Y = X XOR the block.
 pub(crate) fn mix(s: State, p: Block) -> State
     ensures y { λ r. ⌜ wide (r .y) ≡ xors (wide (s .y)) (wide p) ⌝ }
-    ensures z { λ r. ⌜ wide (r .z) ≡ wide (s .z) ⌝ }
+    ensures rest { λ r. ⌜ (wide (r .z) ≡ wide (s .z)) × (r .calls ≡ s .calls) ⌝ }
 {
     let y = s.y;
     let z = s.z;
     let w = words::block::xor(y, p);
-    State { y: w, z: z }
+    State {
+        y: w,
+        z: z,
+        calls: s.calls,
+    }
 }

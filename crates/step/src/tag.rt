@@ -10,18 +10,28 @@ ghost use Rattle.words.specs.Blocks.{wide};
 ghost use Rattle.words.specs.Bytes.{sameBytes};
 ghost use Rattle.cipher.specs.Cipher.{Ready, IsSuite, sizeOf, cipherOf};
 ghost use Rattle.mode.specs.Walk.{tagged};
-ghost use Rattle.step.specs.Two.{twoOf, Clean};
+ghost use Rattle.step.specs.Two.{twoOf, Clean, oneMore};
+
+// The tag, and how many cipher calls were made: its own is the last.
+pub struct Last {
+    pub tag: Block,
+    pub calls: u64,
+}
 
 // The tag of a state: the last call, under the last mark.
-pub fn tag_of(tb: &[Lent], suite: u8, s: State) -> Block
+pub fn tag_of(tb: &[Lent], suite: u8, s: State) -> Last
     requires { ⌜ Ready suite (now tb) × IsSuite suite ⌝ }
-    ensures tag { λ r. ⌜ take (sizeOf suite) (wide r) ≡ tagged (cipherOf suite) (twoOf suite s) ⌝ }
-    ensures clean { λ r. ⌜ Clean suite r ⌝ }
+    ensures tag { λ r. ⌜ take (sizeOf suite) (wide (r .tag)) ≡ tagged (cipherOf suite) (twoOf suite s) ⌝ }
+    ensures rest { λ r. ⌜ Clean suite (r .tag) × (r .calls ≡ oneMore (s .calls)) ⌝ }
 {
     let y = s.y;
     let z = s.z;
     let k = crate::key::next_key(suite, z, 0x80);
-    cipher::encipher(tb, suite, k, y)
+    let t = cipher::encipher(tb, suite, k, y);
+    Last {
+        tag: t,
+        calls: std::num::wrapping_add_u64(s.calls, 1),
+    }
 }
 
 // Whether the first bytes of t are those of tag, where zeros follow: every difference counts before the one test.

@@ -11,12 +11,12 @@ use lib.Dec.{eqb}
 use borrow.Author.Tests.{eq-eqb, le-ltb}
 use Rattle.table.specs.declared.answers.Answer.{Answer}
 use Rattle.table.specs.Search.{firstOf}
-use Rattle.table.specs.Format.{editionOf, countOf, rowSize, widthOf, rowStart, rowAt, bodyEnd}
+use Rattle.table.specs.Format.{editionOf, countOf, edition, newest, rowSize, widthOf, rowStart, rowAt, bodyEnd}
 use Rattle.table.specs.Answers.{answer}
-use Rattle.table.specs.Check.{outside, badData, rowNumber, endAnswer, rowsFrom, headNumber, checkBetween}
+use Rattle.table.specs.Check.{outside, badData, rowNumber, endAnswer, rowsFrom, headNumber, checkBetween, checkAs, checkFile}
 use Rattle.table.proofs.Searches.{first-same, first-only}
 use Rattle.table.proofs.Rows.{row-broad, row-late}
-use Rattle.table.proofs.Passed.{Walked, Passes}
+use Rattle.table.proofs.Passed.{Walked, Passes, passes, own-edition}
 use Rattle.table.proofs.Bodies.{apart, after-table}
 use Rattle.table.proofs.Alike.{Agree, AgreeTable, word-same, start-same, row-number-last, count-same, head-same}
 
@@ -105,3 +105,18 @@ module _ (f g : List ℕ) (long : length g ≡ length f) (low high : ℕ) (p : P
       (λ j l ne.
       let s = p .walk .rows j l in
       data-held f g w j (s .held) (λ k a b. body-other j l ne k a (omega (arith, s .size .ad-low))))
+
+-- ---- the editions that readers take
+
+-- both editions are taken
+same-head : (e : ℕ) (f : List ℕ) → outside edition newest (editionOf f) ≡ false → outside e e (editionOf f) ≡ false → headNumber edition newest f ≡ headNumber e e f
+unfolding headNumber
+same-head e f a b = simp (a, b)
+
+-- a file that passes at its own edition passes the readers' check, if readers take that
+pub wider : (e : ℕ) (f : List ℕ) → edition ≤ e → e ≤ newest → checkAs e f .number ≡ 0 → checkFile f .number ≡ 0
+unfolding checkBetween
+wider e f low high z =
+    let p = passes e e f z in
+    let q = own-edition e f p in
+    rw (same-head e f (taken edition newest (editionOf f) (omega arith) (omega arith)) (taken e e (editionOf f) (omega arith) (omega arith))) z

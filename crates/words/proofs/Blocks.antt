@@ -15,17 +15,34 @@ use Rattle.words.specs.Xors.{xors}
 use Rattle.words.specs.declared.block.Block.{Block}
 use Rattle.words.specs.Blocks.{wide}
 use Rattle.words.proofs.Xor.{self, none-gathered}
+use Rattle.words.proofs.Lists.{append-inj}
 use Rattle.words.proofs.Same.{same-refl, same-true, test-iff}
 use Rattle.words.proofs.Bytes.{length-bytes, bytes-inj}
 use Rattle.words.proofs.Xors.{bytes-xor, xors-append}
 
+-- ---- two words of k bytes side by side
+
+pub length-two : (k a b : ℕ) → length (bytes k a ++ bytes k b) ≡ k + k
+length-two k a b = length-append (bytes k a) (bytes k b) ∙ ap₂ (λ (x y : ℕ). x + y) (length-bytes k a) (length-bytes k b)
+
+pub two-xor : (k a b c d : ℕ) → bytes k (xor a c) ++ bytes k (xor b d) ≡ xors (bytes k a ++ bytes k b) (bytes k c ++ bytes k d)
+two-xor k a b c d =
+    ap₂ (λ (x y : List ℕ). x ++ y) (bytes-xor k a c) (bytes-xor k b d)
+    ∙ sym (xors-append (bytes k a) (bytes k b) (bytes k c) (bytes k d) (length-bytes k a ∙ sym (length-bytes k c)))
+
+pub two-told : (k : ℕ) {a b c d : ℕ} → a < 256 ^ k → b < 256 ^ k → c < 256 ^ k → d < 256 ^ k
+    → bytes k a ++ bytes k b ≡ bytes k c ++ bytes k d → (a ≡ c) × (b ≡ d)
+two-told k {a} {b} {c} {d} ha hb hc hd e =
+    let s = append-inj (bytes k a) (bytes k b) (bytes k c) (bytes k d) (length-bytes k a ∙ sym (length-bytes k c)) e in
+    (bytes-inj k ha hc (s .0), bytes-inj k hb hd (s .1))
+
+-- ---- of 8 bytes
+
 pub length-wide : (a b : ℕ) → length (bytes 8 a ++ bytes 8 b) ≡ 16
-length-wide a b = length-append (bytes 8 a) (bytes 8 b) ∙ omega (arith, length-bytes 8 a, length-bytes 8 b)
+length-wide a b = length-two 8 a b
 
 pub wide-xor : (a b c d : ℕ) → bytes 8 (xor a c) ++ bytes 8 (xor b d) ≡ xors (bytes 8 a ++ bytes 8 b) (bytes 8 c ++ bytes 8 d)
-wide-xor a b c d =
-    ap₂ (λ (x y : List ℕ). x ++ y) (bytes-xor 8 a c) (bytes-xor 8 b d)
-    ∙ sym (xors-append (bytes 8 a) (bytes 8 b) (bytes 8 c) (bytes 8 d) (length-bytes 8 a ∙ sym (length-bytes 8 c)))
+wide-xor a b c d = two-xor 8 a b c d
 
 pub first-eight : (a b : ℕ) → take 8 (bytes 8 a ++ bytes 8 b) ≡ bytes 8 a
 first-eight a b = take-at (bytes 8 a) (bytes 8 b) 8 (length-bytes 8 a)
@@ -51,9 +68,8 @@ two-puts out p q lo lp lq =
 -- a block is known by its bytes: a contract that fixes them fixes it
 pub wide-told : (x y : Block) → x .a < 2 ^ 64 → x .b < 2 ^ 64 → y .a < 2 ^ 64 → y .b < 2 ^ 64 → wide x ≡ wide y → x ≡ y
 wide-told x y xa xb ya yb e =
-    let p : x .a ≡ y .a = bytes-inj 8 xa ya (sym (first-eight (x .a) (x .b)) ∙ ap (take 8) e ∙ first-eight (y .a) (y .b)) in
-    let q : x .b ≡ y .b = bytes-inj 8 xb yb (sym (last-eight (x .a) (x .b)) ∙ ap (drop 8) e ∙ last-eight (y .a) (y .b)) in
-    ap₂ (λ (c d : ℕ). record { a = c; b = d }) p q
+    let q = two-told 8 xa xb ya yb e in
+    ap₂ (λ (c d : ℕ). record { a = c; b = d }) (q .0) (q .1)
 
 -- two blocks are the same where their differences, gathered, are none
 pub same-gathered : (x y : Block) → x .a < 2 ^ 64 → x .b < 2 ^ 64 → y .a < 2 ^ 64 → y .b < 2 ^ 64

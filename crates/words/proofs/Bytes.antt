@@ -4,7 +4,7 @@ use mathlib.Core.List.{List, [], _∷_, _++_}
 use Prim.Native.Nat.{ℕ, zero, suc, _+_, _-_, _*_, _/_, _%_, _^_, _≤_, _<_}
 use native.Mathlib.Nat.{pow-succ', pow-suc, mod-lt, zero-lt-suc, mul-comm, mul-assoc, add-comm, div-add-mod'}
 use native.Mathlib.Omega.{arith}
-use lib.ListN.{length, take, drop}
+use lib.ListN.{length, take, drop, replicate}
 use lib.Arith.{mod-mul}
 use lib.Pow.{pow-add}
 use Rattle.words.specs.Bytes.{AllBytes, value, bytes, part, word}
@@ -52,6 +52,20 @@ bytes-value (b ∷ l) h =
 -- so a number is known by its bytes
 pub bytes-inj : (n : ℕ) {x y : ℕ} → x < 256 ^ n → y < 256 ^ n → bytes n x ≡ bytes n y → x ≡ y
 bytes-inj n {x} {y} hx hy e = sym (value-bytes n x hx) ∙ ap value e ∙ value-bytes n y hy
+
+-- the number 0, and the greatest number of n bytes
+pub bytes-zeros : (n : ℕ) → bytes n 0 ≡ replicate n 0
+unfolding bytes
+bytes-zeros zero = refl
+bytes-zeros (suc n) = ap (λ (l : List ℕ). 0 ∷ l) (bytes-zeros n)
+
+pub bytes-ones : (n x : ℕ) → x + 1 ≡ 256 ^ n → bytes n x ≡ replicate n 0xff
+unfolding bytes
+bytes-ones zero x e = refl
+bytes-ones (suc n) x e =
+    let p : 256 ^ suc n ≡ 256 * 256 ^ n = pow-succ' 256 n in
+    let m : x % 256 ≡ 255 = omega arith in
+    ap₂ (λ (b : ℕ) (l : List ℕ). b ∷ l) m (bytes-ones n (x / 256) (omega arith))
 
 -- n bytes reach as far as 8 n bits
 pub reach : (n : ℕ) → 256 ^ n ≡ 2 ^ (8 * n)

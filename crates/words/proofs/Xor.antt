@@ -1,10 +1,11 @@
 -- Exclusive or is associative and commutative, cancels, and stays within its width: digit by digit, by induction on the halves.
 use mathlib.Core.Path.{_≡_, refl, sym, ap, ap₂, _∙_}
-use Prim.Native.Nat.{ℕ, zero, suc, _+_, _*_, _/_, _%_, _^_, _<_}
-use native.Mathlib.Nat.{not-suc-le-zero, le-of-suc-le-suc}
+use Prim.Native.Nat.{ℕ, zero, suc, _+_, _-_, _*_, _/_, _%_, _^_, _<_}
+use native.Mathlib.Nat.{not-suc-le-zero, le-of-suc-le-suc, mod-eq-of-lt}
 use native.Mathlib.Omega.{arith}
-use lib.Bits.{bitXor, bitOr, and-le-l, and-le-r, or-add-and, xor-add-and, differ, xor-step, xor-shr, xor-mod, xor-comm, xor-self, xor-zero-l, xor-zero-r, xor-lt}
+use lib.Bits.{bitXor, bitAnd, bitOr, and-mask, and-le-l, and-le-r, or-add-and, xor-add-and, differ, xor-step, xor-shr, xor-mod, xor-comm, xor-self, xor-zero-l, xor-zero-r, xor-lt}
 use lib.Arith.{bin-ind}
+use lib.Pow.{split, high as high-part, low as low-part}
 use Rattle.words.specs.Words.{xor}
 
 past-two : (n : ℕ) → suc (suc n) < 2 → ⊥
@@ -96,3 +97,21 @@ low a b k = xor-mod a b k
 pub high : (a b k : ℕ) → xor a b / 2 ^ k ≡ xor (a / 2 ^ k) (b / 2 ^ k)
 unfolding xor
 high a b k = xor-shr a b k
+
+-- so the XOR of two numbers that are made of parts is made of the XORs of the parts
+pub joined : (k a b c d : ℕ) → b < 2 ^ k → d < 2 ^ k → xor (a * 2 ^ k + b) (c * 2 ^ k + d) ≡ xor a c * 2 ^ k + xor b d
+joined k a b c d hb hd =
+    let x = a * 2 ^ k + b in
+    let y = c * 2 ^ k + d in
+    sym (split (xor x y) k)
+    ∙ ap₂ (λ (u v : ℕ). u * 2 ^ k + v)
+    (high x y k ∙ ap₂ xor (high-part a k hb) (high-part c k hd))
+    (low x y k ∙ ap₂ xor (low-part a k hb) (low-part c k hd))
+
+-- a byte XOR all ones has every bit turned over
+pub ones : (a : ℕ) → a < 256 → xor a 0xff ≡ 255 - a
+unfolding xor
+ones a h =
+    let m : bitAnd a 0xff ≡ a = and-mask a 8 ∙ mod-eq-of-lt h in
+    let s : bitXor a 0xff + bitAnd a 0xff * 2 ≡ a + 0xff = xor-add-and a 0xff in
+    omega arith

@@ -4,8 +4,8 @@
 //!     compare [SEED]
 
 use reference::bridge::PROVED;
-use reference::calls::{Case, Library, REFERENCE};
-use reference::data::{amending, cases, comparing, files, moving, resealing, searching, sessions, writing};
+use reference::calls::{Case, CountedCall, Library, REFERENCE};
+use reference::data::{amending, cases, comparing, counted, files, moving, resealing, searching, sessions, writing};
 use reference::linked::{COLUMNS, PLAIN};
 use reference::random::Random;
 use reference::show::hex;
@@ -148,6 +148,16 @@ fn compare_amendments(tally: &mut Tally, random: &mut Random) {
     tally.report("amendments with the longest file");
 }
 
+fn compare_counts(tally: &mut Tally, random: &mut Random) {
+    counted::calls().iter().for_each(|call| tally.proved(call));
+    tally.report("the calls of the program counted");
+    trials::faults(random, |call| tally.proved(&CountedCall(call.clone())));
+    trials::limits(random, |call| tally.proved(&CountedCall(call.clone())));
+    tally.report("counts of refusals, and of lengths around 65,536");
+    trials::records(random, 10_000, |call| tally.proved(&CountedCall(call.clone())));
+    tally.report("counts of random records, good, damaged and faulty");
+}
+
 fn main() {
     let seed = std::env::args().nth(1).map_or(2026, |seed| seed.parse().expect("SEED is a number"));
     let mut tally = Tally::default();
@@ -161,6 +171,7 @@ fn main() {
     compare_compare(&mut tally, &mut random);
     compare_moves(&mut tally, &mut random);
     compare_amendments(&mut tally, &mut random);
+    compare_counts(&mut tally, &mut random);
     println!("{} cases, {} differences", tally.cases, tally.differences);
     if tally.differences > 0 {
         std::process::exit(1);

@@ -3,6 +3,7 @@
 pub mod amending;
 pub mod cases;
 pub mod comparing;
+pub mod counted;
 pub mod files;
 pub mod moving;
 pub mod resealing;
@@ -18,7 +19,7 @@ use crate::calls::{Case, REFERENCE};
 pub type Part = (&'static str, Vec<u8>);
 
 /// The folders of the repository that are written.
-pub const FOLDERS: [&str; 15] = [
+pub const FOLDERS: [&str; 16] = [
     "samples",
     "crates/vectors",
     "crates/cases",
@@ -34,6 +35,7 @@ pub const FOLDERS: [&str; 15] = [
     "crates/moving",
     "crates/moves",
     "crates/amending",
+    "crates/counted",
 ];
 
 /// What a test program reads and writes.
@@ -61,6 +63,7 @@ pub fn parts(folder: &str) -> Vec<Part> {
         "crates/moving" => moving::parts().to_vec(),
         "crates/moves" => moving::move_parts().to_vec(),
         "crates/amending" => amending::parts().to_vec(),
+        "crates/counted" => counted::parts().to_vec(),
         _ => unreachable!("no data for {folder}"),
     }
 }

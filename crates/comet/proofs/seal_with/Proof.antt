@@ -1,12 +1,14 @@
--- `comet::seal_with` meets its contract: text and tag are the definition's.
+-- `comet::seal_with` meets its contract: text, tag and count are the definition's.
 use denote.Ref.{now}
 use lib.ListN.{length, take}
+use mathlib.Core.Bool.{false}
 use mathlib.Core.Path.{refl, sym, ap, _∙_}
 use native.Mathlib.Omega.{arith}
 use Prim.Native.Nat.{ℕ}
 use Rattle.words.specs.Blocks.{wide}
 use Rattle.cipher.proofs.Suites.{size-most}
 use Rattle.comet.proofs.Refuse.{Passed, passed, sealing-done}
+use Rattle.comet.proofs.Counts.{counting, calls-all}
 use borrow.Author.Needs.{needs}
 use Rattle.comet.proofs.seal_with.Statement.{statement}
 use Rattle.comet.proofs.seal_with.Tie as tie
@@ -20,11 +22,11 @@ crypt-requires : tie.Need-crypt-requires
 crypt-requires c κs =
     let st = c .before .before .before .before .before .before .before in
     let p = ok st in
-    (st .pre .0, p .suite, p .key, p .nonce, p .room)
+    (st .pre .0, p .suite, p .key, p .nonce, p .room, p .extra, p .text)
 
 put-requires : tie.Need-put-requires
 put-requires c κs =
-    let st = c .before .before .before .before .before .before .before .before .before .before .before in
+    let st = c .before .before .before .before .before .before .before .before .before .before .before .before in
     omega (arith, ok st .tag, size-most (st .args .suite))
 
 same-length : tie.Need-same-length
@@ -35,12 +37,14 @@ same-length-2 c = search needs
 
 returns : tie.Need-returns
 returns c =
-    let st = c .before .before .before .before .before .before .before .before .before .before .before .before .before .before in
+    let st = c .before .before .before .before .before .before .before .before .before .before .before .before .before .before .before in
     let x = st .args in
-    let t = c .before .before .before .before .before .before .crypt in
-    sealing-done (x .suite) (now (x .key)) (now (x .nonce)) (now (x .ad)) (now (x .msg)) (now (x .out)) (now (x .tag)) 0 (sym (st .pre .1))
+    let t = c .before .before .before .before .before .before .before .crypt in
+    counting
+    (sealing-done (x .suite) (now (x .key)) (now (x .nonce)) (now (x .ad)) (now (x .msg)) (now (x .out)) (now (x .tag)) 0 (sym (st .pre .1))
     refl _ _ (t .ensures .0)
-    (c .before .before .put .ensures ∙ ap (λ (n : ℕ). take n (wide (t .result))) (ok st .tag) ∙ t .ensures .1 .0)
+    (c .before .before .put .ensures ∙ ap (λ (n : ℕ). take n (wide (t .result .tag))) (ok st .tag) ∙ t .ensures .1 .0))
+    (t .ensures .1 .1 .1 ∙ calls-all false (x .suite) (now (x .key)) (now (x .nonce)) (now (x .ad)) (now (x .msg)) _ _ 0 (sym (st .pre .1)) refl)
 
 pub seal-with-spec : {M : Type 1} → statement M
 seal-with-spec = tie.close (tie.spec crypt-requires put-requires same-length same-length-2 returns)

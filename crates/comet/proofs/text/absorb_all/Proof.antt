@@ -12,6 +12,7 @@ use Rattle.mode.specs.Blocks.{blocks}
 use Rattle.mode.specs.Walk.{markOf, walked}
 use Rattle.mode.proofs.Walk.{mark-full, mark-short, walked-turn, walked-done}
 use Rattle.step.specs.Two.{twoOf}
+use Rattle.comet.proofs.Counts.{count-turn, count-done}
 use Rattle.comet.proofs.text.absorb_all.Statement.{statement}
 use Rattle.comet.proofs.text.absorb_all.Tie as tie
 
@@ -19,6 +20,7 @@ abbrev Inv-loop : tie.InvT-loop
 Inv-loop tb suite ad n t₀ m₀ i₀ t m i =
     (i ≤ length ad)
     × (walked (cipherOf suite) false m 0x10 (twoOf suite t) (blocks (sizeOf suite) (drop i ad)) ≡ walked (cipherOf suite) false 0x08 0x10 (twoOf suite t₀) (blocks (sizeOf suite) ad))
+    × (t .calls + length (blocks (sizeOf suite) (drop i ad)) ≡ t₀ .calls + length (blocks (sizeOf suite) ad))
 
 abbrev μ-loop : tie.MeasureT-loop
 μ-loop tb suite ad n t₀ m₀ i₀ t m i = length ad - i
@@ -27,7 +29,7 @@ size-of-requires : tie.Need-size-of-requires Inv-loop μ-loop
 size-of-requires c κs = search needs
 
 loop-holds : tie.Need-loop-holds Inv-loop μ-loop
-loop-holds c = (omega arith, refl)
+loop-holds c = (omega arith, refl, refl)
 
 sub-loop : tie.Need-sub-loop Inv-loop μ-loop
 sub-loop c = omega arith
@@ -71,6 +73,7 @@ loop-again c =
       walked-turn κ pos false (at .m) 0x10 (twoOf suite (at .t)) ad i e (omega arith) (omega arith)
           (at .m) (mark-full (sizeOf suite) (at .m) 0x10 (length (take (e - i) (drop i ad))) lb) (twoOf suite (c .absorb-full .result)) (c .absorb-full .ensures .two)
           ∙ at .inv .1,
+      count-turn (sizeOf suite) pos ad (at .t .calls) (st .args .s .calls) i e _ (omega arith) (omega arith) (c .absorb-full .ensures .made) (st .pre .2) (at .inv .2),
     )
 
 sub-absorb-short : tie.Need-sub-absorb-short Inv-loop μ-loop
@@ -104,10 +107,13 @@ returns c =
     let pos : 0 < sizeOf suite = omega (arith, size .ensures .1 .0) in
     let r = twoOf suite (c .absorb-short .result) in
     let lb : length (take (e - i) (drop i ad)) < sizeOf suite = omega (arith, length-take (e - i) (drop i ad)) in
-    sym (walked-done κ pos false 0 0x10 r ad e (omega arith))
-    ∙ walked-turn κ pos false (at .m) 0x10 (twoOf suite (at .t)) ad i e (omega arith) (omega arith)
-    (xor (at .m) 0x10) (mark-short (sizeOf suite) (at .m) 0x10 (length (take (e - i) (drop i ad))) lb) r (c .absorb-short .ensures .two)
-    ∙ at .inv .1
+    let ec = count-turn (sizeOf suite) pos ad (at .t .calls) (st .args .s .calls) i e _ (omega arith) (omega arith) (c .absorb-short .ensures .made) (st .pre .2) (at .inv .2) in (
+      sym (walked-done κ pos false 0 0x10 r ad e (omega arith))
+          ∙ walked-turn κ pos false (at .m) 0x10 (twoOf suite (at .t)) ad i e (omega arith) (omega arith)
+          (xor (at .m) 0x10) (mark-short (sizeOf suite) (at .m) 0x10 (length (take (e - i) (drop i ad))) lb) r (c .absorb-short .ensures .two)
+          ∙ at .inv .1,
+      count-done (sizeOf suite) pos ad (c .absorb-short .result .calls) (st .args .s .calls) e (omega arith) ec,
+    )
 
 returns-2 : tie.Need-returns-2 Inv-loop μ-loop
 returns-2 c =
@@ -115,8 +121,10 @@ returns-2 c =
     let at = c .before .before .loop in
     let suite = st .args .suite in
     let size = c .before .before .before .size-of in
-    let pos : 0 < sizeOf suite = omega (arith, size .ensures .0, size .ensures .1 .0) in
-    sym (walked-done (cipherOf suite) pos false (at .m) 0x10 (twoOf suite (at .t)) (now (st .args .ad)) (at .i) (omega arith)) ∙ at .inv .1
+    let pos : 0 < sizeOf suite = omega (arith, size .ensures .0, size .ensures .1 .0) in (
+      sym (walked-done (cipherOf suite) pos false (at .m) 0x10 (twoOf suite (at .t)) (now (st .args .ad)) (at .i) (omega arith)) ∙ at .inv .1,
+      count-done (sizeOf suite) pos (now (st .args .ad)) (at .t .calls) (st .args .s .calls) (at .i) (omega arith) (at .inv .2),
+    )
 
 pub absorb-all-spec : {M : Type 1} → statement M
 absorb-all-spec =

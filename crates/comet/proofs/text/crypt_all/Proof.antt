@@ -16,6 +16,7 @@ use Rattle.mode.proofs.Walk.{mark-full, mark-short, walked-turn, covered-turn, 
 use Rattle.step.specs.Two.{twoOf}
 use Rattle.comet.specs.Answers.{opening}
 use Rattle.comet.proofs.Turns.{text-turn, text-done}
+use Rattle.comet.proofs.Counts.{count-turn, count-done}
 use Rattle.comet.proofs.text.crypt_all.Statement.{statement}
 use Rattle.comet.proofs.text.crypt_all.Tie as tie
 
@@ -27,6 +28,7 @@ Inv-loop tb opening suite text out₀ n t₀ m₀ i₀ out t m i =
     ≡ covered (cipherOf suite) opening 0x20 0x40 (twoOf suite t₀) (blocks (sizeOf suite) text))
     × (walked (cipherOf suite) opening m 0x40 (twoOf suite t) (blocks (sizeOf suite) (drop i text))
     ≡ walked (cipherOf suite) opening 0x20 0x40 (twoOf suite t₀) (blocks (sizeOf suite) text))
+    × (t .calls + length (blocks (sizeOf suite) (drop i text)) ≡ t₀ .calls + length (blocks (sizeOf suite) text))
 
 abbrev μ-loop : tie.MeasureT-loop
 μ-loop tb opening suite text out₀ n t₀ m₀ i₀ out t m i = length text - i
@@ -35,7 +37,7 @@ size-of-requires : tie.Need-size-of-requires Inv-loop μ-loop
 size-of-requires c κs = search needs
 
 loop-holds : tie.Need-loop-holds Inv-loop μ-loop
-loop-holds c = (omega arith, refl, refl, refl)
+loop-holds c = (omega arith, refl, refl, refl, refl)
 
 sub-loop : tie.Need-sub-loop Inv-loop μ-loop
 sub-loop c = omega arith
@@ -110,6 +112,7 @@ loop-again c =
           (covered-turn κ pos d (at .m) 0x40 S text i e inside (omega arith) (at .m) em r (call .ensures .1 .two) x (call .ensures .0))
           ∙ at .inv .2,
       walked-turn κ pos d (at .m) 0x40 S text i e inside (omega arith) (at .m) em r (call .ensures .1 .two) ∙ at .inv .3,
+      count-turn (sizeOf suite) pos text (at .t .calls) (st .args .s .calls) i e _ inside (omega arith) (call .ensures .1 .made) (st .pre .3) (at .inv .4),
     )
 
 sub-crypt-short : tie.Need-sub-crypt-short Inv-loop μ-loop
@@ -180,9 +183,13 @@ returns c =
           ∙ ap (λ (l : List ℕ). take i out ++ l)
           (covered-turn κ pos d (at .m) 0x40 S text i e inside (omega arith) (xor (at .m) 0x40) em r (call .ensures .1 .two) x (call .ensures .0))
           ∙ at .inv .2),
-      sym (walked-done κ pos d 0 0x40 r text e (omega arith))
-          ∙ walked-turn κ pos d (at .m) 0x40 S text i e inside (omega arith) (xor (at .m) 0x40) em r (call .ensures .1 .two)
-          ∙ at .inv .3,
+      (
+        sym (walked-done κ pos d 0 0x40 r text e (omega arith))
+            ∙ walked-turn κ pos d (at .m) 0x40 S text i e inside (omega arith) (xor (at .m) 0x40) em r (call .ensures .1 .two)
+            ∙ at .inv .3,
+        count-done (sizeOf suite) pos text (call .result .calls) (st .args .s .calls) e (omega arith)
+            (count-turn (sizeOf suite) pos text (at .t .calls) (st .args .s .calls) i e _ inside (omega arith) (call .ensures .1 .made) (st .pre .3) (at .inv .4)),
+      ),
     )
 
 same-length-2 : tie.Need-same-length-2 Inv-loop μ-loop
@@ -202,7 +209,10 @@ returns-2 c =
     let end : length text ≤ at .i = omega arith in
     let lo : length (at .out) ≤ at .i = omega (arith, at .inv .1, st .pre .2, end) in (
       text-done (at .out) (covered κ d (at .m) 0x40 S (blocks (sizeOf suite) (drop (at .i) text))) _ (at .i) lo (covered-done κ pos d (at .m) 0x40 S text (at .i) end) (at .inv .2),
-      sym (walked-done κ pos d (at .m) 0x40 S text (at .i) end) ∙ at .inv .3,
+      (
+        sym (walked-done κ pos d (at .m) 0x40 S text (at .i) end) ∙ at .inv .3,
+        count-done (sizeOf suite) pos text (at .t .calls) (st .args .s .calls) (at .i) end (at .inv .4),
+      ),
     )
 
 pub crypt-all-spec : {M : Type 1} → statement M

@@ -48,7 +48,7 @@ tag-of-requires c κs =
 
 put-requires : tie.Need-put-requires
 put-requires c κs =
-    let st = c .before .before .before .before .before .before .before .before .before .before .before .before in
+    let st = c .before .before .before .before .before .before .before .before .before .before .before .before .before in
     let s = st .args .s in
     let p = end-passed (s .suite) (s .came) (s .text) (length (now (st .args .out))) (length (now (st .args .tag))) (st .pre .1) in
     omega (arith, p .2, size-most (s .suite))
@@ -65,19 +65,19 @@ same-length-2 c = search needs
 returns : tie.Need-returns
 unfolding ending
 returns c =
-    let st = c .before .before .before .before .before .before .before .before .before .before .before .before .before .before .before .before in
+    let st = c .before .before .before .before .before .before .before .before .before .before .before .before .before .before .before .before .before in
     let s = st .args .s in
     let v = asValue s in
     let o = now (st .args .out) in
     let t = now (st .args .tag) in
     let p = end-passed (s .suite) (s .came) (s .text) (length o) (length t) (st .pre .1) in
-    let two = c .before .before .before .before .before .before .before .before .before .before .before .before .begin in
-    let n = c .before .before .before .before .before .before .before .before .before .before .before .size-of in
-    let m = c .before .before .before .before .before .before .before .before .before .before .first-mark in
-    let f = c .before .before .before .before .before .before .before .before .last-in in
-    let g = c .before .before .before .before .before .tag-of in
+    let two = c .before .before .before .before .before .before .before .before .before .before .before .before .before .begin in
+    let n = c .before .before .before .before .before .before .before .before .before .before .before .before .size-of in
+    let m = c .before .before .before .before .before .before .before .before .before .before .before .first-mark in
+    let f = c .before .before .before .before .before .before .before .before .before .last-in in
+    let g = c .before .before .before .before .before .before .tag-of in
     end-given v (twoOf (s .suite) (two .result)) (n .result) (m .result) (two .ensures) (n .ensures .0) (m .ensures) o _ _ _ _ (twoOf (s .suite) (f .result)) (f .ensures .0) (f .ensures .1 .0) (c .ended .ensures) (f .ensures .1 .1)
-    (c .before .before .before .put .ensures ∙ ap (λ (k : ℕ). take k (wide (g .result))) (p .2) ∙ g .ensures .0)
+    (c .before .before .before .put .ensures ∙ ap (λ (k : ℕ). take k (wide (g .result .tag))) (p .2) ∙ g .ensures .0)
     ∙ answer-done 0 (endNumber (v .suite) (v .came) (v .text) (length o) (length t)) (endDone v o) v o t refl (sym (st .pre .1))
 
 pub close-spec : {M : Type 1} → statement M

@@ -14,7 +14,7 @@ use Rattle.cipher.proofs.Suites.{full-two}
 use Rattle.mode.specs.Walk.{States, turned, hidden}
 use Rattle.mode.proofs.Words.{pad-full}
 use Rattle.step.specs.declared.state.State.{State}
-use Rattle.step.specs.Two.{twoOf, Holds}
+use Rattle.step.specs.Two.{twoOf, Holds, oneMore}
 use Rattle.step.proofs.Words.{mask-is}
 use Rattle.step.proofs.Turns.{Goes, full-goes, clean-xor, mask-out, put-in}
 use Rattle.step.proofs.block.crypt_full.Statement.{statement}
@@ -52,10 +52,10 @@ module _ (d : tie.After-put-whole) where
 
   -- the state r after v went in as p
   put-v : (v : List ℕ) (p : Block) (r : State) → Goes suite v p → wide (r .y) ≡ xors (wide (d .before .before .before .before .before .before .turn .result .y)) (wide p)
-      → wide (r .z) ≡ wide (d .before .before .before .before .before .before .turn .result .z) → Holds suite r (turned κ (st .args .m) S v)
-  put-v v p r g ey ez =
+      → (wide (r .z) ≡ wide (d .before .before .before .before .before .before .turn .result .z)) × (r .calls ≡ d .before .before .before .before .before .before .turn .result .calls) → Holds suite r (turned κ (st .args .m) S v) (oneMore (st .args .s .calls))
+  put-v v p r g ey e =
       let t = d .before .before .before .before .before .before .turn in
-      put-in suite (st .args .m) (st .args .s) (t .result) (t .ensures) v p r g ey ez
+      put-in suite (st .args .m) (st .args .s) (t .result) (t .ensures) v p r g ey e
 
   -- the block that came in
   in-goes : Goes suite B (d .before .before .before .before .whole .result)
@@ -107,7 +107,7 @@ returns c =
     let d = c .before .before .before .before in (
       hidden-is d,
       rw (c .before .if1 .taken)
-          (subst (λ (v : List ℕ). Holds (suite d) (c .mix .result) (turned (κ d) (st d .args .m) (S d) v)) (hidden-is d)
+          (subst (λ (v : List ℕ). Holds (suite d) (c .mix .result) (turned (κ d) (st d .args .m) (S d) v) (oneMore (st d .args .s .calls))) (hidden-is d)
           (put-v d (o d) _ (c .mix .result) (out-goes d) (c .mix .ensures .0) (c .mix .ensures .1))),
     )
 

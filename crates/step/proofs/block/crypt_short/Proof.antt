@@ -13,7 +13,7 @@ use Rattle.cipher.specs.Cipher.{Cipher, sizeOf, cipherOf}
 use Rattle.cipher.proofs.Suites.{size-most}
 use Rattle.mode.specs.Walk.{States, turned, hidden}
 use Rattle.step.specs.declared.state.State.{State}
-use Rattle.step.specs.Two.{twoOf, Holds}
+use Rattle.step.specs.Two.{twoOf, Holds, oneMore}
 use Rattle.step.proofs.Turns.{Goes, short-goes, mask-out, put-in}
 use Rattle.step.proofs.block.crypt_short.Statement.{statement}
 use Rattle.step.proofs.block.crypt_short.Tie as tie
@@ -49,10 +49,10 @@ module _ (d : tie.After-mask) where
 
   -- the state r after v went in as p
   put-v : (v : List ℕ) (p : Block) (r : State) → Goes suite v p → wide (r .y) ≡ xors (wide (d .before .before .before .before .turn .result .y)) (wide p)
-      → wide (r .z) ≡ wide (d .before .before .before .before .turn .result .z) → Holds suite r (turned κ (st .args .m) S v)
-  put-v v p r g ey ez =
+      → (wide (r .z) ≡ wide (d .before .before .before .before .turn .result .z)) × (r .calls ≡ d .before .before .before .before .turn .result .calls) → Holds suite r (turned κ (st .args .m) S v) (oneMore (st .args .s .calls))
+  put-v v p r g ey e =
       let t = d .before .before .before .before .turn in
-      put-in suite (st .args .m) (st .args .s) (t .result) (t .ensures) v p r g ey ez
+      put-in suite (st .args .m) (st .args .s) (t .result) (t .ensures) v p r g ey e
 
 turn-requires : tie.Need-turn-requires
 turn-requires c κs = search needs
@@ -82,7 +82,7 @@ returns c =
     let p = c .before .padded in (
       hidden-is d,
       rw (c .before .before .before .if1 .taken)
-          (subst (λ (v : List ℕ). Holds (suite d) (c .mix .result) (turned (κ d) (st d .args .m) (S d) v)) (hidden-is d)
+          (subst (λ (v : List ℕ). Holds (suite d) (c .mix .result) (turned (κ d) (st d .args .m) (S d) v) (oneMore (st d .args .s .calls))) (hidden-is d)
           (put-v d (o d) (p .result) (c .mix .result) (short-goes (suite d) (o d) (p .result) (out-short d) (p .ensures)) (c .mix .ensures .0) (c .mix .ensures .1))),
     )
 

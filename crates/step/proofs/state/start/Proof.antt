@@ -4,7 +4,7 @@ use denote.Ref.{now}
 use lib.ListN.{length, take}
 use lib.Seq.{take-all}
 use mathlib.Core.List.{List, [], _∷_, _++_}
-use mathlib.Core.Path.{_≡_, sym, ap, ap₂, _∙_}
+use mathlib.Core.Path.{_≡_, refl, sym, ap, ap₂, _∙_}
 use native.Mathlib.Omega.{arith}
 use Prim.Native.Nat.{ℕ, _+_, _-_}
 use Rattle.words.specs.Blocks.{wide}
@@ -55,9 +55,10 @@ returns c =
     record {
       two =
           states-path
-          (ap (take (sizeOf suite)) ek ∙ take-all (sizeOf suite) key (omega arith) ∙ sym (startY-wide κ key en))
+          (ap (take (sizeOf suite)) ek ∙ take-all (sizeOf suite) key (omega arith) ∙ sym (startY-wide κ key v en))
           (c .encipher16 .ensures ∙ ap₂ (κ .E) ek ev ∙ sym (startZ-wide κ key v en));
       clean = clean-16 suite (c .before .before .before .before .filled .result) en;
+      made = refl;
     }
 
 encipher8-requires : tie.Need-encipher8-requires
@@ -83,9 +84,10 @@ returns-2 c =
     record {
       two =
           states-path
-          (ap (λ (n : ℕ). take n (bytes 8 y ++ bytes 8 0)) en ∙ first-eight y 0 ∙ c .before .encipher8 .ensures ∙ ap (λ (k : List ℕ). κ .E k (bytes 8 0)) ek ∙ sym (startY-narrow κ key en))
+          (ap (λ (n : ℕ). take n (bytes 8 y ++ bytes 8 0)) en ∙ first-eight y 0 ∙ c .before .encipher8 .ensures ∙ ap (λ (k : List ℕ). κ .E k (bytes 8 0)) ek ∙ sym (startY-narrow κ key v en))
           (c .xor .ensures ∙ ap₂ xors ek ev ∙ nonce-on-key key v lk lv ∙ sym (startZ-narrow κ key v en));
       clean = clean-8 suite y en;
+      made = refl;
     }
 
 pub start-spec : {M : Type 1} → statement M

@@ -20,18 +20,22 @@ encipher-requires c κs = search needs
 kept-requires : tie.Need-kept-requires
 kept-requires c κs = search needs
 
+wrapping-add-u64-requires : tie.Need-wrapping-add-u64-requires
+wrapping-add-u64-requires c κs = search needs
+
 returns : tie.Need-returns
 returns c =
-    let x = c .before .before .before .before .before .args in
+    let x = c .before .before .before .before .before .before .args in
     let n = sizeOf (x .suite) in
-    let ek = c .before .before .block-key .ensures in
+    let ek = c .before .before .before .block-key .ensures in
     record {
       two =
           states-path
-          (c .before .encipher .ensures .0 ∙ ap (λ (k : List ℕ). cipherOf (x .suite) .E k (take n (wide (x .s .y)))) ek)
-          (c .kept .ensures ∙ ap (keptBehind (versionOf (x .suite)) (x .m)) ek);
-      clean = c .before .encipher .ensures .1;
+          (c .before .before .encipher .ensures .0 ∙ ap (λ (k : List ℕ). cipherOf (x .suite) .E k (take n (wide (x .s .y)))) ek)
+          (c .before .kept .ensures ∙ ap (keptBehind (versionOf (x .suite)) (x .m)) ek);
+      clean = c .before .before .encipher .ensures .1;
+      made = c .wrapping-add-u64 .ensures;
     }
 
 pub turn-spec : {M : Type 1} → statement M
-turn-spec = tie.close (tie.spec block-key-requires encipher-requires kept-requires returns)
+turn-spec = tie.close (tie.spec block-key-requires encipher-requires kept-requires wrapping-add-u64-requires returns)

@@ -16,12 +16,18 @@ next-key-requires c κs = search needs
 encipher-requires : tie.Need-encipher-requires
 encipher-requires c κs = search needs
 
+wrapping-add-u64-requires : tie.Need-wrapping-add-u64-requires
+wrapping-add-u64-requires c κs = search needs
+
 returns : tie.Need-returns
 unfolding tagged
 returns c =
-    let x = c .before .before .before .before .args in
+    let x = c .before .before .before .before .before .args in
     let n = sizeOf (x .suite) in
-    (c .encipher .ensures .0 ∙ ap (λ (k : List ℕ). cipherOf (x .suite) .E k (take n (wide (x .s .y)))) (c .before .next-key .ensures), c .encipher .ensures .1)
+    let t = c .before .encipher in (
+      t .ensures .0 ∙ ap (λ (k : List ℕ). cipherOf (x .suite) .E k (take n (wide (x .s .y)))) (c .before .before .next-key .ensures),
+      (t .ensures .1, c .wrapping-add-u64 .ensures),
+    )
 
 pub tag-of-spec : {M : Type 1} → statement M
-tag-of-spec = tie.close (tie.spec next-key-requires encipher-requires returns)
+tag-of-spec = tie.close (tie.spec next-key-requires encipher-requires wrapping-add-u64-requires returns)

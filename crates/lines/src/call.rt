@@ -1,8 +1,8 @@
-// What a call begins with.
+// A call of the sealer or the opener, as an input has it.
 ghost use Prim.Native.Nat.{_<_};
 
 // What a call begins with: op, suite and lengths.
-pub(crate) struct Call {
+pub struct Call {
     pub op: u8,
     pub suite: u8,
     pub key: usize,
@@ -19,7 +19,7 @@ fn length(head: &[u8; 26], at: usize) -> usize
     words::arx::le32(head[at], head[at + 1], head[at + 2], head[at + 3]) as usize
 }
 
-pub(crate) fn call_of(head: &[u8; 26]) -> Call {
+pub fn call_of(head: &[u8; 26]) -> Call {
     Call {
         op: head[0],
         suite: head[1],

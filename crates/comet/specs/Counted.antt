@@ -1,0 +1,31 @@
+-- How many cipher calls sealer and opener report (document 02, W12): as many as the list of them is long where the text was worked on, 8 included, and 0 on the numbers before.
+use mathlib.Core.Bool.{Bool, true, false}
+use Prim.Native.Nat.{ℕ, zero, suc}
+use mathlib.Core.List.{List}
+use lib.ListN.{length}
+use Rattle.cipher.specs.Cipher.{cipherOf}
+use Rattle.mode.specs.Mode.{calls}
+use Rattle.comet.specs.Answers.{refusal, Sealed, sealing, Opened, opening}
+
+-- what a call leaves, and how many cipher calls it took
+pub record Counting (A : Type 0) : Type 0 where
+  pub leaves : A
+  pub calls : ℕ
+
+-- a refused text takes none
+abbrev pub countedAs : ℕ → ℕ → ℕ
+countedAs zero k = k
+countedAs (suc j) k = 0
+
+-- for an output and a tag of these lengths
+unfoldable pub callsOf : Bool → ℕ → List ℕ → List ℕ → List ℕ → List ℕ → ℕ → ℕ → ℕ
+callsOf opening s key nonce ad text out tag =
+    countedAs (refusal opening s (length key) (length nonce) (length ad) (length text) out tag) (length (calls (cipherOf s) opening key nonce ad text))
+
+abbrev pub sealingCounted : ℕ → List ℕ → List ℕ → List ℕ → List ℕ → List ℕ → List ℕ → Counting Sealed
+sealingCounted s key nonce ad msg out₀ tag₀ =
+    record { leaves = sealing s key nonce ad msg out₀ tag₀; calls = callsOf false s key nonce ad msg (length out₀) (length tag₀) }
+
+abbrev pub openingCounted : ℕ → List ℕ → List ℕ → List ℕ → List ℕ → List ℕ → List ℕ → Counting Opened
+openingCounted s key nonce ad text tag out₀ =
+    record { leaves = opening s key nonce ad text tag out₀; calls = callsOf true s key nonce ad text (length out₀) (length tag) }
