@@ -6,6 +6,7 @@ pub mod comparing;
 pub mod counted;
 pub mod files;
 pub mod moving;
+pub mod reading;
 pub mod resealing;
 pub mod samples;
 pub mod searching;
@@ -19,7 +20,7 @@ use crate::calls::{Case, REFERENCE};
 pub type Part = (&'static str, Vec<u8>);
 
 /// The folders of the repository that are written.
-pub const FOLDERS: [&str; 16] = [
+pub const FOLDERS: [&str; 18] = [
     "samples",
     "crates/vectors",
     "crates/cases",
@@ -36,6 +37,8 @@ pub const FOLDERS: [&str; 16] = [
     "crates/moves",
     "crates/amending",
     "crates/counted",
+    "crates/reading",
+    "crates/inspect",
 ];
 
 /// What a test program reads and writes.
@@ -64,6 +67,8 @@ pub fn parts(folder: &str) -> Vec<Part> {
         "crates/moves" => moving::move_parts().to_vec(),
         "crates/amending" => amending::parts().to_vec(),
         "crates/counted" => counted::parts().to_vec(),
+        "crates/reading" => reading::parts().to_vec(),
+        "crates/inspect" => reading::inspect_parts().to_vec(),
         _ => unreachable!("no data for {folder}"),
     }
 }
