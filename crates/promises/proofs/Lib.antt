@@ -16,7 +16,5 @@ pub mod Compare
 pub mod Reading
 pub mod Retired
 pub mod Reseal
-pub mod Retired
-pub mod W9
 pub mod Calls
 pub mod Slips
