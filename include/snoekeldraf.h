@@ -15,12 +15,12 @@
  * Nonce bytes  16          16               15               15
  * Tag bytes    16          16               8                8
  *
- * Suite 4 is retired: it is opened as before, and sealed no more (number 10).
  * Suites 1 to 4 are COMET version 1. Version 2:
  * Suite        5 AES-128   6 Speck-64/128
  * Key bytes    16          16
  * Nonce bytes  16          15
  * Tag bytes    16          8
+ * Suite 4 is retired: it is opened as before, and sealed no more (number 10).
  *
  * Never seal two records with one key and one nonce.
  */
@@ -36,10 +36,8 @@ extern "C" {
 
 /* Numbers of comet_seal and comet_open: the first that applies, in this order.
  *   0  done
- *   1  suite is not 1 to 4
  *   1  suite is not 1 to 6
  *  10  comet_seal alone: suite is 4
- *   1  suite is not 1 to 6
  *   2  key_len is not 16
  *   3  nonce_len is not the suite's
  *   4  ad_len is over 65,536
@@ -97,9 +95,6 @@ uint32_t comet_open_counted(uint8_t suite,
  *
  * A session is a plain struct that goes in and comes back by value: each call hands back a step, and its session `next`
  * takes the place of the one that was given. The fields are for the functions alone, and hold what the key makes: keep
- * them as secret as the key. Any value may arrive: one whose suite is not 1 to 3 or whose totals are over 65,536 (as a
- * them as secret as the key. Any value may arrive: one whose suite is not 1 to 6 or whose totals are over 65,536 (as a
- * session that was refused at the start, or has ended) is answered by 9; any other is taken as what it says. Going on
  * them as secret as the key. Any value may arrive: one whose suite seals no record (is not 1 to 6, or is 4) or whose
  * totals are over 65,536 (as a session that was refused at the start, or has ended) is answered by 9; any other is taken as what it says. Going on
  * from one session value twice, with different messages, is sealing two records with one key and one nonce.
@@ -120,10 +115,8 @@ typedef struct {
 
 /* Numbers of a session: the first that applies, in the order that stands with each function.
  *   0  done
- *   1  suite is not 1 to 4
  *   1  suite is not 1 to 6
  *  10  suite is 4
- *   1  suite is not 1 to 6
  *   2  key_len is not 16
  *   3  nonce_len is not the suite's
  *   4  more than 65,536 bytes of associated data in all
