@@ -18,7 +18,7 @@ use crate::calls::{Case, REFERENCE};
 pub type Part = (&'static str, Vec<u8>);
 
 /// The folders of the repository that are written.
-pub const FOLDERS: [&str; 15] = [
+pub const FOLDERS: [&str; 16] = [
     "samples",
     "crates/vectors",
     "crates/cases",
@@ -34,6 +34,7 @@ pub const FOLDERS: [&str; 15] = [
     "crates/moving",
     "crates/moves",
     "crates/amending",
+    "crates/current",
 ];
 
 /// What a test program reads and writes.
@@ -61,6 +62,7 @@ pub fn parts(folder: &str) -> Vec<Part> {
         "crates/moving" => moving::parts().to_vec(),
         "crates/moves" => moving::move_parts().to_vec(),
         "crates/amending" => amending::parts().to_vec(),
+        "crates/current" => samples::current_parts().to_vec(),
         _ => unreachable!("no data for {folder}"),
     }
 }
