@@ -20,7 +20,7 @@ use crate::calls::{Case, REFERENCE};
 pub type Part = (&'static str, Vec<u8>);
 
 /// The folders of the repository that are written.
-pub const FOLDERS: [&str; 18] = [
+pub const FOLDERS: [&str; 19] = [
     "samples",
     "crates/vectors",
     "crates/cases",
@@ -36,6 +36,7 @@ pub const FOLDERS: [&str; 18] = [
     "crates/moving",
     "crates/moves",
     "crates/amending",
+    "crates/current",
     "crates/counted",
     "crates/reading",
     "crates/inspect",
@@ -66,6 +67,7 @@ pub fn parts(folder: &str) -> Vec<Part> {
         "crates/moving" => moving::parts().to_vec(),
         "crates/moves" => moving::move_parts().to_vec(),
         "crates/amending" => amending::parts().to_vec(),
+        "crates/current" => samples::current_parts().to_vec(),
         "crates/counted" => counted::parts().to_vec(),
         "crates/reading" => reading::parts().to_vec(),
         "crates/inspect" => reading::inspect_parts().to_vec(),
