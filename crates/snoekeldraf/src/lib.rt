@@ -8,5 +8,5 @@ pub mod listing;
 pub mod moves;
 pub mod parts;
 pub mod record;
-pub mod reporting;
 pub mod renewal;
+pub mod reporting;
