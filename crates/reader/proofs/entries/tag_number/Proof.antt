@@ -5,7 +5,7 @@ use mathlib.Core.Path.{_≡_, refl, sym, ap, _∙_}
 use denote.Ref.{now}
 use lib.ListN.{length}
 use Rattle.comet.specs.Answers.{numberOf}
-use Rattle.comet.proofs.Refuse.{place-is, one-of-pos}
+use Rattle.comet.proofs.Refuse.{other-some}
 use Rattle.table.specs.declared.row.Row.{Row}
 use Rattle.table.specs.Part.{stretch}
 use Rattle.table.specs.Format.{rowOf}
@@ -52,7 +52,7 @@ returns c =
     let q : n ≤ 65536 = rw (s .pre .is-row) (s .pre .entry .text-high) in
     let lo : length (stretch o 0 (n - 0)) ≡ n = stretch-length o 0 (n - 0) (omega (arith, s .pre .room)) ∙ omega arith in
     let m = number-is (now (s .args .f)) (now (s .args .ring)) (s .args .i) (s .pre .entry) (s .pre .ring-long) _ _ (stretch o 0 (n - 0)) (lo ∙ ap (λ (r : Row). r .len) (s .pre .is-row)) (call .ensures) in
-    wrong-is _ _ _ _ m (rw (place-is (call .result)) at (one-of-pos _ (c .match .keys2)))
+    wrong-is _ _ _ _ m (other-some (call .result) (c .match .keys2))
 
 same-length-2 : tie.Need-same-length-2
 same-length-2 c = search needs
