@@ -19,7 +19,7 @@ pub record Low (t : Finding) : Type 0 where
   pub second : t .second ≤ 512
   pub differ : t .differ ≤ 512
 
-pub told-low : (f g x y z : List ℕ) → Low (comparison f g x y z .finding)
+pub finding-low : (f g x y z : List ℕ) → Low (comparison f g x y z .finding)
 unfolding comparison
 finding-low f g x y z = on (refused f) (refused g) (tooLong f g x y z) refl refl
   where
@@ -33,6 +33,6 @@ finding-low f g x y z = on (refused f) (refused g) (tooLong f g x y z) refl refl
         let b = eqb-true _ _ (not-false _ q) in
         record { row = lit≤ tt; first = only-few f g a; second = only-few g f b; differ = differ-few f g a }
 
--- what is told of a comparison
+-- what a comparison says
 pub counted : (t : Finding) (r : Comparison) (f g x y z : List ℕ) → t ≡ r .finding → r ≡ comparison f g x y z → Low t
-counted t r f g x y z p q = subst Low (sym (p ∙ ap (λ (w : Comparison). w .finding) q)) (told-low f g x y z)
+counted t r f g x y z p q = subst Low (sym (p ∙ ap (λ (w : Comparison). w .finding) q)) (finding-low f g x y z)

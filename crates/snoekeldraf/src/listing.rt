@@ -31,7 +31,7 @@ pub extern "C" fn shift_compare(
     })
         (comparison (now (first .entry)) (now (second .entry)) (now («only_first» .entry)) (now («only_second» .entry)) (now (differ .entry))) ⌝ }
 {
-    let t = compare::compare(first, second, only_first, only_second, differ).say();
+    let t = compare::compare(first, second, only_first, only_second, differ).finding();
     *first_count = t.first as u32;
     *second_count = t.second as u32;
     *differ_count = t.differ as u32;

@@ -8,8 +8,8 @@ use Rattle.snoekeldraf.proofs.listing.shift_compare.Tie as tie
 compare-requires : tie.Need-compare-requires
 compare-requires c κs = search needs
 
-say-requires : tie.Need-say-requires
-say-requires c κs = search needs
+finding-requires : tie.Need-finding-requires
+finding-requires c κs = search needs
 
 cast-first-count : tie.Need-cast-first-count
 cast-first-count c =
@@ -56,7 +56,7 @@ shift-compare-spec =
     tie.close
     (tie.spec
     compare-requires
-    say-requires
+    finding-requires
     cast-first-count
     cast-second-count
     cast-differ-count
