@@ -323,6 +323,22 @@ uint32_t shift_compare(const uint8_t *first, size_t first_len,
                        uint32_t *first_count, uint32_t *second_count, uint32_t *differ_count,
                        uint32_t *file, uint32_t *row);
 
+/* Reports on a supplier's file of at most 65,280 bytes: the job number of every entry in jobs, in the file's order, and in
+ * numbers 0 where its tag is right under the ring, 8 where it is wrong. A wrong tag stops nothing.
+ *   20            the file is longer than 65,280 bytes, or 20 of shift_check; *row is 0
+ *   21 to 31, 34  as shift_check, with its *row
+ *   2             ring_len is not 256
+ *   6             a list has fewer places than there are entries
+ *   0             *count entries
+ * *count and *row are written always, and are 0 where nothing else is said. Every refusal leaves both lists unchanged, and 0
+ * leaves the places past the count. The call uses 64 KiB of stack.
+ */
+uint32_t shift_report(const uint8_t *file, size_t file_len,
+                      const uint8_t *ring, size_t ring_len,
+                      uint32_t *jobs, size_t jobs_len,
+                      uint8_t *numbers, size_t numbers_len,
+                      uint32_t *count, uint32_t *row);
+
 #ifdef __cplusplus
 }
 #endif

@@ -215,6 +215,12 @@ static uint32_t open_counted(void) {
                               lent_long());
 }
 
+static uint32_t report(void) {
+    bytes file = given(), ring = given(), jobs = lent(), numbers = lent();
+    uint32_t *count = lent_number(), *row = lent_number();
+    return shift_report(SLICE(file), SLICE(ring), LIST(jobs), SLICE(numbers), count, row);
+}
+
 static uint32_t (*const functions[])(void) = {
     seal, open_record, check, lookup, associated, open_job, entry,
     session_start, session_data, session_part, session_end,
@@ -225,6 +231,7 @@ static uint32_t (*const functions[])(void) = {
     to_edition2, to_edition1,
     amended, open_amended,
     seal_counted, open_counted,
+    report,
 };
 
 int main(void) {

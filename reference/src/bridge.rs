@@ -6,6 +6,7 @@
 use crate::amendment::Amended;
 use crate::calls::Library;
 use crate::difference::Compared;
+use crate::report::Report;
 use crate::session::{Session, Step};
 use crate::shift::{Answer, Places};
 use std::env;
@@ -259,6 +260,13 @@ fn open_counted(
     (number, u64::from_le_bytes(calls))
 }
 
+fn report(file: &[u8], ring: &[u8], jobs: &mut [u32], numbers: &mut [u8]) -> Report {
+    let mut lent = bytes_of(jobs);
+    let (number, [count, row]) = ask(22, vec![Given(file), Given(ring), Lent(&mut lent), Lent(numbers)]);
+    jobs.copy_from_slice(&numbers_of(&lent));
+    Report { number, row, count }
+}
+
 pub const PROVED: Library = Library {
     seal,
     open,
@@ -282,4 +290,5 @@ pub const PROVED: Library = Library {
     open_current,
     seal_counted,
     open_counted,
+    report,
 };

@@ -2,6 +2,7 @@
 
 use crate::amendment::{self, Amended};
 use crate::difference::{self, Compared};
+use crate::report::{self, Report};
 use crate::session::{Session, Step};
 use crate::show::{fold, shown};
 use crate::{comet, editions, reseal, search, session, shift, writer};
@@ -47,6 +48,7 @@ pub struct Library {
     pub open_current: fn(&[u8], &[u8], &[u8], u32, &mut [u8]) -> (u32, u32, u32),
     pub seal_counted: SealCounted,
     pub open_counted: OpenCounted,
+    pub report: fn(&[u8], &[u8], &mut [u32], &mut [u8]) -> Report,
 }
 
 pub const REFERENCE: Library = Library {
@@ -75,6 +77,7 @@ pub const REFERENCE: Library = Library {
     open_current: amendment::open_current,
     seal_counted: comet::seal_counted,
     open_counted: comet::open_counted,
+    report: report::report,
 };
 
 /// A call, or a run of calls.

@@ -12,6 +12,7 @@ pub mod cham;
 pub mod comet;
 pub mod difference;
 pub mod editions;
+pub mod report;
 pub mod reseal;
 pub mod search;
 pub mod session;

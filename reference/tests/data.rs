@@ -2,7 +2,8 @@
 
 use reference::calls::{Case, REFERENCE};
 use reference::data::{
-    amending, cases, comparing, counted, files, moving, parts, resealing, searching, sessions, writing, FOLDERS,
+    amending, cases, comparing, counted, files, moving, parts, reading, resealing, searching, sessions, writing,
+    FOLDERS,
 };
 use reference::random::Random;
 use reference::trials;
@@ -101,6 +102,12 @@ fn counted_provokes_every_number() {
     };
     assert_eq!(numbers(false), [0, 1, 2, 3, 4, 6, 7, 10].into());
     assert_eq!(numbers(true), [0, 1, 2, 3, 6, 7, 8].into());
+}
+
+#[test]
+fn reading_provokes_every_number() {
+    let numbers: BTreeSet<u32> = reading::calls().iter().map(|call| call.answer(&REFERENCE).report.number).collect();
+    assert_eq!(numbers, [0, 2, 6, 34].into_iter().chain(20..=31).collect());
 }
 
 /// The random files of the comparison are of all kinds too.

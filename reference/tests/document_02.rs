@@ -6,6 +6,7 @@ use reference::data::{files, samples};
 use reference::difference::{compare, printed, PROGRAM_LONGEST};
 use reference::editions::{to_edition1, to_edition2};
 use reference::plan::{Entry, Plan};
+use reference::report::{self, report, Reader};
 use reference::reseal::reseal;
 use reference::search::search;
 use reference::session::{data, end, part, start, OVER};
@@ -578,5 +579,53 @@ mod w12 {
         let (text, tag) = specified(4, &[1; 16], &[2; 15], b"ad", b"nine bytes");
         assert_eq!(open_counted(4, &[1; 16], &[2; 15], b"ad", &text, &tag, &mut [0; 10]), (0, 5));
         assert_eq!(open_counted(4, &[1; 16], &[2; 15], b"ad", &text, &tag, &mut [0; 9]), (6, 0));
+    }
+}
+
+mod w14 {
+    use super::*;
+
+    /// The table's rows in order, each once; then ended, as often as it is asked.
+    #[test]
+    fn reader() {
+        let file = files::three_rows().in_edition(2).file(&samples::ring());
+        let mut reader = Reader::new(&file);
+        for (i, job, station) in [(0, 10, 0), (1, 20, 300), (2, 30, 0xff00_0000)] {
+            let (at, row) = reader.entry().unwrap();
+            assert_eq!((at, row.job, row.station), (i, job, station));
+        }
+        assert!((0..5).all(|_| reader.entry().is_none()));
+        let mut faulty = Reader::new(&file[1..]);
+        assert!((0..5).all(|_| faulty.entry().is_none()));
+    }
+
+    #[test]
+    fn the_program() {
+        let (ring, mut file) = (samples::ring(), files::three_rows().file(&samples::ring()));
+        assert_eq!(report::printed(&[1, 0, 0, 0, 8, 0, 0, 0], &ring), "entries 0\n");
+        assert_eq!(report::printed(&files::smallest(), &ring), "entries 1\n7 0\n");
+        assert_eq!(report::printed(&[], &[]), "refused 20 0\n");
+        assert_eq!(report::printed(&vec![0; 65_281], &ring), "refused 20 0\n");
+        for length in [0, 255, 257] {
+            assert_eq!(report::printed(&file, &vec![0; length]), "refused 2 0\n");
+        }
+        let second = rows(&file)[1];
+        file[second.tag().start] ^= 1;
+        assert_eq!(report::printed(&file, &ring), "entries 3\n10 0\n20 8\n30 0\n");
+        file[8 + 32 + 4] = 0;
+        assert_eq!(report::printed(&file, &[]), "refused 26 1\n");
+    }
+
+    /// What the writer makes gets 0 on every line.
+    #[test]
+    fn the_writers_files() {
+        let (draft, ring) = (samples::draft(), samples::ring());
+        let mut file = vec![0; draft.len()];
+        assert_eq!(seal_file(&draft, &ring, &mut file), (0, 0));
+        let (mut jobs, mut numbers) = ([1; 9], [1; 9]);
+        let answer = report(&file, &ring, &mut jobs, &mut numbers);
+        assert_eq!((answer.number, answer.count, numbers), (0, 7, [0, 0, 0, 0, 0, 0, 0, 1, 1]));
+        assert_eq!((jobs[0], jobs[6], jobs[7]), (4101, 4211, 1));
+        assert_eq!(report(&file, &ring, &mut jobs[..6], &mut numbers).number, 6);
     }
 }

@@ -40,20 +40,6 @@ fn say(t: Finding) {
     lines::show::number(t.differ as u64);
 }
 
-fn place(n: u32) {
-    lines::show::space();
-    lines::show::number(n as u64);
-}
-
-// Every place of a list, a space before each.
-fn places(list: &[u32]) {
-    let mut i: usize = 0;
-    while i < list.len() {
-        place(list[i]);
-        i += 1;
-    }
-}
-
 fn line(
     first: &[u8],
     second: &[u8],
@@ -62,9 +48,9 @@ fn line(
     differ: &mut [u32],
 ) {
     say(compare::compare(first, second, only_first, only_second, differ).finding());
-    places(only_first);
-    places(only_second);
-    places(differ);
+    lines::show::places(only_first);
+    lines::show::places(only_second);
+    lines::show::places(differ);
     lines::show::end();
 }
 

@@ -98,3 +98,17 @@ pub fn bytes(bytes: &[u8]) {
         io::print_hex(STDOUT_FILENO, fold(bytes), 8);
     }
 }
+
+fn place(n: u32) {
+    space();
+    number(n as u64);
+}
+
+// Every place of a list, a space before each.
+pub fn places(list: &[u32]) {
+    let mut i: usize = 0;
+    while i < list.len() {
+        place(list[i]);
+        i += 1;
+    }
+}

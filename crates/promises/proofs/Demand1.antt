@@ -18,6 +18,7 @@ use Rattle.search.proofs.Outcomes as halving
 use Rattle.amend.proofs.Outcomes as amend
 use Rattle.editions.proofs.Outcomes as editions
 use Rattle.compare.proofs.Outcomes as comparing
+use Rattle.reader.proofs.Outcomes as reading
 use Rattle.comet.proofs.Refuse.{refusal-most}
 use Rattle.promises.specs.Demand1.{EntryPoints, SealKeeps, OpenKeeps}
 
@@ -44,6 +45,9 @@ entry-points =
       to-edition2 = record { asks-nothing = λ κs a. tt; one-outcome = editions.to-edition2 };
       to-edition1 = record { asks-nothing = λ κs a. tt; one-outcome = editions.to-edition1 };
       compare = record { asks-nothing = λ κs a. tt; one-outcome = comparing.compare };
+      start = record { asks-nothing = λ κs a. tt; one-outcome = reading.start };
+      ask = record { asks-nothing = λ κs a. tt; one-outcome = reading.ask };
+      report = record { asks-nothing = λ κs a. tt; one-outcome = reading.report };
       reseal = record { asks-nothing = λ κs a. tt; one-outcome = resealer.reseal };
       seal-counted = record { asks-nothing = λ κs a. tt; one-outcome = comet.seal-counted };
       unseal-counted = record { asks-nothing = λ κs a. tt; one-outcome = comet.unseal-counted };

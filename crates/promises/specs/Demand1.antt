@@ -55,6 +55,12 @@ use Rattle.amend.proofs.open_current.Kinds as open-current-kinds
 use Rattle.amend.proofs.open_current.Reads as open-current-reads
 use Rattle.compare.proofs.compare.Kinds as compare-kinds
 use Rattle.compare.proofs.compare.Reads as compare-reads
+use Rattle.reader.proofs.cursor.start.Kinds as start-kinds
+use Rattle.reader.proofs.cursor.start.Reads as start-reads
+use Rattle.reader.proofs.cursor.ask.Kinds as ask-kinds
+use Rattle.reader.proofs.cursor.ask.Reads as ask-reads
+use Rattle.reader.proofs.report.Kinds as report-kinds
+use Rattle.reader.proofs.report.Reads as report-reads
 
 -- of a routine's own signature and contract: it asks nothing of its arguments, and they leave one outcome
 pub record Answers {n : ℕ} (ps : List (PK n)) (r : RK n) (Pre : In n ps) (Post : Out n ps r) : Type 0 where
@@ -92,6 +98,10 @@ pub record EntryPoints : Type 0 where
   pub to-edition1 : Answers to-edition1-kinds.ps to-edition1-kinds.r to-edition1-reads.Pre to-edition1-reads.Post
   -- W8
   pub compare : Answers compare-kinds.ps compare-kinds.r compare-reads.Pre compare-reads.Post
+  -- W14: the cursor and the report; of the reader, which holds a reference, it is said of its contract's clauses (`reader/proofs/Held.antt`)
+  pub start : Answers start-kinds.ps start-kinds.r start-reads.Pre start-reads.Post
+  pub ask : Answers ask-kinds.ps ask-kinds.r ask-reads.Pre ask-reads.Post
+  pub report : Answers report-kinds.ps report-kinds.r report-reads.Pre report-reads.Post
   -- W7
   pub reseal : Answers reseal-kinds.ps reseal-kinds.r reseal-reads.Pre reseal-reads.Post
   -- W12

@@ -1,5 +1,6 @@
 pub mod Rows
 pub mod AmendedRows
 pub mod Lists
+pub mod Reports
 pub mod Steps
 pub mod Outcomes

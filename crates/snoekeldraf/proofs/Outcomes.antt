@@ -65,6 +65,9 @@ use Rattle.snoekeldraf.proofs.amending.shift_open_amended.Reads as open
 use Rattle.compare.specs.Comparing.{Comparison}
 use Rattle.snoekeldraf.proofs.listing.shift_compare.Kinds as compare-kinds
 use Rattle.snoekeldraf.proofs.listing.shift_compare.Reads as compare-reads
+use Rattle.reader.specs.Reporting.{Report}
+use Rattle.snoekeldraf.proofs.reporting.shift_report.Kinds as report-kinds
+use Rattle.snoekeldraf.proofs.reporting.shift_report.Reads as report-reads
 
 pub comet-seal : OneOutcome seal-kinds.ps seal-kinds.r seal-reads.Pre seal-reads.Post
 comet-seal κs a h x y =
@@ -203,3 +206,8 @@ shift-compare κs a h x y =
       ap (λ (w : Comparison).
           (tt, (tt, (w .first, (w .second, (w .differ, (w .finding .first, (w .finding .second, (w .finding .differ, (w .finding .file, (w .finding .row, tt))))))))))) e,
     )
+
+pub shift-report : OneOutcome report-kinds.ps report-kinds.r report-reads.Pre report-reads.Post
+shift-report κs a h x y =
+    let e = x .ensures ∙ sym (y .ensures) in
+    (ap (λ (w : Report). w .said .number) e, ap (λ (w : Report). (tt, (tt, (w .jobs, (w .numbers, (w .said .count, (w .said .row, tt))))))) e)

@@ -9,3 +9,4 @@ pub mod moves;
 pub mod parts;
 pub mod record;
 pub mod renewal;
+pub mod reporting;

@@ -5,7 +5,9 @@
 
 use reference::bridge::PROVED;
 use reference::calls::{Case, CountedCall, Library, REFERENCE};
-use reference::data::{amending, cases, comparing, counted, files, moving, resealing, searching, sessions, writing};
+use reference::data::{
+    amending, cases, comparing, counted, files, moving, reading, resealing, searching, sessions, writing,
+};
 use reference::linked::{COLUMNS, PLAIN};
 use reference::random::Random;
 use reference::show::hex;
@@ -158,6 +160,15 @@ fn compare_counts(tally: &mut Tally, random: &mut Random) {
     tally.report("counts of random records, good, damaged and faulty");
 }
 
+fn compare_reports(tally: &mut Tally, random: &mut Random) {
+    reading::calls().iter().for_each(|call| tally.proved(call));
+    tally.report("the calls of the program reading");
+    reading::trials(random, 10_000, |call| tally.proved(call));
+    tally.report("random files reported, good and edited");
+    reading::long_files(|call| tally.proved(call));
+    tally.report("reports of long files");
+}
+
 fn main() {
     let seed = std::env::args().nth(1).map_or(2026, |seed| seed.parse().expect("SEED is a number"));
     let mut tally = Tally::default();
@@ -172,6 +183,7 @@ fn main() {
     compare_moves(&mut tally, &mut random);
     compare_amendments(&mut tally, &mut random);
     compare_counts(&mut tally, &mut random);
+    compare_reports(&mut tally, &mut random);
     println!("{} cases, {} differences", tally.cases, tally.differences);
     if tally.differences > 0 {
         std::process::exit(1);

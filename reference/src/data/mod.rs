@@ -6,6 +6,7 @@ pub mod comparing;
 pub mod counted;
 pub mod files;
 pub mod moving;
+pub mod reading;
 pub mod resealing;
 pub mod samples;
 pub mod searching;
@@ -19,7 +20,7 @@ use crate::calls::{Case, REFERENCE};
 pub type Part = (&'static str, Vec<u8>);
 
 /// The folders of the repository that are written.
-pub const FOLDERS: [&str; 16] = [
+pub const FOLDERS: [&str; 19] = [
     "samples",
     "crates/vectors",
     "crates/cases",
@@ -35,7 +36,10 @@ pub const FOLDERS: [&str; 16] = [
     "crates/moving",
     "crates/moves",
     "crates/amending",
+    "crates/current",
     "crates/counted",
+    "crates/reading",
+    "crates/inspect",
 ];
 
 /// What a test program reads and writes.
@@ -63,7 +67,10 @@ pub fn parts(folder: &str) -> Vec<Part> {
         "crates/moving" => moving::parts().to_vec(),
         "crates/moves" => moving::move_parts().to_vec(),
         "crates/amending" => amending::parts().to_vec(),
+        "crates/current" => samples::current_parts().to_vec(),
         "crates/counted" => counted::parts().to_vec(),
+        "crates/reading" => reading::parts().to_vec(),
+        "crates/inspect" => reading::inspect_parts().to_vec(),
         _ => unreachable!("no data for {folder}"),
     }
 }

@@ -1,6 +1,7 @@
-//! A day's file and a ring to try, and the run of the program `job` on them.
+//! A day's file, an amendment and a ring to try, and the runs of the programs `job` and `current` on them.
 
 use super::Part;
+use crate::amendment::{current, open_current};
 use crate::plan::{Entry, Plan};
 use crate::random::Random;
 use crate::shift;
@@ -34,8 +35,18 @@ const STATIONS: [u32; 8] = [207, 207, 207, 208, 0, 311, 207, 208];
 /// What stands in the associated data after the unit, where a station adds its name.
 const STATION: &[u8] = b"line 2 station 7";
 
+/// What quality sent, job, suite and record: jobs 4102 and 4110 anew, and a job that the day did not have.
+const AMENDMENT: [(u32, u8, &str); 3] = [
+    (4102, 2, "gearbox 4102 bolt M8x40 count 8 torque 25.0 25.1 25.0 25.2 25.0 25.0 25.1 25.0, bolts 1 5 8 retorqued"),
+    (4110, 3, "gearbox 4110 bolt M6x20 count 2 torque 9.8 9.9, entered by hand"),
+    (4220, 5, "gearbox 4220 plug M22 count 1 torque 60.2"),
+];
+
 /// The job that the program `job` is run on.
 const OPENED: u32 = 4103;
+
+/// The job that the program `current` is run on: the day has it too.
+const AMENDED: u32 = 4102;
 
 fn entries() -> Vec<Entry> {
     let mut random = Random::new(5);
@@ -77,24 +88,14 @@ pub fn later_day() -> Vec<u8> {
     Plan::new(entries).file(&ring())
 }
 
-/// What quality sent: jobs 4102 and 4110 anew, and a job that the day did not have.
 pub fn amendment() -> Vec<u8> {
-    let records = [
-        (
-            4102,
-            2,
-            "gearbox 4102 bolt M8x40 count 8 torque 25.0 25.1 25.0 25.2 25.0 25.0 25.1 25.0, bolts 1 5 8 retorqued",
-        ),
-        (4110, 3, "gearbox 4110 bolt M6x20 count 2 torque 9.8 9.9, entered by hand"),
-        (4220, 5, "gearbox 4220 plug M22 count 1 torque 60.2"),
-    ];
     let mut random = Random::new(16);
     let entry = |(job, suite, record): (u32, u8, &str)| {
         let mut entry = Entry::new(job, suite, 7, 1, random.array(), record.as_bytes());
         entry.ad.extend(b"quality");
         entry
     };
-    Plan::new(records.into_iter().map(entry).collect()).file(&ring())
+    Plan::new(AMENDMENT.into_iter().map(entry).collect()).file(&ring())
 }
 
 /// The day before it was sealed, but for the job of suite 4.
@@ -112,14 +113,29 @@ pub fn parts() -> [Part; 5] {
     ]
 }
 
-/// What `job FILE RING JOB` writes: the opening's number and row and, on 0, unit, associated data and message.
+/// The lines of an opened entry: unit, associated data and message.
+fn entry_lines(ad: &[u8], message: &[u8]) -> String {
+    format!("{}\n{}\n{}\n", ad[4], hex(ad), hex(message))
+}
+
+/// What `job FILE RING JOB` writes: the opening's number and row and, on 0, the entry's lines.
 pub fn job_lines(file: &[u8], ring: &[u8], job: u32, message: usize) -> String {
     let mut out = vec![0; message];
     let (number, row) = shift::open_job(file, ring, job, &mut out);
     let mut lines = format!("{number} {row}\n");
     if number == 0 {
-        let ad = shift::associated(file, job);
-        lines += &format!("{}\n{}\n{}\n", ad[4], hex(ad), hex(&out));
+        lines += &entry_lines(shift::associated(file, job), &out);
+    }
+    lines
+}
+
+/// What `current AMENDMENT DAY RING JOB` writes: the opening's number, file and row and, on 0, the entry's lines.
+fn current_lines(amendment: &[u8], day: &[u8], ring: &[u8], job: u32, message: usize) -> String {
+    let mut out = vec![0; message];
+    let (number, file, row) = open_current(amendment, day, ring, job, &mut out);
+    let mut lines = format!("{number} {file} {row}\n");
+    if number == 0 {
+        lines += &entry_lines(current(amendment, day, job), &out);
     }
     lines
 }
@@ -131,6 +147,20 @@ pub fn job_parts() -> [Part; 4] {
     assert!(stdout.ends_with(&format!("{}\n", hex(message.as_bytes()))));
     [
         ("args", format!("day.shift\nring.keys\n{OPENED}\n").into_bytes()),
+        ("data/day.shift", day()),
+        ("data/ring.keys", ring()),
+        ("stdout", stdout.into_bytes()),
+    ]
+}
+
+/// The folder of the program `current`.
+pub fn current_parts() -> [Part; 5] {
+    let message = AMENDMENT.iter().find(|entry| entry.0 == AMENDED).unwrap().2;
+    let stdout = current_lines(&amendment(), &day(), &ring(), AMENDED, message.len());
+    assert!(stdout.starts_with("0 1 ") && stdout.ends_with(&format!("{}\n", hex(message.as_bytes()))));
+    [
+        ("args", format!("amendment.shift\nday.shift\nring.keys\n{AMENDED}\n").into_bytes()),
+        ("data/amendment.shift", amendment()),
         ("data/day.shift", day()),
         ("data/ring.keys", ring()),
         ("stdout", stdout.into_bytes()),

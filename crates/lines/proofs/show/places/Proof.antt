@@ -2,8 +2,8 @@
 use Prim.Native.Nat.{_-_, _≤_}
 use lib.ListN.{length}
 use borrow.Author.Needs.{needs}
-use Rattle.comparing.proofs.places.Statement.{statement}
-use Rattle.comparing.proofs.places.Tie as tie
+use Rattle.lines.proofs.show.places.Statement.{statement}
+use Rattle.lines.proofs.show.places.Tie as tie
 
 abbrev Inv-loop : tie.InvT-loop
 Inv-loop list i₀ i = i ≤ length list

@@ -1,9 +1,9 @@
--- `job::spelled` meets its contract: the number stays at most 2 ^ 32.
+-- `jobs::spelled` meets its contract: the number stays at most 2 ^ 32.
 use borrow.Author.Needs.{needs}
 use Prim.Native.Nat.{_≤_, _-_}
 use lib.ListN.{length}
-use Rattle.job.proofs.spelled.Statement.{statement}
-use Rattle.job.proofs.spelled.Tie as tie
+use Rattle.jobs.proofs.spelled.Statement.{statement}
+use Rattle.jobs.proofs.spelled.Tie as tie
 
 abbrev Inv-loop : tie.InvT-loop
 Inv-loop digits n₀ i₀ n i = (i ≤ length digits) × (n ≤ 4294967296)

@@ -1,0 +1,12 @@
+-- Document 02, W14: check suppliers' files.
+use Rattle.reader.specs.Promised.{RowsThenEnded, EndedAtOnce, OthersEnded, WriterReported}
+
+pub record Reading : Type 0 where
+  -- on a file that passes the check the reader's list is the table's rows in order, each once, and then that it has ended, as often as it is asked
+  pub rows : RowsThenEnded
+  -- on any other it has ended at once
+  pub other : EndedAtOnce
+  -- and so has a reader that nobody was given
+  pub forged : OthersEnded
+  -- what the writer makes gets 0 on every entry line under the same ring
+  pub writer : WriterReported

@@ -1,0 +1,115 @@
+-- After i turns both lists hold the first i entries, and what stood behind them.
+use Prim.Native.Nat.{ℕ, _-_, _≤_, _<_}
+use native.Mathlib.Omega.{arith}
+use mathlib.Core.Path.{_≡_, refl, sym, ap, _∙_}
+use mathlib.Core.List.{List}
+use denote.Ref.{now}
+use lib.ListN.{length, length-set, length-replicate}
+use borrow.Author.Needs.{needs}
+use Rattle.table.specs.declared.row.Row.{Row}
+use Rattle.table.specs.Format.{edition, newest, countOf}
+use Rattle.table.proofs.Passed.{passes, entry-in}
+use Rattle.reader.specs.Reporting.{jobOf, tagNumber, front}
+use Rattle.reader.proofs.Fronts.{front-none, front-step, front-length}
+use Rattle.reader.proofs.entries.list_all.Statement.{statement}
+use Rattle.reader.proofs.entries.list_all.Tie as tie
+
+abbrev Inv-loop : tie.InvT-loop
+Inv-loop f ring n jobs₀ numbers₀ scratch₀ i₀ jobs numbers scratch i = (i ≤ n) × (jobs ≡ front (jobOf f) i jobs₀) × (numbers ≡ front (tagNumber f ring) i numbers₀) × (length scratch ≡ 65536)
+
+abbrev μ-loop : tie.MeasureT-loop
+μ-loop f ring n jobs₀ numbers₀ scratch₀ i₀ jobs numbers scratch i = n - i
+
+loop-holds : tie.Need-loop-holds Inv-loop μ-loop
+loop-holds c = (omega arith, front-none _ _, front-none _ _, length-replicate {A = ℕ} 65536 0)
+
+row-of-requires : tie.Need-row-of-requires Inv-loop μ-loop
+row-of-requires c κs =
+    let p = c .before .before .before .before .before .before in
+    let f = now (p .args .f) in
+    let l : c .before .loop .i < countOf f = omega (arith, p .pre .all, c .loop-test .taken) in
+    entry-in edition newest f (passes edition newest f (p .pre .passed)) _ l .row-in
+
+mul-jobs : tie.Need-mul-jobs Inv-loop μ-loop
+mul-jobs c =
+    let p = c .before .before .before .before .before .before .before in
+    let l = front-length _ _ _ _ (omega (arith, p .pre .jobs-room, c .before .loop-test .taken)) (c .before .before .loop .inv .1) in
+    omega (arith, p .pre .jobs-room, c .before .loop-test .taken, l)
+
+slice-write-jobs : tie.Need-slice-write-jobs Inv-loop μ-loop
+slice-write-jobs c =
+    let p = c .before .before .before .before .before .before .before in
+    let l = front-length _ _ _ _ (omega (arith, p .pre .jobs-room, c .before .loop-test .taken)) (c .before .before .loop .inv .1) in
+    omega (arith, p .pre .jobs-room, c .before .loop-test .taken, l)
+
+slice-aggregate-tag-number : tie.Need-slice-aggregate-tag-number Inv-loop μ-loop
+slice-aggregate-tag-number c = search needs
+
+tag-number-requires : tie.Need-tag-number-requires Inv-loop μ-loop
+tag-number-requires c κs =
+    let p = c .before .before .before .before .before .before .before .before in
+    let f = now (p .args .f) in
+    let l : c .before .before .before .loop .i < countOf f = omega (arith, p .pre .all, c .before .before .loop-test .taken) in
+    let e = entry-in edition newest f (passes edition newest f (p .pre .passed)) _ l in
+    record { is-row = c .before .row-of .ensures; entry = e; ring-long = p .pre .ring-long; room = omega (arith, c .before .before .before .loop .inv .3) }
+
+slice-write-numbers : tie.Need-slice-write-numbers Inv-loop μ-loop
+slice-write-numbers c =
+    let p = c .before .before .before .before .before .before .before .before .before .before in
+    let t = c .before .before .before .before in
+    let l = front-length _ _ _ _ (omega (arith, p .pre .numbers-room, t .loop-test .taken)) (t .before .loop .inv .2) in
+    omega (arith, p .pre .numbers-room, t .loop-test .taken, l)
+
+add-i : tie.Need-add-i Inv-loop μ-loop
+add-i c = search needs
+
+loop-less : tie.Need-loop-less Inv-loop μ-loop
+loop-less c = search needs
+
+loop-again : tie.Need-loop-again Inv-loop μ-loop
+loop-again c =
+    let p = c .before .before .before .before .before .before .before .before .before .before in
+    let t = c .before .before .before .before in
+    let h = t .before .loop .inv in
+    let job = ap (λ (r : Row). r .job) (c .before .before .before .row-of .ensures) in (
+      omega arith,
+      front-step (jobOf (now (p .args .f))) _ _ _ _ (omega (arith, p .pre .jobs-room, t .loop-test .taken)) (h .1) job,
+      front-step (tagNumber (now (p .args .f)) (now (p .args .ring))) _ _ _ _ (omega (arith, p .pre .numbers-room, t .loop-test .taken)) (h .2) (c .before .tag-number .ensures),
+      c .before .tag-number .kept .1 .1 .1 .1 .0 ∙ h .3,
+    )
+
+same-length : tie.Need-same-length Inv-loop μ-loop
+same-length c =
+    let p = c .before .before .before .before .before .before in
+    front-length _ _ _ _ (omega (arith, p .pre .jobs-room, c .before .loop .inv .0)) (c .before .loop .inv .1)
+
+same-length-2 : tie.Need-same-length-2 Inv-loop μ-loop
+same-length-2 c =
+    let p = c .before .before .before .before .before .before in
+    front-length _ _ _ _ (omega (arith, p .pre .numbers-room, c .before .loop .inv .0)) (c .before .loop .inv .2)
+
+returns : tie.Need-returns Inv-loop μ-loop
+returns c =
+    let h = c .before .loop .inv in
+    let e : c .before .loop .i ≡ c .before .before .before .before .before .before .args .n = omega (arith, h .0, c .loop-test .left) in
+    (rw e at (h .1), rw e at (h .2))
+
+pub list-all-spec : {M : Type 1} → statement M
+list-all-spec =
+    tie.close
+    (tie.spec
+    Inv-loop
+    μ-loop
+    loop-holds
+    row-of-requires
+    mul-jobs
+    slice-write-jobs
+    slice-aggregate-tag-number
+    tag-number-requires
+    slice-write-numbers
+    add-i
+    loop-less
+    loop-again
+    same-length
+    same-length-2
+    returns)

@@ -1,0 +1,4 @@
+pub mod Reading
+pub mod Reporting
+pub mod Promised
+pub mod Inside

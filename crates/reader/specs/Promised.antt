@@ -1,0 +1,35 @@
+-- What the reader gives, as the list of its answers, and what the report says of the writer's files (document 02, W14).
+use Prim.Native.Nat.{ℕ, _+_, _≤_}
+use mathlib.Core.Path.{_≡_}
+use mathlib.Core.List.{List, _++_}
+use mathlib.Core.Logic.{_⊎_}
+use lib.ListN.{length, replicate}
+use denote.Ref.{RefT, now}
+use Rattle.table.specs.Format.{countOf}
+use Rattle.table.specs.Check.{checkFile}
+use Rattle.words.specs.Bytes.{AllBytes}
+use Rattle.draft.specs.Answers.{fileSealing}
+use Rattle.reader.specs.declared.cursor.Entry.the-variants.{Ended}
+use Rattle.reader.specs.declared.Reader.{Reader}
+use Rattle.reader.specs.Reading.{rowsIn, readerOf, asks, rowsFrom}
+use Rattle.reader.specs.Reporting.{jobOf, front, entries, longest, reporting}
+
+-- on a file that passes the check: the table's rows in order, each once, and then that it has ended, as often as it is asked
+abbrev pub RowsThenEnded : Type 0
+RowsThenEnded = (s : RefT (List ℕ)) (m : ℕ) → checkFile (now s) .number ≡ 0 → asks (countOf (now s) + m) (readerOf s) ≡ rowsFrom (now s) 0 (countOf (now s)) ++ replicate m Ended
+
+-- on any other it has ended at once
+abbrev pub EndedAtOnce : Type 0
+EndedAtOnce = (s : RefT (List ℕ)) (m : ℕ) → (checkFile (now s) .number ≡ 0 → ⊥) → asks m (readerOf s) ≡ replicate m Ended
+
+-- a reader that nobody was given has ended too: its place is past the rows, or it is another file's
+abbrev pub OthersEnded : Type 0
+OthersEnded = (r : Reader) (m : ℕ) → (rowsIn (now (r .src)) ≤ r .place .at) ⊎ (r .place .end ≡ rowsIn (now (r .src)) → ⊥) → asks m r ≡ replicate m Ended
+
+-- a file of at most 65,280 bytes that the writer makes gets 0 on every entry line under the same ring
+abbrev pub WriterReported : Type 0
+WriterReported =
+    (draft ring out₀ jobs numbers : List ℕ) → AllBytes draft → AllBytes ring → fileSealing draft ring out₀ .answer .number ≡ 0 →
+    let file : List ℕ = fileSealing draft ring out₀ .out in
+    length file ≤ longest → countOf file ≤ length jobs → countOf file ≤ length numbers
+    → reporting file ring jobs numbers ≡ record { said = entries (countOf file); jobs = front (jobOf file) (countOf file) jobs; numbers = front (λ i. 0) (countOf file) numbers }

@@ -1,0 +1,47 @@
+-- The entries of a file, one after another (document 02, W14): a cursor by value, and a reader that holds the file and its place in it.
+use Prim.Native.Nat.{ℕ, zero, suc, _+_}
+use mathlib.Core.List.{List, [], _∷_}
+use mathlib.Core.Bool.{_&&_, cond}
+use lib.Dec.{ltb, eqb}
+use denote.Ref.{RefT, now}
+use Rattle.table.specs.Format.{countOf, rowOf}
+use Rattle.table.specs.Check.{checkFile}
+use Rattle.reader.specs.declared.cursor.Cursor.{Cursor}
+use Rattle.reader.specs.declared.cursor.Entry.{Entry}
+use Rattle.reader.specs.declared.cursor.Entry.the-variants.{Row, Ended}
+use Rattle.reader.specs.declared.cursor.Step.{Step}
+use Rattle.reader.specs.declared.Reader.{Reader}
+use Rattle.reader.specs.declared.Asked.{Asked}
+
+-- how many rows there are to give: a file that does not pass the check has none
+unfoldable pub rowsIn : List ℕ → ℕ
+rowsIn f = cond (eqb (checkFile f .number) 0) (countOf f) 0
+
+-- a cursor at row 0
+abbrev pub startOf : List ℕ → Cursor
+startOf f = record { at = 0; end = rowsIn f }
+
+-- the row at the cursor's place; it has ended where there is no such row, and where the cursor is another file's
+unfoldable pub askOf : Cursor → List ℕ → Step
+askOf c f =
+    cond (eqb (c .end) (rowsIn f) && ltb (c .at) (rowsIn f))
+    (record { next = record { at = c .at + 1; end = c .end }; entry = Row (c .at) (rowOf f (c .at)) })
+    (record { next = c; entry = Ended })
+
+-- the reader of a file
+abbrev pub readerOf : RefT (List ℕ) → Reader
+readerOf s = record { src = s; place = startOf (now s) }
+
+-- what a reader gives, and the reader after it: the same file, the next place
+abbrev pub nextOf : Reader → Asked
+nextOf r = record { reader = record { src = r .src; place = askOf (r .place) (now (r .src)) .next }; entry = askOf (r .place) (now (r .src)) .entry }
+
+-- the reader's list: what k asks give, one after the other
+unfoldable pub asks : ℕ → Reader → List Entry
+asks zero r = []
+asks (suc k) r = nextOf r .entry ∷ asks k (nextOf r .reader)
+
+-- the table's rows, k of them from row i on
+unfoldable pub rowsFrom : List ℕ → ℕ → ℕ → List Entry
+rowsFrom f i zero = []
+rowsFrom f i (suc k) = Row i (rowOf f i) ∷ rowsFrom f (suc i) k

@@ -1,0 +1,111 @@
+// The entries of a shift file, one after another: a cursor by value, a reader that holds the file and its place in it, and
+// the report on all of them.
+pub mod answers;
+pub mod cursor;
+mod entries;
+
+use answers::Reported;
+use cursor::Cursor;
+use cursor::Entry;
+use cursor::Step;
+use cursor::ask;
+use cursor::start;
+use entries::list_all;
+use table::answers::Checked;
+use table::answers::Refusal;
+use table::check;
+use table::row::count;
+ghost use mathlib.Core.Path.{_≡_};
+ghost use Rattle.reader.specs.declared.Asked.{Asked};
+ghost use Rattle.reader.specs.Reading.{askOf, readerOf, nextOf};
+ghost use Rattle.reader.specs.Reporting.{saidOf, Report, reporting};
+
+// The reader: the file, and the place in it.
+pub struct Reader<'a> {
+    pub src: &'a [u8],
+    pub place: Cursor,
+}
+
+// What an ask gives, and the reader after it.
+pub struct Asked<'a> {
+    pub reader: Reader<'a>,
+    pub entry: Entry,
+}
+
+// The reader of a file, at its first entry.
+pub fn read<'a>(src: &'a [u8]) -> Reader<'a>
+    ensures { λ r. ⌜ r ≡ readerOf (src .entry) ⌝ }
+{
+    Reader {
+        src,
+        place: start(src),
+    }
+}
+
+impl<'a> Reader<'a> {
+    // The next entry, and the reader past it.
+    pub fn next(self) -> Asked<'a>
+        ensures { λ s. ⌜ s ≡ nextOf (self .entry) ⌝ }
+    {
+        let s = ask(self.place, self.src);
+        Asked {
+            reader: Reader {
+                src: self.src,
+                place: s.next,
+            },
+            entry: s.entry,
+        }
+    }
+
+    // The next entry and the place past it, where the reader itself is not needed again.
+    pub fn step(self) -> Step
+        ensures { λ s. ⌜ s ≡ askOf (self .entry .place) (now (self .entry .src)) ⌝ }
+    {
+        ask(self.place, self.src)
+    }
+}
+
+// The entry of a file at a place, and the place past it, by the reader: for callers that hold no reader.
+pub fn step_at(file: &[u8], place: Cursor) -> Step
+    ensures { λ r. ⌜ r ≡ askOf place (now (file .entry)) ⌝ }
+{
+    Reader { src: file, place }.step()
+}
+
+// The same in place: the reader is lent, and its place moves.
+pub fn next_in<'s, 'a>(r: &'s mut Reader<'a>) -> Entry
+    ensures { λ e. ⌜ _≡_ {A = Asked} (record { reader = now (r .exit); entry = e }) (nextOf (now (r .entry))) ⌝ }
+{
+    let s = ask(r.place, r.src);
+    r.place = s.next;
+    s.entry
+}
+
+// Reports on a supplier's file of at most 65,280 bytes: its entries' jobs, and 0 or 8 for each tag under the ring. Order: a
+// longer file is 20; the file's checks; 2; 6 where a list has fewer places than there are entries.
+pub fn report(file: &[u8], ring: &[u8], jobs: &mut [u32], numbers: &mut [u8]) -> Reported
+    ensures { λ r. ⌜ _≡_ {A = Report} (record { said = saidOf r; jobs = now (jobs .exit); numbers = now (numbers .exit) })
+        (reporting (now (file .entry)) (now (ring .entry)) (now (jobs .entry)) (now (numbers .entry))) ⌝ }
+{
+    if 65280 < file.len() {
+        return Reported::Refused(Refusal::Size);
+    }
+    match check(file) {
+        Checked::Refused(x) => {
+            return Reported::Refused(x);
+        }
+        Checked::Passed => {}
+    }
+    if ring.len() != 256 {
+        return Reported::Ring;
+    }
+    let n = count(file);
+    if jobs.len() < n {
+        return Reported::Room;
+    }
+    if numbers.len() < n {
+        return Reported::Room;
+    }
+    list_all(file, ring, n, jobs, numbers);
+    Reported::Entries(n)
+}

@@ -1,0 +1,23 @@
+// The report on a supplier's file.
+ghost use mathlib.Core.Path.{_≡_};
+ghost use Rattle.reader.specs.Reporting.{Report, reporting};
+
+// A file over 65,280 bytes is 20; the file's checks; 2; 6 where a list has fewer places than there are entries; else the jobs, and
+// 0 or 8 for each.
+#[no_mangle]
+pub extern "C" fn shift_report(
+    file: &[u8],
+    ring: &[u8],
+    jobs: &mut [u32],
+    numbers: &mut [u8],
+    count: &mut u32,
+    row: &mut u32,
+) -> u32
+    ensures { λ r. ⌜ _≡_ {A = Report} (record { said = record { number = r; row = now (row .exit); count = now (count .exit) }; jobs = now (jobs .exit); numbers = now (numbers .exit) })
+        (reporting (now (file .entry)) (now (ring .entry)) (now (jobs .entry)) (now (numbers .entry))) ⌝ }
+{
+    let s = reader::report(file, ring, jobs, numbers).said();
+    *count = s.count as u32;
+    *row = s.row as u32;
+    s.number as u32
+}
