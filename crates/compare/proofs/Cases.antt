@@ -1,18 +1,21 @@
 -- The cases of the comparison: a refusal of either file, 36, and the lists.
-use Prim.Native.Nat.{ℕ}
-use mathlib.Core.Path.{_≡_, refl, sym, ap}
-use mathlib.Core.Bool.{true, false, true≢false}
+use Prim.Native.Nat.{ℕ, _≤_}
+use mathlib.Core.Path.{_≡_, refl, sym}
+use mathlib.Core.Bool.{Bool, true, false, true≢false}
 use mathlib.Core.List.{List}
 use lib.ListN.{length}
-use borrow.Author.Tests.{ltb-false, ne-eqb}
+use borrow.Author.Tests.{ltb-false, le-ltb, ne-eqb}
+use native.Mathlib.Omega.{arith}
+use Rattle.table.specs.Format.{countOf}
 use Rattle.table.specs.declared.answers.Refusal.{Refusal}
 use Rattle.table.specs.Answers.{answer, refusalAnswer}
 use Rattle.table.specs.Check.{checkFile}
 use Rattle.table.proofs.Numbers.{refusal-some}
 use Rattle.table.proofs.Searches.{or-false}
 use Rattle.compare.specs.declared.merge.Counts.{Counts}
-use Rattle.compare.specs.Comparing.{refusedIn, Comparison, stopped, tooLong, listed, comparison}
+use Rattle.compare.specs.Comparing.{onlyFirst, onlySecond, differing, refusedIn, Comparison, stopped, tooLong, listed, comparison}
 use Rattle.compare.specs.Inside.{Sound, Passable, Passed, longer}
+use Rattle.compare.proofs.Passing.{only-most, differ-most}
 
 module _ (f g x y z : List ℕ) where
   pub first-refused : (r : Refusal) → checkFile f ≡ refusalAnswer r → comparison f g x y z ≡ stopped (refusedIn 1 (refusalAnswer r)) x y z
@@ -46,10 +49,29 @@ module _ (f g x y z : List ℕ) where
         → _≡_ {A = Comparison} (record { finding = record { number = 0; file = 0; row = 0; first = n .first; second = n .second; differ = n .differ }; first = x′; second = y′; differ = z′ }) (comparison f g x y z)
     all-listed t n x′ y′ z′ h = simp (lists-fit t, h .counts, h .first, h .second, h .differ)
 
--- after a pass that only counts: the lists are as they were, and the counts tell whether they are too long
+-- after a pass that only counts: the counts tell whether a list is too long
 module _ (f g x₀ y₀ z₀ : List ℕ) (n : Counts) (x y z : List ℕ) (h : Passed f g false x₀ y₀ z₀ n x y z) where
-  pub counted : longer n (length x) (length y) (length z) ≡ tooLong f g x y z
-  counted = ap (λ (m : Counts). longer m (length x) (length y) (length z)) (h .counts)
+  pub counted : longer n (length x) (length y) (length z) ≡ tooLong f g x₀ y₀ z₀
+  counted = rw (h .counts, h .first, h .second, h .differ)
+
+-- no list is longer than its file has rows
+pub roomy : (f g x y z : List ℕ) (n : Counts) → (n .first ≡ countOf f) × (n .second ≡ countOf g) × (n .differ ≡ countOf f)
+    → longer n (length x) (length y) (length z) ≡ false → tooLong f g x y z ≡ false
+roomy f g x y z n m t =
+    let a = or-false _ _ t in
+    let b = or-false _ _ (a .1) in
+    let i : n .first ≤ length x = ltb-false _ _ (a .0) in
+    let j : n .second ≤ length y = ltb-false _ _ (b .0) in
+    let k : n .differ ≤ length z = ltb-false _ _ (b .1) in
+    let p = le-ltb (length x) (length (onlyFirst f g)) (omega (arith, only-most f g, i, m .0)) in
+    let q = le-ltb (length y) (length (onlySecond f g)) (omega (arith, only-most g f, j, m .1)) in
+    let r = le-ltb (length z) (length (differing f g)) (omega (arith, differ-most f g, k, m .2)) in
+    simp (p, q, r)
+
+-- lists that are as they were
+module _ (f g x₀ y₀ z₀ x y z : List ℕ) (b : Bool) (h : (b ≡ tooLong f g x₀ y₀ z₀) × (x ≡ x₀) × (y ≡ y₀) × (z ≡ z₀)) where
+  pub still : b ≡ tooLong f g x y z
+  still = rw (h .1, h .2, h .3) (h .0)
 
   pub as-they-were : comparison f g x y z ≡ comparison f g x₀ y₀ z₀
-  as-they-were = rw (h .first, h .second, h .differ)
+  as-they-were = rw (h .1, h .2, h .3)

@@ -58,13 +58,20 @@ module _ (write yes : Bool) (whole rest rest′ buffer₀ buffer : List ℕ) (c 
     λ y. omega (arith, few, more whole rest′ buffer₀ c x (taken y .left)),
   )
 
-pub only-few : (f g : List ℕ) → checkFile f .number ≡ 0 → length (onlyIn f g) ≤ 512
+-- a list has at most a job for each row
+pub only-most : (f g : List ℕ) → length (onlyIn f g) ≤ countOf f
 unfolding onlyIn
-only-few f g z = le-trans (kept-length (λ i. not (hasJob g (jobAt f i))) (jobAt f) 0 (countOf f)) (few-rows f z)
+only-most f g = kept-length (λ i. not (hasJob g (jobAt f i))) (jobAt f) 0 (countOf f)
+
+pub differ-most : (f g : List ℕ) → length (differing f g) ≤ countOf f
+unfolding differing
+differ-most f g = kept-length (differs f g) (jobAt f) 0 (countOf f)
+
+pub only-few : (f g : List ℕ) → checkFile f .number ≡ 0 → length (onlyIn f g) ≤ 512
+only-few f g z = le-trans (only-most f g) (few-rows f z)
 
 pub differ-few : (f g : List ℕ) → checkFile f .number ≡ 0 → length (differing f g) ≤ 512
-unfolding differing
-differ-few f g z = le-trans (kept-length (differs f g) (jobAt f) 0 (countOf f)) (few-rows f z)
+differ-few f g z = le-trans (differ-most f g) (few-rows f z)
 
 only-end : (f g : List ℕ) (i : ℕ) → countOf f ≤ i → onlyFrom f g i ≡ []
 unfolding onlyFrom

@@ -6,6 +6,8 @@ use table::row::row_at;
 use table::row::station_of;
 use table::row::stretch;
 use table::row::width;
+use words::block::filled;
+use words::block::same;
 ghost use mathlib.Core.Path.{_≡_};
 ghost use Prim.Native.Nat.{_-_, _≤_};
 ghost use lib.ListN.{length};
@@ -15,7 +17,15 @@ ghost use Rattle.table.specs.Format.{widthOf, bodyEnd};
 ghost use Rattle.table.specs.Inside.{EntryIn};
 ghost use Rattle.compare.specs.Comparing.{sameFields, sameEntry};
 
-// The same bytes, all of them.
+// The same bytes from place i up to place e, sixteen at most.
+fn same_part(x: &[u8], y: &[u8], i: usize, e: usize) -> bool
+    requires { ⌜ (length (now x) ≡ length (now y)) × (i ≤ e) × (e ≤ length (now x)) × (e - i ≤ 16) ⌝ }
+    ensures { λ r. ⌜ r ≡ sameBytes (stretch (now (x .entry)) i (e - i)) (stretch (now (y .entry)) i (e - i)) ⌝ }
+{
+    same(filled(&x[i..e]), filled(&y[i..e]))
+}
+
+// The same bytes, all of them: sixteen at a time, and what is left.
 fn same_bytes(x: &[u8], y: &[u8]) -> bool
     ensures { λ r. ⌜ r ≡ sameBytes (now (x .entry)) (now (y .entry)) ⌝ }
 {
@@ -23,13 +33,13 @@ fn same_bytes(x: &[u8], y: &[u8]) -> bool
         return false;
     }
     let mut i: usize = 0;
-    while i < x.len() {
-        if x[i] != y[i] {
+    while 16 <= x.len() - i {
+        if !same_part(x, y, i, i + 16) {
             return false;
         }
-        i += 1;
+        i += 16;
     }
-    true
+    same_part(x, y, i, x.len())
 }
 
 // A row's body, as a part of the file.

@@ -3,13 +3,14 @@ mod entry;
 mod merge;
 
 use merge::Counts;
+use merge::most;
 use merge::pass;
 use table::answers::Checked;
 use table::answers::Refusal;
 use table::check;
 ghost use mathlib.Core.Path.{_≡_};
 ghost use Rattle.table.specs.Answers.{refusalAnswer};
-ghost use Rattle.compare.specs.Comparing.{refusedIn, findingOf, Comparison, comparison};
+ghost use Rattle.compare.specs.Comparing.{refusedIn, findingOf, tooLong, Comparison, comparison};
 ghost use Rattle.compare.specs.Inside.{Sound, longer};
 
 // What a comparison says: a number, the file and the row that it is about, and how long each list is.
@@ -85,14 +86,26 @@ fn too_long(n: Counts, first: usize, second: usize, differ: usize) -> bool
     differ < n.differ
 }
 
-// The three lists of two files that pass, or 36: they are counted before any of them is written.
+// A list of two files that pass is longer than its buffer: none is where each buffer has a place for every row; else they are counted.
+fn no_room(f: &[u8], g: &[u8], first: &mut [u32], second: &mut [u32], differ: &mut [u32]) -> bool
+    requires { ⌜ Sound (now f) (now g) ⌝ }
+    ensures { λ r. ⌜ (r ≡ tooLong (now (f .entry)) (now (g .entry)) (now (first .entry)) (now (second .entry)) (now (differ .entry)))
+        × (now (first .exit) ≡ now (first .entry)) × (now (second .exit) ≡ now (second .entry)) × (now (differ .exit) ≡ now (differ .entry)) ⌝ }
+{
+    if !too_long(most(f, g), first.len(), second.len(), differ.len()) {
+        return false;
+    }
+    let n = pass(f, g, false, first, second, differ);
+    too_long(n, first.len(), second.len(), differ.len())
+}
+
+// The three lists of two files that pass, or 36, which is known before any of them is written.
 fn lists(f: &[u8], g: &[u8], first: &mut [u32], second: &mut [u32], differ: &mut [u32]) -> Compared
     requires { ⌜ Sound (now f) (now g) ⌝ }
     ensures { λ r. ⌜ _≡_ {A = Comparison} (record { finding = findingOf r; first = now (first .exit); second = now (second .exit); differ = now (differ .exit) })
         (comparison (now (f .entry)) (now (g .entry)) (now (first .entry)) (now (second .entry)) (now (differ .entry))) ⌝ }
 {
-    let n = pass(f, g, false, first, second, differ);
-    if too_long(n, first.len(), second.len(), differ.len()) {
+    if no_room(f, g, first, second, differ) {
         return Compared::Room;
     }
     let m = pass(f, g, true, first, second, differ);

@@ -10,7 +10,7 @@ ghost use lib.ListN.{length, set};
 ghost use Rattle.table.specs.Format.{countOf};
 ghost use Rattle.table.specs.Check.{checkFile};
 ghost use Rattle.compare.specs.Comparing.{jobAt};
-ghost use Rattle.compare.specs.Inside.{At, firstTurn, secondTurn, Turned, Passable, Passed};
+ghost use Rattle.compare.specs.Inside.{Sound, At, firstTurn, secondTurn, Turned, Passable, Passed};
 
 // One turn: what goes into which list, and the two places after it.
 struct Turn {
@@ -35,6 +35,19 @@ fn rows(f: &[u8]) -> usize
     ensures { λ r. ⌜ (r ≡ countOf (now (f .entry))) × (r ≤ 512) ⌝ }
 {
     count(f)
+}
+
+// How long the three lists can be: a job for each row of their file.
+pub(crate) fn most(f: &[u8], g: &[u8]) -> Counts
+    requires { ⌜ Sound (now f) (now g) ⌝ }
+    ensures { λ r. ⌜ (r .first ≡ countOf (now (f .entry))) × (r .second ≡ countOf (now (g .entry))) × (r .differ ≡ countOf (now (f .entry))) ⌝ }
+{
+    let n = rows(f);
+    Counts {
+        first: n,
+        second: rows(g),
+        differ: n,
+    }
 }
 
 // The job of its row i.

@@ -1,15 +1,12 @@
--- The pass that counts leaves the lists as they were; so 36 is told of unchanged lists, and the pass that writes has room.
+-- The question of room leaves the lists as they were; so 36 is told of unchanged lists, and the pass that writes has room.
 use mathlib.Core.Path.{sym, _∙_}
-use Rattle.compare.proofs.Cases.{too-long, counting, writing, all-listed, counted, as-they-were}
+use Rattle.compare.proofs.Cases.{too-long, writing, all-listed, still, as-they-were}
 use borrow.Author.Needs.{needs}
 use Rattle.compare.proofs.lists.Statement.{statement}
 use Rattle.compare.proofs.lists.Tie as tie
 
-pass-requires : tie.Need-pass-requires
-pass-requires c κs = counting _ _ _ _ _ (c .before .before .before .before .before .before .before .before .pre)
-
-too-long-requires : tie.Need-too-long-requires
-too-long-requires c κs = search needs
+no-room-requires : tie.Need-no-room-requires
+no-room-requires c κs = search needs
 
 same-length : tie.Need-same-length
 same-length c = search needs
@@ -22,16 +19,17 @@ same-length-3 c = search needs
 
 returns : tie.Need-returns
 returns c =
-    let h = c .before .before .before .before .before .before .before .before .pass .ensures in
-    let p = c .before .before .before .before .before .before .before .before .before .before .before .before .before .before .before .before .before .pre in
-    let t = sym (counted _ _ _ _ _ _ _ _ _ h) ∙ sym (c .before .too-long .ensures) ∙ c .if1 .taken in
-    sym (too-long _ _ _ _ _ p t) ∙ as-they-were _ _ _ _ _ _ _ _ _ h
+    let r = c .before .before .before .before .before .before .before in
+    let p = r .before .before .before .before .before .before .before .before .before .pre in
+    let t = sym (still _ _ _ _ _ _ _ _ _ (r .no-room .ensures)) ∙ c .if1 .taken in
+    sym (too-long _ _ _ _ _ p t) ∙ as-they-were _ _ _ _ _ _ _ _ _ (r .no-room .ensures)
 
-pass-requires-2 : tie.Need-pass-requires-2
-pass-requires-2 c κs =
+pass-requires : tie.Need-pass-requires
+pass-requires c κs =
     let t = c .before .before .before in
-    let h = t .before .before .before .before .before .before .before .before .pass .ensures in
-    writing _ _ _ _ _ (t .before .before .before .before .before .before .before .before .before .before .before .before .before .before .before .before .before .pre) (sym (counted _ _ _ _ _ _ _ _ _ h) ∙ sym (t .before .too-long .ensures) ∙ t .if1 .left)
+    let r = t .before .before .before .before .before .before .before in
+    let p = r .before .before .before .before .before .before .before .before .before .pre in
+    writing _ _ _ _ _ p (sym (still _ _ _ _ _ _ _ _ _ (r .no-room .ensures)) ∙ t .if1 .left)
 
 same-length-4 : tie.Need-same-length-4
 same-length-4 c = search needs
@@ -46,21 +44,21 @@ returns-2 : tie.Need-returns-2
 returns-2 c =
     let w = c .before .before .before .before .before .before in
     let t = w .before .before .before .before in
-    let h = t .before .before .before .before .before .before .before .before .pass .ensures in
-    let q = sym (counted _ _ _ _ _ _ _ _ _ h) ∙ sym (t .before .too-long .ensures) ∙ t .if1 .left in
-    all-listed _ _ _ _ _ (t .before .before .before .before .before .before .before .before .before .before .before .before .before .before .before .before .before .pre) q _ _ _ _ (w .pass2 .ensures) ∙ as-they-were _ _ _ _ _ _ _ _ _ h
+    let r = t .before .before .before .before .before .before .before in
+    let p = r .before .before .before .before .before .before .before .before .before .pre in
+    let q = sym (still _ _ _ _ _ _ _ _ _ (r .no-room .ensures)) ∙ t .if1 .left in
+    all-listed _ _ _ _ _ p q _ _ _ _ (w .pass .ensures) ∙ as-they-were _ _ _ _ _ _ _ _ _ (r .no-room .ensures)
 
 pub lists-spec : {M : Type 1} → statement M
 lists-spec =
     tie.close
     (tie.spec
-    pass-requires
-    too-long-requires
+    no-room-requires
     same-length
     same-length-2
     same-length-3
     returns
-    pass-requires-2
+    pass-requires
     same-length-4
     same-length-5
     same-length-6
