@@ -1,12 +1,14 @@
 -- Document 02, W14: check suppliers' files.
-use Rattle.reader.specs.Promised.{RowsThenEnded, EndedAtOnce, OthersEnded, WriterReported}
+use Rattle.reader.specs.Promised.{RowsThenEnded, EndedAtOnce, OthersEnded, OthersRows, WriterReported}
 
 pub record Reading : Type 0 where
   -- on a file that passes the check the reader's list is the table's rows in order, each once, and then that it has ended, as often as it is asked
   pub rows : RowsThenEnded
   -- on any other it has ended at once
   pub other : EndedAtOnce
-  -- and so has a reader that nobody was given
+  -- and so has a reader that was given for no such file, where its place is past the rows that the header lays down or its count is another
   pub forged : OthersEnded
+  -- else it gives the rows of the table from its place on, as they stand there
+  pub foreign : OthersRows
   -- what the writer makes gets 0 on every entry line under the same ring
   pub writer : WriterReported

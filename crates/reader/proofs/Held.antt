@@ -12,10 +12,8 @@ use denote.Triple.Entry.{Args, Res}
 use denote.Triple.Clauses.{Ended, Clauses, AtExit}
 use denote.Ref.{now}
 use Rattle.reader.specs.declared.Asked.{Asked}
-use Rattle.reader.specs.Reading.{askOf, readerOf, nextOf}
 use Rattle.reader.proofs.read as read
 use Rattle.reader.proofs.Reader.next as next
-use Rattle.reader.proofs.Reader.step as step
 use Rattle.reader.proofs.step_at as step-at
 use Rattle.reader.proofs.next_in as next-in
 
@@ -33,19 +31,16 @@ two 𝓤 x y z =
 
 module _ {M : Type 1} (𝓤 : URA M) (H : Heap 𝓤) (A : Atoms 𝓤) (mem : Memory → SProp 𝓤) (run : Routine → Fun 𝓤) where
   pub read-one : OneResult 𝓤 read.ended (read.clauses 𝓤 H A mem run)
-  read-one κs a g x y u v = two 𝓤 x y (readerOf (a .0))
+  read-one κs a g x y u v = two 𝓤 x y _
 
   pub next-one : OneResult 𝓤 next.ended (next.clauses 𝓤 H A mem run)
-  next-one κs a g x y u v = two 𝓤 x y (nextOf (a .0))
-
-  pub step-one : OneResult 𝓤 step.ended (step.clauses 𝓤 H A mem run)
-  step-one κs a g x y u v = two 𝓤 x y (askOf (a .0 .place) (now (a .0 .src)))
+  next-one κs a g x y u v = two 𝓤 x y _
 
   pub step-at-one : OneResult 𝓤 step-at.ended (step-at.clauses 𝓤 H A mem run)
-  step-at-one κs a g x y u v = two 𝓤 x y (askOf (a .1 .0) (now (a .0)))
+  step-at-one κs a g x y u v = two 𝓤 x y _
 
   -- the reader that was lent is fixed too
   pub next-in-one : (κs : Lfts (next-in.ended .signature .lifetimes)) (a : Args (next-in.ended .signature) κs) (g : next-in.clauses 𝓤 H A mem run κs a .ghost) (x y : Res (next-in.ended .signature) κs) (u v : AtExit next-in.ended κs)
       → ent 𝓤 (sep 𝓤 (next-in.clauses 𝓤 H A mem run κs a .ensures g x u) (next-in.clauses 𝓤 H A mem run κs a .ensures g y v))
       (fact 𝓤 (_≡_ {A = Asked} (record { reader = now (u .0); entry = x }) (record { reader = now (v .0); entry = y })))
-  next-in-one κs a g x y u v = two 𝓤 _ _ (nextOf (now (a .0)))
+  next-in-one κs a g x y u v = two 𝓤 _ _ _

@@ -11,7 +11,7 @@ use Rattle.words.specs.Bytes.{AllBytes}
 use Rattle.draft.specs.Answers.{fileSealing}
 use Rattle.reader.specs.declared.cursor.Entry.the-variants.{Ended}
 use Rattle.reader.specs.declared.Reader.{Reader}
-use Rattle.reader.specs.Reading.{rowsIn, readerOf, asks, rowsFrom}
+use Rattle.reader.specs.Reading.{rowsLaid, readerOf, asks, rowsFrom}
 use Rattle.reader.specs.Reporting.{jobOf, front, entries, longest, reporting}
 
 -- on a file that passes the check: the table's rows in order, each once, and then that it has ended, as often as it is asked
@@ -22,9 +22,13 @@ RowsThenEnded = (s : RefT (List ℕ)) (m : ℕ) → checkFile (now s) .number �
 abbrev pub EndedAtOnce : Type 0
 EndedAtOnce = (s : RefT (List ℕ)) (m : ℕ) → (checkFile (now s) .number ≡ 0 → ⊥) → asks m (readerOf s) ≡ replicate m Ended
 
--- a reader that nobody was given has ended too: its place is past the rows, or it is another file's
+-- a reader that `read` did not give has ended where its place is past the rows that the header lays down, or it is another file's: one that is said to have another number of rows
 abbrev pub OthersEnded : Type 0
-OthersEnded = (r : Reader) (m : ℕ) → (rowsIn (now (r .src)) ≤ r .place .at) ⊎ (r .place .end ≡ rowsIn (now (r .src)) → ⊥) → asks m r ≡ replicate m Ended
+OthersEnded = (r : Reader) (m : ℕ) → (rowsLaid (now (r .src)) ≤ r .place .at) ⊎ (r .place .end ≡ rowsLaid (now (r .src)) → ⊥) → asks m r ≡ replicate m Ended
+
+-- and any other gives the table's rows from its place on, as they stand there, and then has ended: nothing but 20 to 24 is known of the file
+abbrev pub OthersRows : Type 0
+OthersRows = (r : Reader) (k m : ℕ) → r .place .end ≡ rowsLaid (now (r .src)) → r .place .at + k ≡ rowsLaid (now (r .src)) → asks (k + m) r ≡ rowsFrom (now (r .src)) (r .place .at) k ++ replicate m Ended
 
 -- a file of at most 65,280 bytes that the writer makes gets 0 on every entry line under the same ring
 abbrev pub WriterReported : Type 0

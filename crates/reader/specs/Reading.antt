@@ -4,9 +4,10 @@ use mathlib.Core.List.{List, [], _∷_}
 use mathlib.Core.Bool.{_&&_, cond}
 use lib.Dec.{ltb, eqb}
 use denote.Ref.{RefT, now}
-use Rattle.table.specs.Format.{countOf, rowOf}
-use Rattle.table.specs.Check.{checkFile}
+use Rattle.table.specs.Format.{countOf, edition, newest, widthOf, nonceStart, rowOf, stationOf}
+use Rattle.table.specs.Check.{headNumber, checkFile}
 use Rattle.reader.specs.declared.cursor.Cursor.{Cursor}
+use Rattle.reader.specs.declared.cursor.Listed.{Listed}
 use Rattle.reader.specs.declared.cursor.Entry.{Entry}
 use Rattle.reader.specs.declared.cursor.Entry.the-variants.{Row, Ended}
 use Rattle.reader.specs.declared.cursor.Step.{Step}
@@ -17,15 +18,23 @@ use Rattle.reader.specs.declared.Asked.{Asked}
 unfoldable pub rowsIn : List ℕ → ℕ
 rowsIn f = cond (eqb (checkFile f .number) 0) (countOf f) 0
 
+-- how many rows the header lays down: none where one of 20 to 24 applies
+unfoldable pub rowsLaid : List ℕ → ℕ
+rowsLaid f = cond (eqb (headNumber edition newest f) 0) (countOf f) 0
+
+-- row i as the table has it: its fields, its station, and where its nonce starts
+abbrev pub listedOf : List ℕ → ℕ → Listed
+listedOf f i = record { index = i; row = rowOf f i; station = stationOf f i; nonce = nonceStart (widthOf f) i }
+
 -- a cursor at row 0
 abbrev pub startOf : List ℕ → Cursor
 startOf f = record { at = 0; end = rowsIn f }
 
--- the row at the cursor's place; it has ended where there is no such row, and where the cursor is another file's
+-- the row at the cursor's place; it has ended where the table has no such row, and where the cursor is another file's
 unfoldable pub askOf : Cursor → List ℕ → Step
 askOf c f =
-    cond (eqb (c .end) (rowsIn f) && ltb (c .at) (rowsIn f))
-    (record { next = record { at = c .at + 1; end = c .end }; entry = Row (c .at) (rowOf f (c .at)) })
+    cond (eqb (c .end) (rowsLaid f) && ltb (c .at) (rowsLaid f))
+    (record { next = record { at = c .at + 1; end = c .end }; entry = Row (listedOf f (c .at)) })
     (record { next = c; entry = Ended })
 
 -- the reader of a file
@@ -44,4 +53,4 @@ asks (suc k) r = nextOf r .entry ∷ asks k (nextOf r .reader)
 -- the table's rows, k of them from row i on
 unfoldable pub rowsFrom : List ℕ → ℕ → ℕ → List Entry
 rowsFrom f i zero = []
-rowsFrom f i (suc k) = Row i (rowOf f i) ∷ rowsFrom f (suc i) k
+rowsFrom f i (suc k) = Row (listedOf f i) ∷ rowsFrom f (suc i) k

@@ -2,20 +2,37 @@
 use shift::lend::row_of;
 use table::answers::Checked;
 use table::check;
+use table::check_head;
+use table::row::EDITION;
+use table::row::NEWEST;
 use table::row::Row;
 use table::row::count;
+use table::row::rest_start;
+use table::row::station_of;
+use table::row::width;
 ghost use mathlib.Core.Path.{_≡_};
-ghost use Rattle.reader.specs.Reading.{rowsIn, startOf, askOf};
+ghost use Rattle.table.specs.Format.{widthOf};
+ghost use Rattle.table.specs.Inside.{RowIn};
+ghost use Rattle.reader.specs.Reading.{rowsLaid, listedOf, startOf, askOf};
 
 // The row that is next, and how many rows there are.
 pub struct Cursor {
-    pub at: usize,
-    pub end: usize,
+    at: usize,
+    end: usize,
 }
 
-// What an ask gives: a row and its number, or that the rows have ended.
+// A row as the table has it: which one it is, its fields, its station (0 in edition 1), and where in the file its sixteen
+// nonce bytes start.
+pub struct Listed {
+    pub index: usize,
+    pub row: Row,
+    pub station: u32,
+    pub nonce: usize,
+}
+
+// What an ask gives: a row, or that the rows have ended.
 pub enum Entry {
-    Row(usize, Row),
+    Row(Listed),
     Ended,
 }
 
@@ -25,11 +42,27 @@ pub struct Step {
     pub entry: Entry,
 }
 
-// How many rows a file has; one that does not pass the check has none.
-fn rows(file: &[u8]) -> usize
-    ensures { λ r. ⌜ r ≡ rowsIn (now (file .entry)) ⌝ }
+// A cursor at row 0. The file is checked here, once; one that does not pass has no rows.
+pub fn start(file: &[u8]) -> Cursor
+    ensures { λ r. ⌜ r ≡ startOf (now (file .entry)) ⌝ }
 {
     match check(file) {
+        Checked::Refused(_) => {
+            return Cursor { at: 0, end: 0 };
+        }
+        Checked::Passed => {}
+    }
+    Cursor {
+        at: 0,
+        end: count(file),
+    }
+}
+
+// How many rows the header lays down; none where one of 20 to 24 applies.
+fn laid(file: &[u8]) -> usize
+    ensures { λ r. ⌜ r ≡ rowsLaid (now (file .entry)) ⌝ }
+{
+    match check_head(EDITION, NEWEST, file) {
         Checked::Refused(_) => {
             return 0;
         }
@@ -38,23 +71,27 @@ fn rows(file: &[u8]) -> usize
     count(file)
 }
 
-// A cursor at row 0.
-pub fn start(file: &[u8]) -> Cursor
-    ensures { λ r. ⌜ r ≡ startOf (now (file .entry)) ⌝ }
+// Row i.
+fn listed_at(f: &[u8], i: usize) -> Listed
+    requires { ⌜ RowIn (widthOf (now f)) (now f) i ⌝ }
+    ensures { λ r. ⌜ r ≡ listedOf (now (f .entry)) i ⌝ }
 {
-    Cursor {
-        at: 0,
-        end: rows(file),
+    Listed {
+        index: i,
+        row: row_of(f, i),
+        station: station_of(f, i),
+        nonce: rest_start(width(f), i) + 12,
     }
 }
 
-// The next row, and the cursor past it. A cursor says nothing of the file that it comes with, so the file is checked.
+// The next row, and the cursor past it. A cursor says nothing of the file that it comes with, so the header is looked at
+// again, which tells that the row lies in the file; the check is not run again.
 pub fn ask(c: Cursor, file: &[u8]) -> Step
     ensures { λ r. ⌜ r ≡ askOf c (now (file .entry)) ⌝ }
 {
     let at = c.at;
     let end = c.end;
-    let n = rows(file);
+    let n = laid(file);
     if end != n {
         return Step {
             next: c,
@@ -67,12 +104,12 @@ pub fn ask(c: Cursor, file: &[u8]) -> Step
             entry: Entry::Ended,
         };
     }
-    let row = row_of(file, at);
+    let row = listed_at(file, at);
     Step {
         next: Cursor {
             at: at + 1,
             end: end,
         },
-        entry: Entry::Row(at, row),
+        entry: Entry::Row(row),
     }
 }

@@ -10,13 +10,15 @@ ghost use Rattle.table.specs.Format.{countOf};
 ghost use Rattle.reader.specs.Reporting.{jobOf, tagNumber, front};
 ghost use Rattle.reader.specs.Inside.{Openable, Listable};
 
-// 0 where the tag of row i is right, 8 where it is wrong; the message goes where nobody looks at it.
+// 0 where the tag of row i is right, 8 where it is wrong; the message goes where nobody looks at it, and is wiped there.
 fn tag_number(f: &[u8], ring: &[u8], i: usize, row: Row, scratch: &mut [u8]) -> u8
     requires { ⌜ Openable (now f) (now ring) i row (now scratch) ⌝ }
-    ensures { λ r. ⌜ r ≡ tagNumber (now (f .entry)) (now (ring .entry)) i ⌝ }
+    ensures number { λ r. ⌜ r ≡ tagNumber (now (f .entry)) (now (ring .entry)) i ⌝ }
+    ensures blank { λ _. ⌜ now (scratch .exit) ≡ now (scratch .entry) ⌝ }
 {
     let n = row.len as usize;
     let opened = open_row(f, ring, i, row, &mut scratch[0..n]);
+    words::zeros::wipe(&mut scratch[0..n]);
     let Verdict::Done = opened else {
         return 8;
     };

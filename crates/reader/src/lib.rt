@@ -22,8 +22,8 @@ ghost use Rattle.reader.specs.Reporting.{saidOf, Report, reporting};
 
 // The reader: the file, and the place in it.
 pub struct Reader<'a> {
-    pub src: &'a [u8],
-    pub place: Cursor,
+    src: &'a [u8],
+    place: Cursor,
 }
 
 // What an ask gives, and the reader after it.
@@ -56,20 +56,17 @@ impl<'a> Reader<'a> {
             entry: s.entry,
         }
     }
-
-    // The next entry and the place past it, where the reader itself is not needed again.
-    pub fn step(self) -> Step
-        ensures { λ s. ⌜ s ≡ askOf (self .entry .place) (now (self .entry .src)) ⌝ }
-    {
-        ask(self.place, self.src)
-    }
 }
 
 // The entry of a file at a place, and the place past it, by the reader: for callers that hold no reader.
 pub fn step_at(file: &[u8], place: Cursor) -> Step
     ensures { λ r. ⌜ r ≡ askOf place (now (file .entry)) ⌝ }
 {
-    Reader { src: file, place }.step()
+    let a = Reader { src: file, place }.next();
+    Step {
+        next: a.reader.place,
+        entry: a.entry,
+    }
 }
 
 // The same in place: the reader is lent, and its place moves.

@@ -3,14 +3,15 @@
 // A call is the lengths of file and ring, how many places the list of jobs and the list of numbers have, and how often the
 // reader is asked (4 bytes each, little-endian), then the file and the ring. The first line is number, row and count of the
 // report, every place of the list of jobs, and the list of numbers as bytes; places hold 0xa5 in every byte before the call.
-// The second is "reader" and, for each ask, row and job of the entry, or "-" where it has ended.
+// The second is "reader" and, for each ask, row, job and station of the entry and where its nonce starts, or "-" where it has
+// ended.
 use libc::STDIN_FILENO;
 use libc::STDOUT_FILENO;
 use reader::answers::Said;
 use reader::cursor::Entry;
+use reader::cursor::Listed;
 use reader::cursor::start;
 use reader::step_at;
-use table::row::Row;
 
 // What a call begins with.
 struct Call {
@@ -47,16 +48,20 @@ fn report(file: &[u8], ring: &[u8], jobs: &mut [u32], numbers: &mut [u8]) {
     lines::show::end();
 }
 
-fn print_row(i: usize, row: Row) {
+fn print_row(x: Listed) {
     lines::show::space();
-    lines::show::number(i as u64);
+    lines::show::number(x.index as u64);
     lines::show::space();
-    lines::show::number(row.job as u64);
+    lines::show::number(x.row.job as u64);
+    lines::show::space();
+    lines::show::number(x.station as u64);
+    lines::show::space();
+    lines::show::number(x.nonce as u64);
 }
 
 fn print_entry(e: Entry) {
     match e {
-        Entry::Row(i, row) => print_row(i, row),
+        Entry::Row(x) => print_row(x),
         Entry::Ended => {
             io::write_all(STDOUT_FILENO, b" -");
         }

@@ -8,7 +8,7 @@ use crate::difference::PROGRAM_LONGEST;
 use crate::plan::{Entry, Plan};
 use crate::random::Random;
 use crate::report::{printed, Reader, Report};
-use crate::shift::{self, rows, EDITIONS};
+use crate::shift::{self, edition, row_at, rows, EDITIONS};
 use crate::show::{list, shown};
 use crate::trials::{edit, misuse_ring};
 
@@ -34,7 +34,10 @@ impl ReadCall {
         let mut reader = Reader::new(&self.file);
         let mut line = "reader".to_string();
         for _ in 0..self.asks {
-            line += &reader.entry().map_or(" -".to_string(), |(i, row)| format!(" {i} {}", row.job));
+            line += &reader.entry().map_or(" -".to_string(), |(i, row)| {
+                let nonce = row_at(edition(&self.file), i + 1) - row.nonce.len();
+                format!(" {i} {} {} {nonce}", row.job, row.station)
+            });
         }
         line + "\n"
     }

@@ -1,13 +1,34 @@
--- Row 0, and as many as there are.
+-- A refused file has no rows; one that passes has its header.
+use mathlib.Core.Path.{sym, ap, _∙_}
+use denote.Ref.{now}
+use Rattle.table.specs.Format.{edition, newest}
+use Rattle.table.specs.Answers.{checkedAnswer}
+use Rattle.table.proofs.Passed.{passed-zero, passes}
+use Rattle.reader.proofs.Asking.{rows-none, rows-all}
 use borrow.Author.Needs.{needs}
 use Rattle.reader.proofs.cursor.start.Statement.{statement}
 use Rattle.reader.proofs.cursor.start.Tie as tie
 
-rows-requires : tie.Need-rows-requires
-rows-requires c κs = search needs
+check-requires : tie.Need-check-requires
+check-requires c κs = search needs
+
+enum-told : tie.Need-enum-told
+enum-told c = search needs
 
 returns : tie.Need-returns
-returns c = rw (c .rows .ensures)
+returns c = rw (rows-none _ (c .enum-told .given .0 .0) (sym (c .before .before .check .ensures) ∙ ap checkedAnswer (c .enum-told .given .1)))
+
+enum-told-2 : tie.Need-enum-told-2
+enum-told-2 c = search needs
+
+count-requires : tie.Need-count-requires
+count-requires c κs =
+    let k = c .before .before in
+    passes edition newest (now (k .before .before .args .file)) (passed-zero _ _ (c .enum-told2 .given .1) (k .check .ensures)) .head .long
+
+returns-2 : tie.Need-returns-2
+returns-2 c = rw (c .count .ensures, rows-all _ (passed-zero _ _ (c .before .enum-told2 .given .1) (c .before .before .before .check .ensures)))
 
 pub start-spec : {M : Type 1} → statement M
-start-spec = tie.close (tie.spec rows-requires returns)
+start-spec =
+    tie.close (tie.spec check-requires enum-told returns enum-told-2 count-requires returns-2)
