@@ -5,6 +5,7 @@ pub mod Parts
 pub mod Sound
 pub mod Passed
 pub mod Nonces
+pub mod Sieve
 pub mod Numbered
 pub mod Alike
 pub mod Kept

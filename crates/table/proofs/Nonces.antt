@@ -48,7 +48,7 @@ padded-same s t l = same-case (sameBytes (padded s) (padded t)) (sameBytes s t) 
         sym p ∙ ap (λ (u : List ℕ). sameBytes (padded u) (padded t)) (same-true s t q) ∙ same-refl (padded t)
 
 -- 34 does not apply: the nonce is what is read, and zeros
-spare-nonce : (w : ℕ) (f : List ℕ) (i : ℕ) → unreadSet w f i ≡ false → nonceAt w f i ≡ padded (nonceReadAt w f i)
+pub spare-nonce : (w : ℕ) (f : List ℕ) (i : ℕ) → unreadSet w f i ≡ false → nonceAt w f i ≡ padded (nonceReadAt w f i)
 unfolding unreadSet
 spare-nonce w f i e = same-true _ _ (not-false _ e)
 

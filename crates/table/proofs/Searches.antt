@@ -31,6 +31,12 @@ pub any-more : (p : ℕ → Bool) (j : ℕ) → anyBelow p j ≡ false → p j �
 unfolding anyBelow
 any-more p j none here = rw add-one (simp (here, none))
 
+-- none of the numbers below n passes
+pub any-none : (p : ℕ → Bool) (n : ℕ) → ((j : ℕ) → j < n → p j ≡ false) → anyBelow p n ≡ false
+unfolding anyBelow
+any-none p zero h = refl
+any-none p (suc n) h = simp (h n (omega arith), any-none p n (λ j l. h j (omega arith)))
+
 -- j passes: some number below n does
 pub any-hit : (p : ℕ → Bool) (j n : ℕ) → j < n → p j ≡ true → anyBelow p n ≡ true
 unfolding anyBelow

@@ -4,4 +4,5 @@ pub mod Format
 pub mod Answers
 pub mod Check
 pub mod Inside
+pub mod Marks
 pub mod Laid

@@ -1,12 +1,16 @@
 // The table of contents of the plant's shift file: its rows, and the full check.
 pub mod answers;
 pub mod body;
+mod marks;
 pub mod row;
 pub mod rules;
 
 use answers::Checked;
 use answers::Refusal;
 use answers::RowCheck;
+use marks::has;
+use marks::mark;
+use marks::put;
 use row::EDITION;
 use row::NEWEST;
 use row::count;
@@ -50,22 +54,28 @@ pub fn check_head(low: u16, high: u16, f: &[u8]) -> Checked
     Checked::Passed
 }
 
-// The n rows, each with 25 to 30 and 34, and then 31.
+// The n rows, each with 25 to 30 and 34, and then 31. It carries where the next body has to start, and the marks of the rows so far.
 fn check_rows(w: usize, f: &[u8], n: usize) -> Checked
     requires { ⌜ TableIn w (now f) n ⌝ }
     ensures { λ r. ⌜ checkedAnswer r ≡ rowsFrom w (now (f .entry)) n 0 ⌝ }
 {
+    let mut start = body_start(w, f, n, 0);
+    let mut seen = [0u64; 128];
     let mut i: usize = 0;
     while i < n {
-        match check_row(w, f, n, i) {
+        let x = mark(w, f, i);
+        let marked = has(&seen, x);
+        match check_row(w, f, n, i, marked, start) {
             RowCheck::Bad(fault) => {
                 return Checked::Refused(Refusal::InRow(fault, i));
             }
             RowCheck::Sound => {}
         }
+        put(&mut seen, x);
         i += 1;
+        start = body_start(w, f, n, i);
     }
-    if body_start(w, f, n, n) != f.len() {
+    if start != f.len() {
         return Checked::Refused(Refusal::End);
     }
     Checked::Passed

@@ -17,6 +17,7 @@ ghost use Rattle.table.specs.Format.{rowAt};
 ghost use Rattle.table.specs.Answers.{rowNumberOf};
 ghost use Rattle.table.specs.Check.{notAbove, outside, badSuite, badLength, bodyStart, misplaced, unreadSet, clash, nonceSeen, badData, bodyNumber, rowNumber};
 ghost use Rattle.table.specs.Inside.{RowIn, TableIn, Spared};
+ghost use Rattle.table.specs.Marks.{Sieved};
 
 // 25: the job number is not above the row before's.
 fn not_above(w: usize, f: &[u8], n: usize, i: usize) -> bool
@@ -73,13 +74,12 @@ pub(crate) fn body_start(w: usize, f: &[u8], n: usize, i: usize) -> usize
 }
 
 // 28: the body does not start where it has to, or ends past the file.
-fn out_of_place(w: usize, f: &[u8], n: usize, i: usize) -> bool
-    requires { ⌜ TableIn w (now f) n × (i < n) ⌝ }
+fn out_of_place(w: usize, f: &[u8], n: usize, i: usize, start: usize) -> bool
+    requires { ⌜ TableIn w (now f) n × ((i < n) × (start ≡ bodyStart w (now f) n i)) ⌝ }
     ensures { λ r. ⌜ r ≡ misplaced w (now (f .entry)) n i ⌝ }
 {
     let row = row_at(w, f, i);
     let at = row.at as usize;
-    let start = body_start(w, f, n, i);
     if at != start {
         return true;
     }
@@ -130,6 +130,17 @@ pub fn nonce_seen(w: usize, f: &[u8], n: usize, i: usize) -> bool
     false
 }
 
+// 29, where the filter was asked first: a row whose mark is not there need not be compared.
+fn seen_before(w: usize, f: &[u8], n: usize, i: usize, marked: bool) -> bool
+    requires { ⌜ TableIn w (now f) n × ((i < n) × (Spared w (now f) (i + 1) × Sieved w (now f) i marked)) ⌝ }
+    ensures { λ r. ⌜ r ≡ nonceSeen w (now (f .entry)) i ⌝ }
+{
+    if marked {
+        return nonce_seen(w, f, n, i);
+    }
+    false
+}
+
 // 30: the associated data has another job number, or no unit.
 fn bad_data(f: &[u8], row: Row) -> bool
     requires { ⌜ row .at + 5 ≤ length (now f) ⌝ }
@@ -148,17 +159,25 @@ fn bad_data(f: &[u8], row: Row) -> bool
 }
 
 // 28, 34, 29 and 30, of row i of n.
-fn check_body(w: usize, f: &[u8], n: usize, i: usize, row: Row) -> RowCheck
-    requires { ⌜ TableIn w (now f) n × ((i < n) × ((row ≡ rowAt w (now f) i) × ((badLength row ≡ false) × Spared w (now f) i))) ⌝ }
+fn check_body(
+    w: usize,
+    f: &[u8],
+    n: usize,
+    i: usize,
+    row: Row,
+    marked: bool,
+    start: usize,
+) -> RowCheck
+    requires { ⌜ TableIn w (now f) n × ((i < n) × ((row ≡ rowAt w (now f) i) × ((badLength row ≡ false) × (Spared w (now f) i × (Sieved w (now f) i marked × (start ≡ bodyStart w (now f) n i)))))) ⌝ }
     ensures { λ r. ⌜ rowNumberOf r ≡ bodyNumber w (now (f .entry)) n i ⌝ }
 {
-    if out_of_place(w, f, n, i) {
+    if out_of_place(w, f, n, i, start) {
         return RowCheck::Bad(Fault::Place);
     }
     if unread_set(w, f, i, row) {
         return RowCheck::Bad(Fault::Unread);
     }
-    if nonce_seen(w, f, n, i) {
+    if seen_before(w, f, n, i, marked) {
         return RowCheck::Bad(Fault::Nonce);
     }
     if bad_data(f, row) {
@@ -168,8 +187,15 @@ fn check_body(w: usize, f: &[u8], n: usize, i: usize, row: Row) -> RowCheck
 }
 
 // 25 to 28, 34, 29 and 30, of row i of n.
-pub(crate) fn check_row(w: usize, f: &[u8], n: usize, i: usize) -> RowCheck
-    requires { ⌜ TableIn w (now f) n × ((i < n) × Spared w (now f) i) ⌝ }
+pub(crate) fn check_row(
+    w: usize,
+    f: &[u8],
+    n: usize,
+    i: usize,
+    marked: bool,
+    start: usize,
+) -> RowCheck
+    requires { ⌜ TableIn w (now f) n × ((i < n) × (Spared w (now f) i × (Sieved w (now f) i marked × (start ≡ bodyStart w (now f) n i)))) ⌝ }
     ensures { λ r. ⌜ rowNumberOf r ≡ rowNumber w (now (f .entry)) n i ⌝ }
 {
     let row = row_at(w, f, i);
@@ -182,5 +208,5 @@ pub(crate) fn check_row(w: usize, f: &[u8], n: usize, i: usize) -> RowCheck
     if bad_length(row) {
         return RowCheck::Bad(Fault::Length);
     }
-    check_body(w, f, n, i, row)
+    check_body(w, f, n, i, row, marked, start)
 }

@@ -5,12 +5,11 @@ use Rattle.table.specs.Check.{bodyNumber}
 use Rattle.table.proofs.Rows.{row-in}
 use Rattle.table.proofs.Sound.{head-in}
 use Rattle.table.proofs.Nonces.{spared-more}
-use borrow.Author.Needs.{needs}
 use Rattle.table.proofs.rules.check_body.Statement.{statement}
 use Rattle.table.proofs.rules.check_body.Tie as tie
 
 out-of-place-requires : tie.Need-out-of-place-requires
-out-of-place-requires c κs = search needs
+out-of-place-requires c κs = let p = c .before .pre in (p .0, (p .1 .0, p .1 .1 .1 .1 .1 .1))
 
 returns : tie.Need-returns
 unfolding bodyNumber
@@ -25,18 +24,18 @@ returns-2 c =
     let p28 = c .before .before in
     simp (← p28 .before .out-of-place .ensures, p28 .if1 .left, ← c .before .unread-set .ensures, c .if2 .taken)
 
-nonce-seen-requires : tie.Need-nonce-seen-requires
-nonce-seen-requires c κs =
+seen-before-requires : tie.Need-seen-before-requires
+seen-before-requires c κs =
     let s = c .before .before .before .before .before in
     let e = sym (c .before .unread-set .ensures) ∙ c .if2 .left in
-    (s .pre .0, (s .pre .1 .0, spared-more (s .args .w) (now (s .args .f)) (s .args .i) (s .pre .1 .1 .1 .1) e))
+    (s .pre .0, (s .pre .1 .0, (spared-more (s .args .w) (now (s .args .f)) (s .args .i) (s .pre .1 .1 .1 .1 .0) e, s .pre .1 .1 .1 .1 .1 .0)))
 
 returns-3 : tie.Need-returns-3
 unfolding bodyNumber
 returns-3 c =
     let p34 = c .before .before in
     let p28 = p34 .before .before in
-    simp (← p28 .before .out-of-place .ensures, p28 .if1 .left, ← p34 .before .unread-set .ensures, p34 .if2 .left, ← c .before .nonce-seen .ensures, c .if3 .taken)
+    simp (← p28 .before .out-of-place .ensures, p28 .if1 .left, ← p34 .before .unread-set .ensures, p34 .if2 .left, ← c .before .seen-before .ensures, c .if3 .taken)
 
 bad-data-requires : tie.Need-bad-data-requires
 bad-data-requires c κs =
@@ -51,7 +50,7 @@ returns-4 c =
     let p29 = c .before .before in
     let p34 = p29 .before .before in
     let p28 = p34 .before .before in
-    simp (← p28 .before .before .before .pre .1 .1 .0, ← p28 .before .out-of-place .ensures, p28 .if1 .left, ← p34 .before .unread-set .ensures, p34 .if2 .left, ← p29 .before .nonce-seen .ensures, p29 .if3 .left, ← c .before .bad-data .ensures, c .if4 .taken)
+    simp (← p28 .before .before .before .pre .1 .1 .0, ← p28 .before .out-of-place .ensures, p28 .if1 .left, ← p34 .before .unread-set .ensures, p34 .if2 .left, ← p29 .before .seen-before .ensures, p29 .if3 .left, ← c .before .bad-data .ensures, c .if4 .taken)
 
 returns-5 : tie.Need-returns-5
 unfolding bodyNumber
@@ -59,7 +58,7 @@ returns-5 c =
     let p29 = c .before .before in
     let p34 = p29 .before .before in
     let p28 = p34 .before .before in
-    simp (← p28 .before .before .before .pre .1 .1 .0, ← p28 .before .out-of-place .ensures, p28 .if1 .left, ← p34 .before .unread-set .ensures, p34 .if2 .left, ← p29 .before .nonce-seen .ensures, p29 .if3 .left, ← c .before .bad-data .ensures, c .if4 .left)
+    simp (← p28 .before .before .before .pre .1 .1 .0, ← p28 .before .out-of-place .ensures, p28 .if1 .left, ← p34 .before .unread-set .ensures, p34 .if2 .left, ← p29 .before .seen-before .ensures, p29 .if3 .left, ← c .before .bad-data .ensures, c .if4 .left)
 
 pub check-body-spec : {M : Type 1} → statement M
 check-body-spec =
@@ -69,7 +68,7 @@ check-body-spec =
     returns
     unread-set-requires
     returns-2
-    nonce-seen-requires
+    seen-before-requires
     returns-3
     bad-data-requires
     returns-4

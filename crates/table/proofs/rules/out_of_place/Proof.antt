@@ -12,21 +12,18 @@ row-at-requires c κs = search (needs, row-in)
 cast-at : tie.Need-cast-at
 cast-at c = search needs
 
-body-start-requires : tie.Need-body-start-requires
-body-start-requires c κs = search needs
-
 returns : tie.Need-returns
 unfolding misplaced
-returns c = simp (← c .before .before .before .row-at .ensures, ← c .before .body-start .ensures, ne-eqb _ _ (c .if1 .taken))
+returns c = simp (← c .before .before .row-at .ensures, ← c .before .before .before .before .pre .1 .1, ne-eqb _ _ (c .if1 .taken))
 
 body-end-requires : tie.Need-body-end-requires
 body-end-requires c κs = search needs
 
 returns-2 : tie.Need-returns-2
 unfolding misplaced
-returns-2 c = simp (← c .before .before .before .before .row-at .ensures, ← c .before .before .body-start .ensures, eq-eqb _ _ (c .before .if1 .left), ← c .body-end .ensures)
+returns-2 c = simp (← c .before .before .before .row-at .ensures, ← c .before .before .before .before .before .pre .1 .1, eq-eqb _ _ (c .before .if1 .left), ← c .body-end .ensures)
 
 pub out-of-place-spec : {M : Type 1} → statement M
 out-of-place-spec =
     tie.close
-    (tie.spec row-at-requires cast-at body-start-requires returns body-end-requires returns-2)
+    (tie.spec row-at-requires cast-at returns body-end-requires returns-2)
