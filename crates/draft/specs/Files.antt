@@ -2,12 +2,12 @@
 use Prim.Native.Nat.{ℕ, _+_}
 use mathlib.Core.Bool.{Bool, true, false}
 use mathlib.Core.List.{List, _++_}
-use lib.ListN.{replicate}
+use lib.ListN.{take, replicate}
 use Rattle.words.specs.Bytes.{bytes}
-use Rattle.cipher.specs.Cipher.{sizeOf, cipherOf}
+use Rattle.cipher.specs.Cipher.{sizeOf, nonceOf, cipherOf}
 use Rattle.mode.specs.Mode.{textOut, tagOut}
-use Rattle.table.specs.Format.{countOf, edition, rowOf, dataOf, textOf}
-use Rattle.shift.specs.Opening.{ringKey, nonceRead}
+use Rattle.table.specs.Format.{countOf, edition, widthOf, nonceAt, rowOf, dataOf, textOf}
+use Rattle.shift.specs.Opening.{ringKey}
 use Rattle.draft.specs.Put.{put, putAll}
 
 -- the edition of a draft; its rows are laid out as edition 1's
@@ -25,16 +25,27 @@ pieceStart f i = rowOf f i .at + rowOf f i .ad
 abbrev pub pieceSize : List ℕ → ℕ → ℕ
 pieceSize f i = rowOf f i .len + sizeOf (rowOf f i .suite)
 
--- the text that goes out for row i, and the tag that goes with it: what stands in the ciphertext's place is sealed, or opened
-unfoldable pub entryOut : Bool → List ℕ → List ℕ → ℕ → List ℕ
-entryOut opening f ring i =
+-- a text sealed, or opened, under a suite with key, nonce and associated data of row i: what goes out, and the tag that goes with it
+abbrev pub textAs : Bool → List ℕ → List ℕ → ℕ → ℕ → List ℕ → List ℕ
+textAs opening f ring i suite text =
     let r = rowOf f i in
-    textOut (cipherOf (r .suite)) opening (ringKey ring (r .key)) (nonceRead f i) (dataOf f r) (textOf f r)
+    textOut (cipherOf suite) opening (ringKey ring (r .key)) (take (nonceOf suite) (nonceAt (widthOf f) f i)) (dataOf f r) text
+
+abbrev pub tagAs : Bool → List ℕ → List ℕ → ℕ → ℕ → List ℕ → List ℕ
+tagAs opening f ring i suite text =
+    let r = rowOf f i in
+    tagOut (cipherOf suite) opening (ringKey ring (r .key)) (take (nonceOf suite) (nonceAt (widthOf f) f i)) (dataOf f r) text
+
+-- ciphertext and tag of a message
+abbrev pub pieceAs : List ℕ → List ℕ → ℕ → ℕ → List ℕ → List ℕ
+pieceAs f ring i suite msg = textAs false f ring i suite msg ++ tagAs false f ring i suite msg
+
+-- the text that goes out for row i, and the tag that goes with it: what stands in the ciphertext's place is sealed, or opened, under the row's own suite
+unfoldable pub entryOut : Bool → List ℕ → List ℕ → ℕ → List ℕ
+entryOut opening f ring i = textAs opening f ring i (rowOf f i .suite) (textOf f (rowOf f i))
 
 unfoldable pub entryTag : Bool → List ℕ → List ℕ → ℕ → List ℕ
-entryTag opening f ring i =
-    let r = rowOf f i in
-    tagOut (cipherOf (r .suite)) opening (ringKey ring (r .key)) (nonceRead f i) (dataOf f r) (textOf f r)
+entryTag opening f ring i = tagAs opening f ring i (rowOf f i .suite) (textOf f (rowOf f i))
 
 -- ciphertext and tag of row i, whose message stands in the ciphertext's place
 unfoldable pub sealedPiece : List ℕ → List ℕ → ℕ → List ℕ

@@ -1,116 +1,109 @@
--- What sealer and opener leave of a suite 4 entry, and the pieces of the output as the loop puts them.
+-- The pieces of the output as the loop puts them, and the table as it would be.
 use Prim.Native.Nat.{ℕ, _+_, _-_, _≤_, _<_}
 use native.Mathlib.Numerals.{add-one}
 use native.Mathlib.Omega.{arith}
 use mathlib.Core.Path.{_≡_, refl, sym, ap, ap₂, _∙_}
 use mathlib.Core.Bool.{Bool, true, false, not, _&&_}
-use mathlib.Core.List.{List, [], _∷_, _++_}
-use lib.ListN.{length, getD, take, drop, set, length-take, List·getD-append}
-use lib.Seq.{take-at, getD-take}
-use lib.Dec.{eqb, lit≤}
+use mathlib.Core.List.{List, [], _∷_}
+use lib.ListN.{length, getD, drop, set, length-take, List·getD-append}
+use lib.Seq.{getD-take}
+use lib.Dec.{eqb}
 use borrow.Author.Tests.{eq-eqb, ne-eqb}
-use borrow.Rule.Slice.PartMut.{putMid}
-use Rattle.cipher.specs.Cipher.{retiredSuite, factsOf, isSuite, IsSuite, retired, seals, Seals, sizeOf, nonceOf}
-use Rattle.cipher.proofs.Suites.{nonce-most}
-use Rattle.comet.specs.Answers.{Sealed, sealedAs, sealing}
-use Rattle.comet.proofs.Refuse.{none-bad}
+use borrow.Rule.Slice.PartMut.{putMid, same-len-mid}
+use Rattle.cipher.specs.Cipher.{retiredSuite, factsOf, isSuite, retired, seals, Seals, sizeOf}
 use Rattle.table.specs.declared.row.Row.{Row}
 use Rattle.table.specs.declared.answers.Answer.{Answer}
 use Rattle.table.specs.Part.{stretch}
-use Rattle.table.specs.Format.{editionOf, countOf, edition, rowSize, widthOf, rowStart, restStart, nonceAt, rowOf, bodyEnd}
+use Rattle.table.specs.Format.{editionOf, countOf, edition, rowSize, widthOf, rowStart, restStart, rowOf}
 use Rattle.table.specs.Check.{checkAs}
-use Rattle.table.specs.Inside.{RowIn, EntryIn, TableIn, Spared}
-use Rattle.table.proofs.Rows.{row-in, row-broad, row-late, rows-small, stretch-length, nonce-length}
+use Rattle.table.specs.Inside.{RowIn, TableIn, Spared}
+use Rattle.table.proofs.Rows.{row-in, row-broad, row-late, rows-small, stretch-length}
 use Rattle.table.proofs.Passed.{Passes, passes, own-edition}
-use Rattle.shift.specs.Opening.{entrySealingAs}
-use Rattle.shift.proofs.Entries.{key-long, data-long}
 use Rattle.draft.specs.Put.{put, putAll}
-use Rattle.draft.specs.Files.{pieceStart, entryOut}
+use Rattle.draft.specs.Files.{pieceStart, pieceAs, entryOut}
 use Rattle.draft.specs.Answers.{tagRight}
-use Rattle.draft.proofs.Pieces.{entry-at}
-use Rattle.draft.proofs.Back.{plain-file}
 use Rattle.writer.specs.declared.answers.Written.{Written}
 use Rattle.writer.specs.declared.answers.Written.the-variants as written
 use Rattle.writer.specs.Answers.{writtenAnswer}
-use Rattle.reseal.specs.Files.{successor, newSuite, resuited, retabled, againText, againTag, againPiece}
+use Rattle.writer.specs.Inside.{PieceWritable}
+use Rattle.writer.proofs.Lent.{body-fits, part-is}
+use Rattle.reseal.specs.Files.{successor, newSuite, resuited, retabled, againPiece}
 use Rattle.reseal.specs.Answers.{seenFrom, wrongAgain, takeAnswer}
-use Rattle.reseal.specs.Inside.{Passing, tableMost, most}
+use Rattle.reseal.specs.Inside.{Passing, tableMost, Resealable}
 use Rattle.reseal.proofs.Retabled.{tab, unread-kept, new-table, seen-same}
 use Rattle.reseal.proofs.Pieces.{put-one, put-none}
 use Rattle.reseal.proofs.Answers.{Takeable, takeable}
 
--- ---- the sealer, under suite 3
-
-pub three-is : IsSuite successor
-unfolding isSuite
-three-is = refl
+-- ---- suite 3
 
 three-seals : Seals successor
 unfolding seals isSuite retired
 three-seals = refl
 
 -- blocks of both suites are as long
-pub four-size : (r : Row) → r .suite ≡ retiredSuite → sizeOf (r .suite) ≡ sizeOf successor
+four-size : (r : Row) → r .suite ≡ retiredSuite → sizeOf (r .suite) ≡ sizeOf successor
 unfolding sizeOf factsOf
 four-size r q = ap sizeOf q
 
-module _ (f ring : List ℕ) (i : ℕ) (h : EntryIn (widthOf f) f i) (g : length ring ≡ 256) where
-  again-done : (msg out tag : List ℕ) → length msg ≡ rowOf f i .len → length out ≡ rowOf f i .len → length tag ≡ sizeOf successor
-      → entrySealingAs f ring i successor msg out tag ≡ record { number = 0; out = againText f ring i msg; tag = againTag f ring i msg }
-  unfolding sealing againText againTag
-  again-done msg out tag lm lo lt =
-      ap (λ (n : ℕ). sealedAs n (againText f ring i msg) (againTag f ring i msg) out tag)
-      (none-bad false _ _ _ _ _ _ _ three-seals (record {
-        suite = three-is;
-        key = key-long f ring i h g;
-        nonce = length-take (nonceOf successor) (nonceAt (widthOf f) f i) ∙ omega (arith, nonce-length (widthOf f) f i (h .row-in), nonce-most successor);
-        extra = omega (arith, data-long f ring i h g, h .data-high);
-        text = omega (arith, h .text-high);
-        room = lo ∙ sym lm;
-        tag = lt;
-      }))
+-- ---- a suite 4 entry's places
 
-  pub again-told : (r : Row) → r ≡ rowOf f i → (m : ℕ) (x y msg out tag : List ℕ) → length msg ≡ r .len → length out ≡ r .len → length tag ≡ sizeOf successor
-      → _≡_ {A = Sealed} (record { number = m; out = x; tag = y }) (entrySealingAs f ring i successor msg out tag)
-      → (x ≡ againText f ring i msg) × (y ≡ againTag f ring i msg)
-  again-told r q m x y msg out tag lm lo lt e =
-      let p = e ∙ again-done msg out tag (rw q at lm) (rw q at lo) lt in
-      (ap (λ (w : Sealed). w .out) p, ap (λ (w : Sealed). w .tag) p)
+module _ (f : List ℕ) (i : ℕ) (r : Row) (ring out : List ℕ) (p : Resealable f i r ring out) where
+  pub len-high : r .len ≤ 65536
+  len-high = rw (p .is-row) (p .row .entry .text-high)
 
--- text and tag put where they belong
-pub again-put : (f ring : List ℕ) (i : ℕ) (r : Row) → r ≡ rowOf f i → (out x y msg : List ℕ) → x ≡ againText f ring i msg → y ≡ againTag f ring i msg
-    → put out (r .at + r .ad) (x ++ y) ≡ put out (pieceStart f i) (againText f ring i msg ++ againTag f ring i msg)
-unfolding pieceStart
-again-put f ring i r q out x y msg ex ey = λ t. put out (q t .at + q t .ad) (ex t ++ ey t)
+  -- the room has a front for its piece
+  pub room-long : (room : List ℕ) (n : ℕ) → length room ≡ 65552 → n ≤ 16 → length (stretch room 0 (r .len + n - 0)) ≡ r .len + n
+  room-long room n l h = stretch-length room 0 (r .len + n - 0) (omega (arith, len-high)) ∙ omega arith
 
--- ---- the room
+  -- which as suite 3 is as long, so it lies in the output
+  pub piece-in : (a n : ℕ) → a ≡ r .at + r .ad → n ≡ sizeOf successor → a + (r .len + n) ≤ length out
+  piece-in a n q k = omega (arith, body-fits f i r (p .row .entry) (p .is-row), p .row .out-long, four-size r (p .four))
 
--- a message has room
-module _ (f : List ℕ) (i : ℕ) (r : Row) (h : EntryIn (widthOf f) f i) (q : r ≡ rowOf f i) where
-  pub len-most : r .len ≤ most
-  len-most = rw q (h .text-high)
+  module _ (a : ℕ) (q : a ≡ r .at + r .ad) where
+    pub text-in : a + r .len ≤ length out
+    text-in = omega (arith, piece-in a (sizeOf successor) q refl)
 
-  module _ (room : List ℕ) (l : length room ≡ most) where
-    pub room-long : length (stretch room 0 (r .len - 0)) ≡ r .len
-    room-long = stretch-length room 0 (r .len - 0) (omega (arith, len-most)) ∙ omega arith
+    pub text-long : length (stretch out a (a + r .len - a)) ≡ r .len
+    text-long = stretch-length out a (a + r .len - a) (omega (arith, text-in)) ∙ omega arith
 
-    pub room-own : length (stretch room 0 (r .len - 0)) ≡ rowOf f i .len
-    room-own = room-long ∙ ap (λ (x : Row). x .len) q
+    pub text-own : length (stretch out a (a + r .len - a)) ≡ rowOf f i .len
+    text-own = text-long ∙ ap (λ (x : Row). x .len) (p .is-row)
 
--- what was put at its front is there
-pub room-front : (l x : List ℕ) (n : ℕ) → length x ≡ n → stretch (putMid 0 (n - 0) l x) 0 (n - 0) ≡ x
-room-front l x n q = take-at x (drop (n - 0) (drop 0 l)) (n - 0) (q ∙ let s : n ≡ n - 0 = omega arith in s)
+    -- the opener left x there
+    module _ (x : List ℕ) (k : length x ≡ length (stretch out a (a + r .len - a))) where
+      pub opened-long : length x ≡ a + r .len - a
+      opened-long = k ∙ text-long ∙ omega arith
+
+      pub opened-is : stretch (putMid a (a + r .len - a) out x) a (a + r .len - a) ≡ x
+      opened-is = part-is out x a (a + r .len) (omega (arith, text-in)) opened-long
+
+      pub opened-in : (n : ℕ) → n ≡ sizeOf successor → a + (r .len + n) ≤ length (putMid a (a + r .len - a) out x)
+      opened-in n m = omega (arith, piece-in a n q m, same-len-mid a (a + r .len - a) out x k)
+
+      -- from where the sealer takes it
+      pub can-seal : (room : List ℕ) (n : ℕ) → length room ≡ 65552 → n ≡ sizeOf successor → n ≤ 16
+          → PieceWritable f ring i r successor (stretch (putMid a (a + r .len - a) out x) a (a + r .len - a)) (stretch room 0 (r .len + n - 0))
+      can-seal room n l m h =
+          let lt : length (stretch (putMid a (a + r .len - a) out x) a (a + r .len - a)) ≡ r .len = ap length opened-is ∙ opened-long ∙ omega arith in
+          record {
+            is-row = p .is-row;
+            entry = p .row .entry;
+            still = three-seals;
+            ring-long = p .row .ring-long;
+            text-high = omega (arith, len-high);
+            out-long = omega (arith, room-long room n l h);
+          }
 
 -- ---- a row
 
 module _ (f ring : List ℕ) (i : ℕ) (r : Row) (q : r ≡ rowOf f i) where
   -- of suite 4: text and tag of its message, sealed as suite 3
   pub piece-four : r .suite ≡ retiredSuite → (msg out : List ℕ) → msg ≡ entryOut true f ring i
-      → put out (pieceStart f i) (againText f ring i msg ++ againTag f ring i msg) ≡ put out (pieceStart f i) (againPiece f ring i)
-  unfolding againPiece
+      → put out (r .at + r .ad) (pieceAs f ring i successor msg) ≡ put out (pieceStart f i) (againPiece f ring i)
+  unfolding pieceStart againPiece
   piece-four four msg out e =
       let s : rowOf f i .suite ≡ retiredSuite = rw q at four in
-      simp (eq-eqb _ _ s) (ap (λ (x : List ℕ). put out (pieceStart f i) (againText f ring i x ++ againTag f ring i x)) e)
+      simp (eq-eqb _ _ s) (λ t. put out (q t .at + q t .ad) (pieceAs f ring i successor (e t)))
 
   pub wrong-four : r .suite ≡ retiredSuite → (b : Bool) → b ≡ tagRight f ring i → not b ≡ wrongAgain f ring i
   unfolding wrongAgain

@@ -27,13 +27,13 @@ use Rattle.table.proofs.Alike.{stretch-same}
 use Rattle.shift.specs.Opening.{ringKey, nonceRead}
 use Rattle.shift.proofs.Changed.{all-stretch, nonce-bytes, nonce-full, key-block}
 use Rattle.draft.specs.Put.{putAll}
-use Rattle.draft.specs.Files.{inEdition, pieceStart, pieceSize, entryOut, entryTag, rewritten}
+use Rattle.draft.specs.Files.{inEdition, pieceStart, pieceSize, textAs, tagAs, entryOut, entryTag, rewritten}
 use Rattle.draft.specs.Promised.{RightTag}
 use Rattle.draft.proofs.Puts.{Apart, all-outside}
 use Rattle.draft.proofs.Rewritten.{head, edition-own, piece-in, piece-end, start-is, body-late, bodies-apart, pieces-apart, same-length, same-row, same-nonce, same-data, same-count, parts-are, passes-again, edition-same, pair-low, pair-high}
 use Rattle.draft.proofs.Pieces.{entry-at, text-all, out-long}
 use Rattle.draft.proofs.Back.{plain-file}
-use Rattle.reseal.specs.Files.{successor, newSuite, resuited, retabled, againText, againTag, againPiece, resealedFile}
+use Rattle.reseal.specs.Files.{successor, newSuite, resuited, retabled, againPiece, resealedFile}
 use Rattle.reseal.specs.Promised.{HasFour, Elsewhere, Calm}
 use Rattle.reseal.proofs.Retabled.{withSuite, size-new, nonce-new, new-four, new-not, t-length, t-row, t-nonce, t-head, t-body, t-count, t-kept, t-same, clash-of-check}
 use Rattle.reseal.proofs.Pieces.{put-places, put-empty, put-alike}
@@ -43,7 +43,14 @@ use Rattle.reseal.proofs.Answers.{seen-none}
 abbrev nonceAgain : List ℕ → ℕ → List ℕ
 nonceAgain f i = take (nonceOf successor) (nonceAt (widthOf f) f i)
 
--- a suite 4 entry's message, sealed as suite 3: how long text and tag are
+-- a message, sealed as suite 3: text and tag
+abbrev againText : List ℕ → List ℕ → ℕ → List ℕ → List ℕ
+againText f ring i msg = textAs false f ring i successor msg
+
+abbrev againTag : List ℕ → List ℕ → ℕ → List ℕ → List ℕ
+againTag f ring i msg = tagAs false f ring i successor msg
+
+-- of a suite 4 entry's message: how long they are
 module _ (f ring : List ℕ) (hf : AllBytes f) (hr : AllBytes ring) (full : length ring ≡ 256) (i : ℕ) (e : EntryIn (widthOf f) f i) (four : HasFour f i) where
   abbrev msg : List ℕ
   msg = entryOut true f ring i
@@ -59,7 +66,6 @@ module _ (f ring : List ℕ) (hf : AllBytes f) (hr : AllBytes ring) (full : leng
   size-four = sym (size-new (rowOf f i .suite)) ∙ ap sizeOf (new-four (rowOf f i .suite) four)
 
   text-long : length (againText f ring i msg) ≡ rowOf f i .len
-  unfolding againText
   text-long =
       let r = rowOf f i in
       text-length (cipherOf successor) (lawful successor) (ringKey ring (r .key)) (nonceAgain f i) (dataOf f r) false msg msg-all ∙ out-long f ring i e full hf hr true
@@ -70,7 +76,6 @@ module _ (f ring : List ℕ) (hf : AllBytes f) (hr : AllBytes ring) (full : leng
       ap length (sym nonce-four) ∙ nonce-full f ring i e full ∙ suite-nonce s ∙ sym (nonce-new s) ∙ ap nonceOf (new-four s four)
 
   tag-long : length (againTag f ring i msg) ≡ sizeOf successor
-  unfolding againTag
   tag-long =
       let r = rowOf f i in
       tag-block (cipherOf successor) (lawful successor) (ringKey ring (r .key)) (nonceAgain f i) (dataOf f r) false msg
@@ -240,7 +245,7 @@ module _ (f ring : List ℕ) (hf : AllBytes f) (hr : AllBytes ring) (c : Calm f)
         )
 
     pub same-message : entryOut true F ring i ≡ msg₄
-    unfolding entryOut againText
+    unfolding entryOut
     same-message =
         let key = ringKey ring (r .key) in
         let row = row-three in
@@ -250,7 +255,7 @@ module _ (f ring : List ℕ) (hf : AllBytes f) (hr : AllBytes ring) (c : Calm f)
         ∙ text-back (cipherOf successor) (lawful successor) key (nonceAgain f i) (dataOf f r) false msg₄ (msg-all f ring hf hr full i (taken i l) four)
 
     pub right-again : RightTag F ring i
-    unfolding entryTag againText againTag
+    unfolding entryTag
     right-again =
         let key = ringKey ring (r .key) in
         let row = row-three in

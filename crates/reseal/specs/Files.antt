@@ -1,15 +1,12 @@
 -- Every byte of what the reseal pass writes (document 02, W7): suite 4 entries are sealed again as suite 3, and every other byte is kept.
 use Prim.Native.Nat.{ℕ}
-use mathlib.Core.Bool.{true, false, cond}
-use mathlib.Core.List.{List, [], _∷_, _++_}
-use lib.ListN.{take}
+use mathlib.Core.Bool.{true, cond}
+use mathlib.Core.List.{List, [], _∷_}
 use lib.Dec.{eqb}
-use Rattle.cipher.specs.Cipher.{retiredSuite, nonceOf, cipherOf}
-use Rattle.mode.specs.Mode.{textOut, tagOut}
-use Rattle.table.specs.Format.{countOf, widthOf, restStart, nonceAt, rowOf, dataOf}
-use Rattle.shift.specs.Opening.{ringKey}
+use Rattle.cipher.specs.Cipher.{retiredSuite}
+use Rattle.table.specs.Format.{countOf, widthOf, restStart, rowOf}
 use Rattle.draft.specs.Put.{putAll}
-use Rattle.draft.specs.Files.{pieceStart, entryOut}
+use Rattle.draft.specs.Files.{pieceStart, pieceAs, entryOut}
 
 -- the suite that follows the retired one
 abbrev pub successor : ℕ
@@ -26,22 +23,9 @@ resuited f n l = putAll (restStart (widthOf f)) (λ i. newSuite (rowOf f i .suit
 abbrev pub retabled : List ℕ → List ℕ
 retabled f = resuited f (countOf f) f
 
--- a message sealed as suite 3 with key number, nonce and associated data of row i: ciphertext and tag
-unfoldable pub againText : List ℕ → List ℕ → ℕ → List ℕ → List ℕ
-againText f ring i msg =
-    let r = rowOf f i in
-    textOut (cipherOf successor) false (ringKey ring (r .key)) (take (nonceOf successor) (nonceAt (widthOf f) f i)) (dataOf f r) msg
-
-unfoldable pub againTag : List ℕ → List ℕ → ℕ → List ℕ → List ℕ
-againTag f ring i msg =
-    let r = rowOf f i in
-    tagOut (cipherOf successor) false (ringKey ring (r .key)) (take (nonceOf successor) (nonceAt (widthOf f) f i)) (dataOf f r) msg
-
--- what is put where text and tag of row i stand: of a suite 4 entry its message sealed as suite 3, of any other nothing
+-- what is put where text and tag of row i stand: of a suite 4 entry its message, sealed as suite 3 with the row's own key number, nonce and associated data; of any other nothing
 unfoldable pub againPiece : List ℕ → List ℕ → ℕ → List ℕ
-againPiece f ring i =
-    let msg = entryOut true f ring i in
-    cond (eqb (rowOf f i .suite) retiredSuite) (againText f ring i msg ++ againTag f ring i msg) []
+againPiece f ring i = cond (eqb (rowOf f i .suite) retiredSuite) (pieceAs f ring i successor (entryOut true f ring i)) []
 
 -- the resealed file
 unfoldable pub resealedFile : List ℕ → List ℕ → List ℕ

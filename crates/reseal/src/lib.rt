@@ -2,7 +2,7 @@
 mod rows;
 mod suites;
 
-use rows::reseal_all;
+use rows::reseal_rows;
 use suites::first_clash;
 use suites::put_suites;
 use table::answers::Checked;
@@ -45,5 +45,5 @@ pub fn reseal(file: &[u8], ring: &[u8], out: &mut [u8]) -> Written
     copy(file, out);
     let n = count(file);
     put_suites(file, n, out);
-    reseal_all(file, n, ring, out)
+    reseal_rows(file, n, ring, out)
 }

@@ -17,7 +17,7 @@ use Rattle.table.specs.Format.{widthOf, nonceAt, rowOf, dataOf, textOf, tagOf, 
 use Rattle.table.specs.Answers.{answer}
 use Rattle.table.specs.Inside.{EntryIn}
 use Rattle.table.proofs.Rows.{stretch-length, nonce-length}
-use Rattle.shift.specs.Opening.{ringKey, nonceRead, entrySealingAs, entrySealing, entryOpening, left, rowOpening}
+use Rattle.shift.specs.Opening.{ringKey, nonceRead, entrySealingAs, entryOpening, left, rowOpening}
 use Rattle.shift.specs.Inside.{Lendable}
 
 -- lent the entry's own bytes, the opener gives and leaves what the definition says
@@ -32,12 +32,6 @@ pub lent-sealer : (f ring : List ℕ) (i suite : ℕ) (r : Row) (x : Sealed) (ke
     → key ≡ ringKey ring (r .key) → nonce ≡ take (nonceOf suite) (nonceAt (widthOf f) f i)
     → ad ≡ dataOf f r → x ≡ entrySealingAs f ring i suite text out tag
 lent-sealer f ring i suite r x key nonce ad text out tag e q ek en ea = e ∙ simp (ek, en, ea, q)
-
--- the entry's own text, under its own suite
-pub own-sealer : (f ring : List ℕ) (i : ℕ) (r : Row) (x : Sealed) (text out tag : List ℕ) → x ≡ entrySealingAs f ring i (r .suite) text out tag → r ≡ rowOf f i
-    → text ≡ textOf f r → x ≡ entrySealing f ring i out tag
-unfolding entrySealing
-own-sealer f ring i r x text out tag e q et = e ∙ simp (et, q)
 
 -- what the opener compares and recovers on the own bytes of row i
 abbrev pub entryRight : List ℕ → List ℕ → ℕ → Bool

@@ -31,8 +31,6 @@ use Rattle.shift.proofs.lend.row_of.Kinds as row-of-kinds
 use Rattle.shift.proofs.lend.row_of.Reads as row-of-reads
 use Rattle.shift.proofs.lend.seal_as.Kinds as seal-as-kinds
 use Rattle.shift.proofs.lend.seal_as.Reads as seal-as-reads
-use Rattle.shift.proofs.lend.seal_row.Kinds as seal-row-kinds
-use Rattle.shift.proofs.lend.seal_row.Reads as seal-row-reads
 use Rattle.shift.proofs.lend.open_row.Kinds as open-row-kinds
 use Rattle.shift.proofs.lend.open_row.Reads as open-row-reads
 use Rattle.shift.proofs.answers.Found.answer.Kinds as found-kinds
@@ -103,11 +101,6 @@ pub seal-as : OneOutcome seal-as-kinds.ps seal-as-kinds.r seal-as-reads.Pre seal
 seal-as κs a h x y =
     let e = x .ensures ∙ sym (y .ensures) in
     (number-tells _ _ (ap (λ (z : comet.Sealed). z .number) e), ap (λ (z : comet.Sealed). (tt, (tt, (tt, (tt, (tt, (tt, (z .out, (z .tag, tt))))))))) e)
-
-pub seal-row : OneOutcome seal-row-kinds.ps seal-row-kinds.r seal-row-reads.Pre seal-row-reads.Post
-seal-row κs a h x y =
-    let e = x .ensures ∙ sym (y .ensures) in
-    (number-tells _ _ (ap (λ (z : comet.Sealed). z .number) e), ap (λ (z : comet.Sealed). (tt, (tt, (tt, (tt, (z .out, (z .tag, tt))))))) e)
 
 pub open-row : OneOutcome open-row-kinds.ps open-row-kinds.r open-row-reads.Pre open-row-reads.Post
 open-row κs a h x y =

@@ -15,7 +15,7 @@ ghost use Rattle.cipher.specs.Cipher.{nonceOf};
 ghost use Rattle.comet.specs.Answers.{numberOf, Sealed, Opened};
 ghost use Rattle.table.specs.Format.{widthOf, rowOf, nonceAt};
 ghost use Rattle.table.specs.Inside.{RowIn};
-ghost use Rattle.shift.specs.Opening.{ringKey, entrySealingAs, entrySealing, entryOpening};
+ghost use Rattle.shift.specs.Opening.{ringKey, entrySealingAs, entryOpening};
 ghost use Rattle.shift.specs.Inside.{Lendable};
 
 // Row i of a shift file.
@@ -62,22 +62,6 @@ pub fn seal_as(
     let key = ring_key(ring, row.key);
     let nonce = nonce_read(f, i, suite);
     comet::seal(suite, key, nonce, data_of(f, row), text, out, tag)
-}
-
-// Lends row i to the sealer.
-pub fn seal_row(
-    f: &[u8],
-    ring: &[u8],
-    i: usize,
-    row: Row,
-    out: &mut [u8],
-    tag: &mut [u8],
-) -> Verdict
-    requires { ⌜ Lendable (now f) (now ring) i row ⌝ }
-    ensures { λ r. ⌜ _≡_ {A = Sealed} (record { number = numberOf r; out = now (out .exit); tag = now (tag .exit) })
-        (entrySealing (now (f .entry)) (now (ring .entry)) i (now (out .entry)) (now (tag .entry))) ⌝ }
-{
-    seal_as(f, ring, i, row, row.suite, text_of(f, row), out, tag)
 }
 
 // Lends row i to the opener.

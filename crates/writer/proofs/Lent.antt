@@ -1,22 +1,23 @@
--- What sealer and opener leave in a row's part of the output, and the two parts of its piece put one behind the other.
+-- What sealer and opener leave in a row's part of the output, and the parts of its piece put where they belong.
 use Prim.Native.Nat.{ℕ, _+_, _-_, _≤_, _<_}
 use native.Mathlib.Omega.{arith}
 use mathlib.Core.Path.{_≡_, refl, sym, ap, ap₂, _∙_}
 use mathlib.Core.Bool.{Bool, true, false}
-use mathlib.Core.List.{List, _++_, append-assoc}
+use mathlib.Core.List.{List, _++_, append-assoc, append-nil}
 use lib.ListN.{length, take, drop, replicate, length-append}
-use lib.Seq.{take-at, drop-at, drop-drop, length-take-le}
-use borrow.Rule.Slice.PartMut.{putMid}
+use lib.Seq.{take-at, drop-at, drop-drop, drop-length, length-take-le}
+use borrow.Rule.Slice.PartMut.{putMid, post-is, take-put, drop-put}
 use Rattle.cipher.specs.Cipher.{Seals, sizeOf}
 use Rattle.comet.specs.Answers.{Sealed, Opened, openedAs}
 use Rattle.table.specs.declared.row.Row.{Row}
-use Rattle.table.specs.Format.{widthOf, rowOf, bodyEnd}
+use Rattle.table.specs.Part.{stretch}
+use Rattle.table.specs.Format.{widthOf, rowOf, textOf, bodyEnd}
 use Rattle.table.specs.Inside.{EntryIn}
-use Rattle.shift.specs.Opening.{entrySealing, entryOpening}
+use Rattle.shift.specs.Opening.{entrySealingAs, entryOpening}
 use Rattle.draft.specs.Put.{put}
-use Rattle.draft.specs.Files.{pieceStart, entryOut, entryTag, sealedPiece, draftPiece}
+use Rattle.draft.specs.Files.{pieceStart, textAs, tagAs, pieceAs, entryOut, entryTag, sealedPiece, draftPiece}
 use Rattle.draft.specs.Answers.{tagRight}
-use Rattle.draft.proofs.Takes.{seal-done, open-done}
+use Rattle.draft.proofs.Takes.{as-done, open-done}
 
 -- a row's body lies in the file
 pub body-fits : (f : List ℕ) (i : ℕ) (r : Row) → EntryIn (widthOf f) f i → r ≡ rowOf f i → r .at + r .ad + r .len + sizeOf (r .suite) ≤ length f
@@ -25,11 +26,11 @@ body-fits f i r h q = rw q (h .body-in)
 
 module _ (f ring : List ℕ) (i : ℕ) (h : EntryIn (widthOf f) f i) (g : length ring ≡ 256) where
   -- the sealer left text and tag
-  pub seal-told : (r : Row) → r ≡ rowOf f i → Seals (r .suite) → (m : ℕ) (x y out tag : List ℕ) → length out ≡ r .len → length tag ≡ sizeOf (r .suite)
-      → _≡_ {A = Sealed} (record { number = m; out = x; tag = y }) (entrySealing f ring i out tag)
-      → (x ≡ entryOut false f ring i) × (y ≡ entryTag false f ring i)
-  seal-told r q s m x y out tag lo lt e =
-      let p = e ∙ seal-done f ring i h g out tag (rw q at s) (rw q at lo) (rw q at lt) in
+  pub seal-told : (suite m : ℕ) (x y text out tag : List ℕ) → Seals suite → length text ≤ 65536 → length out ≡ length text → length tag ≡ sizeOf suite
+      → _≡_ {A = Sealed} (record { number = m; out = x; tag = y }) (entrySealingAs f ring i suite text out tag)
+      → (x ≡ textAs false f ring i suite text) × (y ≡ tagAs false f ring i suite text)
+  seal-told suite m x y text out tag s high lo lt e =
+      let p = e ∙ as-done f ring i h g suite text out tag s high lo lt in
       (ap (λ (w : Sealed). w .out) p, ap (λ (w : Sealed). w .tag) p)
 
   -- the opener said whether the tag is right, and left the text where it is
@@ -44,8 +45,30 @@ module _ (f ring : List ℕ) (i : ℕ) (h : EntryIn (widthOf f) f i) (g : length
       told true t p = record { done = λ z. (sym t, ap (λ (w : Opened). w .out) p); wrong = λ l. absurd (let z = ap (λ (w : Opened). w .number) p in omega arith) }
       told false t p = record { done = λ z. absurd (let y = ap (λ (w : Opened). w .number) p in omega arith); wrong = λ l. sym t }
 
--- ---- two parts put one behind the other
+-- ---- parts of a list
 
+-- what was put there is there
+pub part-is : (l x : List ℕ) (a e : ℕ) → a ≤ length l → length x ≡ e - a → stretch (putMid a (e - a) l x) a (e - a) ≡ x
+part-is l x a e h q =
+    let r = drop (e - a) (drop a l) in
+    ap (take (e - a)) (drop-at (take a l) (x ++ r) a (length-take-le a l h)) ∙ take-at x r (e - a) q
+
+pub put-part : (out x : List ℕ) (a e : ℕ) → a ≤ e → length x ≡ e - a → putMid a (e - a) out x ≡ put out a x
+unfolding put
+put-part out x a e h l = ap (λ (v : List ℕ). take a out ++ (x ++ v)) (post-is a e out h ∙ ap (λ (k : ℕ). drop k out) (let q : e ≡ a + length x = omega arith in q))
+
+-- a longer one over a shorter one, from the same place on
+pub put-over : (out x y : List ℕ) (a b e : ℕ) → a ≤ b → b ≤ e → e ≤ length out → length x ≡ b - a → length y ≡ e - a
+    → putMid a (e - a) (putMid a (b - a) out x) y ≡ put out a y
+unfolding put
+put-over out x y a b e h k l lx ly =
+    let m = putMid a (b - a) out x in
+    let s1 : e ≡ b + (e - b) = omega arith in
+    let s2 : b + (e - b) ≡ a + length y = omega arith in
+    let d : drop e m ≡ drop (a + length y) out = ap (λ (j : ℕ). drop j m) s1 ∙ sym (drop-drop (e - b) b m) ∙ ap (drop (e - b)) (drop-put a b out x h (omega arith) lx) ∙ drop-drop (e - b) b out ∙ ap (λ (j : ℕ). drop j out) s2 in
+    ap₂ (λ (u v : List ℕ). u ++ (y ++ v)) (take-put a (b - a) out x (omega arith)) (post-is a e m (omega arith) ∙ d)
+
+-- two, one behind the other
 pub put-two : (out x y : List ℕ) (a b e : ℕ) → a ≤ b → b ≤ e → e ≤ length out → length x ≡ b - a → length y ≡ e - b
     → putMid b (e - b) (putMid a (b - a) out x) y ≡ put out a (x ++ y)
 unfolding put
@@ -66,16 +89,26 @@ put-two out x y a b e h k l lx ly =
     ∙ ap (λ (v : List ℕ). take a out ++ v) (sym (append-assoc x y (drop e out)))
     ∙ ap (λ (j : ℕ). take a out ++ ((x ++ y) ++ drop j out)) s3
 
--- the piece of row i, where it starts
-module _ (f ring : List ℕ) (i : ℕ) (r : Row) (q : r ≡ rowOf f i) (out x y : List ℕ) where
-  put-row : (p : ℕ → List ℕ) → x ++ y ≡ p i → put out (r .at + r .ad) (x ++ y) ≡ put out (pieceStart f i) (p i)
-  unfolding pieceStart
-  put-row p e = ap₂ (λ (s : Row) (v : List ℕ). put out (s .at + s .ad) v) q e
+-- and there is nothing else
+pub put-both : (out x y : List ℕ) (b e : ℕ) → b ≤ e → length out ≡ e → length x ≡ b - 0 → length y ≡ e - b → putMid b (e - b) (putMid 0 (b - 0) out x) y ≡ x ++ y
+unfolding put
+put-both out x y b e h lo lx ly =
+    let w = x ++ y in
+    let lw : 0 + length w ≡ length out = omega (arith, length-append x y) in
+    put-two out x y 0 b e (omega arith) h (omega arith) lx ly
+    ∙ ap (λ (k : ℕ). w ++ drop k out) lw
+    ∙ ap (λ (v : List ℕ). w ++ v) (drop-length out)
+    ∙ append-nil w
 
-  pub row-sealed : x ≡ entryOut false f ring i → y ≡ entryTag false f ring i → put out (r .at + r .ad) (x ++ y) ≡ put out (pieceStart f i) (sealedPiece f ring i)
-  unfolding sealedPiece
-  row-sealed ex ey = put-row (sealedPiece f ring) (ap₂ (λ (u v : List ℕ). u ++ v) ex ey)
+-- ---- the piece of row i, where it starts
 
-  pub row-opened : x ≡ entryOut true f ring i → y ≡ replicate (sizeOf (r .suite)) 0 → put out (r .at + r .ad) (x ++ y) ≡ put out (pieceStart f i) (draftPiece f ring i)
-  unfolding draftPiece
-  row-opened ex ey = put-row (draftPiece f ring) (ap₂ (λ (u v : List ℕ). u ++ v) ex (ey ∙ ap (λ (s : Row). replicate (sizeOf (s .suite)) 0) q))
+module _ (f ring : List ℕ) (i : ℕ) (r : Row) (q : r ≡ rowOf f i) (out : List ℕ) where
+  pub row-sealed : (text : List ℕ) → text ≡ textOf f r → put out (r .at + r .ad) (pieceAs f ring i (r .suite) text) ≡ put out (pieceStart f i) (sealedPiece f ring i)
+  unfolding pieceStart sealedPiece entryOut entryTag
+  row-sealed text e =
+      ap (λ (v : List ℕ). put out (r .at + r .ad) (pieceAs f ring i (r .suite) v)) e
+      ∙ ap (λ (s : Row). put out (s .at + s .ad) (pieceAs f ring i (s .suite) (textOf f s))) q
+
+  pub row-opened : (x y : List ℕ) → x ≡ entryOut true f ring i → y ≡ replicate (sizeOf (r .suite)) 0 → put out (r .at + r .ad) (x ++ y) ≡ put out (pieceStart f i) (draftPiece f ring i)
+  unfolding pieceStart draftPiece
+  row-opened x y ex ey = λ t. put out (q t .at + q t .ad) (ex t ++ (ey ∙ ap (λ (s : Row). replicate (sizeOf (s .suite)) 0) q) t)

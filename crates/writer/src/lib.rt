@@ -1,5 +1,6 @@
 // The writer of shift files: a draft is sealed, and a sealed file gives its draft back.
 pub mod answers;
+pub mod piece;
 mod rows;
 mod suites;
 mod tags;

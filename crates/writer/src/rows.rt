@@ -1,24 +1,23 @@
 // The rows, from the file into the output: text and tag of each are replaced.
 use crate::answers::Written;
+use crate::piece::seal_into;
 use comet::Verdict;
 use shift::lend::open_row;
 use shift::lend::row_of;
-use shift::lend::seal_row;
+use table::body::text_of;
 use table::body::text_start;
-use table::row::Row;
-use words::runs::copy;
 use words::zeros::wipe;
 ghost use mathlib.Core.Path.{_≡_};
-ghost use mathlib.Core.Bool.{true, false};
+ghost use mathlib.Core.Bool.{true};
 ghost use Prim.Native.Nat.{_≤_};
-ghost use lib.ListN.{length, take};
-ghost use Rattle.cipher.specs.Cipher.{Seals, sizeOf};
+ghost use lib.ListN.{length};
+ghost use Rattle.cipher.specs.Cipher.{Seals};
 ghost use Rattle.table.specs.Format.{rowOf};
 ghost use Rattle.draft.specs.Put.{put, putAll};
-ghost use Rattle.draft.specs.Files.{inEdition, pieceStart, entryOut, entryTag, sealedPiece, draftPiece};
+ghost use Rattle.draft.specs.Files.{inEdition, pieceStart, sealedPiece, draftPiece};
 ghost use Rattle.draft.specs.Answers.{tagRight, wrongFrom, leaves, FileWritten};
 ghost use Rattle.writer.specs.Answers.{writtenAnswer};
-ghost use Rattle.writer.specs.Inside.{RowsSeal, Writable, RowWritable, TextWritable};
+ghost use Rattle.writer.specs.Inside.{RowsSeal, Writable, RowWritable};
 
 // The edition, in the first two bytes.
 pub(crate) fn put_edition(e: u16, out: &mut [u8])
@@ -30,18 +29,6 @@ pub(crate) fn put_edition(e: u16, out: &mut [u8])
     out[1] = (h % 256) as u8;
 }
 
-// Seals the text of row i into out; gives the tag, in the first bytes.
-fn seal_text(f: &[u8], ring: &[u8], i: usize, row: Row, out: &mut [u8]) -> [u8; 16]
-    requires { ⌜ TextWritable (now f) (now ring) i row (now out) ⌝ }
-    ensures text { λ _. ⌜ now (out .exit) ≡ entryOut false (now (f .entry)) (now (ring .entry)) i ⌝ }
-    ensures tag { λ r. ⌜ take (sizeOf (row .suite)) r ≡ entryTag false (now (f .entry)) (now (ring .entry)) i ⌝ }
-{
-    let n = cipher::size_of(row.suite);
-    let mut tag = [0u8; 16];
-    seal_row(f, ring, i, row, out, &mut tag[0..n]);
-    tag
-}
-
 // Seals row i of a draft into the output.
 fn seal_entry(f: &[u8], ring: &[u8], i: usize, out: &mut [u8])
     requires { ⌜ RowWritable (now f) i (now ring) (now out) × Seals (rowOf (now f) i .suite) ⌝ }
@@ -51,10 +38,8 @@ fn seal_entry(f: &[u8], ring: &[u8], i: usize, out: &mut [u8])
     let len = row.len as usize;
     let n = cipher::size_of(row.suite);
     let a = text_start(row);
-    let b = a + len;
-    let e = b + n;
-    let tag = seal_text(f, ring, i, row, &mut out[a..b]);
-    copy(&tag[0..n], &mut out[b..e]);
+    let e = a + len + n;
+    seal_into(f, ring, i, row, row.suite, text_of(f, row), &mut out[a..e]);
 }
 
 // Seals the n rows of a draft into the output.

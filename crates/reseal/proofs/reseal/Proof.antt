@@ -47,8 +47,8 @@ put-suites-requires c κs =
     let q = take-can (now (s .file)) _ _ _ (c .before .before .before .before .before .before .before .before .refused .ensures) (c .before .before .before .before .before .before .enum-told .given .1) in
     both-tables (now (s .file)) _ (q .calm .checked) (c .before .count .ensures) _ (c .before .before .before .before .copy .kept .1 .0 ∙ q .room .out-long)
 
-reseal-all-requires : tie.Need-reseal-all-requires
-reseal-all-requires c κs =
+reseal-rows-requires : tie.Need-reseal-rows-requires
+reseal-rows-requires c κs =
     let s = c .before .before .before .before .before .before .before .before .before .before .before .before .before .before .before .before .args in
     let q = take-can (now (s .file)) _ _ _ (c .before .before .before .before .before .before .before .before .before .before .before .before .refused .ensures) (c .before .before .before .before .before .before .before .before .before .before .enum-told .given .1) in
     writable edition (now (s .file)) plain-file (q .calm .checked) _ _ _ (c .before .before .before .before .before .count .ensures) (q .room .ring-long)
@@ -68,7 +68,7 @@ returns-2 c =
     let zero = ap (λ (x : Answer). x .number) (sym (c .before .before .before .before .before .before .before .before .before .before .before .before .before .before .before .refused .ensures) ∙ ap writtenAnswer (c .before .before .before .before .before .before .before .before .before .before .before .before .before .enum-told .given .1)) in
     let base = c .before .before .before .before .before .before .put-suites .ensures ∙ ap₂ (resuited f) n (c .before .before .before .before .before .before .before .before .before .before .before .copy .ensures) in
     let long = c .before .before .before .before .before .before .put-suites .kept .1 .1 .0 ∙ c .before .before .before .before .before .before .before .before .before .before .before .copy .kept .1 .0 in
-    c .before .before .reseal-all .ensures
+    c .before .before .reseal-rows .ensures
     ∙ (λ j. leaves (wrongAgainFrom f ring (n j) 0) (putAll (pieceStart f) (againPiece f ring) (n j) (base j)) mid)
     ∙ again-leaves f ring (resealedFile f ring) mid (now (s .out)) long
     ∙ sym (resealing-tags f ring (now (s .out)) zero)
@@ -83,6 +83,6 @@ reseal-spec =
     copy-requires
     count-requires
     put-suites-requires
-    reseal-all-requires
+    reseal-rows-requires
     same-length
     returns-2)

@@ -10,7 +10,7 @@ row-of-requires c κs = search needs
 
 returns : tie.Need-returns
 returns c =
-    let a = c .before .before .before .before .before .before .before .args in
+    let a = c .before .before .before .before .before .before .args in
     let row = c .before .before .row-of in
     let n = c .if1 .taken in
     (wrong-other (now (a .f)) (now (a .ring)) (a .i) (row .result) (row .ensures) n, λ e. piece-other (now (a .f)) (now (a .ring)) (a .i) (row .result) (row .ensures) n (now (a .out)))
@@ -21,16 +21,13 @@ reseal-entry-requires c κs = search needs
 same-length : tie.Need-same-length
 same-length c = search needs
 
-same-length-2 : tie.Need-same-length-2
-same-length-2 c = search needs
-
 returns-2 : tie.Need-returns-2
 returns-2 c =
-    let a = c .before .before .before .before .before .before .before .before .before .before .before .before .before .before .args in
-    let row = c .before .before .before .before .before .before .before .before .before .row-of in
-    let call = c .before .before .before .before .reseal-entry in
-    (wrong-four (now (a .f)) (now (a .ring)) (a .i) (row .result) (row .ensures) (c .before .before .before .before .before .before .before .if1 .left) (call .result) (call .ensures .0), call .ensures .1)
+    let a = c .before .before .before .before .before .before .before .before .before .before .args in
+    let row = c .before .before .before .before .before .before .row-of in
+    let call = c .before .before .reseal-entry in
+    (wrong-four (now (a .f)) (now (a .ring)) (a .i) (row .result) (row .ensures) (c .before .before .before .before .if1 .left) (call .result) (call .ensures .0), call .ensures .1)
 
 pub reseal-row-spec : {M : Type 1} → statement M
 reseal-row-spec =
-    tie.close (tie.spec row-of-requires returns reseal-entry-requires same-length same-length-2 returns-2)
+    tie.close (tie.spec row-of-requires returns reseal-entry-requires same-length returns-2)
