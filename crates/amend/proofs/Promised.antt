@@ -54,17 +54,18 @@ amendment-wins a d job p =
     }
 
 pub missing-exactly : MissingExactly
-missing-exactly a d job = (
-  five a d job (λ x. x .entry .number ≡ 32 → Neither a d job)
-      (λ p q. absurd (not-missing a job q))
-      (λ p n q. absurd (not-missing d job q))
-      (λ p q h z. absurd (omega arith))
-      (λ p q n h z. absurd (omega arith))
-      (λ p q n m z. record { pass = record { amendment = p; day = q }; amendment = lacks a job p n; day = lacks d job q m }),
-  λ h.
-      let p = h .pass in
-      ap (λ (x : Amended). x .entry .number) (in-neither a d job (p .amendment) (p .day) (number-some a job (p .amendment) (h .amendment)) (number-some d job (p .day) (h .day))),
-)
+missing-exactly a d job =
+    record {
+      only = five a d job (λ x. x .entry .number ≡ 32 → Neither a d job)
+          (λ p q. absurd (not-missing a job q))
+          (λ p n q. absurd (not-missing d job q))
+          (λ p q h z. absurd (omega arith))
+          (λ p q n h z. absurd (omega arith))
+          (λ p q n m z. record { pass = record { amendment = p; day = q }; amendment = lacks a job p n; day = lacks d job q m });
+      told = λ h.
+          let p = h .pass in
+          in-neither a d job (p .amendment) (p .day) (number-some a job (p .amendment) (h .amendment)) (number-some d job (p .day) (h .day));
+    }
 
 -- r lies in s where an entry says
 abbrev At : RefT (List ℕ) → RefT (List ℕ) → Entry → Type 0

@@ -6,6 +6,7 @@ use mathlib.Core.Logic.{_↔_}
 use denote.Ref.{RefT, now}
 use Rattle.table.specs.Part.{PartOf}
 use Rattle.table.specs.Format.{countOf}
+use Rattle.table.specs.Answers.{answer}
 use Rattle.table.specs.Check.{checkFile}
 use Rattle.shift.specs.Lookup.{lookupJob}
 use Rattle.shift.specs.Entry.{dataStart, dataLength, entryOf}
@@ -40,14 +41,19 @@ InOrder = (a d : List ℕ) (job : ℕ) → Refusals a d job
 abbrev pub AmendmentWins : Type 0
 AmendmentWins = (a d : List ℕ) (job : ℕ) → BothPass a d → Chooses a d job
 
--- 32 exactly if both files pass and neither has the job
+-- both files pass and neither has the job
 pub record Neither (a d : List ℕ) (job : ℕ) : Type 0 where
   pub pass : BothPass a d
   pub amendment : Lacks a job
   pub day : Lacks d job
 
+-- 32 exactly then, with file 0, row 0 and no place
+pub record Missing (a d : List ℕ) (job : ℕ) : Type 0 where
+  pub only : amendedEntry a d job .entry .number ≡ 32 → Neither a d job
+  pub told : Neither a d job → amendedEntry a d job ≡ inFile 0 (noEntry (answer 32 0))
+
 abbrev pub MissingExactly : Type 0
-MissingExactly = (a d : List ℕ) (job : ℕ) → (amendedEntry a d job .entry .number ≡ 32) ↔ Neither a d job
+MissingExactly = (a d : List ℕ) (job : ℕ) → Missing a d job
 
 -- what the one-file call promises of the part that it hands back
 abbrev pub OneFilePart : RefT (List ℕ) → RefT (List ℕ) → ℕ → Type 0

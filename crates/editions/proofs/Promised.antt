@@ -2,15 +2,16 @@
 use Prim.Native.Nat.{ℕ, zero, suc, _+_, _-_, _*_, _^_, _≤_, _<_}
 use native.Mathlib.Nat.{mul-le-mul-right}
 use native.Mathlib.Omega.{arith}
-use mathlib.Core.Path.{_≡_, refl, sym, ap, _∙_}
+use mathlib.Core.Path.{_≡_, refl, sym, ap, ap₂, _∙_}
 use mathlib.Core.List.{List, _∷_}
-use lib.ListN.{length, replicate}
+use lib.ListN.{length, drop, replicate}
 use lib.Dec.{lit<}
 use Rattle.words.specs.Bytes.{AllBytes, bytes, value}
 use Rattle.words.proofs.Bytes.{unpack}
 use Rattle.table.specs.declared.answers.Answer.{Answer}
+use Rattle.table.specs.declared.row.Row.{Row}
 use Rattle.table.specs.Part.{stretch}
-use Rattle.table.specs.Format.{editionOf, countOf, edition, newest, rowSize, widthOf, rowStart, bodyEnd, stationAt}
+use Rattle.table.specs.Format.{editionOf, countOf, totalOf, edition, newest, rowSize, widthOf, rowStart, rowAt, rowOf, bodyEnd, stationAt}
 use Rattle.table.specs.Answers.{answer}
 use Rattle.table.specs.Check.{checkAs}
 use Rattle.table.proofs.Rows.{row-broad, row-in, station-none}
@@ -18,12 +19,12 @@ use Rattle.table.proofs.Passed.{Passes, passes, own-edition}
 use Rattle.table.proofs.Bodies.{after-table}
 use Rattle.editions.specs.Files.{carried, movedFrom, moved}
 use Rattle.editions.specs.Answers.{FileMoved, toEdition2, toEdition1}
-use Rattle.editions.specs.Promised.{done, ThereAndBack, BackAndThere, UpPasses, BackPasses, BackShort}
+use Rattle.editions.specs.Promised.{done, ThereAndBack, BackAndThere, UpPasses, BackPasses, BackShort, UpRises, BackFalls}
 use Rattle.editions.proofs.Segments.{word-stretch}
 use Rattle.editions.proofs.Laid.{file-long}
-use Rattle.editions.proofs.Kept.{edition-is, count-is, station-part, table-in}
+use Rattle.editions.proofs.Kept.{edition-is, count-is, total-is, station-part, table-in, body-from}
 use Rattle.editions.proofs.Back.{Whole, file-back}
-use Rattle.editions.proofs.Passing.{file-passes}
+use Rattle.editions.proofs.Passing.{low, row, file-passes}
 use Rattle.editions.proofs.Done.{NoStation, up-goes, goes-up, back-goes, goes-back, up-is, back-is}
 
 -- a station of 0, as bytes, and read again
@@ -85,6 +86,25 @@ module _ (a b : ℕ) (ha : a < 256 ^ 2) (hb : b < 256 ^ 2) (f : List ℕ) (z : c
     pub new-passes : checkAs b g ≡ answer 0 0
     new-passes = file-passes b w v f n (ok .head .table) (row-broad b) (ok .walk) small hb (ok .head .few) short refl
 
+    -- every place behind the table is carried: the total, and each offset
+    new-total : totalOf g ≡ carried w v n (length f)
+    new-total = total-is b w v f n (ok .head .table) (row-broad b) small
+
+    new-offset : (i : ℕ) → i < n → rowOf g i .at ≡ carried w v n (rowOf f i .at)
+    new-offset i l =
+        ap (λ (k : ℕ). rowAt k g i .at) new-width ∙ ap (λ (r : Row). r .at) (row b w v f n (ok .head .table) (row-broad b) (ok .walk) small i l)
+
+    old-offset : (i : ℕ) → i < n → rowStart w n ≤ rowOf f i .at
+    old-offset = low b w v f n (ok .head .table) (row-broad b) (ok .walk) small
+
+    new-bodies : drop (rowStart (widthOf g) (countOf g)) g ≡ drop (rowStart w n) f
+    unfolding carried
+    new-bodies =
+        let q : carried w v n (rowStart w n) ≡ rowStart v n = omega arith in
+        ap₂ (λ (x y : ℕ). drop (rowStart x y) g) new-width new-count
+        ∙ ap (λ (x : ℕ). drop x g) (sym q)
+        ∙ body-from b w v f n (ok .head .table) (row-broad b) (rowStart w n) (omega arith)
+
     module _ (all : AllBytes f) (none : NoStation f) where
       station : (i : ℕ) → i < n → stretch f (rowStart w i + 4) (w - 32) ≡ replicate (w - 32) 0
       unfolding stationAt
@@ -136,6 +156,19 @@ back-short f z =
     let m : rowSize edition * n ≤ widthOf f * n = rw one-size (mul-le-mul-right n (row-broad (editionOf f))) in
     omega (arith, file-long (widthOf f) (rowSize edition) f n (p .head .table) (row-broad edition) edition, p .head .short, p .head .table .fits)
 
+-- from rows of 32 bytes to rows of 36 every place behind the table rises by 4n, and from 36 to 32 it falls by that
+carried-up : (w v n x : ℕ) → w ≡ 32 → v ≡ 36 → rowStart w n ≤ x → carried w v n x ≡ x + 4 * n
+unfolding carried rowStart
+carried-up w v n x p q h = rw (p, q) (omega (arith, rw p at h))
+
+carried-down : (w v n x : ℕ) → w ≡ 36 → v ≡ 32 → rowStart w n ≤ x → x ≡ carried w v n x + 4 * n
+unfolding carried rowStart
+carried-down w v n x p q h = rw (p, q) (omega (arith, rw p at h))
+
+two-size : rowSize newest ≡ 36
+unfolding rowSize
+two-size = refl
+
 -- ---- the routines
 
 abbrev numberOf : Answer → ℕ
@@ -179,3 +212,41 @@ back-and-there f out₀ out₁ all z o =
     ap (λ (x : List ℕ). toEdition2 x out₁) (ap outOf (back-is f out₀ (d .zero)))
     ∙ up-is g out₁ (goes-up g (length out₁) passed (record { short = long; fits = o ∙ sym (ap length again) }))
     ∙ ap done again
+
+pub up-rises : UpRises
+unfolding toEdition2
+up-rises f out₀ z =
+    let d = up-goes f (length out₀) z in
+    let p = d .passed in
+    let short = d .room .short in
+    let n = countOf f in
+    let t = ok edition newest one two f p .head in
+    let up : (x : ℕ) → rowStart (widthOf f) n ≤ x → carried (widthOf f) (rowSize newest) n x ≡ x + 4 * n = λ x h. carried-up (widthOf f) (rowSize newest) n x (ap rowSize (own edition newest one two f p) ∙ one-size) two-size h in
+    rw (ap outOf (up-is f out₀ (d .zero))) (record {
+      count = new-count edition newest one two f p;
+      long = file-long (widthOf f) (rowSize newest) f n (t .table) (row-broad newest) newest ∙ up (length f) (t .table .fits);
+      total = new-total edition newest one two f p short ∙ up (length f) (t .table .fits) ∙ ap (λ (x : ℕ). x + 4 * n) (sym (t .total));
+      offset = λ i l. new-offset edition newest one two f p short i l ∙ up (rowOf f i .at) (old-offset edition newest one two f p short i l);
+      bodies = new-bodies edition newest one two f p short;
+    })
+
+pub back-falls : BackFalls
+unfolding toEdition1
+back-falls f out₀ z =
+    let d = back-goes f (length out₀) z .0 in
+    let p = d .passed in
+    let short = d .room .short in
+    let n = countOf f in
+    let g = moved edition f in
+    let t = ok newest edition two one f p .head in
+    let many : countOf g ≡ n = new-count newest edition two one f p in
+    let down : (x : ℕ) → rowStart (widthOf f) n ≤ x → x ≡ carried (widthOf f) (rowSize edition) n x + 4 * n = λ x h. carried-down (widthOf f) (rowSize edition) n x (ap rowSize (own newest edition two one f p) ∙ two-size) one-size h in
+    rw (ap outOf (back-is f out₀ (d .zero))) (record {
+      count = sym many;
+      long = down (length f) (t .table .fits) ∙ ap₂ (λ (x y : ℕ). x + 4 * y) (sym (file-long (widthOf f) (rowSize edition) f n (t .table) (row-broad edition) edition)) (sym many);
+      total = t .total ∙ down (length f) (t .table .fits) ∙ ap₂ (λ (x y : ℕ). x + 4 * y) (sym (new-total newest edition two one f p short)) (sym many);
+      offset = λ i l.
+          let m : i < n = rw many at l in
+          down (rowOf f i .at) (old-offset newest edition two one f p short i m) ∙ ap₂ (λ (x y : ℕ). x + 4 * y) (sym (new-offset newest edition two one f p short i m)) (sym many);
+      bodies = sym (new-bodies newest edition two one f p short);
+    })

@@ -1,11 +1,11 @@
 -- What the moves are worth (document 02, W10).
-use Prim.Native.Nat.{ℕ, _≤_}
+use Prim.Native.Nat.{ℕ, _+_, _*_, _≤_, _<_}
 use mathlib.Core.Path.{_≡_}
 use mathlib.Core.List.{List}
-use lib.ListN.{length}
+use lib.ListN.{length, drop}
 use Rattle.words.specs.Bytes.{AllBytes}
 use Rattle.table.specs.Part.{stretch}
-use Rattle.table.specs.Format.{edition, newest}
+use Rattle.table.specs.Format.{countOf, totalOf, edition, newest, widthOf, rowStart, rowOf}
 use Rattle.table.specs.Answers.{answer}
 use Rattle.table.specs.Check.{checkAs}
 use Rattle.shift.specs.Lookup.{lookupJob}
@@ -41,6 +41,21 @@ BackPasses = (f out₀ : List ℕ) → toEdition1 f out₀ .answer .number ≡ 0
 -- going back, no file gets too long: 20 is the check's alone
 abbrev pub BackShort : Type 0
 BackShort = (f : List ℕ) → checkAs newest f .number ≡ 0 → length (moved edition f) ≤ 1048576
+
+-- g is f with rows of four bytes more: row count, jobs and bodies are kept, and the total length and every row's offset rise by 4n
+pub record Risen (f g : List ℕ) : Type 0 where
+  pub count : countOf g ≡ countOf f
+  pub long : length g ≡ length f + 4 * countOf f
+  pub total : totalOf g ≡ totalOf f + 4 * countOf f
+  pub offset : (i : ℕ) → i < countOf f → rowOf g i .at ≡ rowOf f i .at + 4 * countOf f
+  pub bodies : drop (rowStart (widthOf g) (countOf g)) g ≡ drop (rowStart (widthOf f) (countOf f)) f
+
+abbrev pub UpRises : Type 0
+UpRises = (f out₀ : List ℕ) → toEdition2 f out₀ .answer .number ≡ 0 → Risen f (toEdition2 f out₀ .out)
+
+-- going back they fall by it
+abbrev pub BackFalls : Type 0
+BackFalls = (f out₀ : List ℕ) → toEdition1 f out₀ .answer .number ≡ 0 → Risen (toEdition1 f out₀ .out) f
 
 -- a reader gets from g what it gets from f: lookup and search the same number and row, the search at the same looks;
 -- the same associated data; and opening the same number, row and message

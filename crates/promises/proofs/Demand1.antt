@@ -1,5 +1,5 @@
 -- A contract that says what the outcome equals leaves one outcome, since each answer has a number of its own.
-use mathlib.Core.Path.{_≡_, refl, sym, ap, _∙_}
+use mathlib.Core.Path.{_≡_, refl, sym}
 use mathlib.Core.Bool.{Bool, true, false, true≢false}
 use mathlib.Core.Logic.{_⊎_, inl, inr, ⊎-elim}
 use Prim.Native.Nat.{ℕ, zero, suc, _≤_, _<_}
@@ -7,7 +7,7 @@ use native.Mathlib.Nat.{not-suc-le-zero, suc-ne-zero, lt-irrefl}
 use native.Mathlib.Omega.{arith}
 use mathlib.Core.List.{List}
 use lib.ListN.{length, replicate}
-use Rattle.comet.specs.Answers.{refusal, Sealed, sealedAs, sealing, Opened, openedAs, opening}
+use Rattle.comet.specs.Answers.{refusal, sealedAs, sealing, openedAs, opening}
 use Rattle.comet.proofs.Outcomes as comet
 use Rattle.session.proofs.Outcomes as session
 use Rattle.table.proofs.Outcomes as table
@@ -36,11 +36,11 @@ entry-points =
       session-part = record { asks-nothing = λ κs a. tt; one-outcome = session.message };
       session-end = record { asks-nothing = λ κs a. tt; one-outcome = session.finish };
       search = record { asks-nothing = λ κs a. tt; one-outcome = halving.search };
-      associated = shift.associated;
+      associated = record { asks-nothing = λ κs a. tt; one-outcome = shift.associated };
       seal-file = record { asks-nothing = λ κs a. tt; one-outcome = writer.seal-file };
       unseal-file = record { asks-nothing = λ κs a. tt; one-outcome = writer.unseal-file };
       locate = record { asks-nothing = λ κs a. tt; one-outcome = amend.locate };
-      current = amend.current;
+      current = record { asks-nothing = λ κs a. tt; one-outcome = amend.current };
       open-current = record { asks-nothing = λ κs a. tt; one-outcome = amend.open-current };
       to-edition2 = record { asks-nothing = λ κs a. tt; one-outcome = editions.to-edition2 };
       to-edition1 = record { asks-nothing = λ κs a. tt; one-outcome = editions.to-edition1 };

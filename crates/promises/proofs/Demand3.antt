@@ -1,5 +1,5 @@
 -- Demand 3 by citation: equal tags would make the two inputs equal.
-use mathlib.Core.Path.{_≡_, sym, ap, _∙_}
+use mathlib.Core.Path.{sym, ap, _∙_}
 use mathlib.Core.Logic.{inl, inr}
 use Prim.Native.Nat.{ℕ}
 use mathlib.Core.List.{List, []}
@@ -10,9 +10,7 @@ use Rattle.mode.specs.Mode.{tag}
 use Rattle.mode.proofs.Demand2.{empty-tag}
 use Rattle.mode.proofs.Demand3.{same-before, same-behind, message-told, data-told}
 use Rattle.mode.proofs.LastBlock.{last-told}
-use Rattle.comet.specs.declared.Verdict.{Verdict}
-use Rattle.comet.specs.Answers.{numberOf, Opened}
-use Rattle.promises.specs.Input.{Texts, Input}
+use Rattle.promises.specs.Input.{Texts}
 use Rattle.promises.specs.Demand3.{OneBlock, LastBlock, EmptyMessage}
 use Rattle.promises.proofs.Answers.{nonce-right, opened-tag, refuses}
 
@@ -33,25 +31,19 @@ one-block suite key nonce ad ad′ msg msg′ j i i′ la lm (inr (em, ne, insid
     key nonce msg (key-block suite key nonce ad msg i) (i .nonce-bytes) (nonce-right suite key nonce ad msg i) (i .text-bytes)
     (e ∙ ap (tag (cipherOf suite) key nonce ad′) (sym em)))
 
--- what the contract says of an answer, of a call whose outcome is known
-says : (r : Verdict) (out : List ℕ) (w z : Opened) → _≡_ {A = Opened} (record { number = numberOf r; out = out }) w → w ≡ z → (numberOf r ≡ z .number) × (out ≡ z .out)
-says r out w z p q = (ap (λ (x : Opened). x .number) (p ∙ q), ap (λ (x : Opened). x .out) (p ∙ q))
-
 pub last-block : LastBlock
-last-block suite key nonce ad c c′ t out₀ out₁ j i i′ lo lo′ lt e l ne inside last differ r out p =
+last-block suite key nonce ad c c′ t out₀ out₁ j i i′ lo lo′ lt e l ne inside last differ =
     let n = sizeOf suite in
-    says r out _ _ p
-    (refuses suite key nonce ad c′ t out₁ i′ lo′ lt
+    refuses suite key nonce ad c′ t out₁ i′ lo′ lt
     (λ q. ne (last-told (cipherOf suite) (lawful suite) j key nonce ad c c′ (i .texts .text-bytes) (i′ .texts .text-bytes) l inside last (same-before n j c c′ l differ)
     (key-block suite key nonce ad c (i .texts)) (i .texts .nonce-bytes) (nonce-right suite key nonce ad c (i .texts)) (i .texts .ad-bytes)
-    (opened-tag suite key nonce ad c t out₀ i lo lt e ∙ sym q))))
+    (opened-tag suite key nonce ad c t out₀ i lo lt e ∙ sym q)))
 
 pub empty-message : EmptyMessage
-empty-message suite key nonce ad ad′ t out₀ out₁ j i i′ lo lo′ lt e l ne differ r out p =
+empty-message suite key nonce ad ad′ t out₀ out₁ j i i′ lo lo′ lt e l ne differ =
     let n = sizeOf suite in
-    says r out _ _ p
-    (refuses suite key nonce ad′ [] t out₁ i′ lo′ lt
+    refuses suite key nonce ad′ [] t out₁ i′ lo′ lt
     (λ q. ne (data-told (cipherOf suite) (lawful suite) j ad ad′ (i .texts .ad-bytes) (i′ .texts .ad-bytes) l
     (same-before n j ad ad′ l differ) (same-behind n j ad ad′ l differ)
     key nonce [] (key-block suite key nonce ad [] (i .texts)) (i .texts .nonce-bytes) (nonce-right suite key nonce ad [] (i .texts)) all-nil
-    (sym (empty-tag (cipherOf suite) key nonce ad) ∙ opened-tag suite key nonce ad [] t out₀ i lo lt e ∙ sym q ∙ empty-tag (cipherOf suite) key nonce ad′))))
+    (sym (empty-tag (cipherOf suite) key nonce ad) ∙ opened-tag suite key nonce ad [] t out₀ i lo lt e ∙ sym q ∙ empty-tag (cipherOf suite) key nonce ad′)))

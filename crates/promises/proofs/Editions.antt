@@ -1,5 +1,5 @@
 -- W10 by citation.
-use Rattle.editions.proofs.Promised.{there-and-back, back-and-there, up-passes, back-passes, back-short}
+use Rattle.editions.proofs.Promised.{there-and-back, back-and-there, up-passes, back-passes, back-short, up-rises, back-falls}
 use Rattle.editions.proofs.Reading.{up-reads, back-reads}
 use Rattle.promises.specs.Editions.{Editions}
 
@@ -9,6 +9,8 @@ editions = record {
   back-and-there = back-and-there;
   up-passes = up-passes;
   back-passes = back-passes;
+  up-rises = up-rises;
+  back-falls = back-falls;
   back-short = back-short;
   up-reads = up-reads;
   back-reads = back-reads;

@@ -1,7 +1,8 @@
 -- W14 by citation.
 use Rattle.reader.proofs.Asking.{rows-then-ended, ended-at-once, others-ended, others-rows}
+use Rattle.reader.proofs.Tags.{opening-says}
 use Rattle.reader.proofs.Written.{writer-reported}
 use Rattle.promises.specs.Reading.{Reading}
 
 pub reads : Reading
-reads = record { rows = rows-then-ended; other = ended-at-once; forged = others-ended; foreign = others-rows; writer = writer-reported }
+reads = record { rows = rows-then-ended; other = ended-at-once; forged = others-ended; foreign = others-rows; opening = opening-says; writer = writer-reported }

@@ -1,20 +1,13 @@
--- W7, the suite that seals no more: of the ladders' rungs the second alone is 10, and its test is suite 4's.
+-- W7, the suite that seals no more: the line of 10 in the tables of sealer, opener and session is suite 4's.
 use mathlib.Core.Path.{_≡_, refl, sym, _∙_}
-use mathlib.Core.Bool.{Bool, true, false, cond, not, true≢false}
-use mathlib.Core.Logic.{⊎-elim}
-use mathlib.Core.List.{List, []}
-use Prim.Native.Nat.{ℕ, zero, suc}
-use native.Mathlib.Omega.{arith}
-use lib.ListN.{length}
-use lib.Dec.{eqb}
-use Rattle.cipher.specs.Cipher.{isSuite, IsSuite, retired, seals, Seals, nonceOf}
+use mathlib.Core.Bool.{Bool, true, false, true≢false}
+use Prim.Native.Nat.{ℕ}
+use Rattle.cipher.specs.Cipher.{isSuite, IsSuite, retired, seals, Seals}
 use Rattle.cipher.proofs.Suites.{only-four}
-use Rattle.comet.specs.Answers.{refusal, sealedAs, sealing}
-use Rattle.comet.proofs.Refuse.{refusal-most}
-use Rattle.session.specs.Value.{Value, over, gave, answered, fresh, startNumber, starting}
-use Rattle.session.proofs.Refuse.{start-is}
+use Rattle.comet.specs.Answers.{refusal, sealing}
+use Rattle.session.specs.Value.{startNumber, starting}
 use Rattle.promises.specs.Retired.{OnlyFour, SealerRefuses, StartRefuses, OpenerNever, Retired}
-use Rattle.promises.proofs.Demand1.{open-keeps}
+use Rattle.promises.proofs.Numbers.{seal-numbers, open-numbers, start-numbers}
 
 seals-not : (b : Bool) (s : ℕ) → seals s ≡ b → (Seals s → ⊥) → b ≡ false
 seals-not true s e n = absurd (n e)
@@ -35,54 +28,21 @@ four suite = (
   λ e. (rw e has-four, λ s. true≢false (sym (rw e at s) ∙ shut-four)),
 )
 
--- ---- the sealer
-
-seal-ten : (s k v a t o g : ℕ) → refusal false s k v a t o g ≡ 10 → s ≡ 4
-seal-ten s k v a t o g e =
-    ⊎-elim
-    (λ h. absurd (omega arith))
-    (λ h. only-four s (h .1) (h .2))
-    (refusal-most false s k v a t o g)
-
-sealed-number : (n : ℕ) (x y o t : List ℕ) → sealedAs n x y o t .number ≡ n
-sealed-number zero x y o t = refl
-sealed-number (suc n) x y o t = refl
+-- number 10 is the second line's
 
 sealer : SealerRefuses
 unfolding sealing refusal isSuite seals retired
 sealer = (
   λ key nonce ad msg out₀ tag₀. refl,
-  λ suite key nonce ad msg out₀ tag₀ e. seal-ten suite (length key) (length nonce) (length ad) (length msg) (length out₀) (length tag₀) (sym (sealed-number _ _ _ out₀ tag₀) ∙ e),
+  λ suite key nonce ad msg out₀ tag₀ e. seal-numbers suite key nonce ad msg out₀ tag₀ .lines .1 .0 .0 e .1 .1,
 )
-
--- ---- a session's start
-
-start-ten : (s : ℕ) (b w d f : Bool) → isSuite s ≡ b → seals s ≡ w → _≡_ {A = ℕ} (cond (not b) 1 (cond (not w) 10 (cond (not d) 2 (cond (not f) 3 0)))) 10 → s ≡ 4
-start-ten s false w d f eb ew e = absurd (omega arith)
-start-ten s true false d f eb ew e = only-four s eb ew
-start-ten s true true false f eb ew e = absurd (omega arith)
-start-ten s true true true false eb ew e = absurd (omega arith)
-start-ten s true true true true eb ew e = absurd (omega arith)
-
-start-number : (n : ℕ) (done v : Value) → answered n (gave 0 0 done [] []) v [] [] .number ≡ n
-start-number zero done v = refl
-start-number (suc n) done v = refl
 
 start : StartRefuses
 unfolding starting startNumber isSuite seals retired
-start = (
-  λ key nonce. refl,
-  λ suite key nonce e.
-      start-ten suite (isSuite suite) (seals suite) (eqb (length key) 16) (eqb (length nonce) (nonceOf suite)) refl refl
-      (sym (start-is suite (length key) (length nonce) _ _ _ _ refl refl refl refl) ∙ sym (start-number _ (fresh suite key nonce) over) ∙ e),
-)
-
--- ---- the opener
+start = (λ key nonce. refl, λ suite key nonce e. start-numbers suite key nonce .lines .1 .0 .0 e .1)
 
 never : OpenerNever
-never suite key nonce ad text tag out₀ e =
-    let h = open-keeps suite key nonce ad text tag out₀ .0 in
-    omega arith
+never suite key nonce ad text tag out₀ e = true≢false (open-numbers suite key nonce ad text tag out₀ .lines .1 .0 .0 e .1 .0)
 
 pub suite-retired : Retired
 suite-retired = record { only-four = four; sealer-refuses = sealer; start-refuses = start; opener-never = never }

@@ -1,17 +1,18 @@
 -- W2 by citation: what a run gives are the specification's outputs for the joined texts, so they are the sealer's, and the opener takes them.
 use mathlib.Core.Path.{_≡_, refl, sym, ap₂, _∙_}
 use Prim.Native.Nat.{ℕ, zero, suc}
-use mathlib.Core.List.{List, [], _∷_}
+use mathlib.Core.List.{List, []}
 use lib.ListN.{length}
 use Rattle.words.specs.Bytes.{AllBytes}
 use Rattle.cipher.specs.Cipher.{cipherOf}
 use Rattle.cipher.proofs.Suites.{seals-has}
-use Rattle.comet.specs.Answers.{Sealed, opening}
+use Rattle.comet.specs.Answers.{opening}
 use Rattle.session.specs.Value.{Value, Given, answered, gave, starting, dataNumber, dataIn, dataPart, textNumber, textDone, textPart, endNumber, endDone, ending}
 use Rattle.session.specs.Calls.{Call, AllLent, Run, runOf}
 use Rattle.session.proofs.Whatever.{starts, refused-shut, goes, finished, whatever, facts}
 use Rattle.promises.specs.Input.{Input}
 use Rattle.promises.specs.Sessions.{AsOneCall, OpensWhole, Keeps, Sessions}
+use Rattle.promises.proofs.Numbers.{done-number}
 use Rattle.promises.proofs.Demand2.{sealing-is, round-trip}
 
 -- the joined texts are an input of the sealer
@@ -55,10 +56,6 @@ kept : (k : ℕ) (done : Given) (v : Value) (out tag : List ℕ) → done .numbe
     let g : Given = answered k done v out tag in (g .number ≡ 0 → ⊥) → (g .next ≡ v) × (g .count ≡ 0) × (g .out ≡ out) × (g .tag ≡ tag)
 kept zero done v out tag z h = absurd (h z)
 kept (suc k) done v out tag z h = (refl, refl, refl, refl)
-
-done-number : (v : Value) (p out : List ℕ) → textDone v p out .number ≡ 0
-done-number v [] out = refl
-done-number v (x ∷ p) out = refl
 
 pub keeps : Keeps
 unfolding dataPart textPart ending

@@ -6,7 +6,7 @@ pub record Amendments : Type 0 where
   pub order : InOrder
   -- the amendment's entry is the current one if it has the job, else the day's
   pub wins : AmendmentWins
-  -- 32, exactly if neither has the job
+  -- 32, file 0 and row 0, exactly if neither has the job
   pub missing : MissingExactly
   -- the part is what the one-file call gives on the file that holds the entry; on a refusal the amendment's first zero bytes
   pub part : PartOfHolder

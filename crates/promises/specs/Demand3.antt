@@ -1,4 +1,4 @@
--- Demand 3: a change inside one block changes the tag.
+-- Demand 3: a change inside one block changes the tag. That the opener's routine gives what `opening` says is `Routines.antt`'s.
 use mathlib.Core.Path.{_≡_}
 use mathlib.Core.Logic.{_⊎_}
 use Prim.Native.Nat.{ℕ, _+_, _*_, _≤_, _<_}
@@ -6,8 +6,7 @@ use mathlib.Core.List.{List, []}
 use lib.ListN.{length, getD, replicate}
 use Rattle.cipher.specs.Cipher.{cipherOf, sizeOf}
 use Rattle.mode.specs.Mode.{tag}
-use Rattle.comet.specs.declared.Verdict.{Verdict}
-use Rattle.comet.specs.Answers.{numberOf, Opened, opening}
+use Rattle.comet.specs.Answers.{opening}
 use Rattle.promises.specs.Input.{Texts, Input}
 
 -- one suite, key and nonce; two inputs of equal lengths that differ, every difference inside block j of the message or inside block j of the associated data: the specification's tags differ
@@ -19,7 +18,7 @@ OneBlock =
     ⊎ ((msg ≡ msg′) × (ad ≡ ad′ → ⊥) × ((i : ℕ) → (getD ad i 0 ≡ getD ad′ i 0 → ⊥) → (j * sizeOf suite ≤ i) × (i < j * sizeOf suite + sizeOf suite)))
     → tag (cipherOf suite) key nonce ad msg ≡ tag (cipherOf suite) key nonce ad′ msg′ → ⊥
 
--- an accepted record whose last ciphertext block alone is altered is refused with 8, and the output is all zero: whatever the opener answers, by its contract
+-- an accepted record whose last ciphertext block alone is altered is refused with 8, and the output is all zero
 abbrev pub LastBlock : Type 0
 LastBlock =
     (suite : ℕ) (key nonce ad c c′ t out₀ out₁ : List ℕ) (j : ℕ) → Input suite key nonce ad c → Input suite key nonce ad c′
@@ -28,8 +27,7 @@ LastBlock =
     → length c ≡ length c′ → (c ≡ c′ → ⊥)
     → j * sizeOf suite < length c → length c ≤ j * sizeOf suite + sizeOf suite
     → ((i : ℕ) → (getD c i 0 ≡ getD c′ i 0 → ⊥) → (j * sizeOf suite ≤ i) × (i < j * sizeOf suite + sizeOf suite))
-    → (r : Verdict) (out : List ℕ) → _≡_ {A = Opened} (record { number = numberOf r; out = out }) (opening suite key nonce ad c′ t out₁)
-    → (numberOf r ≡ 8) × (out ≡ replicate (length out₁) 0)
+    → opening suite key nonce ad c′ t out₁ ≡ record { number = 8; out = replicate (length out₁) 0 }
 
 -- an accepted record with an empty message, one block of whose associated data is altered, is refused with 8
 abbrev pub EmptyMessage : Type 0
@@ -39,5 +37,4 @@ EmptyMessage =
     → opening suite key nonce ad [] t out₀ .number ≡ 0
     → length ad ≡ length ad′ → (ad ≡ ad′ → ⊥)
     → ((i : ℕ) → (getD ad i 0 ≡ getD ad′ i 0 → ⊥) → (j * sizeOf suite ≤ i) × (i < j * sizeOf suite + sizeOf suite))
-    → (r : Verdict) (out : List ℕ) → _≡_ {A = Opened} (record { number = numberOf r; out = out }) (opening suite key nonce ad′ [] t out₁)
-    → (numberOf r ≡ 8) × (out ≡ replicate (length out₁) 0)
+    → opening suite key nonce ad′ [] t out₁ ≡ record { number = 8; out = replicate (length out₁) 0 }

@@ -1,5 +1,5 @@
 -- Document 02, W14: check suppliers' files.
-use Rattle.reader.specs.Promised.{RowsThenEnded, EndedAtOnce, OthersEnded, OthersRows, WriterReported}
+use Rattle.reader.specs.Promised.{RowsThenEnded, EndedAtOnce, OthersEnded, OthersRows, OpeningSays, WriterReported}
 
 pub record Reading : Type 0 where
   -- on a file that passes the check the reader's list is the table's rows in order, each once, and then that it has ended, as often as it is asked
@@ -10,5 +10,7 @@ pub record Reading : Type 0 where
   pub forged : OthersEnded
   -- else it gives the rows of the table from its place on, as they stand there
   pub foreign : OthersRows
+  -- an entry line's 0 or 8 is what opening its job answers
+  pub opening : OpeningSays
   -- what the writer makes gets 0 on every entry line under the same ring
   pub writer : WriterReported

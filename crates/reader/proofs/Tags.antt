@@ -10,11 +10,16 @@ use borrow.Rule.Slice.PartMut.{midOf, putMid, same-len-mid, post-is, mid-len, dr
 use Rattle.comet.specs.Answers.{Opened, openedAs}
 use Rattle.table.specs.Format.{widthOf, rowOf}
 use Rattle.table.specs.Inside.{EntryIn}
-use Rattle.shift.specs.Opening.{entryOpening}
+use Rattle.table.specs.Answers.{answer}
+use Rattle.shift.specs.Opening.{entryOpening, JobOpened}
+use Rattle.shift.proofs.Lookups.{found-in}
+use Rattle.shift.proofs.Finding.{finds}
+use Rattle.shift.proofs.Jobs.{opens}
 use Rattle.draft.specs.Files.{entryOut}
 use Rattle.draft.specs.Answers.{tagRight}
 use Rattle.draft.proofs.Takes.{open-done}
-use Rattle.reader.specs.Reporting.{tagNumber}
+use Rattle.reader.specs.Reporting.{jobOf, tagNumber}
+use Rattle.reader.specs.Promised.{OpeningSays}
 
 opened-number : (t : Bool) (x o : List ℕ) → openedAs 0 t x o .number ≡ cond t 0 8
 opened-number true x o = refl
@@ -26,6 +31,13 @@ pub number-is : (f ring : List ℕ) (i : ℕ) → EntryIn (widthOf f) f i → le
 unfolding tagNumber
 number-is f ring i h g m x o l e =
     ap (λ (w : Opened). w .number) (e ∙ open-done f ring i h g o l) ∙ opened-number (tagRight f ring i) (entryOut true f ring i) o
+
+-- so it is what opening the row's job answers
+pub opening-says : OpeningSays
+opening-says f ring out i z g l o =
+    let found = finds f (jobOf f i) z .found i .1 (record { within = l; right = refl }) in
+    ap (λ (w : JobOpened). w .answer) (opens f ring (jobOf f i) i out found g)
+    ∙ ap (λ (m : ℕ). answer m 0) (number-is f ring i (found-in f (jobOf f i) i found) g _ _ out o refl)
 
 -- any number but 0 is 8
 pub wrong-is : (f ring : List ℕ) (i m : ℕ) → m ≡ tagNumber f ring i → 0 < m → 8 ≡ tagNumber f ring i

@@ -2,3 +2,4 @@ pub mod Reading
 pub mod Reporting
 pub mod Promised
 pub mod Inside
+pub mod Held

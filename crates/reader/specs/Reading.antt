@@ -41,9 +41,13 @@ askOf c f =
 abbrev pub readerOf : RefT (List ℕ) → Reader
 readerOf s = record { src = s; place = startOf (now s) }
 
+-- an entry, and the reader after it
+abbrev pub asked : Reader → Entry → Asked
+asked r e = record { reader = r; entry = e }
+
 -- what a reader gives, and the reader after it: the same file, the next place
 abbrev pub nextOf : Reader → Asked
-nextOf r = record { reader = record { src = r .src; place = askOf (r .place) (now (r .src)) .next }; entry = askOf (r .place) (now (r .src)) .entry }
+nextOf r = asked (record { src = r .src; place = askOf (r .place) (now (r .src)) .next }) (askOf (r .place) (now (r .src)) .entry)
 
 -- the reader's list: what k asks give, one after the other
 unfoldable pub asks : ℕ → Reader → List Entry

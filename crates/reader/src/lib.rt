@@ -16,8 +16,7 @@ use table::answers::Refusal;
 use table::check;
 use table::row::count;
 ghost use mathlib.Core.Path.{_≡_};
-ghost use Rattle.reader.specs.declared.Asked.{Asked};
-ghost use Rattle.reader.specs.Reading.{askOf, readerOf, nextOf};
+ghost use Rattle.reader.specs.Reading.{askOf, readerOf, asked, nextOf};
 ghost use Rattle.reader.specs.Reporting.{saidOf, Report, reporting};
 
 // The reader: the file, and the place in it.
@@ -71,7 +70,7 @@ pub fn step_at(file: &[u8], place: Cursor) -> Step
 
 // The same in place: the reader is lent, and its place moves.
 pub fn next_in<'s, 'a>(r: &'s mut Reader<'a>) -> Entry
-    ensures { λ e. ⌜ _≡_ {A = Asked} (record { reader = now (r .exit); entry = e }) (nextOf (now (r .entry))) ⌝ }
+    ensures { λ e. ⌜ asked (now (r .exit)) e ≡ nextOf (now (r .entry)) ⌝ }
 {
     let s = ask(r.place, r.src);
     r.place = s.next;

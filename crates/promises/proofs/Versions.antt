@@ -8,7 +8,7 @@ use Rattle.mode.specs.Blocks.{chopLengths, lengths}
 use Rattle.mode.specs.Words.{doubleBy}
 use Rattle.mode.specs.Keys.{textMarks, late, marks, onLow}
 use Rattle.mode.proofs.Versions.{double-was, key-was, marks-was}
-use Rattle.promises.specs.W9.{VersionOne, VersionTwo, ValuesTwo}
+use Rattle.promises.specs.Versions.{VersionOne, VersionTwo, ValuesTwo}
 
 pub version-one-kept : VersionOne
 version-one-kept = record { suites = version-one; doubling = double-was; key = key-was; places = marks-was }

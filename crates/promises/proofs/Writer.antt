@@ -3,7 +3,7 @@ use Rattle.draft.proofs.Answers.{sealing, unsealing, seal-number, unseal-number
 use Rattle.draft.proofs.Takes.{sealer-takes, opener-takes}
 use Rattle.draft.proofs.Back.{sealed-then-unsealed, unsealed-then-sealed}
 use Rattle.draft.proofs.Altered.{text-altered, data-altered}
-use Rattle.promises.specs.W4.{Writer}
+use Rattle.promises.specs.Writer.{Writer}
 
 pub writer : Writer
 writer = record {

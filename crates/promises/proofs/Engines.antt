@@ -1,6 +1,6 @@
 -- W1 by citation.
 use Rattle.columns.proofs.Engines.{same-block}
-use Rattle.promises.specs.W1.{BothEngines, TablesRule}
+use Rattle.promises.specs.Engines.{BothEngines, TablesRule}
 
 pub both-engines : BothEngines
 both-engines = same-block

@@ -1,0 +1,138 @@
+-- The functions that C links (crate `snoekeldraf`): each asks nothing and leaves one outcome, and what it answers and leaves is the definition's value.
+use mathlib.Core.Path.{_≡_}
+use Prim.Native.Nat.{ℕ}
+use mathlib.Core.List.{List, []}
+use lib.ListN.{length}
+use contract.Lifetimes.{Lfts}
+use denote.Ref.{RefT, now}
+use Rattle.comet.specs.Answers.{Sealed, sealing, Opened, opening}
+use Rattle.comet.specs.Counted.{Counting, sealingCounted, openingCounted}
+use Rattle.session.specs.Value.{starting, dataPart, textPart, ending}
+use Rattle.table.specs.Answers.{answer}
+use Rattle.table.specs.Check.{checkFile}
+use Rattle.shift.specs.declared.answers.Entry.{Entry}
+use Rattle.shift.specs.Lookup.{lookupJob}
+use Rattle.shift.specs.Entry.{entryOf}
+use Rattle.shift.specs.Opening.{left, jobOpening}
+use Rattle.search.specs.Halving.{searching}
+use Rattle.draft.specs.Answers.{writes, fileSealing, fileUnsealing}
+use Rattle.reseal.specs.Answers.{fileResealing}
+use Rattle.amend.specs.Amending.{AmendedOpening, amendedOpening}
+use Rattle.editions.specs.Answers.{FileMoved, toEdition2, toEdition1}
+use Rattle.compare.specs.Comparing.{Comparison, comparison}
+use Rattle.reader.specs.Reporting.{Report, reporting}
+use Rattle.snoekeldraf.specs.declared.parts.CometSession.{CometSession}
+use Rattle.snoekeldraf.specs.Flat.{flat, flatGives}
+use Rattle.snoekeldraf.specs.Located.{Located, locating}
+use Rattle.snoekeldraf.specs.Amended.{Placed, placing}
+use Rattle.promises.specs.Contracts as the
+use Rattle.promises.specs.Demand1.{Answers, Gave}
+
+pub record CInterface : Type 0 where
+  pub comet-seal : Answers the.comet-seal
+  pub comet-open : Answers the.comet-open
+  pub comet-seal-counted : Answers the.comet-seal-counted
+  pub comet-open-counted : Answers the.comet-open-counted
+  pub comet-session-start : Answers the.comet-session-start
+  pub comet-session-data : Answers the.comet-session-data
+  pub comet-session-part : Answers the.comet-session-part
+  pub comet-session-end : Answers the.comet-session-end
+  pub shift-check : Answers the.shift-check
+  pub shift-lookup : Answers the.shift-lookup
+  pub shift-associated : Answers the.shift-associated
+  pub shift-entry : Answers the.shift-entry
+  pub shift-open-job : Answers the.shift-open-job
+  pub shift-search : Answers the.shift-search
+  pub shift-seal-file : Answers the.shift-seal-file
+  pub shift-unseal-file : Answers the.shift-unseal-file
+  pub shift-reseal : Answers the.shift-reseal
+  pub shift-amended : Answers the.shift-amended
+  pub shift-open-amended : Answers the.shift-open-amended
+  pub shift-to-edition2 : Answers the.shift-to-edition2
+  pub shift-to-edition1 : Answers the.shift-to-edition1
+  pub shift-compare : Answers the.shift-compare
+  pub shift-report : Answers the.shift-report
+
+pub record CRoutines : Type 0 where
+  -- sealer and opener; with their cipher calls
+  pub comet-seal : (κs : Lfts 6) (suite : ℕ) (key nonce ad msg out tag : RefT (List ℕ)) (x : Gave the.comet-seal κs (suite, (key, (nonce, (ad, (msg, (out, (tag, tt)))))))) →
+      let (_, (_, (_, (_, (_, (out′, (tag′, _))))))) = x .last in
+      _≡_ {A = Sealed} (record { number = x .result; out = out′; tag = tag′ }) (sealing suite (now key) (now nonce) (now ad) (now msg) (now out) (now tag))
+  pub comet-open : (κs : Lfts 6) (suite : ℕ) (key nonce ad text tag out : RefT (List ℕ)) (x : Gave the.comet-open κs (suite, (key, (nonce, (ad, (text, (tag, (out, tt)))))))) →
+      let (_, (_, (_, (_, (_, (_, (out′, _))))))) = x .last in
+      _≡_ {A = Opened} (record { number = x .result; out = out′ }) (opening suite (now key) (now nonce) (now ad) (now text) (now tag) (now out))
+  pub comet-seal-counted : (κs : Lfts 7) (suite : ℕ) (key nonce ad msg out tag : RefT (List ℕ)) (calls : RefT ℕ) (x : Gave the.comet-seal-counted κs (suite, (key, (nonce, (ad, (msg, (out, (tag, (calls, tt))))))))) →
+      let (_, (_, (_, (_, (_, (out′, (tag′, (calls′, _)))))))) = x .last in
+      _≡_ {A = Counting Sealed} (record { leaves = record { number = x .result; out = out′; tag = tag′ }; calls = calls′ })
+      (sealingCounted suite (now key) (now nonce) (now ad) (now msg) (now out) (now tag))
+  pub comet-open-counted : (κs : Lfts 7) (suite : ℕ) (key nonce ad text tag out : RefT (List ℕ)) (calls : RefT ℕ) (x : Gave the.comet-open-counted κs (suite, (key, (nonce, (ad, (text, (tag, (out, (calls, tt))))))))) →
+      let (_, (_, (_, (_, (_, (_, (out′, (calls′, _)))))))) = x .last in
+      _≡_ {A = Counting Opened} (record { leaves = record { number = x .result; out = out′ }; calls = calls′ })
+      (openingCounted suite (now key) (now nonce) (now ad) (now text) (now tag) (now out))
+  -- a session's four calls
+  pub comet-session-start : (κs : Lfts 2) (suite : ℕ) (key nonce : RefT (List ℕ)) (x : Gave the.comet-session-start κs (suite, (key, (nonce, tt)))) →
+      flatGives (x .result) [] [] ≡ starting suite (now key) (now nonce)
+  pub comet-session-data : (κs : Lfts 1) (s : CometSession) (part : RefT (List ℕ)) (x : Gave the.comet-session-data κs (s, (part, tt))) →
+      flatGives (x .result) [] [] ≡ dataPart (flat s) (now part)
+  pub comet-session-part : (κs : Lfts 2) (s : CometSession) (part out : RefT (List ℕ)) (x : Gave the.comet-session-part κs (s, (part, (out, tt)))) →
+      let (_, (_, (out′, _))) = x .last in
+      flatGives (x .result) out′ [] ≡ textPart (flat s) (now part) (now out)
+  pub comet-session-end : (κs : Lfts 2) (s : CometSession) (out tag : RefT (List ℕ)) (x : Gave the.comet-session-end κs (s, (out, (tag, tt)))) →
+      let (_, (out′, (tag′, _))) = x .last in
+      flatGives (x .result) out′ tag′ ≡ ending (flat s) (now out) (now tag)
+  -- the shift file; the search
+  pub shift-check : (κs : Lfts 2) (file : RefT (List ℕ)) (row : RefT ℕ) (x : Gave the.shift-check κs (file, (row, tt))) →
+      let (_, (row′, _)) = x .last in
+      answer (x .result) row′ ≡ checkFile (now file)
+  pub shift-lookup : (κs : Lfts 2) (file : RefT (List ℕ)) (job : ℕ) (row : RefT ℕ) (x : Gave the.shift-lookup κs (file, (job, (row, tt)))) →
+      let (_, (_, (row′, _))) = x .last in
+      answer (x .result) row′ ≡ lookupJob (now file) job
+  pub shift-associated : (κs : Lfts 3) (file : RefT (List ℕ)) (job : ℕ) (at len : RefT ℕ) (x : Gave the.shift-associated κs (file, (job, (at, (len, tt))))) →
+      let (_, (_, (at′, (len′, _)))) = x .last in
+      _≡_ {A = Located} (record { number = x .result; at = at′; len = len′ }) (locating (now file) job)
+  pub shift-entry : (κs : Lfts 6) (file : RefT (List ℕ)) (job : ℕ) (row ad-at ad-len text-at text-len : RefT ℕ) (x : Gave the.shift-entry κs (file, (job, (row, (ad-at, (ad-len, (text-at, (text-len, tt)))))))) →
+      let (_, (_, (row′, (ad-at′, (ad-len′, (text-at′, (text-len′, _))))))) = x .last in
+      _≡_ {A = Entry} (record { number = x .result; row = row′; «ad_at» = ad-at′; «ad_len» = ad-len′; «text_at» = text-at′; «text_len» = text-len′ }) (entryOf (now file) job)
+  pub shift-open-job : (κs : Lfts 4) (file ring : RefT (List ℕ)) (job : ℕ) (out : RefT (List ℕ)) (row : RefT ℕ) (x : Gave the.shift-open-job κs (file, (ring, (job, (out, (row, tt)))))) →
+      let (_, (_, (_, (out′, (row′, _))))) = x .last in
+      left (answer (x .result) row′) out′ ≡ jobOpening (now file) (now ring) job (now out)
+  pub shift-search : (κs : Lfts 3) (file : RefT (List ℕ)) (job : ℕ) (row looked : RefT ℕ) (x : Gave the.shift-search κs (file, (job, (row, (looked, tt))))) →
+      let (_, (_, (row′, (looked′, _)))) = x .last in
+      (answer (x .result) row′ ≡ searching (now file) job .says) × (looked′ ≡ length (searching (now file) job .rows))
+  -- the writer; the reseal pass
+  pub shift-seal-file : (κs : Lfts 4) (draft ring out : RefT (List ℕ)) (row : RefT ℕ) (x : Gave the.shift-seal-file κs (draft, (ring, (out, (row, tt))))) →
+      let (_, (_, (out′, (row′, _)))) = x .last in
+      writes (answer (x .result) row′) out′ ≡ fileSealing (now draft) (now ring) (now out)
+  pub shift-unseal-file : (κs : Lfts 4) (file ring out : RefT (List ℕ)) (row : RefT ℕ) (x : Gave the.shift-unseal-file κs (file, (ring, (out, (row, tt))))) →
+      let (_, (_, (out′, (row′, _)))) = x .last in
+      writes (answer (x .result) row′) out′ ≡ fileUnsealing (now file) (now ring) (now out)
+  pub shift-reseal : (κs : Lfts 4) (file ring out : RefT (List ℕ)) (row : RefT ℕ) (x : Gave the.shift-reseal κs (file, (ring, (out, (row, tt))))) →
+      let (_, (_, (out′, (row′, _)))) = x .last in
+      writes (answer (x .result) row′) out′ ≡ fileResealing (now file) (now ring) (now out)
+  -- amendments
+  pub shift-amended : (κs : Lfts 6) (amendment day : RefT (List ℕ)) (job : ℕ) (file row at len : RefT ℕ) (x : Gave the.shift-amended κs (amendment, (day, (job, (file, (row, (at, (len, tt)))))))) →
+      let (_, (_, (_, (file′, (row′, (at′, (len′, _))))))) = x .last in
+      _≡_ {A = Placed} (record { number = x .result; file = file′; row = row′; at = at′; len = len′ }) (placing (now amendment) (now day) job)
+  pub shift-open-amended : (κs : Lfts 6) (amendment day ring : RefT (List ℕ)) (job : ℕ) (out : RefT (List ℕ)) (file row : RefT ℕ) (x : Gave the.shift-open-amended κs (amendment, (day, (ring, (job, (out, (file, (row, tt)))))))) →
+      let (_, (_, (_, (_, (out′, (file′, (row′, _))))))) = x .last in
+      _≡_ {A = AmendedOpening} (record { file = file′; answer = answer (x .result) row′; out = out′ }) (amendedOpening (now amendment) (now day) (now ring) job (now out))
+  -- the moves
+  pub shift-to-edition2 : (κs : Lfts 3) (file out : RefT (List ℕ)) (row : RefT ℕ) (x : Gave the.shift-to-edition2 κs (file, (out, (row, tt)))) →
+      let (_, (out′, (row′, _))) = x .last in
+      _≡_ {A = FileMoved} (record { answer = answer (x .result) row′; out = out′ }) (toEdition2 (now file) (now out))
+  pub shift-to-edition1 : (κs : Lfts 3) (file out : RefT (List ℕ)) (row : RefT ℕ) (x : Gave the.shift-to-edition1 κs (file, (out, (row, tt)))) →
+      let (_, (out′, (row′, _))) = x .last in
+      _≡_ {A = FileMoved} (record { answer = answer (x .result) row′; out = out′ }) (toEdition1 (now file) (now out))
+  -- compare; the report
+  pub shift-compare : (κs : Lfts 10) (f g first second differ : RefT (List ℕ)) (n-first n-second n-differ file row : RefT ℕ) (x : Gave the.shift-compare κs (f, (g, (first, (second, (differ, (n-first, (n-second, (n-differ, (file, (row, tt))))))))))) →
+      let (_, (_, (first′, (second′, (differ′, (n-first′, (n-second′, (n-differ′, (file′, (row′, _)))))))))) = x .last in
+      _≡_ {A = Comparison} (record {
+        finding = record { number = x .result; file = file′; row = row′; first = n-first′; second = n-second′; differ = n-differ′ };
+        first = first′;
+        second = second′;
+        differ = differ′;
+      })
+      (comparison (now f) (now g) (now first) (now second) (now differ))
+  pub shift-report : (κs : Lfts 6) (file ring jobs numbers : RefT (List ℕ)) (count row : RefT ℕ) (x : Gave the.shift-report κs (file, (ring, (jobs, (numbers, (count, (row, tt))))))) →
+      let (_, (_, (jobs′, (numbers′, (count′, (row′, _)))))) = x .last in
+      _≡_ {A = Report} (record { said = record { number = x .result; row = row′; count = count′ }; jobs = jobs′; numbers = numbers′ }) (reporting (now file) (now ring) (now jobs) (now numbers))

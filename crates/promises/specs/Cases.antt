@@ -1,0 +1,94 @@
+-- Every outcome of the shift file's other calls, and when it is given. The writer's stand in `draft/specs/Promised.antt` (`SealCases`, `UnsealCases`), the reseal pass's in `reseal/specs/Promised.antt` (`ResealCases`), the amendments' in `amend/specs/Promised.antt`.
+use mathlib.Core.Path.{_≡_}
+use mathlib.Core.Logic.{_⊎_}
+use Prim.Native.Nat.{ℕ, _≤_, _<_}
+use mathlib.Core.List.{List, [], _∷_}
+use lib.ListN.{length}
+use Rattle.table.specs.Format.{countOf, edition, newest, widthOf, rowOf, stationOf}
+use Rattle.table.specs.Answers.{answer}
+use Rattle.table.specs.Check.{headNumber, checkAs, checkFile}
+use Rattle.shift.specs.Lookup.{lookupJob}
+use Rattle.shift.specs.Opening.{left, jobOpening}
+use Rattle.shift.specs.Promised.{Finds}
+use Rattle.search.specs.Halving.{ends, halving, jobsOf, headAnswer, searching}
+use Rattle.draft.specs.Promised.{RightTag}
+use Rattle.compare.specs.Comparing.{onlyFirst, onlySecond, differing, refusedIn, stopped, listed, comparison}
+use Rattle.editions.specs.Files.{moved}
+use Rattle.editions.specs.Answers.{FileMoved, toEdition2, toEdition1}
+use Rattle.editions.specs.Promised.{done}
+use Rattle.reader.specs.Reporting.{jobOf, tagNumber, front, entries, stopped as unreported, longest, reporting}
+use Rattle.promises.specs.Tables.{_when_, Table}
+use Rattle.promises.specs.Numbers.{headTable}
+
+-- 20 to 24 alone
+abbrev pub HeadNumbers : Type 0
+HeadNumbers = (low high : ℕ) (f : List ℕ) → Table (λ k. headNumber low high f ≡ k) (headTable low high f)
+
+-- a lookup: the check's refusal, with its row; else the row that has the job, or 32
+pub record LookupCases (f : List ℕ) (job : ℕ) : Type 0 where
+  pub checked : (checkFile f .number ≡ 0 → ⊥) → lookupJob f job ≡ checkFile f
+  pub passed : checkFile f .number ≡ 0 → Finds f job
+
+-- opening one job: the lookup's refusal, and the output unchanged; of a found row 2, 6, 8
+pub record JobCases (f ring : List ℕ) (job : ℕ) (out : List ℕ) : Type 0 where
+  pub checked : (lookupJob f job .number ≡ 0 → ⊥) → jobOpening f ring job out ≡ left (lookupJob f job) out
+  pub found : (i : ℕ) → lookupJob f job ≡ answer 0 i → Table (λ k. jobOpening f ring job out .answer ≡ answer k 0) (
+      (2 when (length ring ≡ 256 → ⊥))
+      ∷ (6 when (length out ≡ rowOf f i .len → ⊥))
+      ∷ (8 when (RightTag f ring i → ⊥))
+      ∷ []
+      )
+
+-- the search (W6): 20 to 24, and no row is looked at; else what the halving rule gives
+pub record SearchCases (f : List ℕ) (job : ℕ) : Type 0 where
+  pub head : (headNumber edition newest f ≡ 0 → ⊥) → searching f job ≡ ends (headAnswer f)
+  pub halved : headNumber edition newest f ≡ 0 → searching f job ≡ halving (jobsOf (widthOf f) f) job 0 (countOf f)
+
+-- compare (W8): the first file's refusal, the second's, 36; every refusal leaves the lists as they were
+pub record CompareCases (f g x y z : List ℕ) : Type 0 where
+  pub first : (checkFile f .number ≡ 0 → ⊥) → comparison f g x y z ≡ stopped (refusedIn 1 (checkFile f)) x y z
+  pub second : checkFile f .number ≡ 0 → (checkFile g .number ≡ 0 → ⊥) → comparison f g x y z ≡ stopped (refusedIn 2 (checkFile g)) x y z
+  pub room : checkFile f .number ≡ 0 → checkFile g .number ≡ 0
+      → (length x < length (onlyFirst f g)) ⊎ ((length y < length (onlySecond f g)) ⊎ (length z < length (differing f g)))
+      → comparison f g x y z ≡ stopped (refusedIn 0 (answer 36 0)) x y z
+  pub lists : checkFile f .number ≡ 0 → checkFile g .number ≡ 0
+      → length (onlyFirst f g) ≤ length x → length (onlySecond f g) ≤ length y → length (differing f g) ≤ length z
+      → comparison f g x y z ≡ listed f g x y z
+
+-- a move that is refused
+abbrev pub unmoved : ℕ → ℕ → List ℕ → FileMoved
+unmoved k i out = record { answer = answer k i; out = out }
+
+-- to edition 2 (W10): the checks of edition 1, 20, 6
+pub record UpCases (f out : List ℕ) : Type 0 where
+  pub checked : (checkAs edition f .number ≡ 0 → ⊥) → toEdition2 f out ≡ record { answer = checkAs edition f; out = out }
+  pub long : checkAs edition f .number ≡ 0 → 1048576 < length (moved newest f) → toEdition2 f out ≡ unmoved 20 0 out
+  pub room : checkAs edition f .number ≡ 0 → length (moved newest f) ≤ 1048576 → (length out ≡ length (moved newest f) → ⊥) → toEdition2 f out ≡ unmoved 6 0 out
+  pub moves : checkAs edition f .number ≡ 0 → length (moved newest f) ≤ 1048576 → length out ≡ length (moved newest f) → toEdition2 f out ≡ done (moved newest f)
+
+-- back to edition 1: the checks of edition 2, 35 with the first row that has a station, 6; 20 cannot come out (`BackShort`)
+pub record BackCases (f out : List ℕ) : Type 0 where
+  pub checked : (checkAs newest f .number ≡ 0 → ⊥) → toEdition1 f out ≡ record { answer = checkAs newest f; out = out }
+  pub station : checkAs newest f .number ≡ 0 → (i : ℕ) → i < countOf f → (stationOf f i ≡ 0 → ⊥) → ((k : ℕ) → k < i → stationOf f k ≡ 0) → toEdition1 f out ≡ unmoved 35 i out
+  pub room : checkAs newest f .number ≡ 0 → ((i : ℕ) → i < countOf f → stationOf f i ≡ 0) → (length out ≡ length (moved edition f) → ⊥) → toEdition1 f out ≡ unmoved 6 0 out
+  pub moves : checkAs newest f .number ≡ 0 → ((i : ℕ) → i < countOf f → stationOf f i ≡ 0) → length out ≡ length (moved edition f) → toEdition1 f out ≡ done (moved edition f)
+
+-- the report (W14): 20 for a file of more than 65,280 bytes, the checks, 2; 6 where a list has fewer places than there are entries
+pub record ReportCases (f ring jobs numbers : List ℕ) : Type 0 where
+  pub long : longest < length f → reporting f ring jobs numbers ≡ unreported (answer 20 0) jobs numbers
+  pub checked : length f ≤ longest → (checkFile f .number ≡ 0 → ⊥) → reporting f ring jobs numbers ≡ unreported (checkFile f) jobs numbers
+  pub ring-wrong : length f ≤ longest → checkFile f .number ≡ 0 → (length ring ≡ 256 → ⊥) → reporting f ring jobs numbers ≡ unreported (answer 2 0) jobs numbers
+  pub room : length f ≤ longest → checkFile f .number ≡ 0 → length ring ≡ 256 → (length jobs < countOf f) ⊎ (length numbers < countOf f)
+      → reporting f ring jobs numbers ≡ unreported (answer 6 0) jobs numbers
+  pub lines : length f ≤ longest → checkFile f .number ≡ 0 → length ring ≡ 256 → countOf f ≤ length jobs → countOf f ≤ length numbers
+      → reporting f ring jobs numbers ≡ record { said = entries (countOf f); jobs = front (jobOf f) (countOf f) jobs; numbers = front (tagNumber f ring) (countOf f) numbers }
+
+pub record Cases : Type 0 where
+  pub head : HeadNumbers
+  pub lookup : (f : List ℕ) (job : ℕ) → LookupCases f job
+  pub open-job : (f ring : List ℕ) (job : ℕ) (out : List ℕ) → JobCases f ring job out
+  pub search : (f : List ℕ) (job : ℕ) → SearchCases f job
+  pub compare : (f g x y z : List ℕ) → CompareCases f g x y z
+  pub to-edition2 : (f out : List ℕ) → UpCases f out
+  pub to-edition1 : (f out : List ℕ) → BackCases f out
+  pub report : (f ring jobs numbers : List ℕ) → ReportCases f ring jobs numbers

@@ -1,0 +1,259 @@
+-- The entry points and the C functions, each by its own signature and contract, as the compiler reads them off the code (`Kinds`, `Reads`).
+use Prim.Native.Nat.{ℕ}
+use mathlib.Core.List.{List}
+use borrow.Fn.Kinds.{PK, RK, In, Out}
+use Rattle.comet.proofs.seal.Kinds as seal-kinds
+use Rattle.comet.proofs.seal.Reads as seal-reads
+use Rattle.comet.proofs.unseal.Kinds as unseal-kinds
+use Rattle.comet.proofs.unseal.Reads as unseal-reads
+use Rattle.comet.proofs.seal_counted.Kinds as seal-counted-kinds
+use Rattle.comet.proofs.seal_counted.Reads as seal-counted-reads
+use Rattle.comet.proofs.unseal_counted.Kinds as unseal-counted-kinds
+use Rattle.comet.proofs.unseal_counted.Reads as unseal-counted-reads
+use Rattle.session.proofs.Session.start.Kinds as session-start-kinds
+use Rattle.session.proofs.Session.start.Reads as session-start-reads
+use Rattle.session.proofs.Session.associated.Kinds as session-data-kinds
+use Rattle.session.proofs.Session.associated.Reads as session-data-reads
+use Rattle.session.proofs.Session.message.Kinds as session-part-kinds
+use Rattle.session.proofs.Session.message.Reads as session-part-reads
+use Rattle.session.proofs.Session.finish.Kinds as session-end-kinds
+use Rattle.session.proofs.Session.finish.Reads as session-end-reads
+use Rattle.table.proofs.check.Kinds as check-kinds
+use Rattle.table.proofs.check.Reads as check-reads
+use Rattle.shift.proofs.lookup.Kinds as lookup-kinds
+use Rattle.shift.proofs.lookup.Reads as lookup-reads
+use Rattle.shift.proofs.entry.Kinds as entry-kinds
+use Rattle.shift.proofs.entry.Reads as entry-reads
+use Rattle.shift.proofs.associated.Kinds as associated-kinds
+use Rattle.shift.proofs.associated.Reads as associated-reads
+use Rattle.shift.proofs.open_job.Kinds as open-job-kinds
+use Rattle.shift.proofs.open_job.Reads as open-job-reads
+use Rattle.search.proofs.search.Kinds as search-kinds
+use Rattle.search.proofs.search.Reads as search-reads
+use Rattle.writer.proofs.seal_file.Kinds as seal-file-kinds
+use Rattle.writer.proofs.seal_file.Reads as seal-file-reads
+use Rattle.writer.proofs.unseal_file.Kinds as unseal-file-kinds
+use Rattle.writer.proofs.unseal_file.Reads as unseal-file-reads
+use Rattle.reseal.proofs.reseal.Kinds as reseal-kinds
+use Rattle.reseal.proofs.reseal.Reads as reseal-reads
+use Rattle.amend.proofs.locate.Kinds as locate-kinds
+use Rattle.amend.proofs.locate.Reads as locate-reads
+use Rattle.amend.proofs.current.Kinds as current-kinds
+use Rattle.amend.proofs.current.Reads as current-reads
+use Rattle.amend.proofs.open_current.Kinds as open-current-kinds
+use Rattle.amend.proofs.open_current.Reads as open-current-reads
+use Rattle.editions.proofs.to_edition2.Kinds as to-edition2-kinds
+use Rattle.editions.proofs.to_edition2.Reads as to-edition2-reads
+use Rattle.editions.proofs.to_edition1.Kinds as to-edition1-kinds
+use Rattle.editions.proofs.to_edition1.Reads as to-edition1-reads
+use Rattle.compare.proofs.compare.Kinds as compare-kinds
+use Rattle.compare.proofs.compare.Reads as compare-reads
+use Rattle.reader.proofs.cursor.start.Kinds as start-kinds
+use Rattle.reader.proofs.cursor.start.Reads as start-reads
+use Rattle.reader.proofs.cursor.ask.Kinds as ask-kinds
+use Rattle.reader.proofs.cursor.ask.Reads as ask-reads
+use Rattle.reader.proofs.report.Kinds as report-kinds
+use Rattle.reader.proofs.report.Reads as report-reads
+use Rattle.snoekeldraf.proofs.record.comet_seal.Kinds as comet-seal-kinds
+use Rattle.snoekeldraf.proofs.record.comet_seal.Reads as comet-seal-reads
+use Rattle.snoekeldraf.proofs.record.comet_open.Kinds as comet-open-kinds
+use Rattle.snoekeldraf.proofs.record.comet_open.Reads as comet-open-reads
+use Rattle.snoekeldraf.proofs.counting.comet_seal_counted.Kinds as comet-seal-counted-kinds
+use Rattle.snoekeldraf.proofs.counting.comet_seal_counted.Reads as comet-seal-counted-reads
+use Rattle.snoekeldraf.proofs.counting.comet_open_counted.Kinds as comet-open-counted-kinds
+use Rattle.snoekeldraf.proofs.counting.comet_open_counted.Reads as comet-open-counted-reads
+use Rattle.snoekeldraf.proofs.parts.comet_session_start.Kinds as comet-session-start-kinds
+use Rattle.snoekeldraf.proofs.parts.comet_session_start.Reads as comet-session-start-reads
+use Rattle.snoekeldraf.proofs.parts.comet_session_data.Kinds as comet-session-data-kinds
+use Rattle.snoekeldraf.proofs.parts.comet_session_data.Reads as comet-session-data-reads
+use Rattle.snoekeldraf.proofs.parts.comet_session_part.Kinds as comet-session-part-kinds
+use Rattle.snoekeldraf.proofs.parts.comet_session_part.Reads as comet-session-part-reads
+use Rattle.snoekeldraf.proofs.parts.comet_session_end.Kinds as comet-session-end-kinds
+use Rattle.snoekeldraf.proofs.parts.comet_session_end.Reads as comet-session-end-reads
+use Rattle.snoekeldraf.proofs.file.shift_check.Kinds as shift-check-kinds
+use Rattle.snoekeldraf.proofs.file.shift_check.Reads as shift-check-reads
+use Rattle.snoekeldraf.proofs.file.shift_lookup.Kinds as shift-lookup-kinds
+use Rattle.snoekeldraf.proofs.file.shift_lookup.Reads as shift-lookup-reads
+use Rattle.snoekeldraf.proofs.file.shift_associated.Kinds as shift-associated-kinds
+use Rattle.snoekeldraf.proofs.file.shift_associated.Reads as shift-associated-reads
+use Rattle.snoekeldraf.proofs.file.shift_entry.Kinds as shift-entry-kinds
+use Rattle.snoekeldraf.proofs.file.shift_entry.Reads as shift-entry-reads
+use Rattle.snoekeldraf.proofs.file.shift_open_job.Kinds as shift-open-job-kinds
+use Rattle.snoekeldraf.proofs.file.shift_open_job.Reads as shift-open-job-reads
+use Rattle.snoekeldraf.proofs.halving.shift_search.Kinds as shift-search-kinds
+use Rattle.snoekeldraf.proofs.halving.shift_search.Reads as shift-search-reads
+use Rattle.snoekeldraf.proofs.drafts.shift_seal_file.Kinds as shift-seal-file-kinds
+use Rattle.snoekeldraf.proofs.drafts.shift_seal_file.Reads as shift-seal-file-reads
+use Rattle.snoekeldraf.proofs.drafts.shift_unseal_file.Kinds as shift-unseal-file-kinds
+use Rattle.snoekeldraf.proofs.drafts.shift_unseal_file.Reads as shift-unseal-file-reads
+use Rattle.snoekeldraf.proofs.renewal.shift_reseal.Kinds as shift-reseal-kinds
+use Rattle.snoekeldraf.proofs.renewal.shift_reseal.Reads as shift-reseal-reads
+use Rattle.snoekeldraf.proofs.amending.shift_amended.Kinds as shift-amended-kinds
+use Rattle.snoekeldraf.proofs.amending.shift_amended.Reads as shift-amended-reads
+use Rattle.snoekeldraf.proofs.amending.shift_open_amended.Kinds as shift-open-amended-kinds
+use Rattle.snoekeldraf.proofs.amending.shift_open_amended.Reads as shift-open-amended-reads
+use Rattle.snoekeldraf.proofs.moves.shift_to_edition2.Kinds as shift-to-edition2-kinds
+use Rattle.snoekeldraf.proofs.moves.shift_to_edition2.Reads as shift-to-edition2-reads
+use Rattle.snoekeldraf.proofs.moves.shift_to_edition1.Kinds as shift-to-edition1-kinds
+use Rattle.snoekeldraf.proofs.moves.shift_to_edition1.Reads as shift-to-edition1-reads
+use Rattle.snoekeldraf.proofs.listing.shift_compare.Kinds as shift-compare-kinds
+use Rattle.snoekeldraf.proofs.listing.shift_compare.Reads as shift-compare-reads
+use Rattle.snoekeldraf.proofs.reporting.shift_report.Kinds as shift-report-kinds
+use Rattle.snoekeldraf.proofs.reporting.shift_report.Reads as shift-report-reads
+
+-- what a routine takes and gives, what it asks of its arguments, and what it ensures
+pub record Contract : Type 3 where
+  pub lifetimes : ℕ
+  pub params : List (PK lifetimes)
+  pub result : RK lifetimes
+  pub Pre : In lifetimes params
+  pub Post : Out lifetimes params result
+
+abbrev pub seal : Contract
+seal = record { lifetimes = 6; params = seal-kinds.ps; result = seal-kinds.r; Pre = seal-reads.Pre; Post = seal-reads.Post }
+
+abbrev pub unseal : Contract
+unseal = record { lifetimes = 6; params = unseal-kinds.ps; result = unseal-kinds.r; Pre = unseal-reads.Pre; Post = unseal-reads.Post }
+
+abbrev pub seal-counted : Contract
+seal-counted = record { lifetimes = 6; params = seal-counted-kinds.ps; result = seal-counted-kinds.r; Pre = seal-counted-reads.Pre; Post = seal-counted-reads.Post }
+
+abbrev pub unseal-counted : Contract
+unseal-counted = record { lifetimes = 6; params = unseal-counted-kinds.ps; result = unseal-counted-kinds.r; Pre = unseal-counted-reads.Pre; Post = unseal-counted-reads.Post }
+
+abbrev pub session-start : Contract
+session-start = record { lifetimes = 2; params = session-start-kinds.ps; result = session-start-kinds.r; Pre = session-start-reads.Pre; Post = session-start-reads.Post }
+
+abbrev pub session-data : Contract
+session-data = record { lifetimes = 1; params = session-data-kinds.ps; result = session-data-kinds.r; Pre = session-data-reads.Pre; Post = session-data-reads.Post }
+
+abbrev pub session-part : Contract
+session-part = record { lifetimes = 2; params = session-part-kinds.ps; result = session-part-kinds.r; Pre = session-part-reads.Pre; Post = session-part-reads.Post }
+
+abbrev pub session-end : Contract
+session-end = record { lifetimes = 2; params = session-end-kinds.ps; result = session-end-kinds.r; Pre = session-end-reads.Pre; Post = session-end-reads.Post }
+
+abbrev pub check : Contract
+check = record { lifetimes = 1; params = check-kinds.ps; result = check-kinds.r; Pre = check-reads.Pre; Post = check-reads.Post }
+
+abbrev pub lookup : Contract
+lookup = record { lifetimes = 1; params = lookup-kinds.ps; result = lookup-kinds.r; Pre = lookup-reads.Pre; Post = lookup-reads.Post }
+
+abbrev pub entry : Contract
+entry = record { lifetimes = 1; params = entry-kinds.ps; result = entry-kinds.r; Pre = entry-reads.Pre; Post = entry-reads.Post }
+
+abbrev pub associated : Contract
+associated = record { lifetimes = 1; params = associated-kinds.ps; result = associated-kinds.r; Pre = associated-reads.Pre; Post = associated-reads.Post }
+
+abbrev pub open-job : Contract
+open-job = record { lifetimes = 3; params = open-job-kinds.ps; result = open-job-kinds.r; Pre = open-job-reads.Pre; Post = open-job-reads.Post }
+
+abbrev pub search : Contract
+search = record { lifetimes = 1; params = search-kinds.ps; result = search-kinds.r; Pre = search-reads.Pre; Post = search-reads.Post }
+
+abbrev pub seal-file : Contract
+seal-file = record { lifetimes = 3; params = seal-file-kinds.ps; result = seal-file-kinds.r; Pre = seal-file-reads.Pre; Post = seal-file-reads.Post }
+
+abbrev pub unseal-file : Contract
+unseal-file = record { lifetimes = 3; params = unseal-file-kinds.ps; result = unseal-file-kinds.r; Pre = unseal-file-reads.Pre; Post = unseal-file-reads.Post }
+
+abbrev pub reseal : Contract
+reseal = record { lifetimes = 3; params = reseal-kinds.ps; result = reseal-kinds.r; Pre = reseal-reads.Pre; Post = reseal-reads.Post }
+
+abbrev pub locate : Contract
+locate = record { lifetimes = 2; params = locate-kinds.ps; result = locate-kinds.r; Pre = locate-reads.Pre; Post = locate-reads.Post }
+
+abbrev pub current : Contract
+current = record { lifetimes = 1; params = current-kinds.ps; result = current-kinds.r; Pre = current-reads.Pre; Post = current-reads.Post }
+
+abbrev pub open-current : Contract
+open-current = record { lifetimes = 4; params = open-current-kinds.ps; result = open-current-kinds.r; Pre = open-current-reads.Pre; Post = open-current-reads.Post }
+
+abbrev pub to-edition2 : Contract
+to-edition2 = record { lifetimes = 2; params = to-edition2-kinds.ps; result = to-edition2-kinds.r; Pre = to-edition2-reads.Pre; Post = to-edition2-reads.Post }
+
+abbrev pub to-edition1 : Contract
+to-edition1 = record { lifetimes = 2; params = to-edition1-kinds.ps; result = to-edition1-kinds.r; Pre = to-edition1-reads.Pre; Post = to-edition1-reads.Post }
+
+abbrev pub compare : Contract
+compare = record { lifetimes = 5; params = compare-kinds.ps; result = compare-kinds.r; Pre = compare-reads.Pre; Post = compare-reads.Post }
+
+abbrev pub start : Contract
+start = record { lifetimes = 1; params = start-kinds.ps; result = start-kinds.r; Pre = start-reads.Pre; Post = start-reads.Post }
+
+abbrev pub ask : Contract
+ask = record { lifetimes = 1; params = ask-kinds.ps; result = ask-kinds.r; Pre = ask-reads.Pre; Post = ask-reads.Post }
+
+abbrev pub report : Contract
+report = record { lifetimes = 4; params = report-kinds.ps; result = report-kinds.r; Pre = report-reads.Pre; Post = report-reads.Post }
+
+-- ---- for C
+
+abbrev pub comet-seal : Contract
+comet-seal = record { lifetimes = 6; params = comet-seal-kinds.ps; result = comet-seal-kinds.r; Pre = comet-seal-reads.Pre; Post = comet-seal-reads.Post }
+
+abbrev pub comet-open : Contract
+comet-open = record { lifetimes = 6; params = comet-open-kinds.ps; result = comet-open-kinds.r; Pre = comet-open-reads.Pre; Post = comet-open-reads.Post }
+
+abbrev pub comet-seal-counted : Contract
+comet-seal-counted = record { lifetimes = 7; params = comet-seal-counted-kinds.ps; result = comet-seal-counted-kinds.r; Pre = comet-seal-counted-reads.Pre; Post = comet-seal-counted-reads.Post }
+
+abbrev pub comet-open-counted : Contract
+comet-open-counted = record { lifetimes = 7; params = comet-open-counted-kinds.ps; result = comet-open-counted-kinds.r; Pre = comet-open-counted-reads.Pre; Post = comet-open-counted-reads.Post }
+
+abbrev pub comet-session-start : Contract
+comet-session-start = record { lifetimes = 2; params = comet-session-start-kinds.ps; result = comet-session-start-kinds.r; Pre = comet-session-start-reads.Pre; Post = comet-session-start-reads.Post }
+
+abbrev pub comet-session-data : Contract
+comet-session-data = record { lifetimes = 1; params = comet-session-data-kinds.ps; result = comet-session-data-kinds.r; Pre = comet-session-data-reads.Pre; Post = comet-session-data-reads.Post }
+
+abbrev pub comet-session-part : Contract
+comet-session-part = record { lifetimes = 2; params = comet-session-part-kinds.ps; result = comet-session-part-kinds.r; Pre = comet-session-part-reads.Pre; Post = comet-session-part-reads.Post }
+
+abbrev pub comet-session-end : Contract
+comet-session-end = record { lifetimes = 2; params = comet-session-end-kinds.ps; result = comet-session-end-kinds.r; Pre = comet-session-end-reads.Pre; Post = comet-session-end-reads.Post }
+
+abbrev pub shift-check : Contract
+shift-check = record { lifetimes = 2; params = shift-check-kinds.ps; result = shift-check-kinds.r; Pre = shift-check-reads.Pre; Post = shift-check-reads.Post }
+
+abbrev pub shift-lookup : Contract
+shift-lookup = record { lifetimes = 2; params = shift-lookup-kinds.ps; result = shift-lookup-kinds.r; Pre = shift-lookup-reads.Pre; Post = shift-lookup-reads.Post }
+
+abbrev pub shift-associated : Contract
+shift-associated = record { lifetimes = 3; params = shift-associated-kinds.ps; result = shift-associated-kinds.r; Pre = shift-associated-reads.Pre; Post = shift-associated-reads.Post }
+
+abbrev pub shift-entry : Contract
+shift-entry = record { lifetimes = 6; params = shift-entry-kinds.ps; result = shift-entry-kinds.r; Pre = shift-entry-reads.Pre; Post = shift-entry-reads.Post }
+
+abbrev pub shift-open-job : Contract
+shift-open-job = record { lifetimes = 4; params = shift-open-job-kinds.ps; result = shift-open-job-kinds.r; Pre = shift-open-job-reads.Pre; Post = shift-open-job-reads.Post }
+
+abbrev pub shift-search : Contract
+shift-search = record { lifetimes = 3; params = shift-search-kinds.ps; result = shift-search-kinds.r; Pre = shift-search-reads.Pre; Post = shift-search-reads.Post }
+
+abbrev pub shift-seal-file : Contract
+shift-seal-file = record { lifetimes = 4; params = shift-seal-file-kinds.ps; result = shift-seal-file-kinds.r; Pre = shift-seal-file-reads.Pre; Post = shift-seal-file-reads.Post }
+
+abbrev pub shift-unseal-file : Contract
+shift-unseal-file = record { lifetimes = 4; params = shift-unseal-file-kinds.ps; result = shift-unseal-file-kinds.r; Pre = shift-unseal-file-reads.Pre; Post = shift-unseal-file-reads.Post }
+
+abbrev pub shift-reseal : Contract
+shift-reseal = record { lifetimes = 4; params = shift-reseal-kinds.ps; result = shift-reseal-kinds.r; Pre = shift-reseal-reads.Pre; Post = shift-reseal-reads.Post }
+
+abbrev pub shift-amended : Contract
+shift-amended = record { lifetimes = 6; params = shift-amended-kinds.ps; result = shift-amended-kinds.r; Pre = shift-amended-reads.Pre; Post = shift-amended-reads.Post }
+
+abbrev pub shift-open-amended : Contract
+shift-open-amended = record { lifetimes = 6; params = shift-open-amended-kinds.ps; result = shift-open-amended-kinds.r; Pre = shift-open-amended-reads.Pre; Post = shift-open-amended-reads.Post }
+
+abbrev pub shift-to-edition2 : Contract
+shift-to-edition2 = record { lifetimes = 3; params = shift-to-edition2-kinds.ps; result = shift-to-edition2-kinds.r; Pre = shift-to-edition2-reads.Pre; Post = shift-to-edition2-reads.Post }
+
+abbrev pub shift-to-edition1 : Contract
+shift-to-edition1 = record { lifetimes = 3; params = shift-to-edition1-kinds.ps; result = shift-to-edition1-kinds.r; Pre = shift-to-edition1-reads.Pre; Post = shift-to-edition1-reads.Post }
+
+abbrev pub shift-compare : Contract
+shift-compare = record { lifetimes = 10; params = shift-compare-kinds.ps; result = shift-compare-kinds.r; Pre = shift-compare-reads.Pre; Post = shift-compare-reads.Post }
+
+abbrev pub shift-report : Contract
+shift-report = record { lifetimes = 6; params = shift-report-kinds.ps; result = shift-report-kinds.r; Pre = shift-report-reads.Pre; Post = shift-report-reads.Post }
