@@ -7,7 +7,7 @@ use table::row::EDITION;
 use table::row::NEWEST;
 use table::row::Row;
 use table::row::count;
-use table::row::rest_start;
+use table::row::nonce_start;
 use table::row::station_of;
 use table::row::width;
 ghost use mathlib.Core.Path.{_≡_};
@@ -80,7 +80,7 @@ fn listed_at(f: &[u8], i: usize) -> Listed
         index: i,
         row: row_of(f, i),
         station: station_of(f, i),
-        nonce: rest_start(width(f), i) + 12,
+        nonce: nonce_start(width(f), i),
     }
 }
 

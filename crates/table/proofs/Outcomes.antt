@@ -40,6 +40,8 @@ use Rattle.table.proofs.row.row_start.Kinds as row-start-kinds
 use Rattle.table.proofs.row.row_start.Reads as row-start-reads
 use Rattle.table.proofs.row.rest_start.Kinds as rest-start-kinds
 use Rattle.table.proofs.row.rest_start.Reads as rest-start-reads
+use Rattle.table.proofs.row.nonce_start.Kinds as nonce-start-kinds
+use Rattle.table.proofs.row.nonce_start.Reads as nonce-start-reads
 use Rattle.table.proofs.row.set_suite.Kinds as set-suite-kinds
 use Rattle.table.proofs.row.set_suite.Reads as set-suite-reads
 use Rattle.table.proofs.rules.nonce_seen.Kinds as nonce-seen-kinds
@@ -157,6 +159,9 @@ row-start κs a h x y = (x .ensures ∙ sym (y .ensures), refl)
 
 pub rest-start : OneOutcome rest-start-kinds.ps rest-start-kinds.r rest-start-reads.Pre rest-start-reads.Post
 rest-start κs a h x y = (x .ensures .0 ∙ sym (y .ensures .0), refl)
+
+pub nonce-start : OneOutcome nonce-start-kinds.ps nonce-start-kinds.r nonce-start-reads.Pre nonce-start-reads.Post
+nonce-start κs a h x y = (x .ensures .0 ∙ sym (y .ensures .0), refl)
 
 pub set-suite : OneOutcome set-suite-kinds.ps set-suite-kinds.r set-suite-reads.Pre set-suite-reads.Post
 set-suite κs a h x y = (refl, ap (λ (l : List ℕ). (tt, (l, (tt, (tt, tt))))) (x .ensures ∙ sym (y .ensures)))

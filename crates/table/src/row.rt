@@ -80,6 +80,14 @@ pub fn rest_start(w: usize, i: usize) -> usize
     row_start(w, i) + (w - 28)
 }
 
+// Where the nonce of row i starts: in its last sixteen bytes.
+pub fn nonce_start(w: usize, i: usize) -> usize
+    requires { ⌜ (28 ≤ w) × (rowStart w i + w < 0x1_0000_0000_0000_0000) ⌝ }
+    ensures { λ r. ⌜ (r ≡ nonceStart w i) × (r + 16 ≡ rowStart w i + w) ⌝ }
+{
+    rest_start(w, i) + 12
+}
+
 // Row i of the table.
 pub fn row_at(w: usize, f: &[u8], i: usize) -> Row
     requires { ⌜ RowIn w (now f) i ⌝ }
@@ -130,7 +138,7 @@ pub fn nonce_at(w: usize, f: &[u8], i: usize) -> &[u8]
     requires { ⌜ RowIn w (now f) i ⌝ }
     ensures { λ r. ⌜ PartOf (f .entry) r (nonceStart w i) 16 × (length (now r) ≡ 16) ⌝ }
 {
-    stretch(f, rest_start(w, i) + 12, 16)
+    stretch(f, nonce_start(w, i), 16)
 }
 
 // The nonce of row i as a block.
@@ -146,7 +154,7 @@ pub(crate) fn read_block(w: usize, f: &[u8], i: usize, suite: u8) -> Block
     requires { ⌜ RowIn w (now f) i ⌝ }
     ensures { λ r. ⌜ wide r ≡ padded (take (nonceOf suite) (nonceAt w (now (f .entry)) i)) ⌝ }
 {
-    words::block::filled(stretch(f, rest_start(w, i) + 12, cipher::nonce_size(suite)))
+    words::block::filled(stretch(f, nonce_start(w, i), cipher::nonce_size(suite)))
 }
 
 // Where a row's body ends.

@@ -1,6 +1,5 @@
 -- The row's fields, its station and its nonce's place, each by its own function.
 use denote.Ref.{now}
-use Rattle.table.specs.Format.{nonceStart}
 use Rattle.table.specs.Inside.{RowIn}
 use borrow.Author.Needs.{needs}
 use Rattle.reader.proofs.cursor.listed_at.Statement.{statement}
@@ -15,23 +14,16 @@ station-of-requires c κs = search needs
 width-requires : tie.Need-width-requires
 width-requires c κs = search needs
 
-rest-start-requires : tie.Need-rest-start-requires
-rest-start-requires c κs =
+nonce-start-requires : tie.Need-nonce-start-requires
+nonce-start-requires c κs =
     let s = c .before .before .before .before in
     let p : RowIn (c .width .result) (now (s .args .f)) (s .args .i) = rw (c .width .ensures) (s .pre) in
     search (needs, p)
 
-add-t7 : tie.Need-add-t7
-add-t7 c =
-    let s = c .before .before .before .before .before in
-    let p : RowIn (c .before .width .result) (now (s .args .f)) (s .args .i) = rw (c .before .width .ensures) (s .pre) in
-    search (needs, p)
-
 returns : tie.Need-returns
-unfolding nonceStart
 returns c =
     let w = c .before in
-    rw (w .before .before .row-of .ensures, w .before .station-of .ensures, c .rest-start .ensures .0, w .width .ensures)
+    rw (w .before .before .row-of .ensures, w .before .station-of .ensures, c .nonce-start .ensures .0, w .width .ensures)
 
 pub listed-at-spec : {M : Type 1} → statement M
 listed-at-spec =
@@ -40,6 +32,5 @@ listed-at-spec =
     row-of-requires
     station-of-requires
     width-requires
-    rest-start-requires
-    add-t7
+    nonce-start-requires
     returns)

@@ -1,21 +1,18 @@
 -- What is read lies in the row's last sixteen bytes, zeros behind it.
 use native.Mathlib.Omega.{arith}
 use mathlib.Core.Path.{ap, ap₂, _∙_}
-use Prim.Native.Nat.{ℕ, _+_}
+use Prim.Native.Nat.{ℕ}
 use denote.Ref.{now}
 use Rattle.table.specs.Part.{stretch}
 use Rattle.cipher.proofs.Suites.{nonce-most}
-use Rattle.table.specs.Format.{padded, nonceStart}
+use Rattle.table.specs.Format.{padded}
 use Rattle.table.proofs.Nonces.{read-bytes}
 use borrow.Author.Needs.{needs}
 use Rattle.table.proofs.row.read_block.Statement.{statement}
 use Rattle.table.proofs.row.read_block.Tie as tie
 
-rest-start-requires : tie.Need-rest-start-requires
-rest-start-requires c κs = search needs
-
-add-stretch : tie.Need-add-stretch
-add-stretch c = search needs
+nonce-start-requires : tie.Need-nonce-start-requires
+nonce-start-requires c κs = search needs
 
 nonce-size-requires : tie.Need-nonce-size-requires
 nonce-size-requires c κs = search needs
@@ -23,19 +20,18 @@ nonce-size-requires c κs = search needs
 stretch-requires : tie.Need-stretch-requires
 stretch-requires c κs =
     let s = c .before .before .before in
-    omega (arith, c .before .rest-start .ensures .1, c .nonce-size .ensures, nonce-most (s .args .suite), s .pre .fits)
+    omega (arith, c .before .nonce-start .ensures .1, c .nonce-size .ensures, nonce-most (s .args .suite), s .pre .fits)
 
 filled-requires : tie.Need-filled-requires
 filled-requires c κs = omega (arith, c .stretch .ensures .1, c .before .nonce-size .ensures, nonce-most (c .before .before .before .before .args .suite))
 
 returns : tie.Need-returns
-unfolding nonceStart
 returns c =
     let n = c .before .before in
     let a = n .before .before .before .args in
     let f = now (a .f) in
     c .filled .ensures
-    ∙ ap padded (c .before .stretch .ensures .0 .bytes ∙ ap₂ (λ (p k : ℕ). stretch f (p + 12) k) (n .before .rest-start .ensures .0) (n .nonce-size .ensures) ∙ read-bytes (a .w) f (a .i) (a .suite))
+    ∙ ap padded (c .before .stretch .ensures .0 .bytes ∙ ap₂ (λ (p k : ℕ). stretch f p k) (n .before .nonce-start .ensures .0) (n .nonce-size .ensures) ∙ read-bytes (a .w) f (a .i) (a .suite))
 
 pub read-block-spec : {M : Type 1} → statement M
-read-block-spec = tie.close (tie.spec rest-start-requires add-stretch nonce-size-requires stretch-requires filled-requires returns)
+read-block-spec = tie.close (tie.spec nonce-start-requires nonce-size-requires stretch-requires filled-requires returns)
