@@ -9,6 +9,9 @@ use core::iter::FusedIterator;
 /// A shift file that has passed the full check, of edition 1 or 2: a table of contents and the sealed records of a day.
 /// It is lent the caller's bytes, and made by [`check`](ShiftFile::check) alone.
 ///
+/// The proved library keeps nothing from one call to the next: `lookup`, `entry`, `associated` and `open_job` check the
+/// file again, which takes as long as its table is. `entries` and `search` do not.
+///
 /// ```
 /// use snoekeldraf::ShiftFile;
 ///
@@ -79,9 +82,7 @@ impl<'a> ShiftFile<'a> {
         rows::edition(self.bytes)
     }
 
-    /// The row that has the job; number 32 where none has.
-    ///
-    /// The proved lookup runs the full check again; [`search`](ShiftFile::search) gives the same row and does not.
+    /// The row that has the job; number 32 where none has. [`search`](ShiftFile::search) gives the same row, sooner.
     ///
     /// ```
     /// use snoekeldraf::ShiftFile;

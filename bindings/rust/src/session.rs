@@ -89,7 +89,7 @@ impl Session {
     /// # Ok::<(), snoekeldraf::Refused>(())
     /// ```
     pub fn data(self, ad: &[u8]) -> Result<Session, HandedBack> {
-        let (session, _) = self.suite.stepped(raw::session_data(self.state, ad))?;
+        let (session, _) = stepped(self.suite, raw::session_data(self.state, ad))?;
         Ok(session)
     }
 
@@ -111,7 +111,7 @@ impl Session {
     /// # Ok::<(), snoekeldraf::Refused>(())
     /// ```
     pub fn part<'o>(self, msg: &[u8], out: &'o mut [u8]) -> Result<(Session, &'o [u8]), HandedBack> {
-        let (session, count) = self.suite.stepped(raw::session_part(self.state, msg, out))?;
+        let (session, count) = stepped(self.suite, raw::session_part(self.state, msg, out))?;
         Ok((session, &out[..count]))
     }
 
@@ -133,7 +133,7 @@ impl Session {
     /// ```
     pub fn end(self, out: &mut [u8]) -> Result<(&[u8], Tag), HandedBack> {
         let mut tag = Tag::unwritten(self.suite);
-        let (_ended, count) = self.suite.stepped(raw::session_end(self.state, out, tag.lent()))?;
+        let (_ended, count) = stepped(self.suite, raw::session_end(self.state, out, tag.lent()))?;
         Ok((&out[..count], tag))
     }
 
@@ -185,14 +185,12 @@ impl Session {
     }
 }
 
-impl Suite {
-    /// The next session and how many bytes were written; or the session that was given.
-    fn stepped(self, step: raw::CometStep) -> Result<(Session, usize), HandedBack> {
-        let session = Session { suite: self, state: step.next };
-        match done(step.number) {
-            Ok(()) => Ok((session, step.count)),
-            Err(refused) => Err(HandedBack { session, refused }),
-        }
+/// The next session and how many bytes were written; or the session that was given.
+fn stepped(suite: Suite, step: raw::CometStep) -> Result<(Session, usize), HandedBack> {
+    let session = Session { suite, state: step.next };
+    match done(step.number) {
+        Ok(()) => Ok((session, step.count)),
+        Err(refused) => Err(HandedBack { session, refused }),
     }
 }
 

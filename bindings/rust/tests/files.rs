@@ -56,7 +56,7 @@ fn every_damage_of_a_byte() {
 #[test]
 fn random_files() {
     let mut count = 0;
-    trials::shift_files(&mut Random::new(111), 20_000, |call| {
+    trials::shift_files(&mut Random::new(111), 60_000, |call| {
         same(call);
         entries_are_the_rows(&call.file);
         count += 1;
@@ -103,7 +103,7 @@ fn searches() {
         count += call.count;
     };
     searching::calls().iter().for_each(&mut put);
-    searching::trials(&mut Random::new(113), 500, &mut put);
+    searching::trials(&mut Random::new(113), 3_000, &mut put);
     searching::longest(&mut put);
     println!("{count} jobs looked for");
 }

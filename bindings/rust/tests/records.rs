@@ -77,8 +77,8 @@ fn lengths_around_the_limit() {
 #[test]
 fn random_records() {
     let mut tally = Tally::default();
-    trials::records(&mut Random::new(106), 20_000, |call| tally.put(call));
-    trials::records(&mut Random::new(107), 5_000, |call| tally.put_counted(call));
+    trials::records(&mut Random::new(106), 30_000, |call| tally.put(call));
+    trials::records(&mut Random::new(107), 10_000, |call| tally.put_counted(call));
     tally.says("random records, good, damaged and faulty");
 }
 

@@ -102,7 +102,7 @@ fn every_cutting_in_three() {
 #[test]
 fn long_runs() {
     let mut tally = [0; 2];
-    sessions::long_runs(&mut Random::new(132), 2_000, |run| put(run, &mut tally));
+    sessions::long_runs(&mut Random::new(132), 5_000, |run| put(run, &mut tally));
     println!("{} runs, {} that cannot be written: long sessions, refused calls among theirs", tally[0], tally[1]);
     assert!(tally[0] > 4 * tally[1]);
 }

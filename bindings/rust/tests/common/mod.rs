@@ -115,7 +115,7 @@ fn entry(file: &[u8], job: u32) -> (Answer, Places) {
 }
 
 fn open_job(file: &[u8], ring: &[u8], job: u32, out: &mut [u8]) -> Answer {
-    let opened = || {
+    let mut opened = || {
         let file = ShiftFile::check(file)?;
         file.lookup(job)?;
         file.open_job(&Ring::try_from(ring)?, job, out)
@@ -124,18 +124,15 @@ fn open_job(file: &[u8], ring: &[u8], job: u32, out: &mut [u8]) -> Answer {
 }
 
 fn seal_file(draft: &[u8], ring: &[u8], out: &mut [u8]) -> Answer {
-    let sealed = || Draft::check(draft)?.seal(&Ring::try_from(ring)?, out);
+    let mut sealed = || Draft::check(draft)?.seal(&Ring::try_from(ring)?, out);
     answer(sealed())
 }
 
+type Pass = fn(&[u8], &Ring, &mut [u8]) -> Result<(), Refused>;
+
 /// A pass over a file and a ring. With a ring of another length it is asked with a stand-in and no output: 6, which comes
 /// right after 2 and which every file then gets, says that nothing before 2 applies.
-fn rewrite(
-    pass: fn(&[u8], &Ring, &mut [u8]) -> Result<(), Refused>,
-    file: &[u8],
-    ring: &[u8],
-    out: &mut [u8],
-) -> Answer {
+fn rewrite(pass: Pass, file: &[u8], ring: &[u8], out: &mut [u8]) -> Answer {
     let result = match Ring::try_from(ring) {
         Ok(ring) => pass(file, &ring, out),
         Err(short) => match pass(file, &Ring::from([0; 256]), &mut []) {
@@ -190,7 +187,7 @@ fn amended(amendment: &[u8], day: &[u8], job: u32) -> Amended {
 }
 
 fn open_current(amendment: &[u8], day: &[u8], ring: &[u8], job: u32, out: &mut [u8]) -> (u32, u32, u32) {
-    let opened = || {
+    let mut opened = || {
         let holder = snoekeldraf::amend(amendment, day, job)?.holder;
         let of_holder = |refused: Refused| Refused { file: Some(file_number(holder)), ..refused };
         let ring = Ring::try_from(ring).map_err(of_holder)?;
