@@ -29,7 +29,8 @@
 //! # Buffers
 //!
 //! Buffers are lent: the functions allocate nothing, keep nothing from one call to the next, and the crate is `no_std`.
-//! With the feature `alloc`, functions whose names end in `_vec` make the output themselves.
+//! With the feature `alloc`, functions whose names end in `_vec` make the output themselves. What stack the calls take
+//! stands in the C header, `include/snoekeldraf.h`.
 //!
 //! # What is not promised
 //!

@@ -29,7 +29,7 @@ impl Report<'_> {
 ///
 /// Numbers, in this order: 20 where the file is longer; those of [`ShiftFile::check`](crate::ShiftFile::check); 6 where a
 /// list has fewer places than there are entries. A refusal leaves both lists as they were; success leaves the places
-/// behind what is written. The call takes 64 KiB of stack.
+/// behind what is written.
 ///
 /// ```
 /// use snoekeldraf::{report, Ring};

@@ -120,7 +120,7 @@ pub fn unseal(file: &[u8], ring: &Ring, out: &mut [u8]) -> Result<(), Refused> {
 /// Numbers, in this order: 20 to 31 and 34 as [`ShiftFile::check`](crate::ShiftFile::check), but that 21 says that the
 /// edition is not 1; 29 also with the lowest row that would then clash with an earlier one; 6 where `out` has another
 /// length; 8 with the first row of suite 4 whose tag differs. On 8 every byte of `out` is 0; every other refusal leaves
-/// it as it was. The call takes some 80 KiB of stack.
+/// it as it was.
 ///
 /// ```
 /// use snoekeldraf::{reseal, Ring, ShiftFile, Suite};

@@ -9,7 +9,6 @@ use reference::amendment::Amended;
 use reference::calls::{Case, Library, REFERENCE};
 use reference::difference::Compared;
 use reference::report::Report;
-use reference::session::{Session, Step};
 use reference::shift::{Answer, Places};
 use reference::show::hex;
 use snoekeldraf::{Counted, Draft, Holder, Key, Refused, Ring, ShiftFile, Suite, Tag};
@@ -208,11 +207,7 @@ fn report(file: &[u8], ring: &[u8], jobs: &mut [u32], numbers: &mut [u8]) -> Rep
     Report { number, row, count: result.unwrap_or(0) as u32 }
 }
 
-/// A session of the second program is a plain value, which the crate's is not: `tests/sessions.rs` runs those.
-fn no_step() -> Step {
-    unreachable!("sessions are run by themselves")
-}
-
+/// The crate. A session of the second program is a plain value, which the crate's is not: `sessions.rs` runs those.
 pub const CRATE: Library = Library {
     seal,
     open,
@@ -221,10 +216,6 @@ pub const CRATE: Library = Library {
     associated,
     entry,
     open_job,
-    session_start: |_, _, _| no_step(),
-    session_data: |_: Session, _| no_step(),
-    session_part: |_, _, _| no_step(),
-    session_end: |_, _, _| no_step(),
     seal_file,
     unseal_file: |file, ring, out| rewrite(snoekeldraf::unseal, file, ring, out),
     search,
@@ -237,6 +228,7 @@ pub const CRATE: Library = Library {
     seal_counted,
     open_counted,
     report,
+    ..REFERENCE
 };
 
 /// The crate's answer to a case is the second program's, and every byte that is lent.
