@@ -65,6 +65,14 @@ impl<'a> ShiftFile<'a> {
     }
 
     /// The caller's bytes.
+    ///
+    /// ```
+    /// use snoekeldraf::ShiftFile;
+    ///
+    /// let empty = [1, 0, 0, 0, 8, 0, 0, 0];
+    /// assert_eq!(ShiftFile::check(&empty)?.bytes(), empty);
+    /// # Ok::<(), snoekeldraf::Refused>(())
+    /// ```
     pub fn bytes(self) -> &'a [u8] {
         self.bytes
     }

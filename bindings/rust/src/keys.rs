@@ -59,6 +59,18 @@ pub struct Ring([u8; 256]);
 
 impl Ring {
     /// The key with this number, 0 to 15.
+    ///
+    /// ```
+    /// use snoekeldraf::{open, Ring, ShiftFile};
+    ///
+    /// let ring = Ring::try_from(&std::fs::read("../../samples/ring.keys")?[..])?;
+    /// let bytes = std::fs::read("../../samples/day.shift")?;
+    /// let entry = ShiftFile::check(&bytes)?.entry(4103)?;
+    /// let key = ring.key(entry.key_number).unwrap();
+    /// let mut message = vec![0; entry.text.len()];
+    /// open(entry.suite, &key, entry.nonce, entry.associated, entry.text, entry.tag, &mut message)?;
+    /// # Ok::<(), Box<dyn std::error::Error>>(())
+    /// ```
     pub fn key(&self, number: u8) -> Option<Key> {
         self.0.chunks_exact(16).nth(number.into()).and_then(|bytes| Key::try_from(bytes).ok())
     }

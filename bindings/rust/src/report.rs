@@ -19,6 +19,16 @@ pub struct Report<'l> {
 
 impl Report<'_> {
     /// Whether every tag is right.
+    ///
+    /// ```
+    /// use snoekeldraf::{report, Ring};
+    ///
+    /// let ring = Ring::try_from(&std::fs::read("../../samples/ring.keys")?[..])?;
+    /// let file = std::fs::read("../../samples/day.shift")?;
+    /// assert!(report(&file, &ring, &mut [0; 8], &mut [0; 8])?.is_genuine());
+    /// assert!(!report(&file, &Ring::from([7; 256]), &mut [0; 8], &mut [0; 8])?.is_genuine());
+    /// # Ok::<(), Box<dyn std::error::Error>>(())
+    /// ```
     pub fn is_genuine(&self) -> bool {
         self.numbers.iter().all(|number| *number == 0)
     }

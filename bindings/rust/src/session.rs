@@ -138,6 +138,15 @@ impl Session {
     }
 
     /// The suite that it was started with.
+    ///
+    /// ```
+    /// use snoekeldraf::{Key, Session, Suite};
+    ///
+    /// let session = Session::start(Suite::Speck64, &Key::from([7; 16]), &[2; 15])?;
+    /// let room = 20 + session.suite().block_size() - 1; // what a part of 20 bytes needs
+    /// assert_eq!(room, 27);
+    /// # Ok::<(), snoekeldraf::Refused>(())
+    /// ```
     pub fn suite(&self) -> Suite {
         self.suite
     }

@@ -40,16 +40,28 @@ pub enum Suite {
 }
 
 impl Suite {
-    /// All six.
+    /// All six, in the order of their numbers.
     pub const ALL: [Suite; 6] =
         [Suite::Aes128, Suite::Cham128, Suite::Speck64, Suite::Cham64, Suite::Aes128V2, Suite::Speck64V2];
 
     /// The number of the documents, 1 to 6.
+    ///
+    /// ```
+    /// use snoekeldraf::Suite;
+    ///
+    /// assert_eq!(Suite::ALL.map(Suite::number), [1, 2, 3, 4, 5, 6]);
+    /// ```
     pub const fn number(self) -> u8 {
         self as u8
     }
 
     /// Bytes of a block: 16, or 8.
+    ///
+    /// ```
+    /// use snoekeldraf::Suite;
+    ///
+    /// assert_eq!(Suite::ALL.map(Suite::block_size), [16, 16, 8, 8, 16, 8]);
+    /// ```
     pub const fn block_size(self) -> usize {
         match self {
             Suite::Aes128 | Suite::Cham128 | Suite::Aes128V2 => 16,
@@ -58,11 +70,23 @@ impl Suite {
     }
 
     /// Bytes of a tag, as many as of a block.
+    ///
+    /// ```
+    /// use snoekeldraf::Suite;
+    ///
+    /// assert_eq!(Suite::ALL.map(Suite::tag_size), [16, 16, 8, 8, 16, 8]);
+    /// ```
     pub const fn tag_size(self) -> usize {
         self.block_size()
     }
 
     /// Bytes of a nonce: 16, or 15 where the block is small.
+    ///
+    /// ```
+    /// use snoekeldraf::Suite;
+    ///
+    /// assert_eq!(Suite::ALL.map(Suite::nonce_size), [16, 16, 15, 15, 16, 15]);
+    /// ```
     pub const fn nonce_size(self) -> usize {
         match self.block_size() {
             16 => 16,

@@ -50,6 +50,14 @@ impl<'a> Draft<'a> {
     }
 
     /// The caller's bytes.
+    ///
+    /// ```
+    /// use snoekeldraf::Draft;
+    ///
+    /// let empty = [0, 0, 0, 0, 8, 0, 0, 0];
+    /// assert_eq!(Draft::check(&empty)?.bytes(), empty);
+    /// # Ok::<(), snoekeldraf::Refused>(())
+    /// ```
     pub fn bytes(self) -> &'a [u8] {
         self.bytes
     }

@@ -113,6 +113,19 @@ fn words() {
     assert!(Box::<dyn Error + Send + Sync>::from(refused).source().is_none());
 }
 
+/// A file is told exactly where the number speaks of one: 32 and 36 speak of none.
+#[test]
+fn files_that_are_told() {
+    let (day, amendment) = (sample("day.shift"), sample("amendment.shift"));
+    assert_eq!(amend(&amendment, &day, 1).unwrap_err(), Refused { number: 32, row: None, file: None });
+    let refused = compare(&day, &amendment, &mut [], &mut [], &mut []).unwrap_err();
+    assert_eq!(refused, Refused { number: 36, row: None, file: None });
+    let refused = open_amended(&amendment, &day, &ring(), 4103, &mut []).unwrap_err();
+    assert_eq!(refused, Refused { number: 6, row: None, file: Some(2) });
+    let refused = open_amended(&amendment, &day, &ring(), 4102, &mut []).unwrap_err();
+    assert_eq!(refused, Refused { number: 6, row: None, file: Some(1) });
+}
+
 /// A row is told exactly where the number carries one, row 0 too.
 #[test]
 fn rows_that_are_carried() {
@@ -135,7 +148,7 @@ fn rows_that_are_carried() {
     assert_eq!(compare(&day, &bad, &mut [], &mut [], &mut []).unwrap_err(), of_day);
     let refused = open_amended(&day, &day, &wrong_ring, 4101, &mut message).unwrap_err();
     assert_eq!(refused, Refused { number: 8, row: None, file: Some(1) });
-    // the draft of a day with suite 4: row 0 is made suite 4, and the check of the nonce asks for a 16th byte of 0
+    // a draft with suite 4, made of a row whose nonce has 15 bytes too
     let mut draft = sample("day.draft");
     let at = (0..7).map(|i| 8 + 32 * i).find(|at| draft[at + 4] == 3).unwrap();
     draft[at + 4] = 4;
