@@ -1,0 +1,20 @@
+//! Opens every job of a shift file: `day FILE RING`.
+
+use snoekeldraf::{Ring, ShiftFile};
+use std::error::Error;
+
+fn main() -> Result<(), Box<dyn Error>> {
+    let words: Vec<String> = std::env::args().skip(1).collect();
+    let [file, ring] = &words[..] else { return Err("day FILE RING".into()) };
+    let ring = Ring::try_from(&std::fs::read(ring)?[..])?;
+    let bytes = std::fs::read(file)?;
+    let file = ShiftFile::check(&bytes)?;
+    for entry in file.entries() {
+        let mut message = vec![0; entry.text.len()];
+        match file.open_job(&ring, entry.job, &mut message) {
+            Ok(()) => println!("{} {}", entry.job, String::from_utf8_lossy(&message)),
+            Err(refused) => println!("{} {refused}", entry.job),
+        }
+    }
+    Ok(())
+}

@@ -1,0 +1,78 @@
+//! The report on a supplier's file.
+
+use crate::refused::checked;
+use crate::{raw, Refused, Ring};
+#[cfg(feature = "alloc")]
+use {
+    crate::MOST_ROWS,
+    alloc::{vec, vec::Vec},
+};
+
+/// What a report tells: the parts of the lent lists that were written, as long as there are entries.
+#[derive(Clone, Copy, PartialEq, Eq, Debug)]
+pub struct Report<'l> {
+    /// The job number of every entry, in the file's order.
+    pub jobs: &'l [u32],
+    /// For each 0 where its tag is right under the ring, 8 where it is wrong.
+    pub numbers: &'l [u8],
+}
+
+impl Report<'_> {
+    /// Whether every tag is right.
+    ///
+    /// ```
+    /// use snoekeldraf::{report, Ring};
+    ///
+    /// let ring = Ring::try_from(&std::fs::read("../../samples/ring.keys")?[..])?;
+    /// let file = std::fs::read("../../samples/day.shift")?;
+    /// assert!(report(&file, &ring, &mut [0; 8], &mut [0; 8])?.is_genuine());
+    /// assert!(!report(&file, &Ring::from([7; 256]), &mut [0; 8], &mut [0; 8])?.is_genuine());
+    /// # Ok::<(), Box<dyn std::error::Error>>(())
+    /// ```
+    pub fn is_genuine(&self) -> bool {
+        self.numbers.iter().all(|number| *number == 0)
+    }
+}
+
+/// Reports on a supplier's file of at most 65,280 bytes: every entry's job number, and whether its tag is right. A wrong
+/// tag stops nothing. Lists of [`MOST_ROWS`](crate::MOST_ROWS) places are always long enough.
+///
+/// Numbers, in this order: 20 where the file is longer; those of [`ShiftFile::check`](crate::ShiftFile::check); 6 where a
+/// list has fewer places than there are entries. A refusal leaves both lists as they were; success leaves the places
+/// behind what is written.
+///
+/// ```
+/// use snoekeldraf::{report, Ring};
+///
+/// let ring = Ring::try_from(&std::fs::read("../../samples/ring.keys")?[..])?;
+/// let mut file = std::fs::read("../../samples/day.shift")?;
+/// *file.last_mut().unwrap() ^= 1; // in the last tag
+/// let (mut jobs, mut numbers) = ([0; 512], [0; 512]);
+/// let report = report(&file, &ring, &mut jobs, &mut numbers)?;
+/// assert_eq!(report.jobs, [4101, 4102, 4103, 4105, 4110, 4200, 4210, 4211]);
+/// assert_eq!(report.numbers, [0, 0, 0, 0, 0, 0, 0, 8]);
+/// assert!(!report.is_genuine());
+/// # Ok::<(), Box<dyn std::error::Error>>(())
+/// ```
+pub fn report<'l>(file: &[u8], ring: &Ring, jobs: &'l mut [u32], numbers: &'l mut [u8]) -> Result<Report<'l>, Refused> {
+    let (answer, count) = raw::report(file, ring.bytes(), jobs, numbers);
+    checked(answer)?;
+    Ok(Report { jobs: &jobs[..count as usize], numbers: &numbers[..count as usize] })
+}
+
+/// As [`report`]; gives each entry's job number and its 0 or 8. Number 6 cannot come.
+///
+/// ```
+/// use snoekeldraf::{report_vec, Ring};
+///
+/// let ring = Ring::try_from(&std::fs::read("../../samples/ring.keys")?[..])?;
+/// let entries = report_vec(&std::fs::read("../../samples/amendment.shift")?, &ring)?;
+/// assert_eq!(entries, [(4102, 0), (4110, 0), (4220, 0)]);
+/// # Ok::<(), Box<dyn std::error::Error>>(())
+/// ```
+#[cfg(feature = "alloc")]
+pub fn report_vec(file: &[u8], ring: &Ring) -> Result<Vec<(u32, u8)>, Refused> {
+    let (mut jobs, mut numbers) = (vec![0; MOST_ROWS], vec![0; MOST_ROWS]);
+    let report = report(file, ring, &mut jobs, &mut numbers)?;
+    Ok(report.jobs.iter().copied().zip(report.numbers.iter().copied()).collect())
+}
