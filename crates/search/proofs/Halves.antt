@@ -3,9 +3,9 @@ use Prim.Native.Nat.{ℕ, zero, suc, _+_, _-_, _*_, _/_, _^_, _≤_, _<_}
 use native.Mathlib.Nat.{pow-suc, eq-or-lt-of-le, not-suc-le-zero}
 use native.Mathlib.Decide.{decLt}
 use native.Mathlib.Omega.{arith}
-use mathlib.Core.Path.{_≡_, refl, sym, ap, ap₂, _∙_}
+use mathlib.Core.Path.{_≡_, refl, sym, ap, ap₂, _∙_, subst}
 use mathlib.Core.Bool.{Bool, true, false, cond}
-use mathlib.Core.List.{List}
+use mathlib.Core.List.{List, [], _∷_}
 use mathlib.Core.Logic.{_⊎_, inl, inr, ⊎-elim}
 use lib.ListN.{length}
 use lib.Dec.{eqb, ltb}
@@ -189,6 +189,37 @@ jobs-same jobs other job (suc k) s c l h =
       | no none ↦
           let z : c ≡ 0 = omega arith in
           rw z (in-none jobs job (suc k) s ∙ sym (in-none other job (suc k) s))
+    ]
+
+-- ---- only the rows that are visited are read
+
+-- the same job in each row of a list
+abbrev pub Same : (ℕ → ℕ) → (ℕ → ℕ) → List ℕ → Type 0
+Same jobs other [] = Unit
+Same jobs other (i ∷ is) = (jobs i ≡ other i) × Same jobs other is
+
+pub visited-same : (jobs other : ℕ → ℕ) (job k s c : ℕ) → c ≤ k → Same jobs other (halving jobs job s c .rows) → halving jobs job s c ≡ halving other job s c
+visited-same jobs other job zero s c l h =
+    let z : c ≡ 0 = omega arith in
+    rw z (halving-none jobs job s ∙ sym (halving-none other job s))
+visited-same jobs other job (suc k) s c l h =
+    elim (decLt 0 c) [
+      | yes some ↦
+          let m = s + c / 2 in
+          let of : {w : Walk} → halving jobs job s c ≡ w → Same jobs other (w .rows) = λ e. subst (λ (w : Walk). Same jobs other (w .rows)) e h in
+          three (jobs m) job
+          (λ q.
+          let e = halving-hit jobs job s c some q in
+          e ∙ sym (halving-hit other job s c some (sym (of e .0) ∙ q)))
+          (λ low.
+          let e = halving-up jobs job s c some low in
+          e ∙ ap (visit m) (visited-same jobs other job k (m + 1) (c - c / 2 - 1) (omega arith) (of e .1)) ∙ sym (halving-up other job s c some (rw (sym (of e .0)) low)))
+          (λ high.
+          let e = halving-down jobs job s c some high in
+          e ∙ ap (visit m) (visited-same jobs other job k s (c / 2) (omega arith) (of e .1)) ∙ sym (halving-down other job s c some (rw (sym (of e .0)) high)))
+      | no none ↦
+          let z : c ≡ 0 = omega arith in
+          rw z (halving-none jobs job s ∙ sym (halving-none other job s))
     ]
 
 -- ---- where job numbers rise, the row that has the job is found
