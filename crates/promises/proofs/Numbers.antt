@@ -138,7 +138,7 @@ open-numbers suite key nonce ad text tag out =
 
 -- ---- the session
 
-answered-number : (n : ℕ) (done : Given) (v : Value) (out tag : List ℕ) → done .number ≡ 0 → answered n done v out tag .number ≡ n
+pub answered-number : (n : ℕ) (done : Given) (v : Value) (out tag : List ℕ) → done .number ≡ 0 → answered n done v out tag .number ≡ n
 answered-number zero done v out tag z = z
 answered-number (suc n) done v out tag z = refl
 
@@ -167,7 +167,7 @@ tells-going : (v : Value) → Tells (sound (v .suite) (v .came) (v .text)) (Goin
 tells-going v = tells-and (tells-true (seals (v .suite))) (tells-and (tells-le (v .came) 65536) (tells-le (v .text) 65536))
 
 -- a total that is within the limit, and goes over it by l bytes
-tells-over : (t l : ℕ) → t ≤ 65536 → Tells (ltb (65536 - t) l) (65536 < t + l)
+pub tells-over : (t l : ℕ) → t ≤ 65536 → Tells (ltb (65536 - t) l) (65536 < t + l)
 tells-over t l h = tells-as (tells-lt (65536 - t) l) (λ k. omega (arith, h, k), λ k. omega (arith, h, k))
 
 pub data-numbers : DataNumbers

@@ -1,18 +1,22 @@
--- W2 by citation: what a run gives are the specification's outputs for the joined texts, so they are the sealer's, and the opener takes them.
+-- W2: what a run gives are the specification's outputs for the joined texts, so they are the sealer's, and the opener takes them.
 use mathlib.Core.Path.{_≡_, refl, sym, ap₂, _∙_}
-use Prim.Native.Nat.{ℕ, zero, suc}
+use mathlib.Core.Bool.{true, not}
+use Prim.Native.Nat.{ℕ, zero, suc, _+_, _-_, _≤_}
 use mathlib.Core.List.{List, []}
 use lib.ListN.{length}
+use lib.Dec.{eqb, ltb}
+use borrow.Author.Tests.{le-leb}
 use Rattle.words.specs.Bytes.{AllBytes}
-use Rattle.cipher.specs.Cipher.{cipherOf}
+use Rattle.cipher.specs.Cipher.{Seals, cipherOf, sizeOf}
 use Rattle.cipher.proofs.Suites.{seals-has}
 use Rattle.comet.specs.Answers.{opening}
-use Rattle.session.specs.Value.{Value, Given, answered, gave, starting, dataNumber, dataIn, dataPart, textNumber, textDone, textPart, endNumber, endDone, ending}
-use Rattle.session.specs.Calls.{Call, AllLent, Run, runOf}
+use Rattle.session.specs.Value.{Value, Given, sound, answered, gave, starting, dataNumber, dataIn, dataPart, textNumber, textDone, textPart, endNumber, endDone, ending}
+use Rattle.session.specs.Calls.{Call, AllLent, Run, runOf, Next}
 use Rattle.session.proofs.Whatever.{starts, refused-shut, goes, finished, whatever, facts}
 use Rattle.promises.specs.Input.{Input}
-use Rattle.promises.specs.Sessions.{AsOneCall, OpensWhole, Keeps, Sessions}
-use Rattle.promises.proofs.Numbers.{done-number}
+use Rattle.promises.specs.Sessions.{AsOneCall, OpensWhole, NextNumbers, RunNumbers, Keeps, Sessions}
+use Rattle.promises.proofs.Tables.{tells-eq, tells-lt, tells-not, table}
+use Rattle.promises.proofs.Numbers.{answered-number, tells-over, done-number}
 use Rattle.promises.proofs.Demand2.{sealing-is, round-trip}
 
 -- the joined texts are an input of the sealer
@@ -50,6 +54,55 @@ opens-whole suite key nonce cs out₀ tag₀ hk hv hc e0 e1 out₁ lo =
     ap₂ (λ (c t : List ℕ). opening suite key nonce (r .ad) c t out₁) (w .0) (w .1)
     ∙ round-trip suite key nonce (r .ad) (r .msg) out₁ (input suite key nonce cs out₀ tag₀ hk hv hc e0 e1) lo
 
+-- ---- the numbers of a run
+
+-- the totals of a session that goes on are within the limits, so 9 is gone
+goes-on : (suite a m : ℕ) → Seals suite → a ≤ 65536 → m ≤ 65536 → sound suite a m ≡ true
+goes-on suite a m h la lm = simp (h, le-leb a 65536 la, le-leb m 65536 lm)
+
+next-numbers : (suite : ℕ) (r : Run) → Next suite r → NextNumbers suite r
+unfolding dataPart dataNumber textPart textNumber ending endNumber
+next-numbers suite r n =
+    let v = r .now in
+    let a = length (r .ad) in
+    let m = length (r .msg) in
+    let on : sound suite a m ≡ true = goes-on suite a m (n .seals) (n .data-most) (n .text-most) in
+    record {
+      associated = λ p.
+          table _ _ (
+            not (eqb m 0),
+            λ _. tells-not (tells-eq m 0),
+            (
+              ltb (65536 - a) (length p),
+              λ _. tells-over a (length p) (n .data-most),
+              tt,
+            ),
+          ) refl (answered-number _ _ v [] [] refl ∙ simp (n .suite-is, n .came-is, n .text-is, on));
+      message = λ p out.
+          table _ _ (
+            ltb (65536 - m) (length p),
+            λ _. tells-over m (length p) (n .text-most),
+            (
+              ltb (length out) (length p + (sizeOf suite - 1)),
+              λ _. tells-lt _ _,
+              tt,
+            ),
+          ) refl (answered-number _ _ v out [] (done-number v p out) ∙ simp (n .suite-is, n .came-is, n .text-is, on));
+      finish = λ out tag.
+          table _ _ (
+            ltb (length out) (sizeOf suite),
+            λ _. tells-lt _ _,
+            (
+              not (eqb (length tag) (sizeOf suite)),
+              λ _. tells-not (tells-eq _ _),
+              tt,
+            ),
+          ) refl (answered-number _ _ v out tag refl ∙ simp (n .suite-is, n .came-is, n .text-is, on));
+    }
+
+pub run-numbers : RunNumbers
+run-numbers suite key nonce cs hk hv hc e0 f = next-numbers suite (runOf suite key nonce cs) (goes suite key nonce cs hk hv hc e0 .0 f)
+
 -- ---- refusals
 
 kept : (k : ℕ) (done : Given) (v : Value) (out tag : List ℕ) → done .number ≡ 0 →
@@ -75,6 +128,7 @@ sessions =
       starts = starts;
       refused-shut = refused-shut;
       goes = goes;
+      numbers = run-numbers;
       whatever = whatever;
       as-one-call = as-one-call;
       opens-whole = opens-whole;
