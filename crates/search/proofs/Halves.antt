@@ -206,17 +206,17 @@ visited-same jobs other job (suc k) s c l h =
     elim (decLt 0 c) [
       | yes some ↦
           let m = s + c / 2 in
-          let of : {w : Walk} → halving jobs job s c ≡ w → Same jobs other (w .rows) = λ e. subst (λ (w : Walk). Same jobs other (w .rows)) e h in
+          let of : (w : Walk) → halving jobs job s c ≡ w → Same jobs other (w .rows) = λ w e. subst (λ (w : Walk). Same jobs other (w .rows)) e h in
           three (jobs m) job
           (λ q.
           let e = halving-hit jobs job s c some q in
-          e ∙ sym (halving-hit other job s c some (sym (of e .0) ∙ q)))
+          e ∙ sym (halving-hit other job s c some (sym (of _ e .0) ∙ q)))
           (λ low.
           let e = halving-up jobs job s c some low in
-          e ∙ ap (visit m) (visited-same jobs other job k (m + 1) (c - c / 2 - 1) (omega arith) (of e .1)) ∙ sym (halving-up other job s c some (rw (sym (of e .0)) low)))
+          e ∙ ap (visit m) (visited-same jobs other job k (m + 1) (c - c / 2 - 1) (omega arith) (of _ e .1)) ∙ sym (halving-up other job s c some (rw (sym (of _ e .0)) low)))
           (λ high.
           let e = halving-down jobs job s c some high in
-          e ∙ ap (visit m) (visited-same jobs other job k s (c / 2) (omega arith) (of e .1)) ∙ sym (halving-down other job s c some (rw (sym (of e .0)) high)))
+          e ∙ ap (visit m) (visited-same jobs other job k s (c / 2) (omega arith) (of _ e .1)) ∙ sym (halving-down other job s c some (rw (sym (of _ e .0)) high)))
       | no none ↦
           let z : c ≡ 0 = omega arith in
           rw z (halving-none jobs job s ∙ sym (halving-none other job s))

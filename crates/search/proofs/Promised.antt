@@ -65,7 +65,7 @@ rows-decide f g job a n = head-case (eqb (headAnswer f .number) 0) refl
 
     head-case : (b : Bool) → eqb (headAnswer f .number) 0 ≡ b → SameJobs f g (cond b (halving (jobs f) job 0 (countOf f)) (ends (headAnswer f)) .rows)
         → cond b (halving (jobs f) job 0 (countOf f)) (ends (headAnswer f)) ≡ cond (eqb (headAnswer g .number) 0) (halving (jobs g) job 0 (countOf g)) (ends (headAnswer g))
-    head-case true e h = simp (tests ∙ e) (visited-same (jobs f) (jobs g) job (countOf f) 0 (countOf f) (omega arith) (listed f g _ h) ∙ ap (halving (jobs g) job 0) n)
+    head-case true e h = simp (tests ∙ e) (visited-same (jobs f) (jobs g) job (countOf f) 0 (countOf f) (omega arith) (listed f g (halving (jobs f) job 0 (countOf f) .rows) h) ∙ ap (halving (jobs g) job 0) n)
     head-case false e h = simp (tests ∙ e) (ap ends a)
 
 pub same-as-lookup : SameAsLookup
