@@ -170,6 +170,27 @@ row-most jobs job (suc k) s c l =
           rw z (omega (arith, ap rowOf (halving-none jobs job s)))
     ]
 
+-- ---- the number that is given is 0 or 32
+
+abbrev numberOf : Walk → ℕ
+numberOf x = x .says .number
+
+pub halved-number : (jobs : ℕ → ℕ) (job k s c : ℕ) → c ≤ k → (halving jobs job s c .says .number ≡ 0) ⊎ (halving jobs job s c .says .number ≡ 32)
+halved-number jobs job zero s c l =
+    let z : c ≡ 0 = omega arith in
+    inr (rw z (ap numberOf (halving-none jobs job s)))
+halved-number jobs job (suc k) s c l =
+    elim (decLt 0 c) [
+      | yes some ↦
+          three (jobs (s + c / 2)) job
+          (λ q. inl (ap numberOf (halving-hit jobs job s c some q)))
+          (λ b. rw (ap numberOf (halving-up jobs job s c some b)) (halved-number jobs job k (s + c / 2 + 1) (c - c / 2 - 1) (omega arith)))
+          (λ b. rw (ap numberOf (halving-down jobs job s c some b)) (halved-number jobs job k s (c / 2) (omega arith)))
+      | no none ↦
+          let z : c ≡ 0 = omega arith in
+          inr (rw z (ap numberOf (halving-none jobs job s)))
+    ]
+
 -- ---- only the rows of the stretch are read
 
 pub jobs-same : (jobs other : ℕ → ℕ) (job k s c : ℕ) → c ≤ k → ((i : ℕ) → s ≤ i → i < s + c → jobs i ≡ other i) → halvingIn jobs job k s c ≡ halvingIn other job k s c
