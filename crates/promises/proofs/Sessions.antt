@@ -16,7 +16,7 @@ use Rattle.session.proofs.Whatever.{starts, refused-shut, goes, finished, whate
 use Rattle.promises.specs.Input.{Input}
 use Rattle.promises.specs.Sessions.{AsOneCall, OpensWhole, NextNumbers, RunNumbers, Keeps, Sessions}
 use Rattle.promises.proofs.Tables.{tells-eq, tells-lt, tells-not, table}
-use Rattle.promises.proofs.Numbers.{answered-number, tells-over, done-number}
+use Rattle.promises.proofs.Numbers.{tells-tag-size, answered-number, tells-over, done-number}
 use Rattle.promises.proofs.Demand2.{sealing-is, round-trip}
 
 -- the joined texts are an input of the sealer
@@ -94,7 +94,7 @@ next-numbers suite r n =
             λ _. tells-lt _ _,
             (
               not (eqb (length tag) (sizeOf suite)),
-              λ _. tells-not (tells-eq _ _),
+              λ _. tells-not (tells-tag-size _ suite),
               tt,
             ),
           ) refl (answered-number _ _ v out tag refl ∙ simp (n .suite-is, n .came-is, n .text-is, on));

@@ -1,8 +1,10 @@
 -- A ladder of tests gives the numbers of a table, where each test tells whether its line applies, once no line before it does.
 use mathlib.Core.Path.{_≡_, refl, sym, ap, _∙_}
-use mathlib.Core.Logic.{_⊎_, inl, inr, _↔_}
+use mathlib.Core.Logic.{_⊎_, inl, inr, _↔_, ⊎-elim}
 use mathlib.Core.Bool.{Bool, true, false, cond, not, _&&_, _||_, true≢false}
-use Prim.Native.Nat.{ℕ, _<_, _≤_}
+use Prim.Native.Nat.{ℕ, zero, suc, _<_, _≤_}
+use native.Mathlib.Nat.{not-suc-le-zero, le-of-suc-le-suc, eq-or-lt-of-le}
+use native.Mathlib.Omega.{arith}
 use mathlib.Core.List.{List, [], _∷_}
 use lib.Dec.{eqb, ltb, leb}
 use borrow.Author.Tests.{ltb-true, leb-true, eqb-true, eqb-false, lt-ltb, le-leb, eq-eqb, not-true}
@@ -68,6 +70,25 @@ stable {b} {P} t n = by b t
     by : (b : Bool) → Tells b P → P
     by true t = t .0 refl
     by false t = absurd (n (λ p. true≢false (sym (t .1 p))))
+
+-- a test whose word does not hold
+pub not-told : {b : Bool} {P : Type 0} → Tells b P → (P → ⊥) → b ≡ false
+not-told {b} {P} t n = by b t
+  where
+    by : (b : Bool) → Tells b P → b ≡ false
+    by true t = absurd (n (t .0 refl))
+    by false t = refl
+
+-- the numbers below k all have 0, or there is a first that has not
+pub least : (what : ℕ → ℕ) (k : ℕ)
+    → ((j : ℕ) → j < k → what j ≡ 0) ⊎ ((i : ℕ) × (i < k) × ((j : ℕ) → j < i → what j ≡ 0) × (what i ≡ 0 → ⊥))
+least what zero = inl (λ j l. absurd (not-suc-le-zero l))
+least what (suc k) = ⊎-elim (λ q. here q (eqb (what k) 0) refl) (λ w. inr (w .0, omega (arith, w .1), w .2, w .3)) (least what k)
+  where
+    here : ((j : ℕ) → j < k → what j ≡ 0) → (b : Bool) → eqb (what k) 0 ≡ b
+        → ((j : ℕ) → j < suc k → what j ≡ 0) ⊎ ((i : ℕ) × (i < suc k) × ((j : ℕ) → j < i → what j ≡ 0) × (what i ≡ 0 → ⊥))
+    here q true e = inl (λ j l. ⊎-elim (λ s. ap what s ∙ eqb-true (what k) 0 e) (q j) (eq-or-lt-of-le (le-of-suc-le-suc l)))
+    here q false e = inr (k, omega arith, q, eqb-false (what k) 0 e)
 
 -- ---- the ladder
 

@@ -1,6 +1,6 @@
 -- Every outcome of the shift file's other calls, and when it is given. The writer's stand in `draft/specs/Promised.antt` (`SealCases`, `UnsealCases`), the reseal pass's in `reseal/specs/Promised.antt` (`ResealCases`), the amendments' in `amend/specs/Promised.antt`.
 use mathlib.Core.Path.{_≡_}
-use mathlib.Core.Logic.{_⊎_}
+use mathlib.Core.Logic.{_⊎_, _↔_}
 use Prim.Native.Nat.{ℕ, _≤_, _<_}
 use mathlib.Core.List.{List, [], _∷_}
 use lib.ListN.{length}
@@ -10,14 +10,14 @@ use Rattle.table.specs.Check.{headNumber, checkAs, checkFile}
 use Rattle.shift.specs.Lookup.{lookupJob}
 use Rattle.shift.specs.Opening.{left, jobOpening}
 use Rattle.shift.specs.Promised.{Finds}
-use Rattle.search.specs.Halving.{ends, halving, jobsOf, headAnswer, searching}
+use Rattle.search.specs.Halving.{ends, halving, jobsOf, searching}
 use Rattle.draft.specs.Promised.{RightTag}
 use Rattle.compare.specs.Comparing.{onlyFirst, onlySecond, differing, refusedIn, stopped, listed, comparison}
 use Rattle.editions.specs.Files.{moved}
 use Rattle.editions.specs.Answers.{FileMoved, toEdition2, toEdition1}
 use Rattle.editions.specs.Promised.{done}
 use Rattle.reader.specs.Reporting.{jobOf, tagNumber, front, entries, stopped as unreported, longest, reporting}
-use Rattle.promises.specs.Tables.{_when_, Table}
+use Rattle.promises.specs.Tables.{Line, _when_, None, Lines, Table}
 use Rattle.promises.specs.Numbers.{headTable}
 
 -- 20 to 24 alone
@@ -39,13 +39,24 @@ pub record JobCases (f ring : List ℕ) (job : ℕ) (out : List ℕ) : Type 0 wh
       ∷ []
       )
 
--- the search (W6): 20 to 24, and no row is looked at; else what the halving rule gives
+-- the search (W6): each of 20 to 24, and no row is looked at; else what the halving rule gives (`Halves`), which is 0 or 32
 pub record SearchCases (f : List ℕ) (job : ℕ) : Type 0 where
-  pub head : (headNumber edition newest f ≡ 0 → ⊥) → searching f job ≡ ends (headAnswer f)
-  pub halved : headNumber edition newest f ≡ 0 → searching f job ≡ halving (jobsOf (widthOf f) f) job 0 (countOf f)
+  pub head : Lines (λ k. searching f job ≡ ends (answer k 0)) Unit (headTable edition newest f)
+  pub halved : None (headTable edition newest f) → searching f job ≡ halving (jobsOf (widthOf f) f) job 0 (countOf f)
 
 -- compare (W8): the first file's refusal, the second's, 36; every refusal leaves the lists as they were
+
+-- both files pass
+abbrev pub BothPass : List ℕ → List ℕ → Type 0
+BothPass f g = (checkFile f .number ≡ 0) × (checkFile g .number ≡ 0)
+
+abbrev pub roomTable : List ℕ → List ℕ → List ℕ → List ℕ → List ℕ → List Line
+roomTable f g x y z = (36 when (length x < length (onlyFirst f g)) ⊎ ((length y < length (onlySecond f g)) ⊎ (length z < length (differing f g)))) ∷ []
+
 pub record CompareCases (f g x y z : List ℕ) : Type 0 where
+  -- 36 exactly if both files pass and a list is longer than its buffer; 0 exactly if they pass and none is
+  pub room-number : Lines (λ k. comparison f g x y z .finding ≡ refusedIn 0 (answer k 0)) (BothPass f g) (roomTable f g x y z)
+  pub success : (comparison f g x y z .finding .number ≡ 0) ↔ (BothPass f g × None (roomTable f g x y z))
   pub first : (checkFile f .number ≡ 0 → ⊥) → comparison f g x y z ≡ stopped (refusedIn 1 (checkFile f)) x y z
   pub second : checkFile f .number ≡ 0 → (checkFile g .number ≡ 0 → ⊥) → comparison f g x y z ≡ stopped (refusedIn 2 (checkFile g)) x y z
   pub room : checkFile f .number ≡ 0 → checkFile g .number ≡ 0
@@ -61,6 +72,11 @@ unmoved k i out = record { answer = answer k i; out = out }
 
 -- to edition 2 (W10): the checks of edition 1, 20, 6
 pub record UpCases (f out : List ℕ) : Type 0 where
+  pub numbers : checkAs edition f .number ≡ 0 → Table (λ k. toEdition2 f out .answer ≡ answer k 0) (
+      (20 when 1048576 < length (moved newest f))
+      ∷ (6 when (length out ≡ length (moved newest f) → ⊥))
+      ∷ []
+      )
   pub checked : (checkAs edition f .number ≡ 0 → ⊥) → toEdition2 f out ≡ record { answer = checkAs edition f; out = out }
   pub long : checkAs edition f .number ≡ 0 → 1048576 < length (moved newest f) → toEdition2 f out ≡ unmoved 20 0 out
   pub room : checkAs edition f .number ≡ 0 → length (moved newest f) ≤ 1048576 → (length out ≡ length (moved newest f) → ⊥) → toEdition2 f out ≡ unmoved 6 0 out
@@ -68,6 +84,11 @@ pub record UpCases (f out : List ℕ) : Type 0 where
 
 -- back to edition 1: the checks of edition 2, 35 with the first row that has a station, 6; 20 cannot come out (`BackShort`)
 pub record BackCases (f out : List ℕ) : Type 0 where
+  -- 35 with row i exactly if the file passes, and row i has a station and none before it has
+  pub station-number : (i : ℕ)
+      → Lines (λ k. toEdition1 f out .answer ≡ answer k i) ((checkAs newest f .number ≡ 0) × ((i < countOf f) × ((k : ℕ) → k < i → stationOf f k ≡ 0))) ((35 when (stationOf f i ≡ 0 → ⊥)) ∷ [])
+  pub numbers : checkAs newest f .number ≡ 0 → ((i : ℕ) → i < countOf f → stationOf f i ≡ 0)
+      → Table (λ k. toEdition1 f out .answer ≡ answer k 0) ((6 when (length out ≡ length (moved edition f) → ⊥)) ∷ [])
   pub checked : (checkAs newest f .number ≡ 0 → ⊥) → toEdition1 f out ≡ record { answer = checkAs newest f; out = out }
   pub station : checkAs newest f .number ≡ 0 → (i : ℕ) → i < countOf f → (stationOf f i ≡ 0 → ⊥) → ((k : ℕ) → k < i → stationOf f k ≡ 0) → toEdition1 f out ≡ unmoved 35 i out
   pub room : checkAs newest f .number ≡ 0 → ((i : ℕ) → i < countOf f → stationOf f i ≡ 0) → (length out ≡ length (moved edition f) → ⊥) → toEdition1 f out ≡ unmoved 6 0 out
@@ -75,6 +96,11 @@ pub record BackCases (f out : List ℕ) : Type 0 where
 
 -- the report (W14): 20 for a file of more than 65,280 bytes, the checks, 2; 6 where a list has fewer places than there are entries
 pub record ReportCases (f ring jobs numbers : List ℕ) : Type 0 where
+  pub numbered : length f ≤ longest → checkFile f .number ≡ 0 → Table (λ k. reporting f ring jobs numbers .said .number ≡ k) (
+      (2 when (length ring ≡ 256 → ⊥))
+      ∷ (6 when (length jobs < countOf f) ⊎ (length numbers < countOf f))
+      ∷ []
+      )
   pub long : longest < length f → reporting f ring jobs numbers ≡ unreported (answer 20 0) jobs numbers
   pub checked : length f ≤ longest → (checkFile f .number ≡ 0 → ⊥) → reporting f ring jobs numbers ≡ unreported (checkFile f) jobs numbers
   pub ring-wrong : length f ≤ longest → checkFile f .number ≡ 0 → (length ring ≡ 256 → ⊥) → reporting f ring jobs numbers ≡ unreported (answer 2 0) jobs numbers

@@ -10,6 +10,7 @@ use Rattle.comet.specs.Answers.{sealing, opening}
 use Rattle.session.specs.Value.{Value, Given, starting, dataPart, textPart, ending}
 use Rattle.session.specs.Calls.{Call, AllLent, Run, runOf, joined, Starts, RefusedShut, Goes, Whatever}
 use Rattle.promises.specs.Tables.{_when_, Table}
+use Rattle.promises.specs.Numbers.{tagSize}
 
 -- of a run whose start and end answered 0
 abbrev pub OfRuns : (ℕ → List ℕ → List ℕ → Run → Given → Type 0) → Type 0
@@ -47,7 +48,7 @@ pub record NextNumbers (suite : ℕ) (r : Run) : Type 0 where
       )
   pub finish : (out tag : List ℕ) → Table (λ k. ending (r .now) out tag .number ≡ k) (
       (6 when length out < sizeOf suite)
-      ∷ (7 when (length tag ≡ sizeOf suite → ⊥))
+      ∷ (7 when (length tag ≡ tagSize suite → ⊥))
       ∷ []
       )
 
