@@ -112,8 +112,8 @@ module _ (f g x y z : List ℕ) where
       on : (r s t : Bool) → eqb (checkFile f .number) 0 ≡ r → eqb (checkFile g .number) 0 ≡ s → tooLong f g x y z ≡ t → P
       on false s t p q l = let n = eqb-false (checkFile f .number) 0 p in a n (in-first n)
       on true false t p q l = let n = eqb-false (checkFile g .number) 0 q in b n (in-second (eqb-true (checkFile f .number) 0 p) n)
-      on true true true p q l = let h = (eqb-true (checkFile f .number) 0 p, eqb-true (checkFile g .number) 0 q) in c h (tells-longer .0 l) (past true h l)
-      on true true false p q l = let h = (eqb-true (checkFile f .number) 0 p, eqb-true (checkFile g .number) 0 q) in d h (λ w. true≢false (sym (tells-longer .1 w) ∙ l)) (past false h l)
+      on true true true p q l = let h : BothPass f g = (eqb-true (checkFile f .number) 0 p, eqb-true (checkFile g .number) 0 q) in c h (tells-longer .0 l) (past true h l)
+      on true true false p q l = let h : BothPass f g = (eqb-true (checkFile f .number) 0 p, eqb-true (checkFile g .number) 0 q) in d h (λ w. true≢false (sym (tells-longer .1 w) ∙ l)) (past false h l)
 
   abbrev told : Comparison → Finding
   told c = c .finding
@@ -121,14 +121,17 @@ module _ (f g x y z : List ℕ) where
   compare-cases : CompareCases f g x y z
   compare-cases =
       record {
-        room-number = ((
-          λ e. compare-by _
-              (λ n s. absurd (one-zero (ap (λ (t : Finding). t .file) (sym (ap told s) ∙ e))))
-              (λ n s. absurd (two-zero (ap (λ (t : Finding). t .file) (sym (ap told s) ∙ e))))
-              (λ h w s. (h, w))
-              (λ h w s. absurd (zero-room (ap (λ (t : Finding). t .number) (sym (ap told s) ∙ e)))),
-          λ h. ap told (past true (h .0) (tells-longer .1 (h .1))),
-        ), tt);
+        room-number = (
+          (
+            λ e. compare-by _
+                (λ n s. absurd (one-zero (ap (λ (t : Finding). t .file) (sym (ap told s) ∙ e))))
+                (λ n s. absurd (two-zero (ap (λ (t : Finding). t .file) (sym (ap told s) ∙ e))))
+                (λ h w s. (h, w))
+                (λ h w s. absurd (zero-room (ap (λ (t : Finding). t .number) (sym (ap told s) ∙ e)))),
+            λ h. ap told (past true (h .0) (tells-longer .1 (h .1))),
+          ),
+          tt,
+        );
         success = (
           λ e. compare-by _
               (λ n s. absurd (n (ap (λ (t : Comparison). t .finding .number) (sym s) ∙ e)))
@@ -153,60 +156,6 @@ module _ (f g x y z : List ℕ) where
       zero-room e = omega arith
 
 -- ---- the moves
-
-up-cases : (f : List ℕ) (job : ℕ) → LookupCases f job
-unfolding lookupJob
-lookup-cases f job = record { checked = λ n. simp (ne-eqb (checkFile f .number) 0 n); passed = finds f job }
-
--- ---- the search
-
-module _ (f : List ℕ) (job : ℕ) where
-  abbrev H : ℕ
-  H = headNumber edition newest f
-
-  search-stops : (H ≡ 0 → ⊥) → searching f job ≡ ends (answer H 0)
-  unfolding searching
-  search-stops n = simp (ne-eqb H 0 n)
-
-  search-goes : H ≡ 0 → searching f job ≡ halving (jobsOf (widthOf f) f) job 0 (countOf f)
-  unfolding searching
-  search-goes z = simp z
-
-  -- a number that the halving does not give is the head's
-  search-by : (k : ℕ) → (k ≡ 0 → ⊥) → (k ≡ 32 → ⊥) → By (λ j. searching f job ≡ ends (answer j 0)) Unit (ladder Unit (headTable edition newest f) (head-rungs edition newest f)) k
-  search-by k n0 n32 = (λ e. (tt, sym (head-is edition newest f) ∙ on (eqb H 0) refl e), λ y. let h : H ≡ k = head-is edition newest f ∙ y .1 in search-stops (λ z. n0 (sym h ∙ z)) ∙ ap (λ (m : ℕ). ends (answer m 0)) h)
-    where
-      said : Walk → ℕ
-      said x = x .says .number
-
-      on : (b : Bool) → eqb H 0 ≡ b → searching f job ≡ ends (answer k 0) → H ≡ k
-      on true t e =
-          let q = ap said (sym (search-goes (eqb-true H 0 t)) ∙ e) in
-          absurd (⊎-elim (λ z. n0 (sym q ∙ z)) (λ z. n32 (sym q ∙ z)) (halved-number (jobsOf (widthOf f) f) job (countOf f) 0 (countOf f) (omega arith)))
-      on false t e = ap said (sym (search-stops (eqb-false H 0 t)) ∙ e)
-
-  search-cases : SearchCases f job
-  search-cases = record {
-    head = lines (λ k. searching f job ≡ ends (answer k 0)) Unit (headTable edition newest f) (head-rungs edition newest f) refl
-        (search-by 20 (λ e. omega arith) (λ e. omega arith), (search-by 21 (λ e. omega arith) (λ e. omega arith), (search-by 22 (λ e. omega arith) (λ e. omega arith), (search-by 23 (λ e. omega arith) (λ e. omega arith), (search-by 24 (λ e. omega arith) (λ e. omega arith), tt)))));
-    halved = λ h. search-goes (none-head edition newest f .1 h);
-  }
-
--- ---- compare
-
--- a list that is longer than its buffer
-any-longer : (a b c d e g : ℕ) → (a < b) ⊎ ((c < d) ⊎ (e < g)) → ltb a b || (ltb c d || ltb e g) ≡ true
-any-longer a b c d e g h = tells-or (tells-lt a b) (tells-or (tells-lt c d) (tells-lt e g)) .1 h
-
-compare-cases : (f g x y z : List ℕ) → CompareCases f g x y z
-unfolding comparison
-compare-cases f g x y z =
-    record {
-      first = λ n. simp (ne-eqb (checkFile f .number) 0 n);
-      second = λ p n. simp (p, ne-eqb (checkFile g .number) 0 n);
-      room = λ p q h. simp (p, q, any-longer (length x) (length (onlyFirst f g)) (length y) (length (onlySecond f g)) (length z) (length (differing f g)) h);
-      lists = λ p q a b c. simp (p, q, le-ltb (length x) (length (onlyFirst f g)) a, le-ltb (length y) (length (onlySecond f g)) b, le-ltb (length z) (length (differing f g)) c);
-    }
 
 -- two tests, one after the other
 two-said : (a b : Bool) (k l : ℕ) → cond a (answer k 0) (cond b (answer l 0) (answer 0 0)) ≡ answer (cond a k (cond b l 0)) 0
@@ -272,7 +221,7 @@ module _ (f out : List ℕ) where
       other : (k : ℕ) → (k ≡ 35 → ⊥) → toEdition1 f out .answer .number ≡ k → Told
       other k n q = absurd (n (sym q ∙ ap num e))
 
-      six : (b : Bool) → cond (not b) 6 0 ≡ 35 → ⊥
+      six : (b : Bool) → _≡_ {A = ℕ} (cond (not b) 6 0) 35 → ⊥
       six true q = omega arith
       six false q = omega arith
 
@@ -330,7 +279,6 @@ report-cases f ring jobs numbers =
       room = λ l p g h. simp (le-ltb longest (length f) l, p, g, tells-or (tells-lt (length jobs) (countOf f)) (tells-lt (length numbers) (countOf f)) .1 h);
       lines = λ l p g a b. simp (le-ltb longest (length f) l, p, g, le-ltb (length jobs) (countOf f) a, le-ltb (length numbers) (countOf f) b);
     }
-
   where
     lists : Report
     lists = record { said = entries (countOf f); jobs = front (jobOf f) (countOf f) jobs; numbers = front (tagNumber f ring) (countOf f) numbers }
