@@ -1,5 +1,5 @@
 -- Each definition is a ladder of tests; what the tests before an outcome say gives it.
-use mathlib.Core.Path.{_≡_, refl, sym, ap, _∙_, subst}
+use mathlib.Core.Path.{_≡_, refl, sym, ap, _∙_}
 use mathlib.Core.Logic.{_⊎_, ⊎-elim}
 use mathlib.Core.Bool.{Bool, true, false, cond, not, _||_, true≢false}
 use Prim.Native.Nat.{ℕ, _<_}
@@ -8,13 +8,13 @@ use mathlib.Core.List.{List}
 use lib.ListN.{length}
 use lib.Dec.{eqb, ltb}
 use borrow.Author.Tests.{eqb-true, eqb-false, eq-eqb, ne-eqb, lt-ltb, le-ltb}
+use Rattle.cipher.specs.Cipher.{Seals}
 use Rattle.table.specs.Format.{countOf, edition, newest, widthOf, rowOf, tagOf, stationOf}
 use Rattle.table.specs.declared.answers.Answer.{Answer}
 use Rattle.table.specs.Answers.{answer}
-use Rattle.table.specs.Check.{headNumber, checkAs, checkFile}
+use Rattle.table.specs.Check.{nonceSeen, headNumber, andThen, checkAs, checkFile}
 use Rattle.table.specs.Inside.{EntryIn}
 use Rattle.table.proofs.Searches.{first-at, first-none}
-use Rattle.table.proofs.Numbered.{check-numbered}
 use Rattle.shift.specs.Lookup.{lookupJob}
 use Rattle.shift.specs.Opening.{entryOpening, JobOpened, left, rowOpening, jobOpening}
 use Rattle.shift.proofs.Lookups.{found-in}
@@ -22,8 +22,11 @@ use Rattle.shift.proofs.Finding.{finds}
 use Rattle.search.specs.Halving.{Walk, ends, halving, jobsOf, searching}
 use Rattle.search.proofs.Halves.{halved-number}
 use Rattle.draft.specs.Files.{entryTag}
-use Rattle.draft.specs.Answers.{tagRight}
-use Rattle.draft.specs.Promised.{RightTag}
+use Rattle.draft.specs.Answers.{tagSet, rowRetired, tagRight, setFrom, retiredFrom, wrongFrom, lentAnswer, sealAnswer, openAnswer, unsealAnswer, fileSealing, fileUnsealing}
+use Rattle.draft.specs.Promised.{ZeroTag, RightTag}
+use Rattle.reseal.specs.Files.{retabled}
+use Rattle.reseal.specs.Answers.{seenFrom, wrongAgain, wrongAgainFrom, takeAnswer, resealAnswer, fileResealing}
+use Rattle.reseal.specs.Promised.{HasFour}
 use Rattle.compare.specs.declared.Finding.{Finding}
 use Rattle.compare.specs.Comparing.{onlyFirst, onlySecond, differing, refusedIn, Comparison, stopped, tooLong, listed, comparison}
 use Rattle.editions.specs.Files.{moved}
@@ -33,9 +36,10 @@ use Rattle.editions.proofs.Promised.{back-short}
 use Rattle.reader.specs.Reporting.{jobOf, tagNumber, front, entries, Report, stopped as unreported, longest, reporting}
 use Rattle.reader.proofs.Tags.{number-is}
 use Rattle.promises.specs.Numbers.{headTable}
-use Rattle.promises.specs.Cases.{HeadNumbers, LookupCases, JobCases, SearchCases, BothPass, CompareCases, unmoved, UpCases, BackCases, ReportCases, Cases}
-use Rattle.promises.proofs.Tables.{Tells, tells-eq, tells-lt, tells-same, tells-not, tells-or, not-told, least, ladder, By, lines, table, answers}
+use Rattle.promises.specs.Cases.{HeadNumbers, LookupCases, JobCases, SearchCases, BothPass, CompareCases, unmoved, UpCases, BackCases, ReportCases, SealOrder, UnsealOrder, ResealOrder, Cases}
+use Rattle.promises.proofs.Tables.{Tells, tells-eq, tells-lt, tells-same, tells-not, tells-or, tells-and, tells-true, not-told, ladder, By, lines, table, answers}
 use Rattle.promises.proofs.Checks.{head-rungs, head-is, none-head}
+use Rattle.promises.proofs.Orders.{firstRow, then-none, order}
 
 head-numbers : HeadNumbers
 head-numbers low high f = table _ (headTable low high f) (head-rungs low high f) refl (head-is low high f)
@@ -204,53 +208,25 @@ module _ (f out : List ℕ) where
   back-past true p q e = simp (p, none q, le-ltb 1048576 (length (moved edition f)) (back-short f p), e)
   back-past false p q e = simp (p, none q, le-ltb 1048576 (length (moved edition f)) (back-short f p), e)
 
-  answer-past : (b : Bool) → checkAs newest f .number ≡ 0 → AllZero (countOf f) → eqb (length out) (length (moved edition f)) ≡ b → toEdition1 f out .answer ≡ answer (cond (not b) 6 0) 0
-  answer-past true p q e = ap (λ (m : FileMoved). m .answer) (back-past true p q e)
-  answer-past false p q e = ap (λ (m : FileMoved). m .answer) (back-past false p q e)
-
-  -- what 35 tells
-  station-told : (i : ℕ) → toEdition1 f out .answer ≡ answer 35 i → ((checkAs newest f .number ≡ 0) × ((i < countOf f) × AllZero i)) × (stationOf f i ≡ 0 → ⊥)
-  station-told i e = on (eqb (checkAs newest f .number) 0) refl
-    where
-      num : Answer → ℕ
-      num a = a .number
-
-      Told : Type 0
-      Told = ((checkAs newest f .number ≡ 0) × ((i < countOf f) × AllZero i)) × (stationOf f i ≡ 0 → ⊥)
-
-      other : (k : ℕ) → (k ≡ 35 → ⊥) → toEdition1 f out .answer .number ≡ k → Told
-      other k n q = absurd (n (sym q ∙ ap num e))
-
-      six : (b : Bool) → _≡_ {A = ℕ} (cond (not b) 6 0) 35 → ⊥
-      six true q = omega arith
-      six false q = omega arith
-
-      on : (b : Bool) → eqb (checkAs newest f .number) 0 ≡ b → Told
-      on false t =
-          let n = eqb-false (checkAs newest f .number) 0 t in
-          other (checkAs newest f .number)
-          (λ q. ⊎-elim (λ z. omega (arith, z, q)) (λ r. ⊎-elim (λ s. omega (arith, s .1, q)) (λ s. omega (arith, s, q)) r) (check-numbered newest newest f .number))
-          (ap (λ (m : FileMoved). m .answer .number) (back-stops n))
-      on true t =
-          let p = eqb-true (checkAs newest f .number) 0 t in
-          ⊎-elim
-          (λ z. other (cond (not (eqb (length out) (length (moved edition f)))) 6 0) (six (eqb (length out) (length (moved edition f)))) (ap num (answer-past (eqb (length out) (length (moved edition f))) p z refl)))
-          (λ w.
-          let q : answer 35 (w .0) ≡ answer 35 i = sym (ap (λ (m : FileMoved). m .answer) (back-station p (w .0) (w .1) (w .3) (w .2))) ∙ e in
-          let r : w .0 ≡ i = ap (λ (a : Answer). a .row) q in
-          subst (λ (k : ℕ). ((checkAs newest f .number ≡ 0) × ((k < countOf f) × AllZero k)) × (stationOf f k ≡ 0 → ⊥)) r ((p, (w .1, w .2)), w .3))
-          (least (stationOf f) (countOf f))
+  -- 20 cannot come out
+  back-climb : checkAs newest f .number ≡ 0 → toEdition1 f out .answer
+      ≡ andThen (firstRow 35 (countOf f) (λ i. not (eqb (stationOf f i) 0))) (cond (not (eqb (length out) (length (moved edition f)))) (answer 6 0) (answer 0 0))
+  unfolding toEdition1 backAnswer stationsFrom lengthAnswer
+  back-climb p = simp (p, le-ltb 1048576 (length (moved edition f)) (back-short f p))
 
   back-cases : BackCases f out
   back-cases =
       record {
-        station-number = λ i. ((station-told i, λ h. ap (λ (m : FileMoved). m .answer) (back-station (h .0 .0) i (h .0 .1 .0) (h .1) (h .0 .1 .1))), tt);
-        numbers = λ p q.
-            answers (toEdition1 f out .answer) 0 _ (
-              not (eqb (length out) (length (moved edition f))),
-              λ _. tells-not (tells-eq _ _),
-              tt,
-            ) refl (answer-past (eqb (length out) (length (moved edition f))) p q refl);
+        numbers = λ p.
+            order (toEdition1 f out .answer) _ (
+              λ i. not (eqb (stationOf f i) 0),
+              λ i. tells-not (tells-eq _ 0),
+              (
+                not (eqb (length out) (length (moved edition f))),
+                tells-not (tells-eq _ _),
+                tt,
+              ),
+            ) refl (back-climb p);
         checked = back-stops;
         station = back-station;
         room = λ p q n. back-past false p q (ne-eqb (length out) (length (moved edition f)) n);
@@ -338,6 +314,106 @@ job-cases f ring job out =
           ) refl (simp q (row-said f ring i out (found-in f job i q)));
     }
 
+-- ---- the writer and the reseal pass
+
+-- a test after a check that stands, and one after the lengths
+then-then : (x y r : Answer) → andThen (andThen x y) r ≡ andThen x (andThen y r)
+then-then x y r = by (eqb (x .number) 0) refl
+  where
+    by : (b : Bool) → eqb (x .number) 0 ≡ b → andThen (cond b y x) r ≡ cond b (andThen y r) x
+    by true e = refl
+    by false e = simp e
+
+lent-then : (a b : Bool) (r : Answer) → andThen (cond a (answer 2 0) (cond b (answer 6 0) (answer 0 0))) r ≡ cond a (answer 2 0) (cond b (answer 6 0) r)
+lent-then true b r = refl
+lent-then false true r = refl
+lent-then false false r = refl
+
+eight : _≡_ {A = ℕ} 8 0 → ⊥
+eight e = omega arith
+
+tells-set : (draft : List ℕ) (i : ℕ) → Tells (tagSet draft i) (ZeroTag draft i → ⊥)
+unfolding tagSet
+tells-set draft i = tells-not (tells-same _ _)
+
+tells-retired : (f : List ℕ) (i : ℕ) → Tells (rowRetired f i) (Seals (rowOf f i .suite) → ⊥)
+unfolding rowRetired
+tells-retired f i = tells-not (tells-true _)
+
+seal-order : SealOrder
+unfolding fileSealing sealAnswer setFrom retiredFrom lentAnswer
+seal-order draft ring out p =
+    order (fileSealing draft ring out .answer) _ (
+      tagSet draft,
+      tells-set draft,
+      (
+        rowRetired draft,
+        tells-retired draft,
+        (
+          not (eqb (length ring) 256),
+          tells-not (tells-eq _ _),
+          (
+            not (eqb (length out) (length draft)),
+            tells-not (tells-eq _ _),
+            tt,
+          ),
+        ),
+      ),
+    ) refl (simp p)
+
+unseal-order : UnsealOrder
+unfolding fileUnsealing unsealAnswer openAnswer lentAnswer wrongFrom
+unseal-order file ring out p =
+    let a = not (eqb (length ring) 256) in
+    let b = not (eqb (length out) (length file)) in
+    let w = firstRow 8 (countOf file) (λ j. not (tagRight file ring j)) in
+    order (fileUnsealing file ring out .answer) _ (
+      a,
+      tells-not (tells-eq _ _),
+      (
+        b,
+        tells-not (tells-eq _ _),
+        (
+          λ i. not (tagRight file ring i),
+          λ i. tells-not (tells-tag file ring i),
+          tt,
+        ),
+      ),
+    ) refl
+    (simp p (lent-then a b w) ∙ ap (λ (r : Answer). cond a (answer 2 0) (cond b (answer 6 0) r)) (then-none 8 (countOf file) (λ j. not (tagRight file ring j)) eight))
+
+tells-again : (f ring : List ℕ) (i : ℕ) → Tells (wrongAgain f ring i) (HasFour f i × (RightTag f ring i → ⊥))
+unfolding wrongAgain
+tells-again f ring i = tells-and (tells-eq _ _) (tells-not (tells-tag f ring i))
+
+reseal-order : ResealOrder
+unfolding fileResealing resealAnswer takeAnswer seenFrom lentAnswer wrongAgainFrom
+reseal-order file ring out p =
+    let a = not (eqb (length ring) 256) in
+    let b = not (eqb (length out) (length file)) in
+    let c = firstRow 29 (countOf file) (nonceSeen (widthOf (retabled file)) (retabled file)) in
+    let w = firstRow 8 (countOf file) (wrongAgain file ring) in
+    order (fileResealing file ring out .answer) _ (
+      nonceSeen (widthOf (retabled file)) (retabled file),
+      λ i. tells-true _,
+      (
+        a,
+        tells-not (tells-eq _ _),
+        (
+          b,
+          tells-not (tells-eq _ _),
+          (
+            wrongAgain file ring,
+            tells-again file ring,
+            tt,
+          ),
+        ),
+      ),
+    ) refl
+    (simp p (then-then c (cond a (answer 2 0) (cond b (answer 6 0) (answer 0 0))) w)
+    ∙ ap (andThen c) (lent-then a b w)
+    ∙ ap (λ (r : Answer). andThen c (cond a (answer 2 0) (cond b (answer 6 0) r))) (then-none 8 (countOf file) (wrongAgain file ring) eight))
+
 pub cases : Cases
 cases = record {
   head = head-numbers;
@@ -348,4 +424,7 @@ cases = record {
   to-edition2 = up-cases;
   to-edition1 = back-cases;
   report = report-cases;
+  seal-file = seal-order;
+  unseal-file = unseal-order;
+  reseal = reseal-order;
 }

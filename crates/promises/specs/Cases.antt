@@ -1,9 +1,10 @@
--- Every outcome of the shift file's other calls, and when it is given. The writer's stand in `draft/specs/Promised.antt` (`SealCases`, `UnsealCases`), the reseal pass's in `reseal/specs/Promised.antt` (`ResealCases`), the amendments' in `amend/specs/Promised.antt`.
+-- Every outcome of the shift file's other calls, and when it is given. Of writer and reseal pass the numbers in their order; what each leaves stands in `draft/specs/Promised.antt` (`SealCases`, `UnsealCases`) and `reseal/specs/Promised.antt` (`ResealCases`). The amendments' stand in `amend/specs/Promised.antt`.
 use mathlib.Core.Path.{_≡_}
 use mathlib.Core.Logic.{_⊎_, _↔_}
 use Prim.Native.Nat.{ℕ, _≤_, _<_}
 use mathlib.Core.List.{List, [], _∷_}
 use lib.ListN.{length}
+use Rattle.cipher.specs.Cipher.{Seals}
 use Rattle.table.specs.Format.{countOf, edition, newest, widthOf, rowOf, stationOf}
 use Rattle.table.specs.Answers.{answer}
 use Rattle.table.specs.Check.{headNumber, checkAs, checkFile}
@@ -11,13 +12,18 @@ use Rattle.shift.specs.Lookup.{lookupJob}
 use Rattle.shift.specs.Opening.{left, jobOpening}
 use Rattle.shift.specs.Promised.{Finds}
 use Rattle.search.specs.Halving.{ends, halving, jobsOf, searching}
-use Rattle.draft.specs.Promised.{RightTag}
+use Rattle.draft.specs.Files.{draftEdition}
+use Rattle.draft.specs.Answers.{fileSealing, fileUnsealing}
+use Rattle.draft.specs.Promised.{ZeroTag, RightTag}
+use Rattle.reseal.specs.Answers.{fileResealing}
+use Rattle.reseal.specs.Promised.{HasFour, Clashes}
 use Rattle.compare.specs.Comparing.{onlyFirst, onlySecond, differing, refusedIn, stopped, listed, comparison}
 use Rattle.editions.specs.Files.{moved}
 use Rattle.editions.specs.Answers.{FileMoved, toEdition2, toEdition1}
 use Rattle.editions.specs.Promised.{done}
 use Rattle.reader.specs.Reporting.{jobOf, tagNumber, front, entries, stopped as unreported, longest, reporting}
 use Rattle.promises.specs.Tables.{Line, _when_, None, Lines, Table}
+use Rattle.promises.specs.Orders.{whole, rows, Order}
 use Rattle.promises.specs.Numbers.{headTable}
 
 -- 20 to 24 alone
@@ -84,11 +90,11 @@ pub record UpCases (f out : List ℕ) : Type 0 where
 
 -- back to edition 1: the checks of edition 2, 35 with the first row that has a station, 6; 20 cannot come out (`BackShort`)
 pub record BackCases (f out : List ℕ) : Type 0 where
-  -- 35 with row i exactly if the file passes, and row i has a station and none before it has
-  pub station-number : (i : ℕ)
-      → Lines (λ k. toEdition1 f out .answer ≡ answer k i) ((checkAs newest f .number ≡ 0) × ((i < countOf f) × ((k : ℕ) → k < i → stationOf f k ≡ 0))) ((35 when (stationOf f i ≡ 0 → ⊥)) ∷ [])
-  pub numbers : checkAs newest f .number ≡ 0 → ((i : ℕ) → i < countOf f → stationOf f i ≡ 0)
-      → Table (λ k. toEdition1 f out .answer ≡ answer k 0) ((6 when (length out ≡ length (moved edition f) → ⊥)) ∷ [])
+  pub numbers : checkAs newest f .number ≡ 0 → Order (λ k i. toEdition1 f out .answer ≡ answer k i) (
+      rows 35 (countOf f) (λ i. stationOf f i ≡ 0 → ⊥)
+      ∷ whole 6 (length out ≡ length (moved edition f) → ⊥)
+      ∷ []
+      )
   pub checked : (checkAs newest f .number ≡ 0 → ⊥) → toEdition1 f out ≡ record { answer = checkAs newest f; out = out }
   pub station : checkAs newest f .number ≡ 0 → (i : ℕ) → i < countOf f → (stationOf f i ≡ 0 → ⊥) → ((k : ℕ) → k < i → stationOf f k ≡ 0) → toEdition1 f out ≡ unmoved 35 i out
   pub room : checkAs newest f .number ≡ 0 → ((i : ℕ) → i < countOf f → stationOf f i ≡ 0) → (length out ≡ length (moved edition f) → ⊥) → toEdition1 f out ≡ unmoved 6 0 out
@@ -109,6 +115,38 @@ pub record ReportCases (f ring jobs numbers : List ℕ) : Type 0 where
   pub lines : length f ≤ longest → checkFile f .number ≡ 0 → length ring ≡ 256 → countOf f ≤ length jobs → countOf f ≤ length numbers
       → reporting f ring jobs numbers ≡ record { said = entries (countOf f); jobs = front (jobOf f) (countOf f) jobs; numbers = front (tagNumber f ring) (countOf f) numbers }
 
+-- sealing a draft that passes its checks (W4; 10 is W7's): 33 with the first row, 10 with the first row, 2, 6
+abbrev pub SealOrder : Type 0
+SealOrder =
+    (draft ring out : List ℕ) → checkAs draftEdition draft .number ≡ 0 → Order (λ k i. fileSealing draft ring out .answer ≡ answer k i) (
+    rows 33 (countOf draft) (λ i. ZeroTag draft i → ⊥)
+    ∷ rows 10 (countOf draft) (λ i. Seals (rowOf draft i .suite) → ⊥)
+    ∷ whole 2 (length ring ≡ 256 → ⊥)
+    ∷ whole 6 (length out ≡ length draft → ⊥)
+    ∷ []
+    )
+
+-- unsealing a file that passes: 2, 6, 8 with the first row
+abbrev pub UnsealOrder : Type 0
+UnsealOrder =
+    (file ring out : List ℕ) → checkAs edition file .number ≡ 0 → Order (λ k i. fileUnsealing file ring out .answer ≡ answer k i) (
+    whole 2 (length ring ≡ 256 → ⊥)
+    ∷ whole 6 (length out ≡ length file → ⊥)
+    ∷ rows 8 (countOf file) (λ i. RightTag file ring i → ⊥)
+    ∷ []
+    )
+
+-- resealing a file that passes (W7): 29 with the lowest later row, 2, 6, 8 with the first row of suite 4
+abbrev pub ResealOrder : Type 0
+ResealOrder =
+    (file ring out : List ℕ) → checkAs edition file .number ≡ 0 → Order (λ k i. fileResealing file ring out .answer ≡ answer k i) (
+    rows 29 (countOf file) (Clashes file)
+    ∷ whole 2 (length ring ≡ 256 → ⊥)
+    ∷ whole 6 (length out ≡ length file → ⊥)
+    ∷ rows 8 (countOf file) (λ i. HasFour file i × (RightTag file ring i → ⊥))
+    ∷ []
+    )
+
 pub record Cases : Type 0 where
   pub head : HeadNumbers
   pub lookup : (f : List ℕ) (job : ℕ) → LookupCases f job
@@ -118,3 +156,6 @@ pub record Cases : Type 0 where
   pub to-edition2 : (f out : List ℕ) → UpCases f out
   pub to-edition1 : (f out : List ℕ) → BackCases f out
   pub report : (f ring jobs numbers : List ℕ) → ReportCases f ring jobs numbers
+  pub seal-file : SealOrder
+  pub unseal-file : UnsealOrder
+  pub reseal : ResealOrder
