@@ -2,18 +2,18 @@
 use Prim.Native.Nat.{ℕ, _+_, _-_, _≤_, _<_}
 use native.Mathlib.Omega.{arith}
 use mathlib.Core.Path.{_≡_, refl, sym, ap, _∙_}
-use mathlib.Core.Bool.{Bool, true, false, not, _&&_}
+use mathlib.Core.Bool.{false, not, _&&_}
 use mathlib.Core.List.{List, []}
 use lib.ListN.{length}
-use lib.Dec.{ltb, lit≤}
+use lib.Dec.{ltb}
 use borrow.Author.Tests.{eq-eqb, le-ltb}
 use Rattle.cipher.specs.Cipher.{sizeOf}
-use Rattle.table.specs.Format.{editionOf, countOf, edition, newest, rowSize, rowOf, bodyEnd}
+use Rattle.table.specs.Format.{countOf, edition, newest, rowSize, rowOf, bodyEnd}
 use Rattle.table.specs.Check.{checkFile}
 use Rattle.table.proofs.Rows.{stretch-length, station-none}
 use Rattle.table.proofs.Passed.{passes, entry-in}
 use Rattle.table.proofs.Searches.{any-hit}
-use Rattle.compare.specs.Comparing.{bodyOf, sameEntry, jobAt, has, hasJob, differs, onlyIn, differing, tooLong, comparison}
+use Rattle.compare.specs.Comparing.{bodyOf, sameEntry, jobAt, has, hasJob, differs, onlyIn, differing}
 use Rattle.compare.specs.Promised.{Same, Different, ExactlyListed, ListsRise, EqualRows, WithItself, FilesExchanged, OtherLength, OtherStation, NoStation}
 use Rattle.compare.proofs.Keeping.{any-only, kept-none}
 use Rattle.compare.proofs.Turns.{jobs-rise, others}

@@ -30,7 +30,7 @@ use Rattle.reseal.specs.Promised.{HasFour}
 use Rattle.compare.specs.declared.Finding.{Finding}
 use Rattle.compare.specs.Comparing.{onlyFirst, onlySecond, differing, refusedIn, Comparison, stopped, tooLong, listed, comparison}
 use Rattle.editions.specs.Files.{moved}
-use Rattle.editions.specs.Answers.{FileMoved, stationsFrom, lengthAnswer, upAnswer, backAnswer, toEdition2, toEdition1}
+use Rattle.editions.specs.Answers.{stationsFrom, lengthAnswer, upAnswer, backAnswer, toEdition2, toEdition1}
 use Rattle.editions.specs.Promised.{done}
 use Rattle.editions.proofs.Promised.{back-short}
 use Rattle.reader.specs.Reporting.{jobOf, tagNumber, front, entries, Report, stopped as unreported, longest, reporting}

@@ -1,14 +1,13 @@
 -- The shift file's check: one of three things happened, and each number is of one of them alone.
 use mathlib.Core.Path.{_≡_, refl, sym, ap, _∙_, subst}
-use mathlib.Core.Logic.{_⊎_, inl, inr, _↔_, ⊎-elim}
+use mathlib.Core.Logic.{_⊎_, _↔_, ⊎-elim}
 use mathlib.Core.Bool.{Bool, true, false, cond, not, _||_, true≢false}
 use Prim.Native.Nat.{ℕ, zero, suc, _+_, _-_, _≤_, _<_}
-use native.Mathlib.Nat.{not-suc-le-zero, le-of-suc-le-suc, eq-or-lt-of-le}
 use native.Mathlib.Omega.{arith}
 use mathlib.Core.List.{List}
 use lib.ListN.{length}
 use lib.Dec.{eqb, ltb}
-use borrow.Author.Tests.{eqb-true, eqb-false, ne-eqb}
+use borrow.Author.Tests.{eqb-true, eqb-false, ne-eqb, not-true, not-false}
 use Rattle.cipher.proofs.Suites.{tag-size}
 use Rattle.table.specs.declared.row.Row.{Row}
 use Rattle.table.specs.declared.answers.Answer.{Answer}
@@ -20,7 +19,7 @@ use Rattle.table.proofs.Searches.{any-hit, first-at, first-none}
 use Rattle.shift.specs.Nonces.{SameNonce}
 use Rattle.promises.specs.Tables.{None}
 use Rattle.promises.specs.Numbers.{tagSize, headTable, rowTable, endTable, SoundTo, CheckNumbers, Numbers}
-use Rattle.promises.proofs.Tables.{Tells, tells-eq, tells-lt, tells-le, tells-same, tells-not, tells-or, tells-and, tells-as, least, Rungs, ladder, fresh, fresh-some, not-given, By, lines, nothing}
+use Rattle.promises.proofs.Tables.{Tells, tells-eq, tells-lt, tells-le, tells-same, tells-not, tells-or, tells-and, tells-as, first-of, Rungs, ladder, fresh, fresh-some, not-given, By, lines, nothing}
 use Rattle.promises.proofs.Numbers.{tells-suite, seal-numbers, open-numbers, start-numbers, data-numbers, part-numbers, end-numbers}
 
 -- ---- the tests
@@ -172,10 +171,19 @@ module _ (low high : ℕ) (f : List ℕ) where
       → P
   by-case P a b c = on (eqb H 0) refl
     where
+      zero-of : (j : ℕ) → not (eqb (R j) 0) ≡ false → R j ≡ 0
+      zero-of j q = eqb-true (R j) 0 (not-false _ q)
+
       on : (t : Bool) → eqb H 0 ≡ t → P
       on true e =
           let z = eqb-true H 0 e in
-          ⊎-elim (λ q. c z q (end-stands z q)) (λ w. b z (w .0) (w .1) (w .2) (w .3) (row-stands z (w .0) (w .1) (w .2) (w .3))) (least R (countOf f))
+          ⊎-elim
+          (λ q. let s : Quiet (countOf f) = λ j l. zero-of j (q j l) in c z s (end-stands z s))
+          (λ w.
+          let s : Quiet (w .0) = λ j l. zero-of j (w .2 j l) in
+          let n = eqb-false (R (w .0)) 0 (not-true _ (w .3)) in
+          b z (w .0) (w .1) s n (row-stands z (w .0) (w .1) s n))
+          (first-of (λ j. not (eqb (R j) 0)) (countOf f))
       on false e = let n = eqb-false H 0 e in a n (head-stands n)
 
   -- ---- no fault, as the tables say it

@@ -1,13 +1,11 @@
 -- Answers one after the other give the numbers of an order, where each test tells whether its stage applies.
 use mathlib.Core.Path.{_≡_, refl, sym, ap, _∙_, subst}
-use mathlib.Core.Logic.{_⊎_, inl, inr, _↔_, ⊎-elim}
+use mathlib.Core.Logic.{_↔_, ⊎-elim}
 use mathlib.Core.Bool.{Bool, true, false, cond, not, _&&_, true≢false}
-use Prim.Native.Nat.{ℕ, zero, suc, _-_, _<_}
-use native.Mathlib.Nat.{not-suc-le-zero, le-of-suc-le-suc, eq-or-lt-of-le}
-use native.Mathlib.Omega.{arith}
+use Prim.Native.Nat.{ℕ, _-_, _<_}
 use mathlib.Core.List.{List, [], _∷_}
 use lib.Dec.{eqb}
-use borrow.Author.Tests.{eqb-false, ne-eqb, not-true}
+use borrow.Author.Tests.{ne-eqb}
 use Rattle.words.proofs.Same.{and-true}
 use Rattle.table.specs.declared.answers.Answer.{Answer}
 use Rattle.table.specs.Search.{firstOf}
@@ -15,21 +13,12 @@ use Rattle.table.specs.Answers.{answer}
 use Rattle.table.specs.Check.{andThen}
 use Rattle.table.proofs.Searches.{first-at, first-none}
 use Rattle.promises.specs.Orders.{Stage, whole, rows, Quiet, Stages, Order}
-use Rattle.promises.proofs.Tables.{Tells, not-told}
+use Rattle.promises.proofs.Tables.{Tells, not-told, first-of, ne-true}
 
 -- ---- the first row
 
 abbrev pub firstRow : ℕ → ℕ → (ℕ → Bool) → Answer
 firstRow k n p = firstOf p (answer k) (answer 0 0) 0 (n - 0)
-
--- no number below k passes, or there is a first that does
-first-of : (p : ℕ → Bool) (k : ℕ) → ((j : ℕ) → j < k → p j ≡ false) ⊎ ((i : ℕ) × (i < k) × ((j : ℕ) → j < i → p j ≡ false) × (p i ≡ true))
-first-of p zero = inl (λ j l. absurd (not-suc-le-zero l))
-first-of p (suc k) = ⊎-elim (λ q. here q (p k) refl) (λ w. inr (w .0, omega (arith, w .1), w .2, w .3)) (first-of p k)
-  where
-    here : ((j : ℕ) → j < k → p j ≡ false) → (b : Bool) → p k ≡ b → ((j : ℕ) → j < suc k → p j ≡ false) ⊎ ((i : ℕ) × (i < suc k) × ((j : ℕ) → j < i → p j ≡ false) × (p i ≡ true))
-    here q false e = inl (λ j l. ⊎-elim (λ s. ap p s ∙ e) (q j) (eq-or-lt-of-le (le-of-suc-le-suc l)))
-    here q true e = inr (k, omega arith, q, e)
 
 module _ (k n : ℕ) (p : ℕ → Bool) (some : k ≡ 0 → ⊥) where
   -- it stands, whatever comes next
@@ -104,9 +93,6 @@ fresh k (s ∷ ss) = not (eqb k (numberOf s)) && fresh k ss
 abbrev pub distinct : List Stage → Bool
 distinct [] = true
 distinct (s ∷ ss) = fresh (numberOf s) ss && distinct ss
-
-ne-true : (x y : ℕ) → not (eqb x y) ≡ true → x ≡ y → ⊥
-ne-true x y h = eqb-false x y (not-true (eqb x y) h)
 
 fresh-some : (k : ℕ) (ss : List Stage) → fresh k ss ≡ true → k ≡ 0 → ⊥
 fresh-some k [] f e = ne-true k 0 f e

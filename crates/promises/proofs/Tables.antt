@@ -79,16 +79,14 @@ not-told {b} {P} t n = by b t
     by true t = absurd (n (t .0 refl))
     by false t = refl
 
--- the numbers below k all have 0, or there is a first that has not
-pub least : (what : ℕ → ℕ) (k : ℕ)
-    → ((j : ℕ) → j < k → what j ≡ 0) ⊎ ((i : ℕ) × (i < k) × ((j : ℕ) → j < i → what j ≡ 0) × (what i ≡ 0 → ⊥))
-least what zero = inl (λ j l. absurd (not-suc-le-zero l))
-least what (suc k) = ⊎-elim (λ q. here q (eqb (what k) 0) refl) (λ w. inr (w .0, omega (arith, w .1), w .2, w .3)) (least what k)
+-- no number below k passes, or there is a first that does
+pub first-of : (p : ℕ → Bool) (k : ℕ) → ((j : ℕ) → j < k → p j ≡ false) ⊎ ((i : ℕ) × (i < k) × ((j : ℕ) → j < i → p j ≡ false) × (p i ≡ true))
+first-of p zero = inl (λ j l. absurd (not-suc-le-zero l))
+first-of p (suc k) = ⊎-elim (λ q. here q (p k) refl) (λ w. inr (w .0, omega (arith, w .1), w .2, w .3)) (first-of p k)
   where
-    here : ((j : ℕ) → j < k → what j ≡ 0) → (b : Bool) → eqb (what k) 0 ≡ b
-        → ((j : ℕ) → j < suc k → what j ≡ 0) ⊎ ((i : ℕ) × (i < suc k) × ((j : ℕ) → j < i → what j ≡ 0) × (what i ≡ 0 → ⊥))
-    here q true e = inl (λ j l. ⊎-elim (λ s. ap what s ∙ eqb-true (what k) 0 e) (q j) (eq-or-lt-of-le (le-of-suc-le-suc l)))
-    here q false e = inr (k, omega arith, q, eqb-false (what k) 0 e)
+    here : ((j : ℕ) → j < k → p j ≡ false) → (b : Bool) → p k ≡ b → ((j : ℕ) → j < suc k → p j ≡ false) ⊎ ((i : ℕ) × (i < suc k) × ((j : ℕ) → j < i → p j ≡ false) × (p i ≡ true))
+    here q false e = inl (λ j l. ⊎-elim (λ s. ap p s ∙ e) (q j) (eq-or-lt-of-le (le-of-suc-le-suc l)))
+    here q true e = inr (k, omega arith, q, e)
 
 -- ---- the ladder
 
@@ -122,7 +120,7 @@ each P h (l ∷ ls) = (h (l .number), each P h ls)
 
 -- ---- from the ladder to the table
 
-ne-true : (x y : ℕ) → not (eqb x y) ≡ true → x ≡ y → ⊥
+pub ne-true : (x y : ℕ) → not (eqb x y) ≡ true → x ≡ y → ⊥
 ne-true x y h = eqb-false x y (not-true (eqb x y) h)
 
 -- a fresh number is not 0

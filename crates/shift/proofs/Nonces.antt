@@ -2,13 +2,13 @@
 use Prim.Native.Nat.{ℕ, zero, suc, _+_, _-_}
 use native.Mathlib.Decide.{decLt}
 use native.Mathlib.Omega.{arith}
-use mathlib.Core.Path.{_≡_, refl, sym, ap, _∙_, subst}
+use mathlib.Core.Path.{_≡_, refl, sym, ap, _∙_}
 use mathlib.Core.Logic.{_⊎_, _↔_, ⊎-elim}
 use mathlib.Core.List.{List, [], _∷_, _++_, append-nil}
 use lib.ListN.{length, getD, take, replicate, length-take}
 use lib.Seq.{take-all}
 use Rattle.words.proofs.Lists.{append-inj}
-use Rattle.cipher.specs.Cipher.{sizeOf, nonceOf}
+use Rattle.cipher.specs.Cipher.{nonceOf}
 use Rattle.cipher.proofs.Suites.{sizes-two, nonce-wide, nonce-narrow}
 use Rattle.table.specs.Format.{editionOf, countOf, widthOf, rowOf, nonceAt, padded}
 use Rattle.table.proofs.Rows.{row-broad, nonce-length}
