@@ -1,20 +1,20 @@
--- What the comparison is worth: membership as worded; rising and apart; itself; exchanged; another length is another body; stations.
+-- What the comparison is worth: membership as worded; rising and apart; equal rows, and so itself; exchanged; another length is another body; stations.
 use Prim.Native.Nat.{ℕ, _+_, _-_, _≤_, _<_}
 use native.Mathlib.Omega.{arith}
 use mathlib.Core.Path.{_≡_, refl, sym, ap, _∙_}
-use mathlib.Core.Bool.{Bool, true, false, not, _&&_}
+use mathlib.Core.Bool.{false, not, _&&_}
 use mathlib.Core.List.{List, []}
 use lib.ListN.{length}
-use lib.Dec.{ltb, lit≤}
+use lib.Dec.{ltb}
 use borrow.Author.Tests.{eq-eqb, le-ltb}
 use Rattle.cipher.specs.Cipher.{sizeOf}
-use Rattle.table.specs.Format.{editionOf, countOf, edition, newest, rowSize, rowOf, bodyEnd}
+use Rattle.table.specs.Format.{countOf, edition, newest, rowSize, rowOf, bodyEnd}
 use Rattle.table.specs.Check.{checkFile}
 use Rattle.table.proofs.Rows.{stretch-length, station-none}
 use Rattle.table.proofs.Passed.{passes, entry-in}
 use Rattle.table.proofs.Searches.{any-hit}
-use Rattle.compare.specs.Comparing.{bodyOf, sameEntry, jobAt, has, hasJob, differs, onlyIn, differing, tooLong, comparison}
-use Rattle.compare.specs.Promised.{Same, Different, ExactlyListed, ListsRise, WithItself, FilesExchanged, OtherLength, OtherStation, NoStation}
+use Rattle.compare.specs.Comparing.{bodyOf, sameEntry, jobAt, has, hasJob, differs, onlyIn, differing}
+use Rattle.compare.specs.Promised.{Same, Different, ExactlyListed, ListsRise, EqualRows, WithItself, FilesExchanged, OtherLength, OtherStation, NoStation}
 use Rattle.compare.proofs.Keeping.{any-only, kept-none}
 use Rattle.compare.proofs.Turns.{jobs-rise, others}
 use Rattle.compare.proofs.Members.{same-tells, only-has, only-gets, differ-has, differ-gets}
@@ -48,33 +48,37 @@ lists-rise f g p q = record {
   second-differ = λ job a b. only-has g f job a .1 (differ-has f g job b .first);
 }
 
--- ---- a file and itself
+-- ---- files with equal rows
 
-no-other : (f : List ℕ) → onlyIn f f ≡ []
-unfolding onlyIn
-no-other f =
-    kept-none (λ i. not (hasJob f (jobAt f i))) (jobAt f) 0 (countOf f)
-    (λ j l h. simp (any-hit (has f (jobAt f j)) j (countOf f) (omega arith) (eq-eqb (jobAt f j) (jobAt f j) refl)))
+no-other : (f g : List ℕ) → ((i : ℕ) → i < countOf f → (i < countOf g) × (rowOf g i .job ≡ rowOf f i .job)) → onlyIn f g ≡ []
+unfolding onlyIn jobAt
+no-other f g same =
+    kept-none (λ i. not (hasJob g (jobAt f i))) (jobAt f) 0 (countOf f)
+    (λ j l h. let s = same j (omega arith) in simp (any-hit (has g (jobAt f j)) j (countOf g) (s .0) (eq-eqb _ _ (s .1))))
 
-same-self : (f : List ℕ) (i : ℕ) → sameEntry f f i i ≡ true
-same-self f i = same-tells f f i i (record { suite = refl; key = refl; ad = refl; nonce = refl; body = refl; station = refl })
-
-no-difference : (f : List ℕ) → checkFile f .number ≡ 0 → differing f f ≡ []
-unfolding differing
-no-difference f z =
-    kept-none (differs f f) (jobAt f) 0 (countOf f)
+no-difference : (f g : List ℕ) → checkFile g .number ≡ 0 → ((i : ℕ) → i < countOf f → (i < countOf g) × (rowOf g i .job ≡ rowOf f i .job) × Same f g i i) → differing f g ≡ []
+unfolding differing jobAt
+no-difference f g z same =
+    kept-none (differs f g) (jobAt f) 0 (countOf f)
     (λ j l h.
-    let b : j < countOf f = omega arith in
-    any-only (λ k. has f (jobAt f j) k && not (sameEntry f f j k)) (countOf f) j b (λ k m n. simp (others f z (jobAt f j) j b refl k m n))
-    ∙ simp (eq-eqb (jobAt f j) (jobAt f j) refl, same-self f j))
+    let s = same j (omega arith) in
+    any-only (λ k. has g (jobAt f j) k && not (sameEntry f g j k)) (countOf g) j (s .0) (λ k m n. simp (others g z (jobAt f j) j (s .0) (sym (s .1)) k m n))
+    ∙ simp (eq-eqb (jobAt g j) (jobAt f j) (s .1), same-tells f g j j (s .2)))
 
 fits-all : (x : List ℕ) → ltb (length x) 0 ≡ false
 fits-all x = let l : 0 ≤ length x = omega arith in le-ltb (length x) 0 l
 
+pub equal-rows : EqualRows
+equal-rows f g x y z p q c same =
+    let first = no-other f g (λ i l. (omega (arith, l, c), sym (same i l .0))) in
+    let second = no-other g f (λ i l. let m : i < countOf f = omega (arith, l, c) in (m, same i m .0)) in
+    let differ = no-difference f g q (λ i l. (omega (arith, l, c), sym (same i l .0), same i l .1)) in
+    lists-fit f g x y z (record { first = p; second = q }) (simp (first, second, differ, fits-all x, fits-all y, fits-all z))
+    ∙ simp (first, second, differ)
+
 pub with-itself : WithItself
 with-itself f x y z p =
-    lists-fit f f x y z (record { first = p; second = p }) (simp (no-other f, no-difference f p, fits-all x, fits-all y, fits-all z))
-    ∙ simp (no-other f, no-difference f p)
+    equal-rows f f x y z p p refl (λ i l. (refl, record { suite = refl; key = refl; ad = refl; nonce = refl; body = refl; station = refl }))
 
 -- ---- the files exchanged
 

@@ -64,6 +64,13 @@ pub record Lists (f g : List ℕ) : Type 0 where
 abbrev pub ListsRise : Type 0
 ListsRise = (f g : List ℕ) → checkFile f .number ≡ 0 → checkFile g .number ≡ 0 → Lists f g
 
+-- files that pass, with as many rows and in each the same job and an equal entry: three empty lists, so that any buffers do and stay as they were
+abbrev pub EqualRows : Type 0
+EqualRows =
+    (f g x y z : List ℕ) → checkFile f .number ≡ 0 → checkFile g .number ≡ 0 → countOf f ≡ countOf g
+    → ((i : ℕ) → i < countOf f → (rowOf f i .job ≡ rowOf g i .job) × Same f g i i)
+    → comparison f g x y z ≡ stopped (refusedIn 0 (answer 0 0)) x y z
+
 -- a file compared with itself: three empty lists, so that any buffers do and stay as they were
 abbrev pub WithItself : Type 0
 WithItself = (f x y z : List ℕ) → checkFile f .number ≡ 0 → comparison f f x y z ≡ stopped (refusedIn 0 (answer 0 0)) x y z

@@ -68,7 +68,7 @@ module _ (a b : ℕ) (ha : a < 256 ^ 2) (hb : b < 256 ^ 2) (f : List ℕ) (z : c
   new-count = count-is b w v f n (ok .head .table) (row-broad b) small-count
 
   -- it has no station
-  new-none : NoStation g
+  pub new-none : NoStation g
   unfolding stationAt
   new-none i l =
       let t = ok .head .table in
@@ -133,10 +133,10 @@ module _ (a b : ℕ) (ha : a < 256 ^ 2) (hb : b < 256 ^ 2) (f : List ℕ) (z : c
           ∙ ap (λ (x : ℕ). movedFrom x v w g n) (sym own)
           ∙ file-back b w v f n whole (row-broad b)
 
-one : edition < 256 ^ 2
+pub one : edition < 256 ^ 2
 one = lit< tt
 
-two : newest < 256 ^ 2
+pub two : newest < 256 ^ 2
 two = lit< tt
 
 one-size : rowSize edition ≡ 32
@@ -144,7 +144,7 @@ unfolding rowSize
 one-size = refl
 
 -- edition 1 has no station
-one-none : (f : List ℕ) → checkAs edition f .number ≡ 0 → NoStation f
+pub one-none : (f : List ℕ) → checkAs edition f .number ≡ 0 → NoStation f
 one-none f z i l = sym (station-none f i (widthOf f) (ap rowSize (own edition newest one two f z) ∙ one-size))
 
 -- the way back makes no file longer

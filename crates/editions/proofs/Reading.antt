@@ -1,5 +1,5 @@
 -- Two files that pass, with the same rows but for their offsets and the same bodies from there on, read the same; a file and the moved one are such.
-use Prim.Native.Nat.{ℕ, _+_, _^_, _≤_, _<_}
+use Prim.Native.Nat.{ℕ, _+_, _-_, _^_, _≤_, _<_}
 use native.Mathlib.Omega.{arith}
 use mathlib.Core.Path.{_≡_, refl, sym, ap, ap₂, _∙_}
 use mathlib.Core.Bool.{Bool, true, false, cond}
@@ -13,7 +13,7 @@ use Rattle.comet.specs.Answers as comet
 use Rattle.table.specs.declared.row.Row.{Row}
 use Rattle.table.specs.declared.answers.Answer.{Answer}
 use Rattle.table.specs.Part.{stretch}
-use Rattle.table.specs.Format.{editionOf, countOf, edition, newest, rowSize, widthOf, rowAt, nonceReadAt, rowOf, dataOf, textOf, tagOf}
+use Rattle.table.specs.Format.{editionOf, countOf, edition, newest, rowSize, widthOf, rowAt, nonceAt, nonceReadAt, rowOf, dataOf, textOf, tagOf, bodyEnd}
 use Rattle.table.specs.Answers.{answer}
 use Rattle.table.specs.Check.{checkFile}
 use Rattle.table.proofs.Rows.{row-broad}
@@ -28,12 +28,12 @@ use Rattle.search.proofs.Halves.{jobs-same}
 use Rattle.search.proofs.Promised.{goes, same-as-lookup}
 use Rattle.editions.specs.Files.{carried, moved}
 use Rattle.editions.specs.Answers.{toEdition2, toEdition1}
-use Rattle.editions.specs.Promised.{SameRead, UpReads, BackReads}
+use Rattle.editions.specs.Promised.{RowKept, UpKeeps, BackKeeps, SameRead, UpReads, BackReads}
 use Rattle.editions.proofs.Laid.{file-long}
 use Rattle.editions.proofs.Kept.{body-from}
-use Rattle.editions.proofs.Passing.{low, row, reads}
-use Rattle.editions.proofs.Done.{Goes, up-goes, back-goes, up-is, back-is}
-use Rattle.editions.proofs.Promised.{new-width, new-count, new-passes, outOf}
+use Rattle.editions.proofs.Passing.{low, row, nonce, reads}
+use Rattle.editions.proofs.Done.{Goes, NoStation, up-goes, back-goes, up-is, back-is}
+use Rattle.editions.proofs.Promised.{new-width, new-count, new-none, new-passes, one, two, one-none, outOf}
 
 -- a row, its body carried
 abbrev carriedRow : ℕ → ℕ → ℕ → Row → Row
@@ -151,13 +151,16 @@ module _ (a b : ℕ) (la : edition ≤ a) (ma : a ≤ newest) (lb : edition ≤ 
   abbrev g : List ℕ
   g = moved b f
 
+  small-is : carried w v n (length f) < 256 ^ 4
+  small-is = omega (arith, file-long w v f n (passes a a f (d .passed) .head .table) (row-broad b) b, d .room .short)
+
   alike : Alike f g
   unfolding carried
   alike =
       let p = passes a a f (d .passed) in
       let t = p .head .table in
       let broad = row-broad b in
-      let small : carried w v n (length f) < 256 ^ 4 = omega (arith, file-long w v f n t broad b, d .room .short) in
+      let small = small-is in
       let wide = new-width a b wa wb f (d .passed) in
       let is : (i : ℕ) → i < n → rowOf g i ≡ rowAt v g i = λ i l. ap (λ (k : ℕ). rowAt k g i) wide in
       let carries : (i : ℕ) → i < n → rowOf g i ≡ carriedRow w v n (rowOf f i) = λ i l. is i l ∙ row b w v f n t broad (p .walk) small i l in
@@ -173,6 +176,42 @@ module _ (a b : ℕ) (la : edition ≤ a) (ma : a ≤ newest) (lb : edition ≤ 
         nonce = λ i l. ap (λ (k : ℕ). nonceReadAt k g i) wide ∙ reads b w v f n t broad (p .walk) small i l;
         body = λ i l. ap (λ (r : Row). drop (r .at) g) (carries i l) ∙ body-from b w v f n t broad (rowAt w f i .at) (low b w v f n t broad (p .walk) small i l);
       }
+
+  -- and row by row, stations and whole nonces too
+  rows-kept : NoStation f → NoStation g → (i : ℕ) → i < n → RowKept f g i
+  unfolding bodyEnd
+  rows-kept none none′ i l =
+      let p = passes a a f (d .passed) in
+      let h = alike in
+      let small : carried w v n (length f) < 256 ^ 4 = small-is in
+      let r = rowOf g i in
+      let s = rowOf f i in
+      let long : bodyEnd r - r .at ≡ bodyEnd s - s .at = omega (arith, h .extra i l, h .len i l, ap sizeOf (h .suite i l)) in
+      record {
+        job = h .job i l;
+        suite = h .suite i l;
+        key = h .key i l;
+        ad = h .extra i l;
+        len = h .len i l;
+        nonce = ap (λ (k : ℕ). nonceAt k g i) (new-width a b wa wb f (d .passed)) ∙ nonce b w v f n (p .head .table) (row-broad b) (p .walk) small i l;
+        station = none′ i (omega (arith, l, h .count)) ∙ sym (none i l);
+        body = ap₂ take long (h .body i l);
+      }
+
+pub up-keeps : UpKeeps
+unfolding toEdition2
+up-keeps f out₀ z =
+    let d = up-goes f (length out₀) z in
+    rw (ap outOf (up-is f out₀ (d .zero)))
+    (rows-kept edition newest (lit≤ tt) (lit≤ tt) (lit≤ tt) (lit≤ tt) f (length out₀) _ d (one-none f (d .passed)) (new-none edition newest one two f (d .passed)))
+
+pub back-keeps : BackKeeps
+unfolding toEdition1
+back-keeps f out₀ z =
+    let b = back-goes f (length out₀) z in
+    let d = b .0 in
+    rw (ap outOf (back-is f out₀ (d .zero)))
+    (rows-kept newest edition (lit≤ tt) (lit≤ tt) (lit≤ tt) (lit≤ tt) f (length out₀) _ d (b .1) (new-none newest edition two one f (d .passed)))
 
 pub up-reads : UpReads
 unfolding toEdition2

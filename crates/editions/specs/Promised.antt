@@ -5,7 +5,8 @@ use mathlib.Core.List.{List}
 use lib.ListN.{length, drop}
 use Rattle.words.specs.Bytes.{AllBytes}
 use Rattle.table.specs.Part.{stretch}
-use Rattle.table.specs.Format.{countOf, totalOf, edition, newest, widthOf, rowStart, rowOf}
+use Rattle.table.specs.Format.{countOf, totalOf, edition, newest, widthOf, rowStart, rowOf, stationOf, nonceAt}
+use Rattle.table.specs.Laid.{bodyAt}
 use Rattle.table.specs.Answers.{answer}
 use Rattle.table.specs.Check.{checkAs}
 use Rattle.shift.specs.Lookup.{lookupJob}
@@ -56,6 +57,23 @@ UpRises = (f out₀ : List ℕ) → toEdition2 f out₀ .answer .number ≡ 0 �
 -- going back they fall by it
 abbrev pub BackFalls : Type 0
 BackFalls = (f out₀ : List ℕ) → toEdition1 f out₀ .answer .number ≡ 0 → Risen (toEdition1 f out₀ .out) f
+
+-- row i of g is that of f, but for where its body lies: job number, suite, key number, both lengths, the sixteen nonce bytes, the station, and the body byte for byte
+pub record RowKept (f g : List ℕ) (i : ℕ) : Type 0 where
+  pub job : rowOf g i .job ≡ rowOf f i .job
+  pub suite : rowOf g i .suite ≡ rowOf f i .suite
+  pub key : rowOf g i .key ≡ rowOf f i .key
+  pub ad : rowOf g i .ad ≡ rowOf f i .ad
+  pub len : rowOf g i .len ≡ rowOf f i .len
+  pub nonce : nonceAt (widthOf g) g i ≡ nonceAt (widthOf f) f i
+  pub station : stationOf g i ≡ stationOf f i
+  pub body : bodyAt (widthOf g) g i ≡ bodyAt (widthOf f) f i
+
+abbrev pub UpKeeps : Type 0
+UpKeeps = (f out₀ : List ℕ) → toEdition2 f out₀ .answer .number ≡ 0 → (i : ℕ) → i < countOf f → RowKept f (toEdition2 f out₀ .out) i
+
+abbrev pub BackKeeps : Type 0
+BackKeeps = (f out₀ : List ℕ) → toEdition1 f out₀ .answer .number ≡ 0 → (i : ℕ) → i < countOf f → RowKept f (toEdition1 f out₀ .out) i
 
 -- a reader gets from g what it gets from f: lookup and search the same number and row, the search at the same looks;
 -- the same associated data; and opening the same number, row and message

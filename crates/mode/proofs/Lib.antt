@@ -6,6 +6,7 @@ pub mod Versions
 pub mod Chain
 pub mod Cut
 pub mod Walk
+pub mod VersionOne
 pub mod Start
 pub mod Demand2
 pub mod Demand3

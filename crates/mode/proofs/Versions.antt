@@ -1,19 +1,14 @@
--- Version 2's held mark may stand in Z: what a call takes from the one before it, and what was put into Z behind that one, are the same mark. And version 1 is what it was.
+-- Version 2's held mark may stand in Z: what a call takes from the one before it, and what was put into Z behind that one, are the same mark.
 use mathlib.Core.Path.{_≡_, refl, sym, ap, _∙_}
-use mathlib.Core.Bool.{cond}
 use native.Mathlib.Omega.{arith}
-use Prim.Native.Nat.{ℕ, zero, suc, _*_, _%_, _^_, _<_}
-use mathlib.Core.List.{List, [], _∷_, _++_, append-assoc}
-use lib.ListN.{getD, set, take, drop}
+use Prim.Native.Nat.{ℕ, zero, suc, _<_}
+use mathlib.Core.List.{List, [], _∷_}
+use lib.ListN.{getD, set}
 use lib.Seq.{set-getD}
-use lib.Dec.{leb}
 use Rattle.words.specs.Words.{xor}
-use Rattle.words.specs.Bytes.{value, bytes}
 use Rattle.words.proofs.Xor.{assoc, zero-l, zero-r}
 use Rattle.cipher.specs.Cipher.{Block, Version, one, two}
-use Rattle.mode.specs.Blocks.{lengths}
-use Rattle.mode.specs.Words.{double, doubleBy}
-use Rattle.mode.specs.Keys.{textMarks, late, placed, marks, marked, onLow, doubled, nextKey, keys}
+use Rattle.mode.specs.Keys.{late, placed, marked, doubled, nextKey, keys}
 use Rattle.mode.specs.Walk.{blockKey, blockZ}
 use Rattle.mode.proofs.Keys.{marked-block, next-block}
 
@@ -59,17 +54,3 @@ key-block two m z h b = next-block two 0 z (omega arith) b
 pub kept-block : (v : Version) (m : ℕ) (z : List ℕ) → m < 256 → Block 16 z → Block 16 (blockZ v m z)
 kept-block one m z h b = next-block one m z h b
 kept-block two m z h b = marked-block m (nextKey two 0 z) h (next-block two 0 z (omega arith) b)
-
--- ---- version 1 is what it was
-
-pub double-was : (x : ℕ) → double x ≡ cond (leb (2 ^ 63) x) (xor (x * 2 % 2 ^ 64) 0x1b) (x * 2 % 2 ^ 64)
-unfolding doubleBy
-double-was x = refl
-
-pub key-was : (m : ℕ) (z : List ℕ) → nextKey one m z ≡ bytes 8 (double (value (take 8 (marked m z)))) ++ drop 8 (marked m z)
-unfolding nextKey onLow
-key-was m z = refl
-
-pub marks-was : (n a m : ℕ) → marks one n a m ≡ textMarks n 0x08 0x10 (lengths n a) ++ (textMarks n 0x20 0x40 (lengths n m) ++ (0x80 ∷ []))
-unfolding marks
-marks-was n a m = append-assoc (textMarks n 0x08 0x10 (lengths n a)) (textMarks n 0x20 0x40 (lengths n m)) (0x80 ∷ [])

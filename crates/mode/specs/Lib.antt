@@ -4,5 +4,6 @@ pub mod Keys
 pub mod Mode
 pub mod Calls
 pub mod Walk
+pub mod VersionOne
 pub mod Slips
 pub mod Toy

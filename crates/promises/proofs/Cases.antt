@@ -1,35 +1,45 @@
 -- Each definition is a ladder of tests; what the tests before an outcome say gives it.
-use mathlib.Core.Path.{_≡_, refl, ap, _∙_}
-use mathlib.Core.Logic.{_⊎_}
-use mathlib.Core.Bool.{Bool, true, false, cond, not, _||_}
+use mathlib.Core.Path.{_≡_, refl, sym, ap, _∙_}
+use mathlib.Core.Logic.{_⊎_, ⊎-elim}
+use mathlib.Core.Bool.{Bool, true, false, cond, not, _||_, true≢false}
 use Prim.Native.Nat.{ℕ, _<_}
+use native.Mathlib.Omega.{arith}
 use mathlib.Core.List.{List}
 use lib.ListN.{length}
 use lib.Dec.{eqb, ltb}
-use borrow.Author.Tests.{eqb-true, eq-eqb, ne-eqb, lt-ltb, le-ltb}
+use borrow.Author.Tests.{eqb-true, eqb-false, eq-eqb, ne-eqb, lt-ltb, le-ltb}
+use Rattle.cipher.specs.Cipher.{Seals}
 use Rattle.table.specs.Format.{countOf, edition, newest, widthOf, rowOf, tagOf, stationOf}
+use Rattle.table.specs.declared.answers.Answer.{Answer}
 use Rattle.table.specs.Answers.{answer}
-use Rattle.table.specs.Check.{headNumber, checkAs, checkFile}
+use Rattle.table.specs.Check.{nonceSeen, headNumber, andThen, checkAs, checkFile}
 use Rattle.table.specs.Inside.{EntryIn}
 use Rattle.table.proofs.Searches.{first-at, first-none}
 use Rattle.shift.specs.Lookup.{lookupJob}
 use Rattle.shift.specs.Opening.{entryOpening, JobOpened, left, rowOpening, jobOpening}
 use Rattle.shift.proofs.Lookups.{found-in}
 use Rattle.shift.proofs.Finding.{finds}
-use Rattle.search.specs.Halving.{searching}
+use Rattle.search.specs.Halving.{Walk, ends, halving, jobsOf, searching}
+use Rattle.search.proofs.Halves.{halved-number}
 use Rattle.draft.specs.Files.{entryTag}
-use Rattle.draft.specs.Answers.{tagRight}
-use Rattle.draft.specs.Promised.{RightTag}
-use Rattle.compare.specs.Comparing.{onlyFirst, onlySecond, differing, comparison}
+use Rattle.draft.specs.Answers.{tagSet, rowRetired, tagRight, setFrom, retiredFrom, wrongFrom, lentAnswer, sealAnswer, openAnswer, unsealAnswer, fileSealing, fileUnsealing}
+use Rattle.draft.specs.Promised.{ZeroTag, RightTag}
+use Rattle.reseal.specs.Files.{retabled}
+use Rattle.reseal.specs.Answers.{seenFrom, wrongAgain, wrongAgainFrom, takeAnswer, resealAnswer, fileResealing}
+use Rattle.reseal.specs.Promised.{HasFour}
+use Rattle.compare.specs.declared.Finding.{Finding}
+use Rattle.compare.specs.Comparing.{onlyFirst, onlySecond, differing, refusedIn, Comparison, stopped, tooLong, listed, comparison}
 use Rattle.editions.specs.Files.{moved}
 use Rattle.editions.specs.Answers.{stationsFrom, lengthAnswer, upAnswer, backAnswer, toEdition2, toEdition1}
+use Rattle.editions.specs.Promised.{done}
 use Rattle.editions.proofs.Promised.{back-short}
-use Rattle.reader.specs.Reporting.{tagNumber, longest, reporting}
+use Rattle.reader.specs.Reporting.{jobOf, tagNumber, front, entries, Report, stopped as unreported, longest, reporting}
 use Rattle.reader.proofs.Tags.{number-is}
 use Rattle.promises.specs.Numbers.{headTable}
-use Rattle.promises.specs.Cases.{HeadNumbers, LookupCases, JobCases, SearchCases, CompareCases, UpCases, BackCases, ReportCases, Cases}
-use Rattle.promises.proofs.Tables.{Tells, tells-eq, tells-lt, tells-same, tells-not, tells-or, table, answers}
-use Rattle.promises.proofs.Checks.{head-rungs, head-is}
+use Rattle.promises.specs.Cases.{HeadNumbers, LookupCases, JobCases, SearchCases, BothPass, CompareCases, unmoved, UpCases, BackCases, ReportCases, SealOrder, UnsealOrder, ResealOrder, Cases}
+use Rattle.promises.proofs.Tables.{Tells, tells-eq, tells-lt, tells-same, tells-not, tells-or, tells-and, tells-true, not-told, ladder, By, lines, table, answers}
+use Rattle.promises.proofs.Checks.{head-rungs, head-is, none-head}
+use Rattle.promises.proofs.Orders.{firstRow, then-none, order}
 
 head-numbers : HeadNumbers
 head-numbers low high f = table _ (headTable low high f) (head-rungs low high f) refl (head-is low high f)
@@ -38,57 +48,221 @@ lookup-cases : (f : List ℕ) (job : ℕ) → LookupCases f job
 unfolding lookupJob
 lookup-cases f job = record { checked = λ n. simp (ne-eqb (checkFile f .number) 0 n); passed = finds f job }
 
-search-cases : (f : List ℕ) (job : ℕ) → SearchCases f job
-unfolding searching
-search-cases f job = record { head = λ n. simp (ne-eqb (headNumber edition newest f) 0 n); halved = λ z. simp z }
+-- ---- the search
 
--- a list that is longer than its buffer
-any-longer : (a b c d e g : ℕ) → (a < b) ⊎ ((c < d) ⊎ (e < g)) → ltb a b || (ltb c d || ltb e g) ≡ true
-any-longer a b c d e g h = tells-or (tells-lt a b) (tells-or (tells-lt c d) (tells-lt e g)) .1 h
+module _ (f : List ℕ) (job : ℕ) where
+  abbrev H : ℕ
+  H = headNumber edition newest f
 
-compare-cases : (f g x y z : List ℕ) → CompareCases f g x y z
-unfolding comparison
-compare-cases f g x y z =
-    record {
-      first = λ n. simp (ne-eqb (checkFile f .number) 0 n);
-      second = λ p n. simp (p, ne-eqb (checkFile g .number) 0 n);
-      room = λ p q h. simp (p, q, any-longer (length x) (length (onlyFirst f g)) (length y) (length (onlySecond f g)) (length z) (length (differing f g)) h);
-      lists = λ p q a b c. simp (p, q, le-ltb (length x) (length (onlyFirst f g)) a, le-ltb (length y) (length (onlySecond f g)) b, le-ltb (length z) (length (differing f g)) c);
-    }
+  search-stops : (H ≡ 0 → ⊥) → searching f job ≡ ends (answer H 0)
+  unfolding searching
+  search-stops n = simp (ne-eqb H 0 n)
+
+  search-goes : H ≡ 0 → searching f job ≡ halving (jobsOf (widthOf f) f) job 0 (countOf f)
+  unfolding searching
+  search-goes z = simp z
+
+  -- a number that the halving does not give is the head's
+  search-by : (k : ℕ) → (k ≡ 0 → ⊥) → (k ≡ 32 → ⊥) → By (λ j. searching f job ≡ ends (answer j 0)) Unit (ladder Unit (headTable edition newest f) (head-rungs edition newest f)) k
+  search-by k n0 n32 = (λ e. (tt, sym (head-is edition newest f) ∙ on (eqb H 0) refl e), λ y. let h : H ≡ k = head-is edition newest f ∙ y .1 in search-stops (λ z. n0 (sym h ∙ z)) ∙ ap (λ (m : ℕ). ends (answer m 0)) h)
+    where
+      said : Walk → ℕ
+      said x = x .says .number
+
+      on : (b : Bool) → eqb H 0 ≡ b → searching f job ≡ ends (answer k 0) → H ≡ k
+      on true t e =
+          let q = ap said (sym (search-goes (eqb-true H 0 t)) ∙ e) in
+          absurd (⊎-elim (λ z. n0 (sym q ∙ z)) (λ z. n32 (sym q ∙ z)) (halved-number (jobsOf (widthOf f) f) job (countOf f) 0 (countOf f) (omega arith)))
+      on false t e = ap said (sym (search-stops (eqb-false H 0 t)) ∙ e)
+
+  search-cases : SearchCases f job
+  search-cases = record {
+    head = lines (λ k. searching f job ≡ ends (answer k 0)) Unit (headTable edition newest f) (head-rungs edition newest f) refl
+        (search-by 20 (λ e. omega arith) (λ e. omega arith), (search-by 21 (λ e. omega arith) (λ e. omega arith), (search-by 22 (λ e. omega arith) (λ e. omega arith), (search-by 23 (λ e. omega arith) (λ e. omega arith), (search-by 24 (λ e. omega arith) (λ e. omega arith), tt)))));
+    halved = λ h. search-goes (none-head edition newest f .1 h);
+  }
+
+-- ---- compare
+
+module _ (f g x y z : List ℕ) where
+  -- a list that is longer than its buffer
+  abbrev Longer : Type 0
+  Longer = (length x < length (onlyFirst f g)) ⊎ ((length y < length (onlySecond f g)) ⊎ (length z < length (differing f g)))
+
+  tells-longer : Tells (tooLong f g x y z) Longer
+  tells-longer = tells-or (tells-lt _ _) (tells-or (tells-lt _ _) (tells-lt _ _))
+
+  in-first : (checkFile f .number ≡ 0 → ⊥) → comparison f g x y z ≡ stopped (refusedIn 1 (checkFile f)) x y z
+  unfolding comparison
+  in-first n = simp (ne-eqb (checkFile f .number) 0 n)
+
+  in-second : checkFile f .number ≡ 0 → (checkFile g .number ≡ 0 → ⊥) → comparison f g x y z ≡ stopped (refusedIn 2 (checkFile g)) x y z
+  unfolding comparison
+  in-second p n = simp (p, ne-eqb (checkFile g .number) 0 n)
+
+  past : (b : Bool) → BothPass f g → tooLong f g x y z ≡ b → comparison f g x y z ≡ cond b (stopped (refusedIn 0 (answer 36 0)) x y z) (listed f g x y z)
+  unfolding comparison
+  past b h t = simp (h .0, h .1, t)
+
+  -- one of four things happened
+  compare-by : (P : Type 0)
+      → ((checkFile f .number ≡ 0 → ⊥) → comparison f g x y z ≡ stopped (refusedIn 1 (checkFile f)) x y z → P)
+      → ((checkFile g .number ≡ 0 → ⊥) → comparison f g x y z ≡ stopped (refusedIn 2 (checkFile g)) x y z → P)
+      → (BothPass f g → Longer → comparison f g x y z ≡ stopped (refusedIn 0 (answer 36 0)) x y z → P)
+      → (BothPass f g → (Longer → ⊥) → comparison f g x y z ≡ listed f g x y z → P)
+      → P
+  compare-by P a b c d = on (eqb (checkFile f .number) 0) (eqb (checkFile g .number) 0) (tooLong f g x y z) refl refl refl
+    where
+      on : (r s t : Bool) → eqb (checkFile f .number) 0 ≡ r → eqb (checkFile g .number) 0 ≡ s → tooLong f g x y z ≡ t → P
+      on false s t p q l = let n = eqb-false (checkFile f .number) 0 p in a n (in-first n)
+      on true false t p q l = let n = eqb-false (checkFile g .number) 0 q in b n (in-second (eqb-true (checkFile f .number) 0 p) n)
+      on true true true p q l = let h : BothPass f g = (eqb-true (checkFile f .number) 0 p, eqb-true (checkFile g .number) 0 q) in c h (tells-longer .0 l) (past true h l)
+      on true true false p q l = let h : BothPass f g = (eqb-true (checkFile f .number) 0 p, eqb-true (checkFile g .number) 0 q) in d h (λ w. true≢false (sym (tells-longer .1 w) ∙ l)) (past false h l)
+
+  abbrev told : Comparison → Finding
+  told c = c .finding
+
+  compare-cases : CompareCases f g x y z
+  compare-cases =
+      record {
+        room-number = (
+          (
+            λ e. compare-by _
+                (λ n s. absurd (one-zero (ap (λ (t : Finding). t .file) (sym (ap told s) ∙ e))))
+                (λ n s. absurd (two-zero (ap (λ (t : Finding). t .file) (sym (ap told s) ∙ e))))
+                (λ h w s. (h, w))
+                (λ h w s. absurd (zero-room (ap (λ (t : Finding). t .number) (sym (ap told s) ∙ e)))),
+            λ h. ap told (past true (h .0) (tells-longer .1 (h .1))),
+          ),
+          tt,
+        );
+        success = (
+          λ e. compare-by _
+              (λ n s. absurd (n (ap (λ (t : Comparison). t .finding .number) (sym s) ∙ e)))
+              (λ n s. absurd (n (ap (λ (t : Comparison). t .finding .number) (sym s) ∙ e)))
+              (λ h w s. absurd (zero-room (sym e ∙ ap (λ (t : Comparison). t .finding .number) s)))
+              (λ h w s. (h, (w, tt))),
+          λ h. ap (λ (t : Comparison). t .finding .number) (past false (h .0) (not-told tells-longer (h .1 .0))),
+        );
+        first = in-first;
+        second = in-second;
+        room = λ p q h. past true (p, q) (tells-longer .1 h);
+        lists = λ p q a b c. past false (p, q) (simp (le-ltb (length x) (length (onlyFirst f g)) a, le-ltb (length y) (length (onlySecond f g)) b, le-ltb (length z) (length (differing f g)) c));
+      }
+    where
+      one-zero : _≡_ {A = ℕ} 1 0 → ⊥
+      one-zero e = omega arith
+
+      two-zero : _≡_ {A = ℕ} 2 0 → ⊥
+      two-zero e = omega arith
+
+      zero-room : _≡_ {A = ℕ} 0 36 → ⊥
+      zero-room e = omega arith
+
+-- ---- the moves
+
+-- two tests, one after the other
+two-said : (a b : Bool) (k l : ℕ) → cond a (answer k 0) (cond b (answer l 0) (answer 0 0)) ≡ answer (cond a k (cond b l 0)) 0
+two-said true b k l = refl
+two-said false true k l = refl
+two-said false false k l = refl
 
 up-cases : (f out : List ℕ) → UpCases f out
 unfolding toEdition2 upAnswer lengthAnswer
 up-cases f out =
     record {
+      numbers = λ p.
+          answers (toEdition2 f out .answer) 0 _ (
+            ltb 1048576 (length (moved newest f)),
+            λ _. tells-lt _ _,
+            (
+              not (eqb (length out) (length (moved newest f))),
+              λ _. tells-not (tells-eq _ _),
+              tt,
+            ),
+          ) refl (simp p (two-said (ltb 1048576 (length (moved newest f))) (not (eqb (length out) (length (moved newest f)))) 20 6));
       checked = λ n. simp (ne-eqb (checkAs edition f .number) 0 n);
       long = λ p l. simp (p, lt-ltb 1048576 (length (moved newest f)) l);
       room = λ p l n. simp (p, le-ltb 1048576 (length (moved newest f)) l, ne-eqb (length out) (length (moved newest f)) n);
       moves = λ p l e. simp (p, le-ltb 1048576 (length (moved newest f)) l, eq-eqb (length out) (length (moved newest f)) e);
     }
 
-back-cases : (f out : List ℕ) → BackCases f out
-unfolding toEdition1 backAnswer stationsFrom lengthAnswer
-back-cases f out =
-    record {
-      checked = λ n. simp (ne-eqb (checkAs newest f .number) 0 n);
-      station = λ p i l n q. simp (p, first-at (λ j. not (eqb (stationOf f j) 0)) (answer 35) (answer 0 0) (countOf f) i l (simp (ne-eqb (stationOf f i) 0 n)) (λ j m. simp (q j m)));
-      room = λ p q n. simp (p, none q, le-ltb 1048576 (length (moved edition f)) (back-short f p), ne-eqb (length out) (length (moved edition f)) n);
-      moves = λ p q e. simp (p, none q, le-ltb 1048576 (length (moved edition f)) (back-short f p), eq-eqb (length out) (length (moved edition f)) e);
-    }
-  where
-    none : ((i : ℕ) → i < countOf f → stationOf f i ≡ 0) → stationsFrom f (countOf f) 0 ≡ answer 0 0
-    none q = first-none (λ j. not (eqb (stationOf f j) 0)) (answer 35) (answer 0 0) (countOf f) (λ j m. simp (q j m))
+module _ (f out : List ℕ) where
+  abbrev AllZero : ℕ → Type 0
+  AllZero k = (i : ℕ) → i < k → stationOf f i ≡ 0
+
+  back-stops : (checkAs newest f .number ≡ 0 → ⊥) → toEdition1 f out ≡ record { answer = checkAs newest f; out = out }
+  unfolding toEdition1 backAnswer
+  back-stops n = simp (ne-eqb (checkAs newest f .number) 0 n)
+
+  back-station : checkAs newest f .number ≡ 0 → (i : ℕ) → i < countOf f → (stationOf f i ≡ 0 → ⊥) → AllZero i → toEdition1 f out ≡ unmoved 35 i out
+  unfolding toEdition1 backAnswer stationsFrom
+  back-station p i l n q = simp (p, first-at (λ j. not (eqb (stationOf f j) 0)) (answer 35) (answer 0 0) (countOf f) i l (simp (ne-eqb (stationOf f i) 0 n)) (λ j m. simp (q j m)))
+
+  none : AllZero (countOf f) → stationsFrom f (countOf f) 0 ≡ answer 0 0
+  unfolding stationsFrom
+  none q = first-none (λ j. not (eqb (stationOf f j) 0)) (answer 35) (answer 0 0) (countOf f) (λ j m. simp (q j m))
+
+  back-past : (b : Bool) → checkAs newest f .number ≡ 0 → AllZero (countOf f) → eqb (length out) (length (moved edition f)) ≡ b → toEdition1 f out ≡ cond b (done (moved edition f)) (unmoved 6 0 out)
+  unfolding toEdition1 backAnswer lengthAnswer
+  back-past true p q e = simp (p, none q, le-ltb 1048576 (length (moved edition f)) (back-short f p), e)
+  back-past false p q e = simp (p, none q, le-ltb 1048576 (length (moved edition f)) (back-short f p), e)
+
+  -- 20 cannot come out
+  back-climb : checkAs newest f .number ≡ 0 → toEdition1 f out .answer
+      ≡ andThen (firstRow 35 (countOf f) (λ i. not (eqb (stationOf f i) 0))) (cond (not (eqb (length out) (length (moved edition f)))) (answer 6 0) (answer 0 0))
+  unfolding toEdition1 backAnswer stationsFrom lengthAnswer
+  back-climb p = simp (p, le-ltb 1048576 (length (moved edition f)) (back-short f p))
+
+  back-cases : BackCases f out
+  back-cases =
+      record {
+        numbers = λ p.
+            order (toEdition1 f out .answer) _ (
+              λ i. not (eqb (stationOf f i) 0),
+              λ i. tells-not (tells-eq _ 0),
+              (
+                not (eqb (length out) (length (moved edition f))),
+                tells-not (tells-eq _ _),
+                tt,
+              ),
+            ) refl (back-climb p);
+        checked = back-stops;
+        station = back-station;
+        room = λ p q n. back-past false p q (ne-eqb (length out) (length (moved edition f)) n);
+        moves = λ p q e. back-past true p q (eq-eqb (length out) (length (moved edition f)) e);
+      }
+
+-- ---- the report
 
 report-cases : (f ring jobs numbers : List ℕ) → ReportCases f ring jobs numbers
 unfolding reporting
 report-cases f ring jobs numbers =
     record {
+      numbered = λ l p.
+          table _ _ (
+            not (eqb (length ring) 256),
+            λ _. tells-not (tells-eq _ _),
+            (
+              ltb (length jobs) (countOf f) || ltb (length numbers) (countOf f),
+              λ _. tells-or (tells-lt _ _) (tells-lt _ _),
+              tt,
+            ),
+          ) refl (simp (le-ltb longest (length f) l, p) (said (not (eqb (length ring) 256)) (ltb (length jobs) (countOf f) || ltb (length numbers) (countOf f))));
       long = λ l. simp (lt-ltb longest (length f) l);
       checked = λ l n. simp (le-ltb longest (length f) l, ne-eqb (checkFile f .number) 0 n);
       ring-wrong = λ l p n. simp (le-ltb longest (length f) l, p, ne-eqb (length ring) 256 n);
       room = λ l p g h. simp (le-ltb longest (length f) l, p, g, tells-or (tells-lt (length jobs) (countOf f)) (tells-lt (length numbers) (countOf f)) .1 h);
       lines = λ l p g a b. simp (le-ltb longest (length f) l, p, g, le-ltb (length jobs) (countOf f) a, le-ltb (length numbers) (countOf f) b);
     }
+  where
+    lists : Report
+    lists = record { said = entries (countOf f); jobs = front (jobOf f) (countOf f) jobs; numbers = front (tagNumber f ring) (countOf f) numbers }
+
+    said : (a b : Bool) → cond a (unreported (answer 2 0) jobs numbers) (cond b (unreported (answer 6 0) jobs numbers) lists) .said .number ≡ cond a 2 (cond b 6 0)
+    said true b = refl
+    said false true = refl
+    said false false = refl
 
 -- ---- opening a job
 
@@ -140,6 +314,106 @@ job-cases f ring job out =
           ) refl (simp q (row-said f ring i out (found-in f job i q)));
     }
 
+-- ---- the writer and the reseal pass
+
+-- a test after a check that stands, and one after the lengths
+then-then : (x y r : Answer) → andThen (andThen x y) r ≡ andThen x (andThen y r)
+then-then x y r = by (eqb (x .number) 0) refl
+  where
+    by : (b : Bool) → eqb (x .number) 0 ≡ b → andThen (cond b y x) r ≡ cond b (andThen y r) x
+    by true e = refl
+    by false e = simp e
+
+lent-then : (a b : Bool) (r : Answer) → andThen (cond a (answer 2 0) (cond b (answer 6 0) (answer 0 0))) r ≡ cond a (answer 2 0) (cond b (answer 6 0) r)
+lent-then true b r = refl
+lent-then false true r = refl
+lent-then false false r = refl
+
+eight : _≡_ {A = ℕ} 8 0 → ⊥
+eight e = omega arith
+
+tells-set : (draft : List ℕ) (i : ℕ) → Tells (tagSet draft i) (ZeroTag draft i → ⊥)
+unfolding tagSet
+tells-set draft i = tells-not (tells-same _ _)
+
+tells-retired : (f : List ℕ) (i : ℕ) → Tells (rowRetired f i) (Seals (rowOf f i .suite) → ⊥)
+unfolding rowRetired
+tells-retired f i = tells-not (tells-true _)
+
+seal-order : SealOrder
+unfolding fileSealing sealAnswer setFrom retiredFrom lentAnswer
+seal-order draft ring out p =
+    order (fileSealing draft ring out .answer) _ (
+      tagSet draft,
+      tells-set draft,
+      (
+        rowRetired draft,
+        tells-retired draft,
+        (
+          not (eqb (length ring) 256),
+          tells-not (tells-eq _ _),
+          (
+            not (eqb (length out) (length draft)),
+            tells-not (tells-eq _ _),
+            tt,
+          ),
+        ),
+      ),
+    ) refl (simp p)
+
+unseal-order : UnsealOrder
+unfolding fileUnsealing unsealAnswer openAnswer lentAnswer wrongFrom
+unseal-order file ring out p =
+    let a = not (eqb (length ring) 256) in
+    let b = not (eqb (length out) (length file)) in
+    let w = firstRow 8 (countOf file) (λ j. not (tagRight file ring j)) in
+    order (fileUnsealing file ring out .answer) _ (
+      a,
+      tells-not (tells-eq _ _),
+      (
+        b,
+        tells-not (tells-eq _ _),
+        (
+          λ i. not (tagRight file ring i),
+          λ i. tells-not (tells-tag file ring i),
+          tt,
+        ),
+      ),
+    ) refl
+    (simp p (lent-then a b w) ∙ ap (λ (r : Answer). cond a (answer 2 0) (cond b (answer 6 0) r)) (then-none 8 (countOf file) (λ j. not (tagRight file ring j)) eight))
+
+tells-again : (f ring : List ℕ) (i : ℕ) → Tells (wrongAgain f ring i) (HasFour f i × (RightTag f ring i → ⊥))
+unfolding wrongAgain
+tells-again f ring i = tells-and (tells-eq _ _) (tells-not (tells-tag f ring i))
+
+reseal-order : ResealOrder
+unfolding fileResealing resealAnswer takeAnswer seenFrom lentAnswer wrongAgainFrom
+reseal-order file ring out p =
+    let a = not (eqb (length ring) 256) in
+    let b = not (eqb (length out) (length file)) in
+    let c = firstRow 29 (countOf file) (nonceSeen (widthOf (retabled file)) (retabled file)) in
+    let w = firstRow 8 (countOf file) (wrongAgain file ring) in
+    order (fileResealing file ring out .answer) _ (
+      nonceSeen (widthOf (retabled file)) (retabled file),
+      λ i. tells-true _,
+      (
+        a,
+        tells-not (tells-eq _ _),
+        (
+          b,
+          tells-not (tells-eq _ _),
+          (
+            wrongAgain file ring,
+            tells-again file ring,
+            tt,
+          ),
+        ),
+      ),
+    ) refl
+    (simp p (then-then c (cond a (answer 2 0) (cond b (answer 6 0) (answer 0 0))) w)
+    ∙ ap (andThen c) (lent-then a b w)
+    ∙ ap (λ (r : Answer). andThen c (cond a (answer 2 0) (cond b (answer 6 0) r))) (then-none 8 (countOf file) (wrongAgain file ring) eight))
+
 pub cases : Cases
 cases = record {
   head = head-numbers;
@@ -150,4 +424,7 @@ cases = record {
   to-edition2 = up-cases;
   to-edition1 = back-cases;
   report = report-cases;
+  seal-file = seal-order;
+  unseal-file = unseal-order;
+  reseal = reseal-order;
 }

@@ -1,14 +1,15 @@
 -- The shift file's check: one of three things happened, and each number is of one of them alone.
 use mathlib.Core.Path.{_≡_, refl, sym, ap, _∙_, subst}
-use mathlib.Core.Logic.{_⊎_, inl, inr, _↔_, ⊎-elim}
+use mathlib.Core.Logic.{_⊎_, _↔_, ⊎-elim}
 use mathlib.Core.Bool.{Bool, true, false, cond, not, _||_, true≢false}
-use Prim.Native.Nat.{ℕ, zero, suc, _-_, _≤_, _<_}
-use native.Mathlib.Nat.{not-suc-le-zero, le-of-suc-le-suc, eq-or-lt-of-le}
+use Prim.Native.Nat.{ℕ, zero, suc, _+_, _-_, _≤_, _<_}
 use native.Mathlib.Omega.{arith}
 use mathlib.Core.List.{List}
 use lib.ListN.{length}
 use lib.Dec.{eqb, ltb}
-use borrow.Author.Tests.{eqb-true, eqb-false, ne-eqb}
+use borrow.Author.Tests.{eqb-true, eqb-false, ne-eqb, not-true, not-false}
+use Rattle.cipher.proofs.Suites.{tag-size}
+use Rattle.table.specs.declared.row.Row.{Row}
 use Rattle.table.specs.declared.answers.Answer.{Answer}
 use Rattle.table.specs.Search.{anyBelow}
 use Rattle.table.specs.Format.{editionOf, countOf, totalOf, widthOf, rowStart, rowOf, nonceAt, nonceReadAt, padded, bodyEnd, dataJob, unitOf}
@@ -17,8 +18,8 @@ use Rattle.table.specs.Check.{notAbove, badSuite, badLength, bodyStart, misplac
 use Rattle.table.proofs.Searches.{any-hit, first-at, first-none}
 use Rattle.shift.specs.Nonces.{SameNonce}
 use Rattle.promises.specs.Tables.{None}
-use Rattle.promises.specs.Numbers.{headTable, rowTable, endTable, SoundTo, CheckNumbers, Numbers}
-use Rattle.promises.proofs.Tables.{Tells, tells-eq, tells-lt, tells-le, tells-same, tells-not, tells-or, tells-and, tells-as, Rungs, ladder, fresh, fresh-some, not-given, By, lines, nothing}
+use Rattle.promises.specs.Numbers.{tagSize, headTable, rowTable, endTable, SoundTo, CheckNumbers, Numbers}
+use Rattle.promises.proofs.Tables.{Tells, tells-eq, tells-lt, tells-le, tells-same, tells-not, tells-or, tells-and, tells-as, first-of, Rungs, ladder, fresh, fresh-some, not-given, By, lines, nothing}
 use Rattle.promises.proofs.Numbers.{tells-suite, seal-numbers, open-numbers, start-numbers, data-numbers, part-numbers, end-numbers}
 
 -- ---- the tests
@@ -45,6 +46,13 @@ tells-clash f i j =
 tells-above : (f : List ℕ) (i : ℕ) → Tells (notAbove (widthOf f) f i) ((0 < i) × (rowOf f i .job ≤ rowOf f (i - 1) .job))
 unfolding notAbove
 tells-above f i = tells-and (tells-as (tells-not (tells-eq i 0)) (λ n. omega (arith, n), λ l e. omega (arith, l, e))) (tells-le (rowOf f i .job) (rowOf f (i - 1) .job))
+
+-- a body ends behind its tag
+tells-end : (f : List ℕ) (r : Row) → Tells (ltb (length f) (bodyEnd r)) (length f < r .at + r .ad + r .len + tagSize (r .suite))
+unfolding bodyEnd
+tells-end f r =
+    let q = tag-size (r .suite) in
+    tells-as (tells-lt (length f) (bodyEnd r)) (λ h. omega (arith, h, q), λ h. omega (arith, h, q))
 
 pub head-rungs : (low high : ℕ) (f : List ℕ) → Rungs Unit (headTable low high f)
 unfolding rowStart
@@ -84,7 +92,7 @@ row-rungs reached f i =
           λ _. tells-or (tells-or (tells-lt (r .ad) 5) (tells-lt 1024 (r .ad))) (tells-lt 65536 (r .len)),
           (
             misplaced (widthOf f) f (countOf f) i,
-            λ _. tells-or (tells-not (tells-eq (r .at) (bodyStart (widthOf f) f (countOf f) i))) (tells-lt (length f) (bodyEnd r)),
+            λ _. tells-or (tells-not (tells-eq (r .at) (bodyStart (widthOf f) f (countOf f) i))) (tells-end f r),
             (
               unreadSet (widthOf f) f i,
               λ _. tells-not (tells-same (nonceAt (widthOf f) f i) (padded (nonceReadAt (widthOf f) f i))),
@@ -156,15 +164,6 @@ module _ (low high : ℕ) (f : List ℕ) where
   end-stands z q =
       simp z (first-none (λ j. not (eqb (R j) 0)) (λ j. answer (R j) j) (endAnswer (widthOf f) f (countOf f)) (countOf f) (λ j m. simp (q j m)) ∙ end-is Unit f)
 
-  -- the first row of k that has a fault, if any has
-  least : (k : ℕ) → Quiet k ⊎ ((i : ℕ) × (i < k) × Quiet i × (R i ≡ 0 → ⊥))
-  least zero = inl (λ j l. absurd (not-suc-le-zero l))
-  least (suc k) = ⊎-elim (λ q. here q (eqb (R k) 0) refl) (λ w. inr (w .0, omega (arith, w .1), w .2, w .3)) (least k)
-    where
-      here : Quiet k → (b : Bool) → eqb (R k) 0 ≡ b → Quiet (suc k) ⊎ ((i : ℕ) × (i < suc k) × Quiet i × (R i ≡ 0 → ⊥))
-      here q true e = inl (λ j l. ⊎-elim (λ s. ap R s ∙ eqb-true (R k) 0 e) (q j) (eq-or-lt-of-le (le-of-suc-le-suc l)))
-      here q false e = inr (k, omega arith, q, eqb-false (R k) 0 e)
-
   by-case : (P : Type 0)
       → ((H ≡ 0 → ⊥) → said ≡ answer H 0 → P)
       → (H ≡ 0 → (i : ℕ) → i < countOf f → Quiet i → (R i ≡ 0 → ⊥) → said ≡ answer (R i) i → P)
@@ -172,15 +171,24 @@ module _ (low high : ℕ) (f : List ℕ) where
       → P
   by-case P a b c = on (eqb H 0) refl
     where
+      zero-of : (j : ℕ) → not (eqb (R j) 0) ≡ false → R j ≡ 0
+      zero-of j q = eqb-true (R j) 0 (not-false _ q)
+
       on : (t : Bool) → eqb H 0 ≡ t → P
       on true e =
           let z = eqb-true H 0 e in
-          ⊎-elim (λ q. c z q (end-stands z q)) (λ w. b z (w .0) (w .1) (w .2) (w .3) (row-stands z (w .0) (w .1) (w .2) (w .3))) (least (countOf f))
+          ⊎-elim
+          (λ q. let s : Quiet (countOf f) = λ j l. zero-of j (q j l) in c z s (end-stands z s))
+          (λ w.
+          let s : Quiet (w .0) = λ j l. zero-of j (w .2 j l) in
+          let n = eqb-false (R (w .0)) 0 (not-true _ (w .3)) in
+          b z (w .0) (w .1) s n (row-stands z (w .0) (w .1) s n))
+          (first-of (λ j. not (eqb (R j) 0)) (countOf f))
       on false e = let n = eqb-false H 0 e in a n (head-stands n)
 
   -- ---- no fault, as the tables say it
 
-  none-head : (H ≡ 0) ↔ None (headTable low high f)
+  pub none-head : (H ≡ 0) ↔ None (headTable low high f)
   none-head =
       let n = nothing Unit (headTable low high f) (head-rungs low high f) refl tt in
       (λ z. n .0 (sym (head-is low high f) ∙ z), λ h. head-is low high f ∙ n .1 h)

@@ -1,11 +1,12 @@
 -- W8, and the stations of W10, by citation.
-use Rattle.compare.proofs.Promised.{exactly-listed, lists-rise, with-itself, files-exchanged, other-length, other-station, no-station}
+use Rattle.compare.proofs.Promised.{exactly-listed, lists-rise, equal-rows, with-itself, files-exchanged, other-length, other-station, no-station}
 use Rattle.promises.specs.Compare.{Compare}
 
 pub compares : Compare
 compares = record {
   listed = exactly-listed;
   rise = lists-rise;
+  equal = equal-rows;
   itself = with-itself;
   exchanged = files-exchanged;
   lengths = other-length;

@@ -1,5 +1,6 @@
 pub mod Answers
 pub mod Tables
+pub mod Orders
 pub mod Numbers
 pub mod Checks
 pub mod Cases

@@ -1,6 +1,6 @@
 -- W5 by citation.
-use Rattle.shift.proofs.Nonces.{nonces-once}
+use Rattle.shift.proofs.Nonces.{nonces-once, unread-byte}
 use Rattle.promises.specs.Nonces.{NonceCheck}
 
 pub nonce-check : NonceCheck
-nonce-check = record { once = nonces-once }
+nonce-check = record { once = nonces-once; unread = unread-byte }

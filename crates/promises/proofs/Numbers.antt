@@ -10,11 +10,11 @@ use lib.Dec.{eqb, ltb, leb}
 use borrow.Author.Tests.{not-true}
 use Rattle.words.specs.Bytes.{sameBytes}
 use Rattle.cipher.specs.Cipher.{isSuite, retired, seals, cipherOf, sizeOf, nonceOf}
-use Rattle.cipher.proofs.Suites.{only-four}
+use Rattle.cipher.proofs.Suites.{tag-size, only-four}
 use Rattle.mode.specs.Mode.{textOut, tagOut}
 use Rattle.comet.specs.Answers.{takes, refusal, sealedAs, sealing, openedAs, opening}
 use Rattle.session.specs.Value.{Value, Given, sound, answered, startNumber, starting, dataNumber, dataPart, textNumber, textDone, textPart, endNumber, ending}
-use Rattle.promises.specs.Numbers.{numbers, SealNumbers, OpenNumbers, StartNumbers, Going, DataNumbers, PartNumbers, EndNumbers}
+use Rattle.promises.specs.Numbers.{tagSize, numbers, SealNumbers, OpenNumbers, StartNumbers, Going, DataNumbers, PartNumbers, EndNumbers}
 use Rattle.promises.proofs.Tables.{Tells, tells-eq, tells-lt, tells-le, tells-same, tells-not, tells-and, tells-as, tells-true, stable, Rungs, table}
 
 -- ---- suites
@@ -56,6 +56,12 @@ tells-takes : (d : Bool) (s : ℕ) → ((s < 1) ⊎ (6 < s) → ⊥) → Tells (
 tells-takes true s n = (λ e. absurd (true≢false (sym e)), λ h. absurd (true≢false (h .0)))
 tells-takes false s n = tells-as (tells-four s n) (λ e. (refl, e), λ h. h .1)
 
+-- ---- the tag's length
+
+-- the column says what the block has
+pub tells-tag-size : (x s : ℕ) → Tells (eqb x (sizeOf s)) (x ≡ tagSize s)
+tells-tag-size x s = tells-as (tells-eq x (sizeOf s)) (λ e. e ∙ sym (tag-size s), λ e. e ∙ tag-size s)
+
 -- ---- sealer and opener
 
 abbrev rungs : (d : Bool) (suite : ℕ) (key nonce ad text out tag : List ℕ) → Rungs Unit (numbers d suite key nonce ad text out tag)
@@ -82,7 +88,7 @@ rungs d suite key nonce ad text out tag = (
               λ _. tells-not (tells-eq _ _),
               (
                 not (eqb (length tag) (sizeOf suite)),
-                λ _. tells-not (tells-eq _ _),
+                λ _. tells-not (tells-tag-size _ suite),
                 (
                   d && not (sameBytes (tagOut (cipherOf suite) true key nonce ad text) tag),
                   λ _. tells-and (tells-true d) (tells-not (tells-same _ _)),
@@ -138,7 +144,7 @@ open-numbers suite key nonce ad text tag out =
 
 -- ---- the session
 
-answered-number : (n : ℕ) (done : Given) (v : Value) (out tag : List ℕ) → done .number ≡ 0 → answered n done v out tag .number ≡ n
+pub answered-number : (n : ℕ) (done : Given) (v : Value) (out tag : List ℕ) → done .number ≡ 0 → answered n done v out tag .number ≡ n
 answered-number zero done v out tag z = z
 answered-number (suc n) done v out tag z = refl
 
@@ -167,7 +173,7 @@ tells-going : (v : Value) → Tells (sound (v .suite) (v .came) (v .text)) (Goin
 tells-going v = tells-and (tells-true (seals (v .suite))) (tells-and (tells-le (v .came) 65536) (tells-le (v .text) 65536))
 
 -- a total that is within the limit, and goes over it by l bytes
-tells-over : (t l : ℕ) → t ≤ 65536 → Tells (ltb (65536 - t) l) (65536 < t + l)
+pub tells-over : (t l : ℕ) → t ≤ 65536 → Tells (ltb (65536 - t) l) (65536 < t + l)
 tells-over t l h = tells-as (tells-lt (65536 - t) l) (λ k. omega (arith, h, k), λ k. omega (arith, h, k))
 
 pub data-numbers : DataNumbers
@@ -218,7 +224,7 @@ end-numbers v out tag =
         λ _. tells-lt _ _,
         (
           not (eqb (length tag) (sizeOf (v .suite))),
-          λ _. tells-not (tells-eq _ _),
+          λ _. tells-not (tells-tag-size _ (v .suite)),
           tt,
         ),
       ),

@@ -1,6 +1,6 @@
 -- W6 by citation.
-use Rattle.search.proofs.Promised.{same-as-lookup, ten-looks, bodies-unread}
+use Rattle.search.proofs.Promised.{halves, rows-decide, same-as-lookup, ten-looks, bodies-unread}
 use Rattle.promises.specs.Search.{Search}
 
 pub searches : Search
-searches = record { lookup = same-as-lookup; looks = ten-looks; bodies = bodies-unread }
+searches = record { halves = halves; rows = rows-decide; lookup = same-as-lookup; looks = ten-looks; bodies = bodies-unread }

@@ -1,18 +1,22 @@
--- W2 by citation: what a run gives are the specification's outputs for the joined texts, so they are the sealer's, and the opener takes them.
+-- W2: what a run gives are the specification's outputs for the joined texts, so they are the sealer's, and the opener takes them.
 use mathlib.Core.Path.{_≡_, refl, sym, ap₂, _∙_}
-use Prim.Native.Nat.{ℕ, zero, suc}
+use mathlib.Core.Bool.{true, not, cond}
+use Prim.Native.Nat.{ℕ, zero, suc, _+_, _-_, _≤_}
 use mathlib.Core.List.{List, []}
 use lib.ListN.{length}
+use lib.Dec.{eqb, ltb}
+use borrow.Author.Tests.{le-leb}
 use Rattle.words.specs.Bytes.{AllBytes}
-use Rattle.cipher.specs.Cipher.{cipherOf}
+use Rattle.cipher.specs.Cipher.{Seals, cipherOf, sizeOf}
 use Rattle.cipher.proofs.Suites.{seals-has}
 use Rattle.comet.specs.Answers.{opening}
-use Rattle.session.specs.Value.{Value, Given, answered, gave, starting, dataNumber, dataIn, dataPart, textNumber, textDone, textPart, endNumber, endDone, ending}
-use Rattle.session.specs.Calls.{Call, AllLent, Run, runOf}
+use Rattle.session.specs.Value.{Value, Given, sound, answered, gave, starting, dataNumber, dataIn, dataPart, textNumber, textDone, textPart, endNumber, endDone, ending}
+use Rattle.session.specs.Calls.{Call, AllLent, Run, runOf, Next}
 use Rattle.session.proofs.Whatever.{starts, refused-shut, goes, finished, whatever, facts}
 use Rattle.promises.specs.Input.{Input}
-use Rattle.promises.specs.Sessions.{AsOneCall, OpensWhole, Keeps, Sessions}
-use Rattle.promises.proofs.Numbers.{done-number}
+use Rattle.promises.specs.Sessions.{AsOneCall, OpensWhole, NextNumbers, RunNumbers, Keeps, Sessions}
+use Rattle.promises.proofs.Tables.{tells-eq, tells-lt, tells-not, table}
+use Rattle.promises.proofs.Numbers.{tells-tag-size, answered-number, tells-over, done-number}
 use Rattle.promises.proofs.Demand2.{sealing-is, round-trip}
 
 -- the joined texts are an input of the sealer
@@ -50,6 +54,77 @@ opens-whole suite key nonce cs out₀ tag₀ hk hv hc e0 e1 out₁ lo =
     ap₂ (λ (c t : List ℕ). opening suite key nonce (r .ad) c t out₁) (w .0) (w .1)
     ∙ round-trip suite key nonce (r .ad) (r .msg) out₁ (input suite key nonce cs out₀ tag₀ hk hv hc e0 e1) lo
 
+-- ---- the numbers of a run
+
+-- the totals of a session that goes on are within the limits, so 9 is gone
+goes-on : (suite a m : ℕ) → Seals suite → a ≤ 65536 → m ≤ 65536 → sound suite a m ≡ true
+goes-on suite a m h la lm = simp (h, le-leb a 65536 la, le-leb m 65536 lm)
+
+-- so are the three numbers, once the totals are the joined lengths
+module _ (suite : ℕ) (r : Run) (n : Next suite r) where
+  abbrev v : Value
+  v = r .now
+
+  abbrev a : ℕ
+  a = length (r .ad)
+
+  abbrev m : ℕ
+  m = length (r .msg)
+
+  on : sound suite a m ≡ true
+  on = goes-on suite a m (n .seals) (n .data-most) (n .text-most)
+
+  data-said : (l : ℕ) → dataNumber (v .suite) (v .came) (v .text) l ≡ cond (not (eqb m 0)) 9 (cond (ltb (65536 - a) l) 4 0)
+  unfolding dataNumber
+  data-said l = simp (n .suite-is, n .came-is, n .text-is, on)
+
+  text-said : (l o : ℕ) → textNumber (v .suite) (v .came) (v .text) l o ≡ cond (ltb (65536 - m) l) 5 (cond (ltb o (l + (sizeOf suite - 1))) 6 0)
+  unfolding textNumber
+  text-said l o = simp (n .suite-is, n .came-is, n .text-is, on)
+
+  end-said : (o t : ℕ) → endNumber (v .suite) (v .came) (v .text) o t ≡ cond (ltb o (sizeOf suite)) 6 (cond (not (eqb t (sizeOf suite))) 7 0)
+  unfolding endNumber
+  end-said o t = simp (n .suite-is, n .came-is, n .text-is, on)
+
+  next-numbers : NextNumbers suite r
+  unfolding dataPart textPart ending
+  next-numbers =
+      record {
+        associated = λ p.
+            table _ _ (
+              not (eqb m 0),
+              λ _. tells-not (tells-eq m 0),
+              (
+                ltb (65536 - a) (length p),
+                λ _. tells-over a (length p) (n .data-most),
+                tt,
+              ),
+            ) refl (answered-number _ _ v [] [] refl ∙ data-said (length p));
+        message = λ p out.
+            table _ _ (
+              ltb (65536 - m) (length p),
+              λ _. tells-over m (length p) (n .text-most),
+              (
+                ltb (length out) (length p + (sizeOf suite - 1)),
+                λ _. tells-lt _ _,
+                tt,
+              ),
+            ) refl (answered-number _ _ v out [] (done-number v p out) ∙ text-said (length p) (length out));
+        finish = λ out tag.
+            table _ _ (
+              ltb (length out) (sizeOf suite),
+              λ _. tells-lt _ _,
+              (
+                not (eqb (length tag) (sizeOf suite)),
+                λ _. tells-not (tells-tag-size _ suite),
+                tt,
+              ),
+            ) refl (answered-number _ _ v out tag refl ∙ end-said (length out) (length tag));
+      }
+
+pub run-numbers : RunNumbers
+run-numbers suite key nonce cs hk hv hc e0 f = next-numbers suite (runOf suite key nonce cs) (goes suite key nonce cs hk hv hc e0 .0 f)
+
 -- ---- refusals
 
 kept : (k : ℕ) (done : Given) (v : Value) (out tag : List ℕ) → done .number ≡ 0 →
@@ -75,6 +150,7 @@ sessions =
       starts = starts;
       refused-shut = refused-shut;
       goes = goes;
+      numbers = run-numbers;
       whatever = whatever;
       as-one-call = as-one-call;
       opens-whole = opens-whole;

@@ -1,8 +1,10 @@
 -- A ladder of tests gives the numbers of a table, where each test tells whether its line applies, once no line before it does.
 use mathlib.Core.Path.{_≡_, refl, sym, ap, _∙_}
-use mathlib.Core.Logic.{_⊎_, inl, inr, _↔_}
+use mathlib.Core.Logic.{_⊎_, inl, inr, _↔_, ⊎-elim}
 use mathlib.Core.Bool.{Bool, true, false, cond, not, _&&_, _||_, true≢false}
-use Prim.Native.Nat.{ℕ, _<_, _≤_}
+use Prim.Native.Nat.{ℕ, zero, suc, _<_, _≤_}
+use native.Mathlib.Nat.{not-suc-le-zero, le-of-suc-le-suc, eq-or-lt-of-le}
+use native.Mathlib.Omega.{arith}
 use mathlib.Core.List.{List, [], _∷_}
 use lib.Dec.{eqb, ltb, leb}
 use borrow.Author.Tests.{ltb-true, leb-true, eqb-true, eqb-false, lt-ltb, le-leb, eq-eqb, not-true}
@@ -69,6 +71,23 @@ stable {b} {P} t n = by b t
     by true t = t .0 refl
     by false t = absurd (n (λ p. true≢false (sym (t .1 p))))
 
+-- a test whose word does not hold
+pub not-told : {b : Bool} {P : Type 0} → Tells b P → (P → ⊥) → b ≡ false
+not-told {b} {P} t n = by b t
+  where
+    by : (b : Bool) → Tells b P → b ≡ false
+    by true t = absurd (n (t .0 refl))
+    by false t = refl
+
+-- no number below k passes, or there is a first that does
+pub first-of : (p : ℕ → Bool) (k : ℕ) → ((j : ℕ) → j < k → p j ≡ false) ⊎ ((i : ℕ) × (i < k) × ((j : ℕ) → j < i → p j ≡ false) × (p i ≡ true))
+first-of p zero = inl (λ j l. absurd (not-suc-le-zero l))
+first-of p (suc k) = ⊎-elim (λ q. here q (p k) refl) (λ w. inr (w .0, omega (arith, w .1), w .2, w .3)) (first-of p k)
+  where
+    here : ((j : ℕ) → j < k → p j ≡ false) → (b : Bool) → p k ≡ b → ((j : ℕ) → j < suc k → p j ≡ false) ⊎ ((i : ℕ) × (i < suc k) × ((j : ℕ) → j < i → p j ≡ false) × (p i ≡ true))
+    here q false e = inl (λ j l. ⊎-elim (λ s. ap p s ∙ e) (q j) (eq-or-lt-of-le (le-of-suc-le-suc l)))
+    here q true e = inr (k, omega arith, q, e)
+
 -- ---- the ladder
 
 -- for each line a test, which tells whether the line applies where it is reached
@@ -101,7 +120,7 @@ each P h (l ∷ ls) = (h (l .number), each P h ls)
 
 -- ---- from the ladder to the table
 
-ne-true : (x y : ℕ) → not (eqb x y) ≡ true → x ≡ y → ⊥
+pub ne-true : (x y : ℕ) → not (eqb x y) ≡ true → x ≡ y → ⊥
 ne-true x y h = eqb-false x y (not-true (eqb x y) h)
 
 -- a fresh number is not 0

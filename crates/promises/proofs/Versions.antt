@@ -1,17 +1,26 @@
 -- W9: version 1 by citation, version 2 by computation.
 use mathlib.Core.Path.{refl}
+use lib.Dec.{lit<}
 use Rattle.words.specs.Words.{xor}
 use Rattle.words.specs.Bytes.{value, bytes}
-use Rattle.cipher.specs.Cipher.{factsOf}
-use Rattle.cipher.proofs.Suites.{version-one}
+use Rattle.fips197.specs.Cipher.{cipher}
+use Rattle.cham.specs.Cham.{cham}
+use Rattle.speck.specs.Speck.{speck}
+use Rattle.cipher.specs.Cipher.{factsOf, sizeOf, engineOf, versionOf}
 use Rattle.mode.specs.Blocks.{chopLengths, lengths}
 use Rattle.mode.specs.Words.{doubleBy}
 use Rattle.mode.specs.Keys.{textMarks, late, marks, onLow}
-use Rattle.mode.proofs.Versions.{double-was, key-was, marks-was}
+use Rattle.mode.proofs.VersionOne.{kept-bytes}
 use Rattle.promises.specs.Versions.{VersionOne, VersionTwo, ValuesTwo}
 
 pub version-one-kept : VersionOne
-version-one-kept = record { suites = version-one; doubling = double-was; key = key-was; places = marks-was }
+unfolding factsOf sizeOf engineOf versionOf
+version-one-kept = record {
+  suite1 = kept-bytes 16 cipher (lit< tt);
+  suite2 = kept-bytes 16 (cham 32) (lit< tt);
+  suite3 = kept-bytes 8 speck (lit< tt);
+  suite4 = kept-bytes 8 (cham 16) (lit< tt);
+}
 
 pub version-two-facts : VersionTwo
 unfolding factsOf

@@ -1,23 +1,29 @@
--- Every outcome of the shift file's other calls, and when it is given. The writer's stand in `draft/specs/Promised.antt` (`SealCases`, `UnsealCases`), the reseal pass's in `reseal/specs/Promised.antt` (`ResealCases`), the amendments' in `amend/specs/Promised.antt`.
+-- Every outcome of the shift file's other calls, and when it is given. Of writer and reseal pass the numbers in their order; what each leaves stands in `draft/specs/Promised.antt` (`SealCases`, `UnsealCases`) and `reseal/specs/Promised.antt` (`ResealCases`). The amendments' stand in `amend/specs/Promised.antt`.
 use mathlib.Core.Path.{_≡_}
-use mathlib.Core.Logic.{_⊎_}
+use mathlib.Core.Logic.{_⊎_, _↔_}
 use Prim.Native.Nat.{ℕ, _≤_, _<_}
 use mathlib.Core.List.{List, [], _∷_}
 use lib.ListN.{length}
+use Rattle.cipher.specs.Cipher.{Seals}
 use Rattle.table.specs.Format.{countOf, edition, newest, widthOf, rowOf, stationOf}
 use Rattle.table.specs.Answers.{answer}
 use Rattle.table.specs.Check.{headNumber, checkAs, checkFile}
 use Rattle.shift.specs.Lookup.{lookupJob}
 use Rattle.shift.specs.Opening.{left, jobOpening}
 use Rattle.shift.specs.Promised.{Finds}
-use Rattle.search.specs.Halving.{ends, halving, jobsOf, headAnswer, searching}
-use Rattle.draft.specs.Promised.{RightTag}
+use Rattle.search.specs.Halving.{ends, halving, jobsOf, searching}
+use Rattle.draft.specs.Files.{draftEdition}
+use Rattle.draft.specs.Answers.{fileSealing, fileUnsealing}
+use Rattle.draft.specs.Promised.{ZeroTag, RightTag}
+use Rattle.reseal.specs.Answers.{fileResealing}
+use Rattle.reseal.specs.Promised.{HasFour, Clashes}
 use Rattle.compare.specs.Comparing.{onlyFirst, onlySecond, differing, refusedIn, stopped, listed, comparison}
 use Rattle.editions.specs.Files.{moved}
 use Rattle.editions.specs.Answers.{FileMoved, toEdition2, toEdition1}
 use Rattle.editions.specs.Promised.{done}
 use Rattle.reader.specs.Reporting.{jobOf, tagNumber, front, entries, stopped as unreported, longest, reporting}
-use Rattle.promises.specs.Tables.{_when_, Table}
+use Rattle.promises.specs.Tables.{Line, _when_, None, Lines, Table}
+use Rattle.promises.specs.Orders.{whole, rows, Order}
 use Rattle.promises.specs.Numbers.{headTable}
 
 -- 20 to 24 alone
@@ -39,13 +45,24 @@ pub record JobCases (f ring : List ℕ) (job : ℕ) (out : List ℕ) : Type 0 wh
       ∷ []
       )
 
--- the search (W6): 20 to 24, and no row is looked at; else what the halving rule gives
+-- the search (W6): each of 20 to 24, and no row is looked at; else what the halving rule gives (`Halves`), which is 0 or 32
 pub record SearchCases (f : List ℕ) (job : ℕ) : Type 0 where
-  pub head : (headNumber edition newest f ≡ 0 → ⊥) → searching f job ≡ ends (headAnswer f)
-  pub halved : headNumber edition newest f ≡ 0 → searching f job ≡ halving (jobsOf (widthOf f) f) job 0 (countOf f)
+  pub head : Lines (λ k. searching f job ≡ ends (answer k 0)) Unit (headTable edition newest f)
+  pub halved : None (headTable edition newest f) → searching f job ≡ halving (jobsOf (widthOf f) f) job 0 (countOf f)
 
 -- compare (W8): the first file's refusal, the second's, 36; every refusal leaves the lists as they were
+
+-- both files pass
+abbrev pub BothPass : List ℕ → List ℕ → Type 0
+BothPass f g = (checkFile f .number ≡ 0) × (checkFile g .number ≡ 0)
+
+abbrev pub roomTable : List ℕ → List ℕ → List ℕ → List ℕ → List ℕ → List Line
+roomTable f g x y z = (36 when (length x < length (onlyFirst f g)) ⊎ ((length y < length (onlySecond f g)) ⊎ (length z < length (differing f g)))) ∷ []
+
 pub record CompareCases (f g x y z : List ℕ) : Type 0 where
+  -- 36 exactly if both files pass and a list is longer than its buffer; 0 exactly if they pass and none is
+  pub room-number : Lines (λ k. comparison f g x y z .finding ≡ refusedIn 0 (answer k 0)) (BothPass f g) (roomTable f g x y z)
+  pub success : (comparison f g x y z .finding .number ≡ 0) ↔ (BothPass f g × None (roomTable f g x y z))
   pub first : (checkFile f .number ≡ 0 → ⊥) → comparison f g x y z ≡ stopped (refusedIn 1 (checkFile f)) x y z
   pub second : checkFile f .number ≡ 0 → (checkFile g .number ≡ 0 → ⊥) → comparison f g x y z ≡ stopped (refusedIn 2 (checkFile g)) x y z
   pub room : checkFile f .number ≡ 0 → checkFile g .number ≡ 0
@@ -61,6 +78,11 @@ unmoved k i out = record { answer = answer k i; out = out }
 
 -- to edition 2 (W10): the checks of edition 1, 20, 6
 pub record UpCases (f out : List ℕ) : Type 0 where
+  pub numbers : checkAs edition f .number ≡ 0 → Table (λ k. toEdition2 f out .answer ≡ answer k 0) (
+      (20 when 1048576 < length (moved newest f))
+      ∷ (6 when (length out ≡ length (moved newest f) → ⊥))
+      ∷ []
+      )
   pub checked : (checkAs edition f .number ≡ 0 → ⊥) → toEdition2 f out ≡ record { answer = checkAs edition f; out = out }
   pub long : checkAs edition f .number ≡ 0 → 1048576 < length (moved newest f) → toEdition2 f out ≡ unmoved 20 0 out
   pub room : checkAs edition f .number ≡ 0 → length (moved newest f) ≤ 1048576 → (length out ≡ length (moved newest f) → ⊥) → toEdition2 f out ≡ unmoved 6 0 out
@@ -68,6 +90,11 @@ pub record UpCases (f out : List ℕ) : Type 0 where
 
 -- back to edition 1: the checks of edition 2, 35 with the first row that has a station, 6; 20 cannot come out (`BackShort`)
 pub record BackCases (f out : List ℕ) : Type 0 where
+  pub numbers : checkAs newest f .number ≡ 0 → Order (λ k i. toEdition1 f out .answer ≡ answer k i) (
+      rows 35 (countOf f) (λ i. stationOf f i ≡ 0 → ⊥)
+      ∷ whole 6 (length out ≡ length (moved edition f) → ⊥)
+      ∷ []
+      )
   pub checked : (checkAs newest f .number ≡ 0 → ⊥) → toEdition1 f out ≡ record { answer = checkAs newest f; out = out }
   pub station : checkAs newest f .number ≡ 0 → (i : ℕ) → i < countOf f → (stationOf f i ≡ 0 → ⊥) → ((k : ℕ) → k < i → stationOf f k ≡ 0) → toEdition1 f out ≡ unmoved 35 i out
   pub room : checkAs newest f .number ≡ 0 → ((i : ℕ) → i < countOf f → stationOf f i ≡ 0) → (length out ≡ length (moved edition f) → ⊥) → toEdition1 f out ≡ unmoved 6 0 out
@@ -75,6 +102,11 @@ pub record BackCases (f out : List ℕ) : Type 0 where
 
 -- the report (W14): 20 for a file of more than 65,280 bytes, the checks, 2; 6 where a list has fewer places than there are entries
 pub record ReportCases (f ring jobs numbers : List ℕ) : Type 0 where
+  pub numbered : length f ≤ longest → checkFile f .number ≡ 0 → Table (λ k. reporting f ring jobs numbers .said .number ≡ k) (
+      (2 when (length ring ≡ 256 → ⊥))
+      ∷ (6 when (length jobs < countOf f) ⊎ (length numbers < countOf f))
+      ∷ []
+      )
   pub long : longest < length f → reporting f ring jobs numbers ≡ unreported (answer 20 0) jobs numbers
   pub checked : length f ≤ longest → (checkFile f .number ≡ 0 → ⊥) → reporting f ring jobs numbers ≡ unreported (checkFile f) jobs numbers
   pub ring-wrong : length f ≤ longest → checkFile f .number ≡ 0 → (length ring ≡ 256 → ⊥) → reporting f ring jobs numbers ≡ unreported (answer 2 0) jobs numbers
@@ -82,6 +114,38 @@ pub record ReportCases (f ring jobs numbers : List ℕ) : Type 0 where
       → reporting f ring jobs numbers ≡ unreported (answer 6 0) jobs numbers
   pub lines : length f ≤ longest → checkFile f .number ≡ 0 → length ring ≡ 256 → countOf f ≤ length jobs → countOf f ≤ length numbers
       → reporting f ring jobs numbers ≡ record { said = entries (countOf f); jobs = front (jobOf f) (countOf f) jobs; numbers = front (tagNumber f ring) (countOf f) numbers }
+
+-- sealing a draft that passes its checks (W4; 10 is W7's): 33 with the first row, 10 with the first row, 2, 6
+abbrev pub SealOrder : Type 0
+SealOrder =
+    (draft ring out : List ℕ) → checkAs draftEdition draft .number ≡ 0 → Order (λ k i. fileSealing draft ring out .answer ≡ answer k i) (
+    rows 33 (countOf draft) (λ i. ZeroTag draft i → ⊥)
+    ∷ rows 10 (countOf draft) (λ i. Seals (rowOf draft i .suite) → ⊥)
+    ∷ whole 2 (length ring ≡ 256 → ⊥)
+    ∷ whole 6 (length out ≡ length draft → ⊥)
+    ∷ []
+    )
+
+-- unsealing a file that passes: 2, 6, 8 with the first row
+abbrev pub UnsealOrder : Type 0
+UnsealOrder =
+    (file ring out : List ℕ) → checkAs edition file .number ≡ 0 → Order (λ k i. fileUnsealing file ring out .answer ≡ answer k i) (
+    whole 2 (length ring ≡ 256 → ⊥)
+    ∷ whole 6 (length out ≡ length file → ⊥)
+    ∷ rows 8 (countOf file) (λ i. RightTag file ring i → ⊥)
+    ∷ []
+    )
+
+-- resealing a file that passes (W7): 29 with the lowest later row, 2, 6, 8 with the first row of suite 4
+abbrev pub ResealOrder : Type 0
+ResealOrder =
+    (file ring out : List ℕ) → checkAs edition file .number ≡ 0 → Order (λ k i. fileResealing file ring out .answer ≡ answer k i) (
+    rows 29 (countOf file) (Clashes file)
+    ∷ whole 2 (length ring ≡ 256 → ⊥)
+    ∷ whole 6 (length out ≡ length file → ⊥)
+    ∷ rows 8 (countOf file) (λ i. HasFour file i × (RightTag file ring i → ⊥))
+    ∷ []
+    )
 
 pub record Cases : Type 0 where
   pub head : HeadNumbers
@@ -92,3 +156,6 @@ pub record Cases : Type 0 where
   pub to-edition2 : (f out : List ℕ) → UpCases f out
   pub to-edition1 : (f out : List ℕ) → BackCases f out
   pub report : (f ring jobs numbers : List ℕ) → ReportCases f ring jobs numbers
+  pub seal-file : SealOrder
+  pub unseal-file : UnsealOrder
+  pub reseal : ResealOrder

@@ -1,12 +1,13 @@
 -- Document 02, W8: compare two shift files; W10: their stations.
-use Rattle.compare.specs.Promised.{ExactlyListed, ListsRise, WithItself, FilesExchanged, OtherLength, OtherStation, NoStation}
+use Rattle.compare.specs.Promised.{ExactlyListed, ListsRise, EqualRows, WithItself, FilesExchanged, OtherLength, OtherStation, NoStation}
 
 pub record Compare : Type 0 where
   -- a job is in a list exactly as document 02 words it
   pub listed : ExactlyListed
   -- the lists rise, and no job is in two
   pub rise : ListsRise
-  -- a file compared with itself gives three empty lists
+  -- files with the same jobs and equal entries give three empty lists, and so does a file compared with itself
+  pub equal : EqualRows
   pub itself : WithItself
   -- the two files exchanged exchange the first two lists
   pub exchanged : FilesExchanged

@@ -2,6 +2,7 @@ pub mod Input
 pub mod Contracts
 pub mod Demand1
 pub mod Tables
+pub mod Orders
 pub mod Numbers
 pub mod Cases
 pub mod Demand2

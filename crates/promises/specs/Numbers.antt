@@ -5,17 +5,21 @@ use mathlib.Core.Logic.{_⊎_, _↔_}
 use Prim.Native.Nat.{ℕ, _+_, _-_, _*_, _≤_, _<_}
 use mathlib.Core.List.{List, [], _∷_}
 use lib.ListN.{length}
-use Rattle.cipher.specs.Cipher.{Seals, cipherOf, sizeOf, nonceOf}
+use Rattle.cipher.specs.Cipher.{factsOf, Seals, cipherOf, sizeOf, nonceOf}
 use Rattle.mode.specs.Mode.{tagOut}
 use Rattle.comet.specs.Answers.{sealing, opening}
 use Rattle.session.specs.Value.{Value, starting, dataPart, textPart, ending}
-use Rattle.table.specs.Format.{editionOf, countOf, totalOf, widthOf, rowOf, nonceAt, nonceReadAt, padded, bodyEnd, dataJob, unitOf}
+use Rattle.table.specs.Format.{editionOf, countOf, totalOf, widthOf, rowOf, nonceAt, nonceReadAt, padded, dataJob, unitOf}
 use Rattle.table.specs.Answers.{answer}
 use Rattle.table.specs.Check.{bodyStart, checkBetween}
 use Rattle.shift.specs.Nonces.{SameNonce}
 use Rattle.promises.specs.Tables.{Line, _when_, None, Lines, Table}
 
 -- ---- document 01, "Numbers given by sealer and opener"; 10 is document 02's (W7), and so are suites 5 and 6 (W9)
+
+-- the tag column of document 01's table of suites
+abbrev pub tagSize : ℕ → ℕ
+tagSize suite = factsOf suite .tag
 
 -- `tag` is the sealer's tag buffer, and the tag that the opener was given
 abbrev pub numbers : Bool → ℕ → List ℕ → List ℕ → List ℕ → List ℕ → List ℕ → List ℕ → List Line
@@ -27,7 +31,7 @@ numbers opens suite key nonce ad text out tag =
     ∷ (4 when 65536 < length ad)
     ∷ (5 when 65536 < length text)
     ∷ (6 when (length out ≡ length text → ⊥))
-    ∷ (7 when (length tag ≡ sizeOf suite → ⊥))
+    ∷ (7 when (length tag ≡ tagSize suite → ⊥))
     ∷ (8 when (opens ≡ true) × (tagOut (cipherOf suite) true key nonce ad text ≡ tag → ⊥))
     ∷ []
 
@@ -75,7 +79,7 @@ EndNumbers =
     (v : Value) (out tag : List ℕ) → Table (λ k. ending v out tag .number ≡ k) (
     (9 when (Going v → ⊥))
     ∷ (6 when length out < sizeOf (v .suite))
-    ∷ (7 when (length tag ≡ sizeOf (v .suite) → ⊥))
+    ∷ (7 when (length tag ≡ tagSize (v .suite) → ⊥))
     ∷ []
     )
 
@@ -96,7 +100,7 @@ rowTable f i =
     (25 when (0 < i) × (r .job ≤ rowOf f (i - 1) .job))
     ∷ (26 when ((r .suite < 1) ⊎ (6 < r .suite)) ⊎ (15 < r .key))
     ∷ (27 when ((r .ad < 5) ⊎ (1024 < r .ad)) ⊎ (65536 < r .len))
-    ∷ (28 when (r .at ≡ bodyStart (widthOf f) f (countOf f) i → ⊥) ⊎ (length f < bodyEnd r))
+    ∷ (28 when (r .at ≡ bodyStart (widthOf f) f (countOf f) i → ⊥) ⊎ (length f < r .at + r .ad + r .len + tagSize (r .suite)))
     ∷ (34 when (nonceAt (widthOf f) f i ≡ padded (nonceReadAt (widthOf f) f i) → ⊥))
     ∷ (29 when (j : ℕ) × (j < i) × SameNonce f i j)
     ∷ (30 when (dataJob f r ≡ r .job → ⊥) ⊎ ((unitOf f r ≡ 1) ⊎ (unitOf f r ≡ 2) → ⊥))

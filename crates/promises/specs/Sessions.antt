@@ -1,13 +1,16 @@
 -- W2 (document 02): sealing in parts. The statements on a run of a session stand in `session/specs/Calls.antt`; here they are gathered, with what needs the one-call sealer and the opener.
 use mathlib.Core.Path.{_≡_}
-use Prim.Native.Nat.{ℕ}
-use mathlib.Core.List.{List}
+use mathlib.Core.Bool.{false}
+use Prim.Native.Nat.{ℕ, _+_, _-_, _<_}
+use mathlib.Core.List.{List, [], _∷_}
 use lib.ListN.{length}
 use Rattle.words.specs.Bytes.{AllBytes}
 use Rattle.cipher.specs.Cipher.{sizeOf}
 use Rattle.comet.specs.Answers.{sealing, opening}
 use Rattle.session.specs.Value.{Value, Given, starting, dataPart, textPart, ending}
 use Rattle.session.specs.Calls.{Call, AllLent, Run, runOf, joined, Starts, RefusedShut, Goes, Whatever}
+use Rattle.promises.specs.Tables.{_when_, Table}
+use Rattle.promises.specs.Numbers.{tagSize}
 
 -- of a run whose start and end answered 0
 abbrev pub OfRuns : (ℕ → List ℕ → List ℕ → Run → Given → Type 0) → Type 0
@@ -31,6 +34,30 @@ OpensWhole =
     (out₁ : List ℕ) → length out₁ ≡ length (r .msg)
     → opening suite key nonce (r .ad) (joined r e) (e .tag) out₁ ≡ record { number = 0; out = r .msg })
 
+-- the numbers of a run's next call, on the lengths of the joined texts: associated data 9 first of all, once a message byte has come, and then 4; a message part 5, 6; the end 6, 7
+pub record NextNumbers (suite : ℕ) (r : Run) : Type 0 where
+  pub associated : (p : List ℕ) → Table (λ k. dataPart (r .now) p .number ≡ k) (
+      (9 when (length (r .msg) ≡ 0 → ⊥))
+      ∷ (4 when 65536 < length (r .ad) + length p)
+      ∷ []
+      )
+  pub message : (p out : List ℕ) → Table (λ k. textPart (r .now) p out .number ≡ k) (
+      (5 when 65536 < length (r .msg) + length p)
+      ∷ (6 when length out < length p + (sizeOf suite - 1))
+      ∷ []
+      )
+  pub finish : (out tag : List ℕ) → Table (λ k. ending (r .now) out tag .number ≡ k) (
+      (6 when length out < sizeOf suite)
+      ∷ (7 when (length tag ≡ tagSize suite → ⊥))
+      ∷ []
+      )
+
+-- after a start that answered 0 and any calls, until an end is accepted; behind it every call is 9 (`Goes`)
+abbrev pub RunNumbers : Type 0
+RunNumbers =
+    (suite : ℕ) (key nonce : List ℕ) (cs : List Call) → AllBytes key → AllBytes nonce → AllLent cs
+    → starting suite key nonce .number ≡ 0 → runOf suite key nonce cs .ended ≡ false → NextNumbers suite (runOf suite key nonce cs)
+
 -- a refused call leaves the session and the buffers as they were, length 0, whatever value arrives
 abbrev pub Keeps : Type 0
 Keeps =
@@ -43,6 +70,7 @@ pub record Sessions : Type 0 where
   pub starts : Starts
   pub refused-shut : RefusedShut
   pub goes : Goes
+  pub numbers : RunNumbers
   pub whatever : Whatever
   pub as-one-call : AsOneCall
   pub opens-whole : OpensWhole

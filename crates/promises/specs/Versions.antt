@@ -1,24 +1,22 @@
 -- Document 02, W9: version 2 of COMET, for suites 5 and 6. Demands 2 and 3, the session's cutting and the writer's round trips are the statements that they were, over every suite that we have, these two among them.
-use mathlib.Core.Bool.{cond}
-use mathlib.Core.List.{List, [], _∷_, _++_}
+use mathlib.Core.List.{List, [], _∷_}
 use mathlib.Core.Path.{_≡_}
-use Prim.Native.Nat.{ℕ, _-_, _*_, _%_, _^_, _≤_}
-use lib.Dec.{leb}
-use lib.ListN.{take, drop}
-use Rattle.words.specs.Words.{xor}
-use Rattle.words.specs.Bytes.{value, bytes}
-use Rattle.cipher.specs.Cipher.{one, two, Facts, facts, factsOf, versionOf}
-use Rattle.mode.specs.Blocks.{lengths}
-use Rattle.mode.specs.Words.{double, double120}
-use Rattle.mode.specs.Keys.{textMarks, marks, marked, doubled, nextKey}
+use Prim.Native.Nat.{ℕ, _-_, _^_}
+use Rattle.fips197.specs.Cipher.{cipher}
+use Rattle.cham.specs.Cham.{cham}
+use Rattle.speck.specs.Speck.{speck}
+use Rattle.cipher.specs.Cipher.{two, Facts, facts, factsOf, cipherOf}
+use Rattle.mode.specs.Words.{double120}
+use Rattle.mode.specs.Keys.{marks, doubled}
+use Rattle.mode.specs.VersionOne.{Keeps}
 
--- ---- suites 1 to 4 keep their bytes: what the versions differ in is, at version 1, what it was before there was a version
+-- ---- suites 1 to 4 keep their bytes: ciphertext and tag are those of version 1 as document 01 has it (`mode/specs/VersionOne.antt`), over the cipher and block of its table, in sealing and in opening
 
 pub record VersionOne : Type 0 where
-  pub suites : (s : ℕ) → s ≤ 4 → versionOf s ≡ one
-  pub doubling : (x : ℕ) → double x ≡ cond (leb (2 ^ 63) x) (xor (x * 2 % 2 ^ 64) 0x1b) (x * 2 % 2 ^ 64)
-  pub key : (m : ℕ) (z : List ℕ) → nextKey one m z ≡ bytes 8 (double (value (take 8 (marked m z)))) ++ drop 8 (marked m z)
-  pub places : (n a m : ℕ) → marks one n a m ≡ textMarks n 0x08 0x10 (lengths n a) ++ (textMarks n 0x20 0x40 (lengths n m) ++ (0x80 ∷ []))
+  pub suite1 : Keeps (cipherOf 1) 16 cipher
+  pub suite2 : Keeps (cipherOf 2) 16 (cham 32)
+  pub suite3 : Keeps (cipherOf 3) 8 speck
+  pub suite4 : Keeps (cipherOf 4) 8 (cham 16)
 
 -- ---- suites 5 and 6: cipher and sizes of suites 1 and 3, in version 2
 

@@ -3,9 +3,9 @@ use Prim.Native.Nat.{ℕ, zero, suc, _+_, _-_, _*_, _/_, _^_, _≤_, _<_}
 use native.Mathlib.Nat.{pow-suc, eq-or-lt-of-le, not-suc-le-zero}
 use native.Mathlib.Decide.{decLt}
 use native.Mathlib.Omega.{arith}
-use mathlib.Core.Path.{_≡_, refl, sym, ap, ap₂, _∙_}
+use mathlib.Core.Path.{_≡_, refl, sym, ap, ap₂, _∙_, subst}
 use mathlib.Core.Bool.{Bool, true, false, cond}
-use mathlib.Core.List.{List}
+use mathlib.Core.List.{List, [], _∷_}
 use mathlib.Core.Logic.{_⊎_, inl, inr, ⊎-elim}
 use lib.ListN.{length}
 use lib.Dec.{eqb, ltb}
@@ -170,6 +170,27 @@ row-most jobs job (suc k) s c l =
           rw z (omega (arith, ap rowOf (halving-none jobs job s)))
     ]
 
+-- ---- the number that is given is 0 or 32
+
+abbrev numberOf : Walk → ℕ
+numberOf x = x .says .number
+
+pub halved-number : (jobs : ℕ → ℕ) (job k s c : ℕ) → c ≤ k → (halving jobs job s c .says .number ≡ 0) ⊎ (halving jobs job s c .says .number ≡ 32)
+halved-number jobs job zero s c l =
+    let z : c ≡ 0 = omega arith in
+    inr (rw z (ap numberOf (halving-none jobs job s)))
+halved-number jobs job (suc k) s c l =
+    elim (decLt 0 c) [
+      | yes some ↦
+          three (jobs (s + c / 2)) job
+          (λ q. inl (ap numberOf (halving-hit jobs job s c some q)))
+          (λ b. rw (ap numberOf (halving-up jobs job s c some b)) (halved-number jobs job k (s + c / 2 + 1) (c - c / 2 - 1) (omega arith)))
+          (λ b. rw (ap numberOf (halving-down jobs job s c some b)) (halved-number jobs job k s (c / 2) (omega arith)))
+      | no none ↦
+          let z : c ≡ 0 = omega arith in
+          inr (rw z (ap numberOf (halving-none jobs job s)))
+    ]
+
 -- ---- only the rows of the stretch are read
 
 pub jobs-same : (jobs other : ℕ → ℕ) (job k s c : ℕ) → c ≤ k → ((i : ℕ) → s ≤ i → i < s + c → jobs i ≡ other i) → halvingIn jobs job k s c ≡ halvingIn other job k s c
@@ -189,6 +210,37 @@ jobs-same jobs other job (suc k) s c l h =
       | no none ↦
           let z : c ≡ 0 = omega arith in
           rw z (in-none jobs job (suc k) s ∙ sym (in-none other job (suc k) s))
+    ]
+
+-- ---- only the rows that are visited are read
+
+-- the same job in each row of a list
+abbrev pub Same : (ℕ → ℕ) → (ℕ → ℕ) → List ℕ → Type 0
+Same jobs other [] = Unit
+Same jobs other (i ∷ is) = (jobs i ≡ other i) × Same jobs other is
+
+pub visited-same : (jobs other : ℕ → ℕ) (job k s c : ℕ) → c ≤ k → Same jobs other (halving jobs job s c .rows) → halving jobs job s c ≡ halving other job s c
+visited-same jobs other job zero s c l h =
+    let z : c ≡ 0 = omega arith in
+    rw z (halving-none jobs job s ∙ sym (halving-none other job s))
+visited-same jobs other job (suc k) s c l h =
+    elim (decLt 0 c) [
+      | yes some ↦
+          let m = s + c / 2 in
+          let of : (w : Walk) → halving jobs job s c ≡ w → Same jobs other (w .rows) = λ w e. subst (λ (w : Walk). Same jobs other (w .rows)) e h in
+          three (jobs m) job
+          (λ q.
+          let e = halving-hit jobs job s c some q in
+          e ∙ sym (halving-hit other job s c some (sym (of _ e .0) ∙ q)))
+          (λ low.
+          let e = halving-up jobs job s c some low in
+          e ∙ ap (visit m) (visited-same jobs other job k (m + 1) (c - c / 2 - 1) (omega arith) (of _ e .1)) ∙ sym (halving-up other job s c some (rw (sym (of _ e .0)) low)))
+          (λ high.
+          let e = halving-down jobs job s c some high in
+          e ∙ ap (visit m) (visited-same jobs other job k s (c / 2) (omega arith) (of _ e .1)) ∙ sym (halving-down other job s c some (rw (sym (of _ e .0)) high)))
+      | no none ↦
+          let z : c ≡ 0 = omega arith in
+          rw z (halving-none jobs job s ∙ sym (halving-none other job s))
     ]
 
 -- ---- where job numbers rise, the row that has the job is found

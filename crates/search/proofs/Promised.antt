@@ -1,10 +1,10 @@
--- On a file that passes, the search finds what the full lookup finds; it looks at 10 rows at most; and it reads no body.
+-- The rule's equations; on a file that passes, the search finds what the full lookup finds; it looks at 10 rows at most, reads no other, and no body.
 use Prim.Native.Nat.{ℕ, _+_, _^_, _≤_, _<_}
 use native.Mathlib.Nat.{lt-of-le-of-lt}
 use native.Mathlib.Omega.{arith}
 use mathlib.Core.Path.{_≡_, refl, sym, ap, _∙_}
 use mathlib.Core.Bool.{Bool, true, false, cond}
-use mathlib.Core.List.{List}
+use mathlib.Core.List.{List, [], _∷_}
 use mathlib.Core.Logic.{⊎-elim}
 use lib.ListN.{length, getD, take}
 use lib.Seq.{getD-take}
@@ -26,8 +26,8 @@ use Rattle.table.proofs.Rising.{rising}
 use Rattle.shift.proofs.Finding.{finds}
 use Rattle.table.proofs.Alike.{Agree, AgreeTable, word-same, row-same}
 use Rattle.search.specs.Halving.{Walk, ends, halvingIn, halving, jobsOf, headAnswer, searching}
-use Rattle.search.specs.Promised.{SameAsLookup, TenLooks, SameTable, BodiesUnread}
-use Rattle.search.proofs.Halves.{looks, row-most, jobs-same, says}
+use Rattle.search.specs.Promised.{Halves, SameJobs, RowsDecide, SameAsLookup, TenLooks, SameTable, BodiesUnread}
+use Rattle.search.proofs.Halves.{halving-none, halving-hit, halving-up, halving-down, looks, row-most, jobs-same, Same, visited-same, says}
 
 -- the header passes: all rows are halved
 pub goes : (f : List ℕ) (job : ℕ) → headAnswer f .number ≡ 0 → searching f job ≡ halving (jobsOf (widthOf f) f) job 0 (countOf f)
@@ -40,6 +40,33 @@ unfolding searching
 stops f job x q =
     let some : headAnswer f .number ≡ 0 → ⊥ = λ z. refusal-some x (sym (ap (λ (y : Answer). y .number) q) ∙ z) in
     simp (ne-eqb _ _ some) (ap ends q)
+
+pub halves : Halves
+halves jobs job s c = record {
+  none = λ z. rw z (halving-none jobs job s);
+  stops = λ some q. halving-hit jobs job s c some q;
+  keeps-after = λ some l. halving-up jobs job s c some l;
+  keeps-before = λ some l. halving-down jobs job s c some l;
+}
+
+listed : (f g : List ℕ) (is : List ℕ) → SameJobs f g is → Same (jobsOf (widthOf f) f) (jobsOf (widthOf g) g) is
+listed f g [] h = tt
+listed f g (i ∷ is) h = (h .0, listed f g is (h .1))
+
+pub rows-decide : RowsDecide
+unfolding searching
+rows-decide f g job a n = head-case (eqb (headAnswer f .number) 0) refl
+  where
+    tests : eqb (headAnswer g .number) 0 ≡ eqb (headAnswer f .number) 0
+    tests = ap (λ (x : Answer). eqb (x .number) 0) (sym a)
+
+    jobs : List ℕ → ℕ → ℕ
+    jobs x = jobsOf (widthOf x) x
+
+    head-case : (b : Bool) → eqb (headAnswer f .number) 0 ≡ b → SameJobs f g (cond b (halving (jobs f) job 0 (countOf f)) (ends (headAnswer f)) .rows)
+        → cond b (halving (jobs f) job 0 (countOf f)) (ends (headAnswer f)) ≡ cond (eqb (headAnswer g .number) 0) (halving (jobs g) job 0 (countOf g)) (ends (headAnswer g))
+    head-case true e h = simp (tests ∙ e) (visited-same (jobs f) (jobs g) job (countOf f) 0 (countOf f) (omega arith) (listed f g (halving (jobs f) job 0 (countOf f) .rows) h) ∙ ap (halving (jobs g) job 0) n)
+    head-case false e h = simp (tests ∙ e) (ap ends a)
 
 pub same-as-lookup : SameAsLookup
 same-as-lookup f job z =

@@ -115,8 +115,15 @@ module _ (suite : ℕ) (key nonce : List ℕ) (still : Seals suite) (a m : List 
   end-counts out tag e = counts-end (endNumber suite (length a) (length m) (length out) (length tag)) out tag e
 
   pub next-is : (o : List ℕ) (b : Bool) → Next suite (record { now = at; ad = a; msg = m; out = o; ended = b })
+  unfolding soFar
   next-is o b =
       record {
+        seals = still;
+        suite-is = refl;
+        came-is = refl;
+        text-is = refl;
+        data-most = ha;
+        text-most = hm;
         data-taken = takes-data;
         data-late = late-data;
         text-taken = takes-text;

@@ -82,6 +82,13 @@ RefusedShut = (suite : ℕ) (key nonce : List ℕ) → (starting suite key nonce
 
 -- what a run promises, with its suite, of the call that comes next
 pub record Next (suite : ℕ) (r : Run) : Type 0 where
+  -- the suite is the start's and seals; the session's two totals are the lengths of the joined texts, which are within the limits
+  pub seals : Seals suite
+  pub suite-is : r .now .suite ≡ suite
+  pub came-is : r .now .came ≡ length (r .ad)
+  pub text-is : r .now .text ≡ length (r .msg)
+  pub data-most : length (r .ad) ≤ 65536
+  pub text-most : length (r .msg) ≤ 65536
   -- before the first message byte, associated data within the limit is accepted; behind it, no part is, not even an empty one
   pub data-taken : (p : List ℕ) → r .msg ≡ [] → length (r .ad) + length p ≤ 65536 → dataPart (r .now) p .number ≡ 0
   pub data-late : (p : List ℕ) → (r .msg ≡ [] → ⊥) → dataPart (r .now) p .number ≡ 9

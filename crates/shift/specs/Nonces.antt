@@ -1,9 +1,12 @@
--- Why 29 and 34 are there (document 02, W5): on a file that passes, no two rows of one suite and one key number are opened under the same nonce.
-use Prim.Native.Nat.{ℕ, _<_}
+-- Why 29 and 34 are there (document 02, W5): on a file or draft that passes, no two rows of one suite and one key number are opened under the same nonce; and 34 as the request words it.
+use Prim.Native.Nat.{ℕ, _+_, _≤_, _<_}
 use mathlib.Core.Path.{_≡_}
+use mathlib.Core.Logic.{_↔_}
 use mathlib.Core.List.{List}
-use Rattle.table.specs.Format.{countOf, rowOf}
-use Rattle.table.specs.Check.{checkFile}
+use lib.ListN.{length, getD}
+use Rattle.cipher.specs.Cipher.{nonceOf}
+use Rattle.table.specs.Format.{countOf, widthOf, rowStart, rowOf, nonceAt, nonceReadAt, padded}
+use Rattle.table.specs.Check.{checkBetween}
 use Rattle.shift.specs.Opening.{nonceRead}
 
 -- rows i and j are opened under the same suite, key number and nonce: `nonceRead` is what the opener is lent
@@ -12,6 +15,12 @@ pub record SameNonce (f : List ℕ) (i j : ℕ) : Type 0 where
   pub key : rowOf f i .key ≡ rowOf f j .key
   pub nonce : nonceRead f i ≡ nonceRead f j
 
--- only a row and itself are
+-- only a row and itself are; whichever editions the check takes, a draft's among them
 abbrev pub NoncesOnce : Type 0
-NoncesOnce = (f : List ℕ) → checkFile f .number ≡ 0 → (i j : ℕ) → i < countOf f → j < countOf f → SameNonce f i j → i ≡ j
+NoncesOnce = (low high : ℕ) (f : List ℕ) → checkBetween low high f .number ≡ 0 → (i j : ℕ) → i < countOf f → j < countOf f → SameNonce f i j → i ≡ j
+
+-- of a row that lies in the file: its nonce is not the bytes that are read, and zeros behind them, exactly if the suite's nonce has 15 bytes and the 16th is not 0
+abbrev pub UnreadByte : Type 0
+UnreadByte =
+    (f : List ℕ) (i : ℕ) → rowStart (widthOf f) i + widthOf f ≤ length f
+    → (nonceAt (widthOf f) f i ≡ padded (nonceReadAt (widthOf f) f i) → ⊥) ↔ ((nonceOf (rowOf f i .suite) ≡ 15) × (getD (nonceAt (widthOf f) f i) 15 0 ≡ 0 → ⊥))
