@@ -1,6 +1,6 @@
 // CHAM-128/128: words of 32 bits.
 ghost use mathlib.Core.Path.{_≡_};
-ghost use Prim.Native.Nat.{_+_, _%_, _<_};
+ghost use Prim.Native.Nat.{_+_, _<_};
 ghost use lib.ListN.{getD};
 ghost use Rattle.words.specs.Bytes.{word};
 ghost use Rattle.cham.specs.Cham.{keyWord, mixed, secondPlace, roundKeys, turned, cham};
@@ -64,19 +64,18 @@ fn turn(a: u32, b: u32, r: u32, i: u32, p: u32, q: u32) -> u32
     words::arx::rotl32(words::arx::add32(a ^ i, words::arx::rotl32(b, p) ^ r), q)
 }
 
-// Rounds i to i + 3, where i is even: each overwrites the word that leaves the state.
-fn four_rounds(s: Words, keys: &[u32; 8], i: usize) -> Words
-    requires { ⌜ i < 80 ⌝ }
-    ensures { λ x. ⌜ (x .s0 ≡ turned 32 1 8 (s .s0) (s .s1) (getD (now (keys .entry)) (i % 8) 0) i)
-        × (x .s1 ≡ turned 32 8 1 (s .s1) (s .s2) (getD (now (keys .entry)) ((i + 1) % 8) 0) (i + 1))
-        × (x .s2 ≡ turned 32 1 8 (s .s2) (s .s3) (getD (now (keys .entry)) ((i + 2) % 8) 0) (i + 2))
-        × (x .s3 ≡ turned 32 8 1 (s .s3) (x .s0) (getD (now (keys .entry)) ((i + 3) % 8) 0) (i + 3)) ⌝ }
+// Rounds i to i + 3, where i is even, with the four round keys from place `at` on: each overwrites the word that leaves the state.
+fn four_rounds(s: Words, keys: &[u32; 8], at: usize, i: u32) -> Words
+    requires { ⌜ (at + 3 < 8) × (i < 80) ⌝ }
+    ensures { λ x. ⌜ (x .s0 ≡ turned 32 1 8 (s .s0) (s .s1) (getD (now (keys .entry)) at 0) i)
+        × (x .s1 ≡ turned 32 8 1 (s .s1) (s .s2) (getD (now (keys .entry)) (at + 1) 0) (i + 1))
+        × (x .s2 ≡ turned 32 1 8 (s .s2) (s .s3) (getD (now (keys .entry)) (at + 2) 0) (i + 2))
+        × (x .s3 ≡ turned 32 8 1 (s .s3) (x .s0) (getD (now (keys .entry)) (at + 3) 0) (i + 3)) ⌝ }
 {
-    let j = i as u32;
-    let s0 = turn(s.s0, s.s1, keys[i % 8], j, 1, 8);
-    let s1 = turn(s.s1, s.s2, keys[(i + 1) % 8], j + 1, 8, 1);
-    let s2 = turn(s.s2, s.s3, keys[(i + 2) % 8], j + 2, 1, 8);
-    let s3 = turn(s.s3, s0, keys[(i + 3) % 8], j + 3, 8, 1);
+    let s0 = turn(s.s0, s.s1, keys[at], i, 1, 8);
+    let s1 = turn(s.s1, s.s2, keys[at + 1], i + 1, 8, 1);
+    let s2 = turn(s.s2, s.s3, keys[at + 2], i + 2, 1, 8);
+    let s3 = turn(s.s3, s0, keys[at + 3], i + 3, 8, 1);
     Words {
         s0: s0,
         s1: s1,
@@ -102,10 +101,11 @@ pub fn encrypt(key: [u8; 16], block: [u8; 16]) -> [u8; 16]
 {
     let keys = round_keys(key);
     let mut s = words_of(block);
-    let mut i: usize = 0;
+    let mut i: u32 = 0;
     while i < 80 {
-        s = four_rounds(s, &keys, i);
-        i += 4;
+        s = four_rounds(s, &keys, 0, i);
+        s = four_rounds(s, &keys, 4, i + 4);
+        i += 8;
     }
     words::arx::store4_32(s.s0, s.s1, s.s2, s.s3)
 }

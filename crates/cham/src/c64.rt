@@ -1,6 +1,6 @@
 // CHAM-64/128: words of 16 bits.
 ghost use mathlib.Core.Path.{_≡_};
-ghost use Prim.Native.Nat.{_+_, _%_, _<_};
+ghost use Prim.Native.Nat.{_+_, _<_};
 ghost use lib.ListN.{getD};
 ghost use Rattle.words.specs.Bytes.{word};
 ghost use Rattle.cham.specs.Cham.{keyWord, mixed, secondPlace, roundKeys, turned, cham};
@@ -62,19 +62,18 @@ fn turn(a: u16, b: u16, r: u16, i: u16, p: u16, q: u16) -> u16
     words::arx::rotl16(words::arx::add16(a ^ i, words::arx::rotl16(b, p) ^ r), q)
 }
 
-// Rounds i to i + 3, where i is even: each overwrites the word that leaves the state.
-fn four_rounds(s: Words, keys: &[u16; 16], i: usize) -> Words
-    requires { ⌜ i < 80 ⌝ }
-    ensures { λ x. ⌜ (x .s0 ≡ turned 16 1 8 (s .s0) (s .s1) (getD (now (keys .entry)) (i % 16) 0) i)
-        × (x .s1 ≡ turned 16 8 1 (s .s1) (s .s2) (getD (now (keys .entry)) ((i + 1) % 16) 0) (i + 1))
-        × (x .s2 ≡ turned 16 1 8 (s .s2) (s .s3) (getD (now (keys .entry)) ((i + 2) % 16) 0) (i + 2))
-        × (x .s3 ≡ turned 16 8 1 (s .s3) (x .s0) (getD (now (keys .entry)) ((i + 3) % 16) 0) (i + 3)) ⌝ }
+// Rounds i to i + 3, where i is even, with the four round keys from place `at` on: each overwrites the word that leaves the state.
+fn four_rounds(s: Words, keys: &[u16; 16], at: usize, i: u16) -> Words
+    requires { ⌜ (at + 3 < 16) × (i < 80) ⌝ }
+    ensures { λ x. ⌜ (x .s0 ≡ turned 16 1 8 (s .s0) (s .s1) (getD (now (keys .entry)) at 0) i)
+        × (x .s1 ≡ turned 16 8 1 (s .s1) (s .s2) (getD (now (keys .entry)) (at + 1) 0) (i + 1))
+        × (x .s2 ≡ turned 16 1 8 (s .s2) (s .s3) (getD (now (keys .entry)) (at + 2) 0) (i + 2))
+        × (x .s3 ≡ turned 16 8 1 (s .s3) (x .s0) (getD (now (keys .entry)) (at + 3) 0) (i + 3)) ⌝ }
 {
-    let j = i as u16;
-    let s0 = turn(s.s0, s.s1, keys[i % 16], j, 1, 8);
-    let s1 = turn(s.s1, s.s2, keys[(i + 1) % 16], j + 1, 8, 1);
-    let s2 = turn(s.s2, s.s3, keys[(i + 2) % 16], j + 2, 1, 8);
-    let s3 = turn(s.s3, s0, keys[(i + 3) % 16], j + 3, 8, 1);
+    let s0 = turn(s.s0, s.s1, keys[at], i, 1, 8);
+    let s1 = turn(s.s1, s.s2, keys[at + 1], i + 1, 8, 1);
+    let s2 = turn(s.s2, s.s3, keys[at + 2], i + 2, 1, 8);
+    let s3 = turn(s.s3, s0, keys[at + 3], i + 3, 8, 1);
     Words {
         s0: s0,
         s1: s1,
@@ -100,10 +99,13 @@ pub fn encrypt(key: [u8; 16], block: [u8; 8]) -> [u8; 8]
 {
     let keys = round_keys(key);
     let mut s = words_of(block);
-    let mut i: usize = 0;
+    let mut i: u16 = 0;
     while i < 80 {
-        s = four_rounds(s, &keys, i);
-        i += 4;
+        s = four_rounds(s, &keys, 0, i);
+        s = four_rounds(s, &keys, 4, i + 4);
+        s = four_rounds(s, &keys, 8, i + 8);
+        s = four_rounds(s, &keys, 12, i + 12);
+        i += 16;
     }
     words::arx::store4_16(s.s0, s.s1, s.s2, s.s3)
 }

@@ -1,6 +1,6 @@
--- `cham::c128::encrypt` meets its contract: before round i the loop holds the state after i rounds, and i goes by fours.
+-- `cham::c128::encrypt` meets its contract: before round i the loop holds the state after i rounds, and i goes by eights.
 use borrow.Author.Needs.{needs}
-use Prim.Native.Nat.{_≤_, _-_, _%_}
+use Prim.Native.Nat.{_+_, _≤_, _-_, _%_}
 use mathlib.Core.Path.{_≡_, refl}
 use native.Mathlib.Omega.{arith}
 use Rattle.cham.specs.declared.c128.Words.{Words}
@@ -13,7 +13,7 @@ abbrev stateAt : Words → State
 stateAt x = state (x .s0) (x .s1) (x .s2) (x .s3)
 
 abbrev Inv-loop : tie.InvT-loop
-Inv-loop keys s₀ i₀ s i = (i ≤ 80) × (i % 4 ≡ 0) × (rounds 32 keys (stateAt s₀) i ≡ stateAt s)
+Inv-loop keys s₀ i₀ s i = (i ≤ 80) × (i % 8 ≡ 0) × (rounds 32 keys (stateAt s₀) i ≡ stateAt s)
 
 abbrev μ-loop : tie.MeasureT-loop
 μ-loop keys s₀ i₀ s i = 80 - i
@@ -31,6 +31,12 @@ loop-holds c = (omega arith, omega arith, refl)
 four-rounds-requires : tie.Need-four-rounds-requires Inv-loop μ-loop
 four-rounds-requires c κs = search needs
 
+add-four-rounds : tie.Need-add-four-rounds Inv-loop μ-loop
+add-four-rounds c = search needs
+
+four-rounds-requires-2 : tie.Need-four-rounds-requires-2 Inv-loop μ-loop
+four-rounds-requires-2 c κs = search needs
+
 add-i : tie.Need-add-i Inv-loop μ-loop
 add-i c = search needs
 
@@ -39,9 +45,11 @@ loop-less c = search needs
 
 loop-again : tie.Need-loop-again Inv-loop μ-loop
 loop-again c =
-    let l = c .before .before .before .loop in
-    let e = c .four-rounds .ensures in
-    (omega arith, omega arith, four _ _ _ (l .i) _ _ _ _ _ _ _ _ (l .inv .1) (l .inv .2) (e .0) (e .1) (e .2) (e .3))
+    let l = c .before .before .before .before .before .loop in
+    let e0 = c .before .before .four-rounds .ensures in
+    let e1 = c .four-rounds2 .ensures in
+    let z0 = four _ _ _ (l .i) (l .i + 4) 0 _ _ _ _ _ _ _ _ (omega arith) (omega arith) (omega arith) (omega arith) (l .inv .2) (e0 .0) (e0 .1) (e0 .2) (e0 .3) in
+    (omega arith, omega arith, four _ _ _ (l .i + 4) (l .i + 8) 4 _ _ _ _ _ _ _ _ (omega arith) (omega arith) (omega arith) (omega arith) z0 (e1 .0) (e1 .1) (e1 .2) (e1 .3))
 
 store4-32-requires : tie.Need-store4-32-requires Inv-loop μ-loop
 store4-32-requires c κs = search needs
@@ -66,6 +74,8 @@ encrypt-spec =
     words-of-requires
     loop-holds
     four-rounds-requires
+    add-four-rounds
+    four-rounds-requires-2
     add-i
     loop-less
     loop-again

@@ -1,6 +1,6 @@
--- `cham::c64::encrypt` meets its contract: before round i the loop holds the state after i rounds, and i goes by fours.
+-- `cham::c64::encrypt` meets its contract: before round i the loop holds the state after i rounds, and i goes by sixteens.
 use borrow.Author.Needs.{needs}
-use Prim.Native.Nat.{_≤_, _-_, _%_}
+use Prim.Native.Nat.{_+_, _≤_, _-_, _%_}
 use mathlib.Core.Path.{_≡_, refl}
 use native.Mathlib.Omega.{arith}
 use Rattle.cham.specs.declared.c64.Words.{Words}
@@ -13,7 +13,7 @@ abbrev stateAt : Words → State
 stateAt x = state (x .s0) (x .s1) (x .s2) (x .s3)
 
 abbrev Inv-loop : tie.InvT-loop
-Inv-loop keys s₀ i₀ s i = (i ≤ 80) × (i % 4 ≡ 0) × (rounds 16 keys (stateAt s₀) i ≡ stateAt s)
+Inv-loop keys s₀ i₀ s i = (i ≤ 80) × (i % 16 ≡ 0) × (rounds 16 keys (stateAt s₀) i ≡ stateAt s)
 
 abbrev μ-loop : tie.MeasureT-loop
 μ-loop keys s₀ i₀ s i = 80 - i
@@ -31,6 +31,24 @@ loop-holds c = (omega arith, omega arith, refl)
 four-rounds-requires : tie.Need-four-rounds-requires Inv-loop μ-loop
 four-rounds-requires c κs = search needs
 
+add-four-rounds : tie.Need-add-four-rounds Inv-loop μ-loop
+add-four-rounds c = search needs
+
+four-rounds-requires-2 : tie.Need-four-rounds-requires-2 Inv-loop μ-loop
+four-rounds-requires-2 c κs = search needs
+
+add-four-rounds-2 : tie.Need-add-four-rounds-2 Inv-loop μ-loop
+add-four-rounds-2 c = search needs
+
+four-rounds-requires-3 : tie.Need-four-rounds-requires-3 Inv-loop μ-loop
+four-rounds-requires-3 c κs = search needs
+
+add-four-rounds-3 : tie.Need-add-four-rounds-3 Inv-loop μ-loop
+add-four-rounds-3 c = search needs
+
+four-rounds-requires-4 : tie.Need-four-rounds-requires-4 Inv-loop μ-loop
+four-rounds-requires-4 c κs = search needs
+
 add-i : tie.Need-add-i Inv-loop μ-loop
 add-i c = search needs
 
@@ -39,9 +57,15 @@ loop-less c = search needs
 
 loop-again : tie.Need-loop-again Inv-loop μ-loop
 loop-again c =
-    let l = c .before .before .before .loop in
-    let e = c .four-rounds .ensures in
-    (omega arith, omega arith, four _ _ _ (l .i) _ _ _ _ _ _ _ _ (l .inv .1) (l .inv .2) (e .0) (e .1) (e .2) (e .3))
+    let l = c .before .before .before .before .before .before .before .before .before .loop in
+    let e0 = c .before .before .before .before .before .before .four-rounds .ensures in
+    let e1 = c .before .before .before .before .four-rounds2 .ensures in
+    let e2 = c .before .before .four-rounds3 .ensures in
+    let e3 = c .four-rounds4 .ensures in
+    let z0 = four _ _ _ (l .i) (l .i + 4) 0 _ _ _ _ _ _ _ _ (omega arith) (omega arith) (omega arith) (omega arith) (l .inv .2) (e0 .0) (e0 .1) (e0 .2) (e0 .3) in
+    let z1 = four _ _ _ (l .i + 4) (l .i + 8) 4 _ _ _ _ _ _ _ _ (omega arith) (omega arith) (omega arith) (omega arith) z0 (e1 .0) (e1 .1) (e1 .2) (e1 .3) in
+    let z2 = four _ _ _ (l .i + 8) (l .i + 12) 8 _ _ _ _ _ _ _ _ (omega arith) (omega arith) (omega arith) (omega arith) z1 (e2 .0) (e2 .1) (e2 .2) (e2 .3) in
+    (omega arith, omega arith, four _ _ _ (l .i + 12) (l .i + 16) 12 _ _ _ _ _ _ _ _ (omega arith) (omega arith) (omega arith) (omega arith) z2 (e3 .0) (e3 .1) (e3 .2) (e3 .3))
 
 store4-16-requires : tie.Need-store4-16-requires Inv-loop μ-loop
 store4-16-requires c κs = search needs
@@ -66,6 +90,12 @@ encrypt-spec =
     words-of-requires
     loop-holds
     four-rounds-requires
+    add-four-rounds
+    four-rounds-requires-2
+    add-four-rounds-2
+    four-rounds-requires-3
+    add-four-rounds-3
+    four-rounds-requires-4
     add-i
     loop-less
     loop-again
