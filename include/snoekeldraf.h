@@ -153,26 +153,31 @@ comet_step comet_session_end(comet_session session,
                              uint8_t *out, size_t out_len,
                              uint8_t *tag, size_t tag_len);
 
-/* Numbers of the shift file: 20 to 24 first, then for each row from row 0 the numbers 25, 26, 27, 28, 34, 29
- * and 30 in this order, then 31.
+/* Numbers of the shift file and its tools. The check gives 20 to 24 first, then for each row from row 0 the numbers 25, 26,
+ * 27, 28, 34, 29 and 30 in this order, then 31. Which others a function gives, and in which order, stands with it. A number
+ * that speaks of "the row" carries it. The plant's ./run says the same words.
  *   0   done
  *  20   the file is shorter than 8 bytes or longer than 1,048,576
- *  21   its edition is not 1 or 2
- *  22   it has more than 512 rows
- *  23   its total length is not the file's
- *  24   its table of contents runs past its end
+ *  21   the file's edition is not one that is taken: 1 or 2 where nothing else is said
+ *  22   the file has more than 512 rows
+ *  23   the total length that the file gives is not its own
+ *  24   the file's table of contents runs past its end
  *  25   the row's job number is not above the row before's
  *  26   the row's suite is not 1 to 6, or its key number is over 15
  *  27   the row's associated data is not 5 to 1,024 bytes long, or its message is over 65,536
  *  28   the row's body does not start where the one before ends (row 0: after the table), or runs past the file
  *  34   the row's suite has a nonce of 15 bytes, and its 16th nonce byte is not 0
- *  29   an earlier row has the row's suite, its key number and the nonce bytes that the suite reads
+ *  29   the row repeats the suite, key number and nonce of an earlier row (of the nonce the bytes that the suite reads)
  *  30   the row's associated data has another job number, or its unit is not 1 (newton-metres) or 2 (inch-pounds)
  *  31   the last body does not end where the file ends
- *  32   no row has the job (not given by shift_check)
- *   2   shift_open_job alone: the ring is not 256 bytes long
- *   6   shift_open_job alone: out_len is not the message's length
- *   8   shift_open_job alone: the tag differs
+ *  32   no row has the job
+ *  33   the row's tag in the draft has a byte that is not zero
+ *  10   the row's suite is 4, which is opened and sealed no more
+ *  35   the row's station is not 0
+ *  36   a list is longer than its buffer
+ *   2   the ring is not 256 bytes long
+ *   6   the output has not the length that is needed
+ *   8   the tag differs
  */
 
 /* The full check. *row is written always: the row, counted from 0, after 25 to 30 and 34, and 0 after every other number. */

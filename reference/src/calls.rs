@@ -80,6 +80,17 @@ pub const REFERENCE: Library = Library {
     report: report::report,
 };
 
+/// What every call begins with, as the test programs read it: op, suite, job and six numbers, most of them lengths.
+pub fn head(op: u8, suite: u8, job: u32, numbers: &[usize]) -> Vec<u8> {
+    let mut bytes = vec![op, suite];
+    let mut six = [0; 6];
+    six[..numbers.len()].copy_from_slice(numbers);
+    for number in [job].into_iter().chain(six.map(|number| number as u32)) {
+        bytes.extend(number.to_le_bytes());
+    }
+    bytes
+}
+
 /// A call, or a run of calls.
 pub trait Case {
     type Outcome: PartialEq;
@@ -116,6 +127,18 @@ pub struct Outcome {
 }
 
 impl Call {
+    /// The call as `test_comet` reads it; op 0 and 2 seal, 1 and 3 open, 2 and 3 counted.
+    fn record_as(&self, op: u8) -> Vec<u8> {
+        let parts = [&self.key, &self.nonce, &self.ad, &self.text];
+        let [key, nonce, ad, text] = parts.map(|part| part.len());
+        let mut bytes = head(op, self.suite, 0, &[key, nonce, ad, text, self.out, self.tag.len()]);
+        parts.iter().for_each(|part| bytes.extend(*part));
+        if self.opens {
+            bytes.extend(&self.tag);
+        }
+        bytes
+    }
+
     /// The call that opens what this one seals, or what the specification gives under a suite that is no longer sealed.
     pub fn reopened(&self) -> Call {
         assert!(!self.opens && (self.answer(&REFERENCE).number == 0 || comet::is_retired(self.suite)));
@@ -139,18 +162,7 @@ impl Case for Call {
     }
 
     fn record(&self) -> Vec<u8> {
-        let mut bytes = vec![self.opens as u8, self.suite];
-        let lengths = [&self.key, &self.nonce, &self.ad, &self.text].map(|part| part.len());
-        for length in lengths.into_iter().chain([self.out, self.tag.len()]) {
-            bytes.extend((length as u32).to_le_bytes());
-        }
-        for part in [&self.key, &self.nonce, &self.ad, &self.text] {
-            bytes.extend(part);
-        }
-        if self.opens {
-            bytes.extend(&self.tag);
-        }
-        bytes
+        self.record_as(self.opens as u8)
     }
 
     fn lines(&self, by: &Library) -> String {
@@ -183,7 +195,7 @@ impl Case for CountedCall {
     }
 
     fn record(&self) -> Vec<u8> {
-        self.0.record()
+        self.0.record_as(2 + self.0.opens as u8)
     }
 
     fn lines(&self, by: &Library) -> String {
@@ -216,16 +228,10 @@ pub struct FileOutcome {
 }
 
 impl FileCall {
-    /// The call as the program `files` reads it; op 0 is one answer, op 1 every single-byte damage.
+    /// The call as `test_shift` reads it; op 0 is one answer, op 1 every single-byte damage.
     pub fn record_as(&self, op: u8) -> Vec<u8> {
-        let mut bytes = vec![op];
-        let lengths = [self.file.len(), self.ring.len(), self.out];
-        for number in [self.job].into_iter().chain(lengths.map(|length| length as u32)) {
-            bytes.extend(number.to_le_bytes());
-        }
-        bytes.extend(&self.file);
-        bytes.extend(&self.ring);
-        bytes
+        let head = head(op, 0, self.job, &[self.file.len(), self.ring.len(), self.out]);
+        [&head[..], &self.file, &self.ring].concat()
     }
 
     /// The lines of op 1: for each place of the file, the fold of the answers to its 255 damages: the numbers and

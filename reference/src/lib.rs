@@ -12,6 +12,7 @@ pub mod cham;
 pub mod comet;
 pub mod difference;
 pub mod editions;
+pub mod printed;
 pub mod report;
 pub mod reseal;
 pub mod search;

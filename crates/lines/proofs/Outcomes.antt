@@ -8,12 +8,12 @@ use Rattle.lines.proofs.read.file_room.Kinds as file-room-kinds
 use Rattle.lines.proofs.read.file_room.Reads as file-room-reads
 use Rattle.lines.proofs.read.front.Kinds as front-kinds
 use Rattle.lines.proofs.read.front.Reads as front-reads
-use Rattle.lines.proofs.show.folded.Kinds as folded-kinds
-use Rattle.lines.proofs.show.folded.Reads as folded-reads
-use Rattle.lines.proofs.show.fold_from.Kinds as fold-from-kinds
-use Rattle.lines.proofs.show.fold_from.Reads as fold-from-reads
-use Rattle.lines.proofs.show.fold.Kinds as fold-kinds
-use Rattle.lines.proofs.show.fold.Reads as fold-reads
+use Rattle.lines.proofs.fold.folded.Kinds as folded-kinds
+use Rattle.lines.proofs.fold.folded.Reads as folded-reads
+use Rattle.lines.proofs.fold.fold_from.Kinds as fold-from-kinds
+use Rattle.lines.proofs.fold.fold_from.Reads as fold-from-reads
+use Rattle.lines.proofs.fold.fold_of.Kinds as fold-kinds
+use Rattle.lines.proofs.fold.fold_of.Reads as fold-reads
 
 pub file-room : OneOutcome file-room-kinds.ps file-room-kinds.r file-room-reads.Pre file-room-reads.Post
 file-room κs a h x y = (x .ensures ∙ sym (y .ensures), refl)

@@ -1,4 +1,5 @@
-// What the test programs read and write: fields of an input, calls, bytes as text.
+// What the programs share: the head of a call, the fields of an input, and the text that they write.
 pub mod call;
+pub mod fold;
 pub mod read;
-pub mod show;
+pub mod text;

@@ -1,9 +1,9 @@
-//! The program `amending`: the current entry of an amendment and a day's file.
+//! For `test_shift`: the current entry of an amendment and a day's file.
 
 use super::writing::all_suites;
-use super::{files, parts_of, samples, Part};
+use super::{files, samples};
 use crate::amendment::{current, Amended};
-use crate::calls::{Case, Library, FILLER, REFERENCE};
+use crate::calls::{head, Case, Library, FILLER, REFERENCE};
 use crate::plan::{Entry, Plan};
 use crate::random::Random;
 use crate::shift::{rows, EDITIONS};
@@ -39,9 +39,9 @@ impl Case for AmendCall {
     }
 
     fn record(&self) -> Vec<u8> {
-        let lengths = [&self.amendment, &self.day, &self.ring].map(|bytes| bytes.len() as u32);
-        let numbers = [self.job, lengths[0], lengths[1], lengths[2], self.out as u32].map(u32::to_le_bytes);
-        [&numbers.concat(), &self.amendment[..], &self.day, &self.ring].concat()
+        let [amendment, day, ring] = [&self.amendment, &self.day, &self.ring].map(|bytes| bytes.len());
+        let head = head(3, 0, self.job, &[amendment, day, ring, self.out]);
+        [&head[..], &self.amendment, &self.day, &self.ring].concat()
     }
 
     fn lines(&self, by: &Library) -> String {
@@ -234,15 +234,11 @@ fn random_files(random: &mut Random) -> Vec<AmendCall> {
     (0..30).map(|_| random_call(random)).collect()
 }
 
-/// All calls of the program.
+/// All calls.
 pub fn calls() -> Vec<AmendCall> {
     let mut random = Random::new(15);
     let groups = [good, refused_checks, openings, elsewhere, tables, random_files];
     groups.into_iter().flat_map(|group| group(&mut random)).collect()
-}
-
-pub fn parts() -> [Part; 2] {
-    parts_of(&calls())
 }
 
 /// Random amendments, good and edited, with now and then a wrong ring or output.

@@ -1,6 +1,5 @@
-//! The program `cases`: calls of the sealer and the opener.
+//! For `test_comet`: calls of the sealer and the opener.
 
-use super::{parts_of, Part};
 use crate::calls::{Call, Case, FILLER, REFERENCE};
 use crate::comet::{block_size, fitting_tag, is_retired, made_up, nonce_size, LIMIT, SEALED, SUITES};
 use crate::random::Random;
@@ -234,13 +233,9 @@ pub fn longest(random: &mut Random) -> Vec<Call> {
     calls
 }
 
-/// All calls of the program.
+/// All calls.
 pub fn calls() -> Vec<Call> {
     let mut random = Random::new(2);
     let groups = [by_length, damaged, retired, refused, too_long, two_blocks, longest];
     groups.into_iter().flat_map(|group| group(&mut random)).collect()
-}
-
-pub fn parts() -> [Part; 2] {
-    parts_of(&calls())
 }

@@ -1,7 +1,7 @@
-//! The programs `comparing` and `differ`: two shift files compared.
+//! For `test_shift` and `differ`: two shift files compared.
 
-use super::{files, parts_of, samples, Part};
-use crate::calls::{Case, Library, FILLER_NUMBER, REFERENCE};
+use super::{files, samples, Part};
+use crate::calls::{head, Case, Library, FILLER_NUMBER, REFERENCE};
 use crate::difference::{printed, Compared};
 use crate::plan::{row_at, Entry, Plan};
 use crate::random::Random;
@@ -34,8 +34,8 @@ impl Case for CompareCall {
     fn record(&self) -> Vec<u8> {
         let [first, second] = &self.files;
         let [a, b, c] = self.places;
-        let numbers = [first.len(), second.len(), a, b, c].map(|number| (number as u32).to_le_bytes());
-        [&numbers.concat(), &first[..], second].concat()
+        let head = head(4, 0, 0, &[first.len(), second.len(), a, b, c]);
+        [&head[..], first, second].concat()
     }
 
     fn lines(&self, by: &Library) -> String {
@@ -269,15 +269,11 @@ fn random_call(random: &mut Random) -> CompareCall {
     CompareCall { files, places }
 }
 
-/// All calls of the program.
+/// All calls.
 pub fn calls() -> Vec<CompareCall> {
     let mut random = Random::new(13);
     let groups = [jobs, differing, bodies, stations, full_tables, refused, random_files];
     groups.into_iter().flat_map(|group| group(&mut random)).collect()
-}
-
-pub fn parts() -> [Part; 2] {
-    parts_of(&calls())
 }
 
 /// Random files and their neighbours, good and edited.

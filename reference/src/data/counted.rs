@@ -1,6 +1,6 @@
-//! The program `counted`: how often the cipher is called.
+//! For `test_comet`: how often the cipher is called.
 
-use super::{cases, parts_of, Part};
+use super::cases;
 use crate::calls::{Call, Case, CountedCall, REFERENCE};
 use crate::comet::{block_size, fitting_tag, is_retired, LIMIT, SUITES};
 use crate::random::Random;
@@ -89,13 +89,9 @@ fn longest(random: &mut Random) -> Vec<CountedCall> {
     vec![expected(opening, 0, 8192 + 4), expected(sealing, 0, 4096 + 3), expected(over, 4, 0)]
 }
 
-/// All calls of the program.
+/// All calls.
 pub fn calls() -> Vec<CountedCall> {
     let mut random = Random::new(17);
     let groups = [examples, lengths, refused, longest];
     groups.into_iter().flat_map(|group| group(&mut random)).collect()
-}
-
-pub fn parts() -> [Part; 2] {
-    parts_of(&calls())
 }

@@ -1,9 +1,10 @@
-//! The program `files`: calls of the shift file's routines.
+//! For `test_shift`: calls of the shift file's routines.
 
 use super::{parts_of, samples, Part};
 use crate::calls::{Case, FileCall, REFERENCE};
 use crate::comet::{block_size, fitting_tag, nonce_size, LIMIT, SUITES};
 use crate::plan::{row_at, Entry, Plan};
+use crate::printed::ROOM;
 use crate::random::Random;
 use crate::shift::{self, fields_at, EDITIONS};
 
@@ -452,11 +453,10 @@ pub fn damaged_calls() -> [FileCall; 3] {
     [call(smallest(), 7, 0), call(three_rows().file(&samples::ring()), 20, 3), call(wide, 7, 0)]
 }
 
-/// The longest file that the program has room for; the comparison runs the longer ones.
-const ROOM: usize = 524_288;
-
+/// What `test_shift` reads and writes of these.
 pub fn parts() -> [Part; 2] {
     let (mut calls, damaged) = (calls(), damaged_calls());
+    // the comparison runs the longer ones
     calls.retain(|call| call.file.len() <= ROOM);
     let [mut stdin, mut stdout] = parts_of(&calls);
     for call in damaged {

@@ -6,6 +6,7 @@ pub mod comparing;
 pub mod counted;
 pub mod files;
 pub mod moving;
+pub mod printing;
 pub mod reading;
 pub mod resealing;
 pub mod samples;
@@ -20,25 +21,18 @@ use crate::calls::{Case, REFERENCE};
 pub type Part = (&'static str, Vec<u8>);
 
 /// The folders of the repository that are written.
-pub const FOLDERS: [&str; 19] = [
+pub const FOLDERS: [&str; 12] = [
     "samples",
-    "crates/vectors",
-    "crates/cases",
-    "crates/files",
+    "crates/test_ciphers",
+    "crates/test_comet",
+    "crates/test_session",
+    "crates/test_shift",
+    "crates/test_writer",
     "crates/job",
-    "crates/sessions",
-    "crates/writing",
-    "crates/write",
-    "crates/searching",
-    "crates/resealing",
-    "crates/comparing",
-    "crates/differ",
-    "crates/moving",
-    "crates/moves",
-    "crates/amending",
     "crates/current",
-    "crates/counted",
-    "crates/reading",
+    "crates/write",
+    "crates/convert",
+    "crates/differ",
     "crates/inspect",
 ];
 
@@ -49,27 +43,35 @@ pub fn parts_of<C: Case>(cases: &[C]) -> [Part; 2] {
     [("stdin", stdin), ("stdout", stdout.into_bytes())]
 }
 
+/// The inputs and the outputs of one test program, one after the other.
+fn joined<const N: usize>(groups: [[Part; 2]; N]) -> Vec<Part> {
+    let of = |i: usize| groups.iter().flat_map(|group| group[i].1.clone()).collect();
+    vec![("stdin", of(0)), ("stdout", of(1))]
+}
+
 /// What stands in a folder.
 pub fn parts(folder: &str) -> Vec<Part> {
     match folder {
         "samples" => samples::parts().to_vec(),
-        "crates/vectors" => vectors::parts().to_vec(),
-        "crates/cases" => cases::parts().to_vec(),
-        "crates/files" => files::parts().to_vec(),
+        "crates/test_ciphers" => vectors::parts().to_vec(),
+        "crates/test_comet" => joined([parts_of(&cases::calls()), parts_of(&counted::calls())]),
+        "crates/test_session" => sessions::parts().to_vec(),
+        "crates/test_shift" => joined([
+            files::parts(),
+            parts_of(&searching::calls()),
+            parts_of(&amending::calls()),
+            parts_of(&comparing::calls()),
+            parts_of(&reading::calls()),
+            printing::parts(),
+        ]),
+        "crates/test_writer" => {
+            joined([parts_of(&writing::calls()), parts_of(&resealing::calls()), parts_of(&moving::calls())])
+        }
         "crates/job" => samples::job_parts().to_vec(),
-        "crates/sessions" => sessions::parts().to_vec(),
-        "crates/writing" => writing::parts().to_vec(),
-        "crates/write" => writing::write_parts().to_vec(),
-        "crates/searching" => searching::parts().to_vec(),
-        "crates/resealing" => resealing::parts().to_vec(),
-        "crates/comparing" => comparing::parts().to_vec(),
-        "crates/differ" => comparing::differ_parts().to_vec(),
-        "crates/moving" => moving::parts().to_vec(),
-        "crates/moves" => moving::move_parts().to_vec(),
-        "crates/amending" => amending::parts().to_vec(),
         "crates/current" => samples::current_parts().to_vec(),
-        "crates/counted" => counted::parts().to_vec(),
-        "crates/reading" => reading::parts().to_vec(),
+        "crates/write" => writing::write_parts().to_vec(),
+        "crates/convert" => moving::convert_parts().to_vec(),
+        "crates/differ" => comparing::differ_parts().to_vec(),
         "crates/inspect" => reading::inspect_parts().to_vec(),
         _ => unreachable!("no data for {folder}"),
     }

@@ -1,8 +1,8 @@
-//! The programs `moving` and `moves`: files moved from one edition to the other.
+//! For `test_writer` and `convert`: files moved from one edition to the other.
 
 use super::writing::all_suites;
-use super::{files, parts_of, samples, Part};
-use crate::calls::{Case, Library, FILLER, REFERENCE};
+use super::{files, samples, Part};
+use crate::calls::{head, Case, Library, FILLER, REFERENCE};
 use crate::plan::{Entry, Plan};
 use crate::random::Random;
 use crate::shift::{self, fields_at, row_at, rows};
@@ -33,8 +33,8 @@ impl Case for MoveCall {
     }
 
     fn record(&self) -> Vec<u8> {
-        let lengths = [self.file.len(), self.out].map(|length| (length as u32).to_le_bytes());
-        [&[2 - self.to as u8], &lengths.concat()[..], &self.file].concat()
+        let head = head(5 - self.to as u8, 0, 0, &[self.file.len(), 0, self.out]);
+        [&head[..], &self.file].concat()
     }
 
     fn lines(&self, by: &Library) -> String {
@@ -161,15 +161,11 @@ fn refused_lengths(_: &mut Random) -> Vec<MoveCall> {
     calls
 }
 
-/// All calls of the program.
+/// All calls.
 pub fn calls() -> Vec<MoveCall> {
     let mut random = Random::new(14);
     let groups = [good, bodies, refused_checks, refused_stations, refused_lengths];
     groups.into_iter().flat_map(|group| group(&mut random)).collect()
-}
-
-pub fn parts() -> [Part; 2] {
-    parts_of(&calls())
 }
 
 /// Random files, good and edited, most of them with no station, and now and then with another output.
@@ -219,8 +215,8 @@ pub fn longest(mut each: impl FnMut(&MoveCall)) {
     }
 }
 
-/// The folder of the program `moves`: the sample's day becomes edition 2.
-pub fn move_parts() -> [Part; 3] {
+/// The folder of the program `convert`: the sample's day becomes edition 2.
+pub fn convert_parts() -> [Part; 3] {
     let file = samples::day();
     let (number, row) = call(2, rows(&file).len(), file.clone()).answer(&REFERENCE).answer;
     [

@@ -1,8 +1,8 @@
-//! The programs `reading` and `inspect`: suppliers' files reported and read.
+//! For `test_shift` and `inspect`: suppliers' files reported and read.
 
 use super::writing::all_suites;
-use super::{files, parts_of, samples, Part};
-use crate::calls::{Case, Library, FILLER, FILLER_NUMBER, REFERENCE};
+use super::{files, samples, Part};
+use crate::calls::{head, Case, Library, FILLER, FILLER_NUMBER, REFERENCE};
 use crate::comet::fitting_tag;
 use crate::difference::PROGRAM_LONGEST;
 use crate::plan::{Entry, Plan};
@@ -54,8 +54,9 @@ impl Case for ReadCall {
     }
 
     fn record(&self) -> Vec<u8> {
-        let numbers = [self.file.len(), self.ring.len(), self.places[0], self.places[1], self.asks];
-        [&numbers.map(|number| (number as u32).to_le_bytes()).concat(), &self.file[..], &self.ring].concat()
+        let [jobs, numbers] = self.places;
+        let head = head(5, 0, 0, &[self.file.len(), self.ring.len(), jobs, numbers, self.asks]);
+        [&head[..], &self.file, &self.ring].concat()
     }
 
     fn lines(&self, by: &Library) -> String {
@@ -187,15 +188,11 @@ fn longest(_: &mut Random) -> Vec<ReadCall> {
     vec![just, refused(longer.clone(), 20, 0), refused(ReadCall { ring: vec![], places: [0, 0], ..longer }, 20, 0)]
 }
 
-/// All calls of the program.
+/// All calls.
 pub fn calls() -> Vec<ReadCall> {
     let mut random = Random::new(18);
     let groups = [good, wrong_tags, refused_checks, refused_lengths, longest];
     groups.into_iter().flat_map(|group| group(&mut random)).collect()
-}
-
-pub fn parts() -> [Part; 2] {
-    parts_of(&calls())
 }
 
 /// Random files, good and edited, with now and then a wrong ring or other lists.

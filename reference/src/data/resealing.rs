@@ -1,7 +1,7 @@
-//! The program `resealing`: files whose entries of suite 4 become suite 3.
+//! For `test_writer`: files whose entries of suite 4 become suite 3.
 
 use super::writing::{all_suites, call, expected, Pass, RewriteCall, RewriteOutcome};
-use super::{files, parts_of, samples, Part};
+use super::{files, samples};
 use crate::calls::{Case, FILLER, REFERENCE};
 use crate::plan::{row_at, Entry, Plan};
 use crate::random::Random;
@@ -170,15 +170,11 @@ fn refused(_: &mut Random) -> Vec<RewriteCall> {
     calls
 }
 
-/// All calls of the program.
+/// All calls.
 pub fn calls() -> Vec<RewriteCall> {
     let mut random = Random::new(11);
     let groups = [good, unchecked, clashes, refused_checks, refused];
     groups.into_iter().flat_map(|group| group(&mut random)).collect()
-}
-
-pub fn parts() -> [Part; 2] {
-    parts_of(&calls())
 }
 
 /// Random files, good and edited, some with few different nonces, and now and then a wrong ring or output.

@@ -1,11 +1,10 @@
 //! A day's file, an amendment and a ring to try, and the runs of the programs `job` and `current` on them.
 
 use super::Part;
-use crate::amendment::{current, open_current};
 use crate::plan::{Entry, Plan};
+use crate::printed;
 use crate::random::Random;
 use crate::shift;
-use crate::show::hex;
 
 pub fn ring() -> Vec<u8> {
     Random::new(4).bytes(shift::RING)
@@ -113,38 +112,11 @@ pub fn parts() -> [Part; 5] {
     ]
 }
 
-/// The lines of an opened entry: unit, associated data and message.
-fn entry_lines(ad: &[u8], message: &[u8]) -> String {
-    format!("{}\n{}\n{}\n", ad[4], hex(ad), hex(message))
-}
-
-/// What `job FILE RING JOB` writes: the opening's number and row and, on 0, the entry's lines.
-pub fn job_lines(file: &[u8], ring: &[u8], job: u32, message: usize) -> String {
-    let mut out = vec![0; message];
-    let (number, row) = shift::open_job(file, ring, job, &mut out);
-    let mut lines = format!("{number} {row}\n");
-    if number == 0 {
-        lines += &entry_lines(shift::associated(file, job), &out);
-    }
-    lines
-}
-
-/// What `current AMENDMENT DAY RING JOB` writes: the opening's number, file and row and, on 0, the entry's lines.
-fn current_lines(amendment: &[u8], day: &[u8], ring: &[u8], job: u32, message: usize) -> String {
-    let mut out = vec![0; message];
-    let (number, file, row) = open_current(amendment, day, ring, job, &mut out);
-    let mut lines = format!("{number} {file} {row}\n");
-    if number == 0 {
-        lines += &entry_lines(current(amendment, day, job), &out);
-    }
-    lines
-}
-
 /// The folder of the program `job`.
 pub fn job_parts() -> [Part; 4] {
     let message = DAY.iter().find(|entry| entry.0 == OPENED).unwrap().4;
-    let stdout = job_lines(&day(), &ring(), OPENED, message.len());
-    assert!(stdout.ends_with(&format!("{}\n", hex(message.as_bytes()))));
+    let stdout = printed::job(&day(), &ring(), OPENED);
+    assert!(stdout.starts_with("0 0\nunit 2 inch-pounds\n") && stdout.ends_with(&format!("message text {message}\n")));
     [
         ("args", format!("day.shift\nring.keys\n{OPENED}\n").into_bytes()),
         ("data/day.shift", day()),
@@ -156,8 +128,8 @@ pub fn job_parts() -> [Part; 4] {
 /// The folder of the program `current`.
 pub fn current_parts() -> [Part; 5] {
     let message = AMENDMENT.iter().find(|entry| entry.0 == AMENDED).unwrap().2;
-    let stdout = current_lines(&amendment(), &day(), &ring(), AMENDED, message.len());
-    assert!(stdout.starts_with("0 1 ") && stdout.ends_with(&format!("{}\n", hex(message.as_bytes()))));
+    let stdout = printed::current(&amendment(), &day(), &ring(), AMENDED);
+    assert!(stdout.starts_with("0 1 ") && stdout.ends_with(&format!("message text {message}\n")));
     [
         ("args", format!("amendment.shift\nday.shift\nring.keys\n{AMENDED}\n").into_bytes()),
         ("data/amendment.shift", amendment()),

@@ -1,7 +1,7 @@
-//! The program `searching`: jobs looked for by halving.
+//! For `test_shift`: jobs looked for by halving.
 
-use super::{files, parts_of, samples, Part};
-use crate::calls::{Case, Library, REFERENCE};
+use super::{files, samples};
+use crate::calls::{head, Case, Library, REFERENCE};
 use crate::random::Random;
 use crate::shift::{self, row_at, Answer};
 use crate::trials::edit;
@@ -22,8 +22,8 @@ impl Case for SearchCall {
     }
 
     fn record(&self) -> Vec<u8> {
-        let numbers = [self.first, self.count, self.file.len() as u32].map(u32::to_le_bytes);
-        [&numbers.concat()[..], &self.file].concat()
+        let head = head(2, 0, self.first, &[self.file.len(), self.count as usize]);
+        [&head[..], &self.file].concat()
     }
 
     fn lines(&self, by: &Library) -> String {
@@ -129,15 +129,11 @@ fn whole_files(random: &mut Random) -> Vec<SearchCall> {
     calls
 }
 
-/// All calls of the program.
+/// All calls.
 pub fn calls() -> Vec<SearchCall> {
     let mut random = Random::new(10);
     let groups = [sizes, edges, unsorted, refused, whole_files];
     groups.into_iter().flat_map(|group| group(&mut random)).collect()
-}
-
-pub fn parts() -> [Part; 2] {
-    parts_of(&calls())
 }
 
 /// Random files, good and edited, and random tables; every job that is there and its neighbours.

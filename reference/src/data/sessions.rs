@@ -1,7 +1,7 @@
-//! The program `sessions`: runs of a session's calls.
+//! The program `test_session`: runs of a session's calls.
 
 use super::{parts_of, Part};
-use crate::calls::{Case, Library, FILLER, REFERENCE};
+use crate::calls::{head, Case, Library, FILLER, REFERENCE};
 use crate::comet::{self, block_size, nonce_size, LIMIT, SEALED};
 use crate::random::Random;
 use crate::session::{Session, Step, OVER};
@@ -72,8 +72,7 @@ impl SessionCall {
             End { out, tag } => (3, 0, [0, *out, *tag], [&[], &[]]),
             Forge { suite, data, text } => (4, *suite, [0, *data, *text], [&[], &[]]),
         };
-        let lengths = lengths.map(|length| (length as u32).to_le_bytes()).concat();
-        [&[op, suite], &lengths[..], parts[0], parts[1]].concat()
+        [&head(op, suite, 0, &lengths)[..], parts[0], parts[1]].concat()
     }
 
     fn line(&self, outcome: &StepOutcome) -> String {

@@ -1,4 +1,4 @@
-//! The program `vectors`: blocks and their images.
+//! The program `test_ciphers`: blocks and their images.
 
 use super::Part;
 use crate::comet;

@@ -1,7 +1,7 @@
-//! The program `writing`: drafts sealed, and files unsealed.
+//! For `test_writer` and `write`: drafts sealed, and files unsealed.
 
-use super::{files, parts_of, samples, Part};
-use crate::calls::{Case, Library, FILLER, REFERENCE};
+use super::{files, samples, Part};
+use crate::calls::{head, Case, Library, FILLER, REFERENCE};
 use crate::comet;
 use crate::plan::{row_at, Entry, Plan};
 use crate::random::Random;
@@ -45,13 +45,13 @@ impl Case for RewriteCall {
     }
 
     fn record(&self) -> Vec<u8> {
-        let op: &[u8] = match self.pass {
-            Pass::Seal => &[0],
-            Pass::Unseal => &[1],
-            Pass::Reseal => &[],
+        let op = match self.pass {
+            Pass::Seal => 0,
+            Pass::Unseal => 1,
+            Pass::Reseal => 2,
         };
-        let lengths = [self.file.len(), self.ring.len(), self.out].map(|length| (length as u32).to_le_bytes());
-        [op, &lengths.concat(), &self.file, &self.ring].concat()
+        let head = head(op, 0, 0, &[self.file.len(), self.ring.len(), self.out]);
+        [&head[..], &self.file, &self.ring].concat()
     }
 
     fn lines(&self, by: &Library) -> String {
@@ -233,15 +233,11 @@ fn altered(_: &mut Random) -> Vec<RewriteCall> {
     calls
 }
 
-/// All calls of the program.
+/// All calls.
 pub fn calls() -> Vec<RewriteCall> {
     let mut random = Random::new(8);
     let groups = [good, refused_checks, refused, retired, altered];
     groups.into_iter().flat_map(|group| group(&mut random)).collect()
-}
-
-pub fn parts() -> [Part; 2] {
-    parts_of(&calls())
 }
 
 /// Random drafts and files, good and edited, with now and then a wrong ring or output.

@@ -1,0 +1,70 @@
+// Moves a shift file to another edition: convert FILE OUT from edition 1 to 2, convert back FILE OUT from edition 2 to 1.
+//
+// Prints number and row on one line; the file OUT is made where the number is 0, and else left alone. A file that cannot
+// be read counts as zero bytes. The program takes files up to 524,288 bytes, half the format's limit (longer: 20): the
+// prover can carry no array of twice that.
+use table::answers::Answer;
+use table::row::count;
+ghost use Prim.Native.Nat.{_≤_};
+
+// Argument i names the output.
+fn say(a: Answer, out: &[u8], i: usize) {
+    args::answered(a.number, a.row, out, i);
+}
+
+fn run(back: bool, file: &[u8], i: usize, out: &mut [u8]) {
+    if back {
+        say(editions::to_edition1(file, out).answer(), out, i);
+    } else {
+        say(editions::to_edition2(file, out).answer(), out, i);
+    }
+}
+
+// How long the moved file is. Of a file whose header is refused any length will do: the output's does not count then.
+fn new_length(back: bool, file: &[u8]) -> usize {
+    if file.len() < 8 {
+        return 0;
+    }
+    if 524288 < file.len() {
+        return 0;
+    }
+    let n = count(file);
+    if 512 < n {
+        return 0;
+    }
+    if !back {
+        return file.len() + 4 * n;
+    }
+    if file.len() < 4 * n {
+        return 0;
+    }
+    file.len() - 4 * n
+}
+
+// An output of the moved file's length; the buffer has room for 512 stations more than the file, so the test always holds.
+fn run_in(back: bool, file: &[u8], i: usize, out: &mut [u8]) {
+    let n = new_length(back, file);
+    if n <= out.len() {
+        run(back, file, i, &mut out[0..n]);
+    }
+}
+
+// Argument i names the file, the next one the output.
+fn convert(back: bool, i: usize)
+    requires { ⌜ i ≤ 2 ⌝ }
+{
+    let mut f = lines::read::file_room();
+    let mut o = [0u8; 526336];
+    let file = args::load(i, &mut f);
+    run_in(back, file, i + 1, &mut o);
+}
+
+fn main() {
+    if os::arg_count() == 3 {
+        convert(false, 1);
+    } else if os::arg_count() == 4 && args::is_word(1, b"back") {
+        convert(true, 2);
+    } else {
+        args::usage(b"convert FILE OUT\nconvert back FILE OUT\n");
+    }
+}

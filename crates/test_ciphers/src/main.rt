@@ -1,0 +1,58 @@
+// Prints the image of each block on its input in hexadecimal, one to a line: under suite 1 by both engines of AES.
+// A record is a suite (1 byte), a key (16) and a block (16 bytes for suites 1 and 2, 8 for 3 and 4).
+use libc::STDIN_FILENO;
+
+fn read8() -> [u8; 8] {
+    let mut b = [0u8; 8];
+    io::read_full(STDIN_FILENO, &mut b);
+    b
+}
+
+fn read16() -> [u8; 16] {
+    let mut b = [0u8; 16];
+    io::read_full(STDIN_FILENO, &mut b);
+    b
+}
+
+fn print_line(b: &[u8]) {
+    let mut out = [0u8; 33];
+    let n = lines::text::hex(&mut out, 0, b);
+    let n = lines::text::end(&mut out, n);
+    lines::text::write(&out, n);
+}
+
+fn answer(suite: u8, key: [u8; 16]) {
+    if suite == 1 {
+        let block = read16();
+        print_line(&aes::encrypt(key, block));
+        print_line(&columns::encrypt(key, block));
+    }
+    if suite == 2 {
+        print_line(&cham::c128::encrypt(key, read16()));
+    }
+    if suite == 3 {
+        print_line(&speck::encrypt(key, read8()));
+    }
+    if suite == 4 {
+        print_line(&cham::c64::encrypt(key, read8()));
+    }
+}
+
+// Takes one record; false at the end of the input.
+fn record() -> bool {
+    let mut suite = [0u8; 1];
+    let n = io::read_full(STDIN_FILENO, &mut suite);
+    if n == 0 {
+        return false;
+    }
+    answer(suite[0], read16());
+    true
+}
+
+// Nothing says that an input ends, so the records are counted down from a number that no input reaches.
+fn main() {
+    let mut left = u64::MAX;
+    while left > 0 && record() {
+        left -= 1;
+    }
+}

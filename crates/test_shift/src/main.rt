@@ -1,0 +1,49 @@
+// Runs the calls that read shift files, and writes the lines of each.
+//
+// The call's op says which: 0 and 1 `opening`, 2 `halving`, 3 `amended`, 4 `compared`, 5 `report`, 6 to 9 `printing`. What a call's
+// numbers are, what follows them and what its lines say stands in the module of that name. Lent buffers hold 0xa5 before the call.
+mod amended;
+mod compared;
+mod halving;
+mod opening;
+mod printing;
+mod report;
+
+use lines::call::Call;
+
+// No line where a buffer has no room, the input ends, or there is no such op.
+fn run(c: Call, line: &mut [u8]) -> usize {
+    let op = c.op;
+    match op {
+        0 => opening::run(c, line),
+        1 => opening::run(c, line),
+        2 => halving::run(c, line),
+        3 => amended::run(c, line),
+        4 => compared::run(c, line),
+        5 => report::run(c, line),
+        6 => printing::run(c, line),
+        7 => printing::run_current(c, line),
+        8 => printing::run(c, line),
+        9 => printing::run(c, line),
+        _ => 0,
+    }
+}
+
+// Reads a call and runs it; false at the end of the input.
+fn turn() -> bool {
+    let mut head = [0u8; 30];
+    let mut line = printed::page();
+    if !lines::call::next(&mut head) {
+        return false;
+    }
+    let n = run(lines::call::call_of(&head), &mut line);
+    lines::call::done(&line, n)
+}
+
+// Nothing says that an input ends, so the calls are counted down from a number that no input reaches.
+fn main() {
+    let mut left = u64::MAX;
+    while left > 0 && turn() {
+        left -= 1;
+    }
+}

@@ -1,0 +1,166 @@
+// Check, lookup and opening of one job. Numbers: the lengths of file, ring and output; the file and the ring follow.
+//
+// Op 0: one line, number and row of the check and of the lookup; place, length and bytes of the associated data; number and
+// row of the opening, and its output. Op 1: a line for each byte of the file, the fold of the answers to its 255 damages,
+// outputs too.
+use libc::STDIN_FILENO;
+use lines::call::Call;
+use lines::text::and_number;
+use lines::text::and_shown;
+use lines::text::answer;
+use lines::text::end;
+use lines::text::space;
+use table::answers::Answer;
+ghost use Prim.Native.Nat.{_≤_, _<_};
+ghost use lib.ListN.{length};
+
+// A space, number and row.
+fn and_answer(line: &mut [u8], at: usize, a: Answer) -> usize {
+    let to = space(line, at);
+    answer(line, to, a.number, a.row)
+}
+
+// Number and row of the check and of the lookup.
+fn found(file: &[u8], job: u32, line: &mut [u8]) -> usize {
+    let a = table::check(file).answer();
+    let at = answer(line, 0, a.number, a.row);
+    and_answer(line, at, shift::lookup(file, job).answer())
+}
+
+// Place, length and bytes of the associated data.
+fn place(file: &[u8], job: u32, line: &mut [u8], at: usize) -> usize {
+    let entry = shift::entry(file, job);
+    let ad = shift::associated(file, job);
+    let at = and_number(line, at, entry.ad_at as u64);
+    let at = and_number(line, at, ad.len() as u64);
+    and_shown(line, at, ad)
+}
+
+fn opening(
+    file: &[u8],
+    ring: &[u8],
+    job: u32,
+    out: &mut [u8],
+    line: &mut [u8],
+    at: usize,
+) -> usize {
+    let at = and_answer(line, at, shift::open_job(file, ring, job, out).answer());
+    let at = and_shown(line, at, out);
+    end(line, at)
+}
+
+// op 0; no line where the output has no room.
+fn one(file: &[u8], ring: &[u8], c: Call, line: &mut [u8]) -> usize {
+    let mut out = [0xa5u8; 65540];
+    let o = c.third;
+    if 65540 < o {
+        return 0;
+    }
+    let at = found(file, c.job, line);
+    let at = place(file, c.job, line, at);
+    opening(file, ring, c.job, &mut out[0..o], line, at)
+}
+
+// The low byte of a row.
+fn low(row: usize) -> u8 {
+    (row % 256) as u8
+}
+
+// The fold s with the number of opening, and the output that it leaves.
+fn opened_into(s: u64, file: &[u8], ring: &[u8], job: u32, out: &mut [u8]) -> u64
+    requires { ⌜ s < 4294967291 ⌝ }
+    ensures { λ r. ⌜ r < 4294967291 ⌝ }
+{
+    let a = shift::open_job(file, ring, job, out).answer();
+    lines::fold::fold_from(lines::fold::folded(s, a.number), out)
+}
+
+// The same with a fresh output of o bytes.
+fn opened(s: u64, file: &[u8], ring: &[u8], job: u32, o: usize) -> u64
+    requires { ⌜ (s < 4294967291) × (o ≤ 300) ⌝ }
+    ensures { λ r. ⌜ r < 4294967291 ⌝ }
+{
+    let mut out = [0xa5u8; 300];
+    opened_into(s, file, ring, job, &mut out[0..o])
+}
+
+// The fold s with the answers to the file as it is.
+fn answers(s: u64, file: &[u8], ring: &[u8], job: u32, o: usize) -> u64
+    requires { ⌜ (s < 4294967291) × (o ≤ 300) ⌝ }
+    ensures { λ r. ⌜ r < 4294967291 ⌝ }
+{
+    let a = table::check(file).answer();
+    let b = shift::lookup(file, job).answer();
+    let s1 = lines::fold::folded(s, a.number);
+    let s2 = lines::fold::folded(s1, low(a.row));
+    let s3 = lines::fold::folded(s2, b.number);
+    let s4 = lines::fold::folded(s3, low(b.row));
+    opened(s4, file, ring, job, o)
+}
+
+// The 255 damages of byte p.
+fn damages(file: &mut [u8], p: usize, ring: &[u8], job: u32, o: usize) -> u64
+    requires { ⌜ (p < length (now file)) × (o ≤ 300) ⌝ }
+{
+    let old = file[p];
+    let mut s: u64 = 0;
+    let mut x: u8 = 0;
+    while x < 255 {
+        x += 1;
+        file[p] = old ^ x;
+        s = answers(s, file, ring, job, o);
+    }
+    file[p] = old;
+    s
+}
+
+// A fold on a line of its own.
+fn fold_line(line: &mut [u8], at: usize, s: u64) -> usize {
+    let to = lines::text::hex_number(line, at, s, 8);
+    end(line, to)
+}
+
+// op 1; no line where the output has no room.
+fn damage(file: &mut [u8], ring: &[u8], job: u32, o: usize, line: &mut [u8]) -> usize {
+    if 300 < o {
+        return 0;
+    }
+    let mut at: usize = 0;
+    let mut p: usize = 0;
+    while p < file.len() {
+        at = fold_line(line, at, damages(file, p, ring, job, o));
+        p += 1;
+    }
+    at
+}
+
+// Runs a call on its file, once its ring is read.
+fn run_on(file: &mut [u8], c: Call, line: &mut [u8]) -> usize {
+    let mut r = [0u8; 300];
+    let n = c.second;
+    let ring = lines::read::field(&mut r, n);
+    if ring.len() != n {
+        return 0;
+    }
+    if c.op == 0 {
+        return one(file, ring, c, line);
+    }
+    damage(file, ring, c.job, c.third, line)
+}
+
+// Reads the file of a call into f and runs it; no line where f has no room or the input ends.
+fn run_in(f: &mut [u8], c: Call, line: &mut [u8]) -> usize {
+    let n = c.first;
+    if f.len() < n {
+        return 0;
+    }
+    if io::read_full(STDIN_FILENO, &mut f[0..n]) != n {
+        return 0;
+    }
+    run_on(&mut f[0..n], c, line)
+}
+
+pub(crate) fn run(c: Call, line: &mut [u8]) -> usize {
+    let mut f = lines::read::file_room();
+    run_in(&mut f, c, line)
+}
