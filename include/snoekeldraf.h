@@ -4,8 +4,8 @@
  * What the caller owes, since nothing in C checks it:
  *   - a pointer to bytes has the length that stands beside it, and leads to that many bytes, for the whole call;
  *     where the length is 0 nothing is read or written through the pointer;
- *   - what is written (out, tag of the sealer, row, places and lengths) overlaps nothing else that is passed:
- *     a record is not sealed or opened in place;
+ *   - what is written (out, text of the functions in place, tag of the sealer, row, places and lengths) overlaps nothing
+ *     else that is passed: a record is sealed or opened in place by comet_seal_in_place and comet_open_in_place alone;
  *   - suite is one byte, and C cuts a larger number to its lowest eight bits before the call: 257 would be suite 1.
  * The functions keep nothing from one call to the next, need no memory but the stack, and call memcpy and memset alone.
  * Nothing is promised of the time that a call takes.
@@ -34,17 +34,17 @@
 extern "C" {
 #endif
 
-/* Numbers of comet_seal and comet_open: the first that applies, in this order.
+/* Numbers of comet_seal, comet_open, the same in place, and comet_verify: the first that applies, in this order.
  *   0  done
  *   1  suite is not 1 to 6
- *  10  comet_seal alone: suite is 4
+ *  10  sealing alone: suite is 4
  *   2  key_len is not 16
  *   3  nonce_len is not the suite's
  *   4  ad_len is over 65,536
  *   5  msg_len (text_len) is over 65,536
- *   6  out_len differs from msg_len (text_len)
+ *   6  comet_seal and comet_open: out_len differs from msg_len (text_len)
  *   7  tag_len is not the suite's
- *   8  comet_open alone: the tag differs
+ *   8  opening and comet_verify: the tag differs
  */
 
 /* Seals msg with the associated data ad.
@@ -68,6 +68,36 @@ uint32_t comet_open(uint8_t suite,
                     const uint8_t *text, size_t text_len,
                     const uint8_t *tag, size_t tag_len,
                     uint8_t *out, size_t out_len);
+
+/* Seals text in its place: as comet_seal with text for the message and for its output.
+ * After 0, text is the ciphertext and tag the tag, both written whole; after any other number, text and tag are as they were.
+ */
+uint32_t comet_seal_in_place(uint8_t suite,
+                             const uint8_t *key, size_t key_len,
+                             const uint8_t *nonce, size_t nonce_len,
+                             const uint8_t *ad, size_t ad_len,
+                             uint8_t *text, size_t text_len,
+                             uint8_t *tag, size_t tag_len);
+
+/* Opens text in its place, if tag is its tag: as comet_open with text for the ciphertext and for its output.
+ * After 0, text is the message; after 1 to 5 and 7, it is as it was; after 8, every byte of it is 0.
+ */
+uint32_t comet_open_in_place(uint8_t suite,
+                             const uint8_t *key, size_t key_len,
+                             const uint8_t *nonce, size_t nonce_len,
+                             const uint8_t *ad, size_t ad_len,
+                             uint8_t *text, size_t text_len,
+                             const uint8_t *tag, size_t tag_len);
+
+/* Whether the record is genuine: the number that comet_open gives with an output of text_len bytes, 0 or 1 to 5, 7, 8.
+ * No message is written anywhere.
+ */
+uint32_t comet_verify(uint8_t suite,
+                      const uint8_t *key, size_t key_len,
+                      const uint8_t *nonce, size_t nonce_len,
+                      const uint8_t *ad, size_t ad_len,
+                      const uint8_t *text, size_t text_len,
+                      const uint8_t *tag, size_t tag_len);
 
 /* As comet_seal and comet_open, and *calls is how many block cipher calls were made; it is written always.
  * With a and m the block counts of associated data and text (16 bytes a block for suites 1, 2 and 5, else 8; the last may

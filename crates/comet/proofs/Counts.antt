@@ -1,26 +1,32 @@
--- How many cipher calls: a turn takes one block off and makes one call, so calls made and blocks left stay the same sum; and a refused text takes none.
+-- How many cipher calls: the start's, one for each block, and the tag's; and a refused text takes none.
 use mathlib.Core.Path.{_≡_, refl, sym, ap, _∙_}
-use mathlib.Core.Bool.{Bool}
-use Prim.Native.Nat.{ℕ, zero, suc, _+_, _^_, _≤_, _<_, min}
+use mathlib.Core.Bool.{Bool, true, false}
+use Prim.Native.Nat.{ℕ, zero, suc, _+_, _^_, _≤_, _<_}
 use native.Mathlib.Nat.{le-refl, not-suc-le-zero, mod-eq-of-lt}
 use native.Mathlib.Omega.{arith}
 use native.Mathlib.Decide.{decLe}
 use mathlib.Core.List.{List}
-use lib.ListN.{length, drop, length-drop, drop-of-length-le}
+use lib.ListN.{length, drop, length-drop}
+use Rattle.words.specs.Words.{add}
 use Rattle.words.proofs.Lists.{nil-of}
 use Rattle.cipher.specs.Cipher.{cipherOf}
 use Rattle.mode.specs.Blocks.{blocks}
 use Rattle.mode.specs.Mode.{calls}
-use Rattle.mode.proofs.Blocks.{blocks-nil, blocks-more, blocks-turn}
+use Rattle.mode.proofs.Blocks.{blocks-nil, blocks-more}
 use Rattle.step.specs.Two.{oneMore}
 use Rattle.comet.specs.Answers.{refusal}
-use Rattle.comet.specs.Counted.{Counting, countedAs, callsOf}
+use Rattle.comet.specs.Counted.{Counting, countedAs, callsOf, sealingCounted, openingCounted}
+use Rattle.comet.proofs.Refuse.{passed, sealing-over, opening-over}
 
 -- a and m blocks, the start's call, and the tag's behind them
-pub count-all : (a m x y k : ℕ) → a ≤ 65536 → m ≤ 65536 → x ≡ 1 + a → y ≡ x + m → k ≡ oneMore y → k ≡ a + m + 2
+pub count-all : (a m x y k : ℕ) → a ≤ 65536 → m ≤ 65536 → x ≡ add 64 1 a → y ≡ add 64 x m → k ≡ oneMore y → k ≡ a + m + 2
 count-all a m x y k ha hm ex ey ek =
-    let lt : y + 1 < 2 ^ 64 = omega arith in
-    let e : k ≡ y + 1 = ek ∙ mod-eq-of-lt lt in
+    let la : 1 + a < 2 ^ 64 = omega arith in
+    let qx : x ≡ 1 + a = ex ∙ mod-eq-of-lt la in
+    let lm : x + m < 2 ^ 64 = omega arith in
+    let qy : y ≡ x + m = ey ∙ mod-eq-of-lt lm in
+    let lk : y + 1 < 2 ^ 64 = omega arith in
+    let qk : k ≡ y + 1 = ek ∙ mod-eq-of-lt lk in
     omega arith
 
 module _ (n : ℕ) (pos : 0 < n) where
@@ -38,23 +44,6 @@ module _ (n : ℕ) (pos : 0 < n) where
 
   pub count-most : (l : List ℕ) → length (blocks n l) ≤ length l
   count-most l = within (length l) l (le-refl (length l))
-
-  -- x calls were made before the turn at the block from i to e of l, k after it; y before all of l
-  module _ (l : List ℕ) (x y : ℕ) where
-    pub count-turn : (i e k : ℕ) → i < length l → e ≡ min (i + n) (length l) → k ≡ oneMore x → y + length (blocks n l) < 2 ^ 64
-        → x + length (blocks n (drop i l)) ≡ y + length (blocks n l) → k + length (blocks n (drop e l)) ≡ y + length (blocks n l)
-    count-turn i e k h q ek b s =
-        let t : length (blocks n (drop i l)) ≡ suc (length (blocks n (drop e l))) = ap length (blocks-turn n pos l i e h q) in
-        let lt : x + 1 < 2 ^ 64 = small (length (blocks n (drop e l))) _ (y + length (blocks n l)) t s b in
-        let kx : k ≡ x + 1 = ek ∙ mod-eq-of-lt lt in
-        omega (arith, t, kx, s)
-      where
-        small : (w u a : ℕ) → u ≡ suc w → x + u ≡ a → a < 2 ^ 64 → x + 1 < 2 ^ 64
-        small w u a e s h = omega arith
-
-    -- behind the last block
-    pub count-done : (e : ℕ) → length l ≤ e → x + length (blocks n (drop e l)) ≡ y + length (blocks n l) → x ≡ y + length (blocks n l)
-    count-done e h s = omega (arith, s, none-left (drop e l) (omega (arith, length-drop e l)))
 
 -- ---- what is reported
 
@@ -74,3 +63,12 @@ module _ (d : Bool) (s : ℕ) (k v a t : List ℕ) (o g n : ℕ) (e : n ≡ refu
   pub calls-all : n ≡ 0 → length (calls (cipherOf s) d k v a t) ≡ callsOf d s k v a t o g
   unfolding callsOf
   calls-all z = ap (λ (j : ℕ). countedAs j (length (calls (cipherOf s) d k v a t))) (sym z ∙ e)
+
+-- with a text that is its own output
+pub sealing-same : (s : ℕ) (k v a m o t : List ℕ) → refusal false s (length k) (length v) (length a) (length m) (length o) (length t) ≡ 0 → sealingCounted s k v a m m t ≡ sealingCounted s k v a m o t
+sealing-same s k v a m o t z =
+    counting (sealing-over s k v a m o t z) (ap (λ (n : ℕ). callsOf false s k v a m n (length t)) (sym (passed false s _ _ _ _ _ _ z .room)))
+
+pub opening-same : (s : ℕ) (k v a c g o : List ℕ) → refusal true s (length k) (length v) (length a) (length c) (length o) (length g) ≡ 0 → openingCounted s k v a c g c ≡ openingCounted s k v a c g o
+opening-same s k v a c g o z =
+    counting (opening-over s k v a c g o z) (ap (λ (n : ℕ). callsOf true s k v a c n (length g)) (sym (passed true s _ _ _ _ _ _ z .room)))

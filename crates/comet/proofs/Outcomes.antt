@@ -18,6 +18,12 @@ use Rattle.comet.proofs.seal.Kinds as seal-kinds
 use Rattle.comet.proofs.seal.Reads as seal-reads
 use Rattle.comet.proofs.unseal.Kinds as unseal-kinds
 use Rattle.comet.proofs.unseal.Reads as unseal-reads
+use Rattle.comet.proofs.seal_in_place.Kinds as seal-in-place-kinds
+use Rattle.comet.proofs.seal_in_place.Reads as seal-in-place-reads
+use Rattle.comet.proofs.unseal_in_place.Kinds as unseal-in-place-kinds
+use Rattle.comet.proofs.unseal_in_place.Reads as unseal-in-place-reads
+use Rattle.comet.proofs.verify.Kinds as verify-kinds
+use Rattle.comet.proofs.verify.Reads as verify-reads
 
 answerOf : ℕ → Verdict
 answerOf zero = Done
@@ -80,3 +86,20 @@ unseal κs a h x y =
       number-tells (x .result) (y .result) (ap (λ (w : Opened). w .number) e),
       ap (λ (o : List ℕ). (tt, (tt, (tt, (tt, (tt, (tt, (o, tt)))))))) (ap (λ (w : Opened). w .out) e),
     )
+
+pub seal-in-place : OneOutcome seal-in-place-kinds.ps seal-in-place-kinds.r seal-in-place-reads.Pre seal-in-place-reads.Post
+seal-in-place κs a h x y =
+    let e = x .ensures ∙ sym (y .ensures) in (
+      number-tells (x .result) (y .result) (ap (λ (w : Sealed). w .number) e),
+      ap₂ (λ (o t : List ℕ). (tt, (tt, (tt, (tt, (o, (t, tt))))))) (ap (λ (w : Sealed). w .out) e) (ap (λ (w : Sealed). w .tag) e),
+    )
+
+pub unseal-in-place : OneOutcome unseal-in-place-kinds.ps unseal-in-place-kinds.r unseal-in-place-reads.Pre unseal-in-place-reads.Post
+unseal-in-place κs a h x y =
+    let e = x .ensures ∙ sym (y .ensures) in (
+      number-tells (x .result) (y .result) (ap (λ (w : Opened). w .number) e),
+      ap (λ (o : List ℕ). (tt, (tt, (tt, (tt, (o, (tt, tt))))))) (ap (λ (w : Opened). w .out) e),
+    )
+
+pub verify : OneOutcome verify-kinds.ps verify-kinds.r verify-reads.Pre verify-reads.Post
+verify κs a h x y = (number-tells (x .result) (y .result) (x .ensures ∙ sym (y .ensures)), refl)

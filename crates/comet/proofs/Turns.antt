@@ -1,21 +1,110 @@
--- A loop over the blocks of a text writes its output from the front: the part that was lent stands where it was lent.
+-- Behind the whole blocks of a text stands a short block or nothing: with it the walk has gone over all blocks, and what went out is the whole text.
 use mathlib.Core.Path.{_≡_, sym, ap, ap₂, _∙_}
-use Prim.Native.Nat.{ℕ, _+_, _-_, _≤_}
+use mathlib.Core.Bool.{Bool, cond}
+use Prim.Native.Nat.{ℕ, _+_, _-_, _^_, _%_, _<_}
+use native.Mathlib.Nat.{mod-add-mod, mod-eq-of-lt, le-of-eq}
 use native.Mathlib.Omega.{arith}
-use mathlib.Core.List.{List, [], _++_, append-assoc, append-nil}
-use lib.ListN.{length, take, length-append}
-use lib.Seq.{take-at, take-all, length-take-le}
+use mathlib.Core.List.{List, [], _++_, append-nil}
+use lib.ListN.{length, take, drop, length-append, drop-of-length-le}
+use lib.Seq.{take-at, take-all, drop-at}
+use borrow.Rule.Slice.PartMut.{postOf, putMid, post-is}
+use Rattle.words.proofs.Lists.{nil-of}
+use lib.Dec.{ltb}
+use Rattle.words.specs.Words.{xor, add}
+use Rattle.cipher.specs.Cipher.{Cipher}
+use Rattle.mode.specs.Blocks.{blocks}
+use Rattle.mode.specs.Walk.{States, whole, rest, turned, hidden, messageOf, walked, covered}
+use Rattle.mode.proofs.Cut.{rest-less, blocks-whole-rest}
+use Rattle.mode.proofs.Walk.{later, later-first, walked-append, covered-append}
+use Rattle.step.specs.Two.{oneMore}
+use Rattle.walk.specs.Behind.{wholes}
+use Rattle.walk.proofs.Front.{one-block, no-block, left-within, left-long, walk-short, cover-short, walk-none, cover-none}
 
--- the text so far, after the part of out from i to e was lent and has come back as x
-pub text-turn : (out x post later : List ℕ) (i e : ℕ) → i ≤ length out → i ≤ e → length x ≡ e - i
-    → take e (take i out ++ (x ++ post)) ++ later ≡ take i out ++ (x ++ later)
-text-turn out x post later i e lo le lx =
-    let lt : length (take i out) ≡ i = length-take-le i out lo in
-    ap (λ (y : List ℕ). y ++ later)
-    (ap (take e) (sym (append-assoc (take i out) x post)) ∙ take-at (take i out ++ x) post e (length-append (take i out) x ∙ omega arith))
-    ∙ append-assoc (take i out) x later
+-- u and k: the states and the mark behind the whole blocks of l
+module _ (κ : Cipher) (pos : 0 < κ .size) (d : Bool) (first short : ℕ) (s : States) (l : List ℕ)
+    (u : States) (k : ℕ) (eu : u ≡ walked κ d first short s (wholes (κ .size) l)) (ek : k ≡ cond (ltb (length l) (κ .size)) first 0) where
+  abbrev n : ℕ
+  n = κ .size
 
--- the whole text, where nothing is left
-pub text-done : (out later all : List ℕ) (e : ℕ) → length out ≤ e → later ≡ [] → take e out ++ later ≡ all → out ≡ all
-text-done out later all e lo z q =
-    sym (append-nil out) ∙ ap₂ (λ (x y : List ℕ). x ++ y) (sym (take-all e out lo)) (sym z) ∙ q
+  here : later first (wholes n l) ≡ k
+  here = later-first n first pos l ∙ sym ek
+
+  walk-on : walked κ d first short s (blocks n l) ≡ walked κ d k short u (blocks n (rest n l))
+  walk-on =
+      ap (walked κ d first short s) (sym (blocks-whole-rest n pos l)) ∙ walked-append κ d first short s (wholes n l) (blocks n (rest n l))
+      ∙ ap₂ (λ (j : ℕ) (w : States). walked κ d j short w (blocks n (rest n l))) here (sym eu)
+
+  cover-on : covered κ d first short s (blocks n l) ≡ covered κ d first short s (wholes n l) ++ covered κ d k short u (blocks n (rest n l))
+  cover-on =
+      ap (covered κ d first short s) (sym (blocks-whole-rest n pos l)) ∙ covered-append κ d first short s (wholes n l) (blocks n (rest n l))
+      ∙ ap₂ (λ (j : ℕ) (w : States). covered κ d first short s (wholes n l) ++ covered κ d j short w (blocks n (rest n l))) here (sym eu)
+
+  -- a short block x is left
+  module _ (x : List ℕ) (ex : x ≡ rest n l) (some : 0 < length (rest n l)) where
+    pub last-walk : (r : States) → r ≡ turned κ (xor k short) u (messageOf κ d (xor k short) u x) → r ≡ walked κ d first short s (blocks n l)
+    last-walk r er =
+        er ∙ ap (λ (b : List ℕ). turned κ (xor k short) u (messageOf κ d (xor k short) u b)) ex
+        ∙ sym (walk-on ∙ walk-short κ pos d short k u (rest n l) some (rest-less n pos l))
+
+    last-cover : (o : List ℕ) → o ≡ hidden κ (xor k short) u x → covered κ d first short s (wholes n l) ++ o ≡ covered κ d first short s (blocks n l)
+    last-cover o eo =
+        ap (λ (b : List ℕ). covered κ d first short s (wholes n l) ++ b)
+        (eo ∙ ap (hidden κ (xor k short) u) ex ∙ sym (cover-short κ pos d short k u (rest n l) some (rest-less n pos l)))
+        ∙ sym cover-on
+
+  -- nothing is left
+  module _ (none : length (rest n l) ≡ 0) where
+    pub none-walk : u ≡ walked κ d first short s (blocks n l)
+    none-walk = sym (walk-on ∙ walk-none κ pos d short k u (rest n l) none)
+
+  -- text holds what went out for the whole blocks, and behind it, from i on, what is left
+  module _ (text : List ℕ) (i : ℕ) (et : text ≡ covered κ d first short s (wholes n l) ++ rest n l) (lt : length text ≡ length l) (ei : i ≡ length (whole n l)) where
+    abbrev front : List ℕ
+    front = covered κ d first short s (wholes n l)
+
+    long : length front ≡ i
+    long = omega (arith, ap length et, length-append front (rest n l), left-long n pos l i ei, left-within n pos l i ei, lt)
+
+    -- as the code lends it
+    pub lent : take (length l - i) (drop i text) ≡ rest n l
+    lent =
+        ap (take (length l - i)) (ap (drop i) et ∙ drop-at front (rest n l) i long)
+        ∙ take-all (length l - i) (rest n l) (le-of-eq (left-long n pos l i ei))
+
+    -- a short block came back as o
+    pub last-out : 0 < length (rest n l) → (o : List ℕ) → o ≡ hidden κ (xor k short) u (take (length l - i) (drop i text)) → putMid i (length l - i) text o ≡ covered κ d first short s (blocks n l)
+    last-out some o eo =
+        let nothing : postOf i (length l - i) text ≡ [] = post-is i (length l) text (left-within n pos l i ei) ∙ drop-of-length-le text {i = length l} (le-of-eq lt) in
+        ap₂ (λ (a b : List ℕ). a ++ (o ++ b)) (ap (take i) et ∙ take-at front (rest n l) i long) nothing
+        ∙ ap (λ (b : List ℕ). front ++ b) (append-nil o)
+        ∙ last-cover (take (length l - i) (drop i text)) lent some o eo
+
+    pub none-out : length (rest n l) ≡ 0 → text ≡ covered κ d first short s (blocks n l)
+    none-out none = et ∙ ap (λ (b : List ℕ). front ++ b) (nil-of (rest n l) none ∙ sym (cover-none κ pos d short k u (rest n l) none)) ∙ sym cover-on
+
+-- the count behind the whole blocks of l, y before them
+module _ (n : ℕ) (pos : 0 < n) (l : List ℕ) (x y : ℕ) (e : x ≡ add 64 y (length (wholes n l))) where
+  blocks-all : length (blocks n l) ≡ length (wholes n l) + length (blocks n (rest n l))
+  blocks-all = sym (ap length (blocks-whole-rest n pos l)) ∙ length-append (wholes n l) (blocks n (rest n l))
+
+  pub last-count : 0 < length (rest n l) → (k : ℕ) → k ≡ oneMore x → k ≡ add 64 y (length (blocks n l))
+  last-count some k ek =
+      let one : length (blocks n (rest n l)) ≡ 1 = ap length (one-block n pos (rest n l) some (rest-less n pos l)) in
+      let all : y + length (wholes n l) + 1 ≡ y + length (blocks n l) = omega (arith, blocks-all, one) in
+      ek ∙ ap oneMore e ∙ mod-add-mod (y + length (wholes n l)) (2 ^ 64) 1 ∙ ap (λ (j : ℕ). j % 2 ^ 64) all
+
+  pub none-count : length (rest n l) ≡ 0 → x ≡ add 64 y (length (blocks n l))
+  none-count none =
+      let zero-left : length (blocks n (rest n l)) ≡ 0 = ap length (no-block n pos (rest n l) none) in
+      let all : y + length (wholes n l) ≡ y + length (blocks n l) = omega (arith, blocks-all, zero-left) in
+      e ∙ ap (λ (j : ℕ). j % 2 ^ 64) all
+
+-- no byte, or less than a block, with y calls before it
+module _ (n : ℕ) (pos : 0 < n) (l : List ℕ) (y : ℕ) where
+  pub empty-count : length l ≡ 0 → y < 2 ^ 64 → y ≡ add 64 y (length (blocks n l))
+  empty-count e h =
+      let z : y + length (blocks n l) ≡ y = omega (arith, ap length (no-block n pos l e)) in
+      sym (ap (λ (j : ℕ). j % 2 ^ 64) z ∙ mod-eq-of-lt h)
+
+  pub short-count : 0 < length l → length l < n → (k : ℕ) → k ≡ oneMore y → k ≡ add 64 y (length (blocks n l))
+  short-count some less k ek = ek ∙ sym (ap (λ (bs : List (List ℕ)). add 64 y (length bs)) (one-block n pos l some less))

@@ -71,3 +71,7 @@ unfoldable pub opening : ℕ → List ℕ → List ℕ → List ℕ → List ℕ
 opening s key nonce ad text tag out₀ =
     openedAs (refusal true s (length key) (length nonce) (length ad) (length text) (length out₀) (length tag))
     (sameBytes (tagOut (cipherOf s) true key nonce ad text) tag) (textOut (cipherOf s) true key nonce ad text) out₀
+
+-- the number of a record's test: the opener's, for an output of the text's length, so never 6
+unfoldable pub verifying : ℕ → List ℕ → List ℕ → List ℕ → List ℕ → List ℕ → ℕ
+verifying s key nonce ad text tag = opening s key nonce ad text tag text .number

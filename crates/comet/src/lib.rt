@@ -1,6 +1,7 @@
 // The sealer and the opener: COMET under every suite.
 use cipher::Lent;
 use step::tag::Last;
+use words::block::Block;
 
 mod text;
 
@@ -13,7 +14,7 @@ ghost use Rattle.words.specs.Blocks.{wide};
 ghost use Rattle.cipher.specs.Cipher.{Ready, IsSuite, sizeOf, nonceOf, cipherOf};
 ghost use Rattle.mode.specs.Mode.{textOut, tagOut, calls};
 ghost use Rattle.step.specs.Two.{Clean};
-ghost use Rattle.comet.specs.Answers.{numberOf, takes, refusal, Sealed, sealing, Opened, opening};
+ghost use Rattle.comet.specs.Answers.{numberOf, takes, refusal, Sealed, sealing, Opened, opening, verifying};
 ghost use Rattle.comet.specs.Counted.{Counting, sealingCounted, openingCounted};
 
 // What a call answers: Done, or why it refused.
@@ -117,7 +118,7 @@ fn refused(
     texts_refused(suite, ad, text, out, tag)
 }
 
-// The text that goes out, the tag and the count of the calls, once every length is right: the cipher is lent what it needs.
+// What goes out in the text's place, the tag and the count of the calls, once every length is right: the cipher is lent what it needs.
 fn crypt(
     tb: &[Lent],
     opening: bool,
@@ -125,37 +126,35 @@ fn crypt(
     key: &[u8],
     nonce: &[u8],
     ad: &[u8],
-    text: &[u8],
-    out: &mut [u8],
+    text: &mut [u8],
 ) -> Last
-    requires { ⌜ Ready suite (now tb) × IsSuite suite × (length (now key) ≡ 16) × (length (now nonce) ≡ nonceOf suite) × (length (now out) ≡ length (now text)) × (length (now ad) ≤ 65536) × (length (now text) ≤ 65536) ⌝ }
-    ensures text { λ _. ⌜ now (out .exit) ≡ textOut (cipherOf suite) opening (now (key .entry)) (now (nonce .entry)) (now (ad .entry)) (now (text .entry)) ⌝ }
+    requires { ⌜ Ready suite (now tb) × IsSuite suite × (length (now key) ≡ 16) × (length (now nonce) ≡ nonceOf suite) × (length (now ad) ≤ 65536) × (length (now text) ≤ 65536) ⌝ }
+    ensures text { λ _. ⌜ now (text .exit) ≡ textOut (cipherOf suite) opening (now (key .entry)) (now (nonce .entry)) (now (ad .entry)) (now (text .entry)) ⌝ }
     ensures tag { λ r. ⌜ take (sizeOf suite) (wide (r .tag)) ≡ tagOut (cipherOf suite) opening (now (key .entry)) (now (nonce .entry)) (now (ad .entry)) (now (text .entry)) ⌝ }
     ensures rest { λ r. ⌜ Clean suite (r .tag)
         × (r .calls ≡ length (calls (cipherOf suite) opening (now (key .entry)) (now (nonce .entry)) (now (ad .entry)) (now (text .entry)))) ⌝ }
 {
     let s = step::state::start(tb, suite, key, nonce);
-    let d = text::absorb_all(tb, suite, s, ad);
-    let t = text::crypt_all(tb, opening, suite, d, text, out);
+    let d = text::absorb_all(tb, false, suite, s, 0x08, 0x10, ad);
+    let t = text::crypt_all(tb, opening, suite, d, text);
     step::tag::tag_of(tb, suite, t)
 }
 
-// Seals, once every length is right: the cipher is lent what it needs.
+// Seals text in its place, once every length is right: the cipher is lent what it needs.
 fn seal_with(
     tb: &[Lent],
     suite: u8,
     key: &[u8],
     nonce: &[u8],
     ad: &[u8],
-    msg: &[u8],
-    out: &mut [u8],
+    text: &mut [u8],
     tag: &mut [u8],
 ) -> Counted
-    requires { ⌜ Ready suite (now tb) × (refusal false suite (length (now key)) (length (now nonce)) (length (now ad)) (length (now msg)) (length (now out)) (length (now tag)) ≡ 0) ⌝ }
-    ensures { λ r. ⌜ _≡_ {A = Counting Sealed} (record { leaves = record { number = numberOf (r .verdict); out = now (out .exit); tag = now (tag .exit) }; calls = r .calls })
-        (sealingCounted suite (now (key .entry)) (now (nonce .entry)) (now (ad .entry)) (now (msg .entry)) (now (out .entry)) (now (tag .entry))) ⌝ }
+    requires { ⌜ Ready suite (now tb) × (refusal false suite (length (now key)) (length (now nonce)) (length (now ad)) (length (now text)) (length (now text)) (length (now tag)) ≡ 0) ⌝ }
+    ensures { λ r. ⌜ _≡_ {A = Counting Sealed} (record { leaves = record { number = numberOf (r .verdict); out = now (text .exit); tag = now (tag .exit) }; calls = r .calls })
+        (sealingCounted suite (now (key .entry)) (now (nonce .entry)) (now (ad .entry)) (now (text .entry)) (now (text .entry)) (now (tag .entry))) ⌝ }
 {
-    let t = crypt(tb, false, suite, key, nonce, ad, msg, out);
+    let t = crypt(tb, false, suite, key, nonce, ad, text);
     let g = t.tag;
     words::block::put(g, tag);
     Counted {
@@ -164,7 +163,27 @@ fn seal_with(
     }
 }
 
-// Seals msg into out, and its tag into tag, and counts the cipher calls. Only a suite whose engine is lent tables pays for them.
+// Seals text in its place, once every length is right. Only a suite whose engine is lent tables pays for them.
+fn seal_taken(
+    suite: u8,
+    key: &[u8],
+    nonce: &[u8],
+    ad: &[u8],
+    text: &mut [u8],
+    tag: &mut [u8],
+) -> Counted
+    requires { ⌜ refusal false suite (length (now key)) (length (now nonce)) (length (now ad)) (length (now text)) (length (now text)) (length (now tag)) ≡ 0 ⌝ }
+    ensures { λ r. ⌜ _≡_ {A = Counting Sealed} (record { leaves = record { number = numberOf (r .verdict); out = now (text .exit); tag = now (tag .exit) }; calls = r .calls })
+        (sealingCounted suite (now (key .entry)) (now (nonce .entry)) (now (ad .entry)) (now (text .entry)) (now (text .entry)) (now (tag .entry))) ⌝ }
+{
+    if cipher::lends(suite) {
+        let tb = cipher::tables(suite);
+        return seal_with(&tb, suite, key, nonce, ad, text, tag);
+    }
+    seal_with(&[], suite, key, nonce, ad, text, tag)
+}
+
+// Seals msg into out, and its tag into tag, and counts the cipher calls.
 pub fn seal_counted(
     suite: u8,
     key: &[u8],
@@ -193,11 +212,8 @@ pub fn seal_counted(
             calls: 0,
         };
     };
-    if cipher::lends(suite) {
-        let tb = cipher::tables(suite);
-        return seal_with(&tb, suite, key, nonce, ad, msg, out, tag);
-    }
-    seal_with(&[], suite, key, nonce, ad, msg, out, tag)
+    words::runs::copy(msg, out);
+    seal_taken(suite, key, nonce, ad, out, tag)
 }
 
 // Seals msg into out, and its tag into tag.
@@ -216,26 +232,53 @@ pub fn seal(
     seal_counted(suite, key, nonce, ad, msg, out, tag).verdict
 }
 
-// Opens, once every length is right: the cipher is lent what it needs.
+// Seals text in its place, and its tag into tag.
+pub fn seal_in_place(
+    suite: u8,
+    key: &[u8],
+    nonce: &[u8],
+    ad: &[u8],
+    text: &mut [u8],
+    tag: &mut [u8],
+) -> Verdict
+    ensures { λ r. ⌜ _≡_ {A = Sealed} (record { number = numberOf r; out = now (text .exit); tag = now (tag .exit) })
+        (sealing suite (now (key .entry)) (now (nonce .entry)) (now (ad .entry)) (now (text .entry)) (now (text .entry)) (now (tag .entry))) ⌝ }
+{
+    let a = refused(
+        false,
+        suite,
+        key.len(),
+        nonce.len(),
+        ad.len(),
+        text.len(),
+        text.len(),
+        tag.len(),
+    );
+    let Verdict::Done = a else {
+        return a;
+    };
+    seal_taken(suite, key, nonce, ad, text, tag).verdict
+}
+
+// Opens text in its place, once every length is right: the cipher is lent what it needs.
 fn unseal_with(
     tb: &[Lent],
     suite: u8,
     key: &[u8],
     nonce: &[u8],
     ad: &[u8],
-    text: &[u8],
+    text: &mut [u8],
     tag: &[u8],
-    out: &mut [u8],
 ) -> Counted
-    requires { ⌜ Ready suite (now tb) × (refusal true suite (length (now key)) (length (now nonce)) (length (now ad)) (length (now text)) (length (now out)) (length (now tag)) ≡ 0) ⌝ }
-    ensures { λ r. ⌜ _≡_ {A = Counting Opened} (record { leaves = record { number = numberOf (r .verdict); out = now (out .exit) }; calls = r .calls })
-        (openingCounted suite (now (key .entry)) (now (nonce .entry)) (now (ad .entry)) (now (text .entry)) (now (tag .entry)) (now (out .entry))) ⌝ }
+    requires { ⌜ Ready suite (now tb) × (refusal true suite (length (now key)) (length (now nonce)) (length (now ad)) (length (now text)) (length (now text)) (length (now tag)) ≡ 0) ⌝ }
+    ensures { λ r. ⌜ _≡_ {A = Counting Opened} (record { leaves = record { number = numberOf (r .verdict); out = now (text .exit) }; calls = r .calls })
+        (openingCounted suite (now (key .entry)) (now (nonce .entry)) (now (ad .entry)) (now (text .entry)) (now (tag .entry)) (now (text .entry))) ⌝ }
 {
-    let t = crypt(tb, true, suite, key, nonce, ad, text, out);
+    let t = crypt(tb, true, suite, key, nonce, ad, text);
     let g = t.tag;
     let right = step::tag::same(g, tag);
     if !right {
-        words::zeros::wipe(out);
+        words::zeros::wipe(text);
         return Counted {
             verdict: Verdict::Forged,
             calls: t.calls,
@@ -245,6 +288,26 @@ fn unseal_with(
         verdict: Verdict::Done,
         calls: t.calls,
     }
+}
+
+// Opens text in its place, once every length is right. Only a suite whose engine is lent tables pays for them.
+fn unseal_taken(
+    suite: u8,
+    key: &[u8],
+    nonce: &[u8],
+    ad: &[u8],
+    text: &mut [u8],
+    tag: &[u8],
+) -> Counted
+    requires { ⌜ refusal true suite (length (now key)) (length (now nonce)) (length (now ad)) (length (now text)) (length (now text)) (length (now tag)) ≡ 0 ⌝ }
+    ensures { λ r. ⌜ _≡_ {A = Counting Opened} (record { leaves = record { number = numberOf (r .verdict); out = now (text .exit) }; calls = r .calls })
+        (openingCounted suite (now (key .entry)) (now (nonce .entry)) (now (ad .entry)) (now (text .entry)) (now (tag .entry)) (now (text .entry))) ⌝ }
+{
+    if cipher::lends(suite) {
+        let tb = cipher::tables(suite);
+        return unseal_with(&tb, suite, key, nonce, ad, text, tag);
+    }
+    unseal_with(&[], suite, key, nonce, ad, text, tag)
 }
 
 // Opens text into out, if its tag is right, and counts the cipher calls; else every byte of out is 0.
@@ -276,11 +339,8 @@ pub fn unseal_counted(
             calls: 0,
         };
     };
-    if cipher::lends(suite) {
-        let tb = cipher::tables(suite);
-        return unseal_with(&tb, suite, key, nonce, ad, text, tag, out);
-    }
-    unseal_with(&[], suite, key, nonce, ad, text, tag, out)
+    words::runs::copy(text, out);
+    unseal_taken(suite, key, nonce, ad, out, tag)
 }
 
 // Opens text into out, if its tag is right; else every byte of out is 0.
@@ -297,4 +357,90 @@ pub fn unseal(
         (opening suite (now (key .entry)) (now (nonce .entry)) (now (ad .entry)) (now (text .entry)) (now (tag .entry)) (now (out .entry))) ⌝ }
 {
     unseal_counted(suite, key, nonce, ad, text, tag, out).verdict
+}
+
+// Opens text in its place, if its tag is right; else every byte of it is 0.
+pub fn unseal_in_place(
+    suite: u8,
+    key: &[u8],
+    nonce: &[u8],
+    ad: &[u8],
+    text: &mut [u8],
+    tag: &[u8],
+) -> Verdict
+    ensures { λ r. ⌜ _≡_ {A = Opened} (record { number = numberOf r; out = now (text .exit) })
+        (opening suite (now (key .entry)) (now (nonce .entry)) (now (ad .entry)) (now (text .entry)) (now (tag .entry)) (now (text .entry))) ⌝ }
+{
+    let a = refused(
+        true,
+        suite,
+        key.len(),
+        nonce.len(),
+        ad.len(),
+        text.len(),
+        text.len(),
+        tag.len(),
+    );
+    let Verdict::Done = a else {
+        return a;
+    };
+    unseal_taken(suite, key, nonce, ad, text, tag).verdict
+}
+
+// The tag of the message under text, once every length is right: nothing is written.
+fn tag_under(tb: &[Lent], suite: u8, key: &[u8], nonce: &[u8], ad: &[u8], text: &[u8]) -> Block
+    requires { ⌜ Ready suite (now tb) × IsSuite suite × (length (now key) ≡ 16) × (length (now nonce) ≡ nonceOf suite) ⌝ }
+    ensures tag { λ r. ⌜ take (sizeOf suite) (wide r) ≡ tagOut (cipherOf suite) true (now (key .entry)) (now (nonce .entry)) (now (ad .entry)) (now (text .entry)) ⌝ }
+    ensures rest { λ r. ⌜ Clean suite r ⌝ }
+{
+    let s = step::state::start(tb, suite, key, nonce);
+    let d = text::absorb_all(tb, false, suite, s, 0x08, 0x10, ad);
+    let t = text::absorb_all(tb, true, suite, d, 0x20, 0x40, text);
+    let l = step::tag::tag_of(tb, suite, t);
+    l.tag
+}
+
+// Whether the tag is right, once every length is: the cipher is lent what it needs.
+fn verify_with(
+    tb: &[Lent],
+    suite: u8,
+    key: &[u8],
+    nonce: &[u8],
+    ad: &[u8],
+    text: &[u8],
+    tag: &[u8],
+) -> Verdict
+    requires { ⌜ Ready suite (now tb) × (refusal true suite (length (now key)) (length (now nonce)) (length (now ad)) (length (now text)) (length (now text)) (length (now tag)) ≡ 0) ⌝ }
+    ensures { λ r. ⌜ numberOf r ≡ verifying suite (now (key .entry)) (now (nonce .entry)) (now (ad .entry)) (now (text .entry)) (now (tag .entry)) ⌝ }
+{
+    let g = tag_under(tb, suite, key, nonce, ad, text);
+    let genuine = step::tag::same(g, tag);
+    if !genuine {
+        return Verdict::Forged;
+    }
+    Verdict::Done
+}
+
+// Whether a record is genuine: the opener's answer, and no text is written anywhere.
+pub fn verify(suite: u8, key: &[u8], nonce: &[u8], ad: &[u8], text: &[u8], tag: &[u8]) -> Verdict
+    ensures { λ r. ⌜ numberOf r ≡ verifying suite (now (key .entry)) (now (nonce .entry)) (now (ad .entry)) (now (text .entry)) (now (tag .entry)) ⌝ }
+{
+    let a = refused(
+        true,
+        suite,
+        key.len(),
+        nonce.len(),
+        ad.len(),
+        text.len(),
+        text.len(),
+        tag.len(),
+    );
+    let Verdict::Done = a else {
+        return a;
+    };
+    if cipher::lends(suite) {
+        let tb = cipher::tables(suite);
+        return verify_with(&tb, suite, key, nonce, ad, text, tag);
+    }
+    verify_with(&[], suite, key, nonce, ad, text, tag)
 }

@@ -1,76 +1,63 @@
-// The blocks of the associated data and of the text, one step each: the full ones in a loop, and then the short one, if there is one.
+// All blocks of the associated data and of the text, a step each: the whole ones (crate walk), and then the short one, if there is one.
 use cipher::Lent;
-use step::block::absorb_full;
 use step::block::absorb_short;
-use step::block::crypt_full;
 use step::block::crypt_short;
 use step::state::State;
 ghost use mathlib.Core.Path.{_≡_};
-ghost use mathlib.Core.Bool.{false};
-ghost use Prim.Native.Nat.{_+_, _^_, _<_};
 ghost use lib.ListN.{length};
+ghost use Rattle.words.specs.Words.{add};
 ghost use Rattle.cipher.specs.Cipher.{Ready, IsSuite, sizeOf, cipherOf};
 ghost use Rattle.mode.specs.Blocks.{blocks};
 ghost use Rattle.mode.specs.Walk.{walked, covered};
 ghost use Rattle.step.specs.Two.{twoOf};
 
-// All blocks of the associated data, a call each.
-pub(crate) fn absorb_all(tb: &[Lent], suite: u8, s: State, ad: &[u8]) -> State
-    requires { ⌜ Ready suite (now tb) × IsSuite suite × (s .calls + length (blocks (sizeOf suite) (now ad)) < 2 ^ 64) ⌝ }
-    ensures state { λ r. ⌜ twoOf suite r ≡ walked (cipherOf suite) false 0x08 0x10 (twoOf suite s) (blocks (sizeOf suite) (now (ad .entry))) ⌝ }
-    ensures calls { λ r. ⌜ r .calls ≡ s .calls + length (blocks (sizeOf suite) (now (ad .entry))) ⌝ }
-{
-    let n = cipher::size_of(suite);
-    let mut t = s;
-    let mut m: u8 = 0x08;
-    let mut i: usize = 0;
-    while n <= ad.len() - i {
-        let e = i + n;
-        t = absorb_full(tb, suite, t, m, &ad[i..e]);
-        m = 0;
-        i = e;
-    }
-    if i < ad.len() {
-        return absorb_short(tb, suite, t, m ^ 0x10, &ad[i..ad.len()]);
-    }
-    t
-}
-
-// All blocks of a text, a call each.
-pub(crate) fn crypt_all(
+// All blocks of b go in, a call each, the first under the mark first and a short one under the mark short too; nothing is written.
+pub(crate) fn absorb_all(
     tb: &[Lent],
     opening: bool,
     suite: u8,
     s: State,
-    text: &[u8],
-    out: &mut [u8],
+    first: u8,
+    short: u8,
+    b: &[u8],
 ) -> State
-    requires { ⌜ Ready suite (now tb) × IsSuite suite × (length (now out) ≡ length (now text)) × (s .calls + length (blocks (sizeOf suite) (now text)) < 2 ^ 64) ⌝ }
-    ensures text { λ _. ⌜ now (out .exit) ≡ covered (cipherOf suite) opening 0x20 0x40 (twoOf suite s) (blocks (sizeOf suite) (now (text .entry))) ⌝ }
-    ensures state { λ r. ⌜ (twoOf suite r ≡ walked (cipherOf suite) opening 0x20 0x40 (twoOf suite s) (blocks (sizeOf suite) (now (text .entry))))
-        × (r .calls ≡ s .calls + length (blocks (sizeOf suite) (now (text .entry)))) ⌝ }
+    requires { ⌜ Ready suite (now tb) × IsSuite suite ⌝ }
+    ensures state { λ r. ⌜ twoOf suite r ≡ walked (cipherOf suite) opening first short (twoOf suite s) (blocks (sizeOf suite) (now (b .entry))) ⌝ }
+    ensures calls { λ r. ⌜ r .calls ≡ add 64 (s .calls) (length (blocks (sizeOf suite) (now (b .entry)))) ⌝ }
 {
-    let n = cipher::size_of(suite);
-    let mut t = s;
-    let mut m: u8 = 0x20;
-    let mut i: usize = 0;
-    while n <= text.len() - i {
-        let end = i + n;
-        t = crypt_full(tb, opening, suite, t, m, &text[i..end], &mut out[i..end]);
-        m = 0;
-        i = end;
+    if b.len() == 0 {
+        return s;
     }
-    if i < text.len() {
-        let end = text.len();
-        return crypt_short(
-            tb,
-            opening,
-            suite,
-            t,
-            m ^ 0x40,
-            &text[i..end],
-            &mut out[i..end],
-        );
+    let w = walk::absorb(tb, opening, suite, s, first, b);
+    let t = w.s;
+    let m = w.mark;
+    let i = w.at;
+    if i < b.len() {
+        return absorb_short(tb, opening, suite, t, m ^ short, &b[i..b.len()]);
+    }
+    t
+}
+
+// All blocks of a text, a call each: what goes out takes its place.
+pub(crate) fn crypt_all(tb: &[Lent], opening: bool, suite: u8, s: State, text: &mut [u8]) -> State
+    requires { ⌜ Ready suite (now tb) × IsSuite suite ⌝ }
+    ensures text { λ _. ⌜ now (text .exit) ≡ covered (cipherOf suite) opening 0x20 0x40 (twoOf suite s) (blocks (sizeOf suite) (now (text .entry))) ⌝ }
+    ensures state { λ r. ⌜ (twoOf suite r ≡ walked (cipherOf suite) opening 0x20 0x40 (twoOf suite s) (blocks (sizeOf suite) (now (text .entry))))
+        × (r .calls ≡ add 64 (s .calls) (length (blocks (sizeOf suite) (now (text .entry))))) ⌝ }
+{
+    let end = text.len();
+    if end == 0 {
+        return s;
+    }
+    if end < cipher::size_of(suite) {
+        return crypt_short(tb, opening, suite, s, 0x20 ^ 0x40, text);
+    }
+    let w = walk::crypt(tb, opening, suite, s, 0x20, text);
+    let t = w.s;
+    let m = w.mark;
+    let i = w.at;
+    if i < end {
+        return crypt_short(tb, opening, suite, t, m ^ 0x40, &mut text[i..end]);
     }
     t
 }

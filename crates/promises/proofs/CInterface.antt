@@ -6,6 +6,9 @@ pub c-interface : CInterface
 c-interface = record {
   comet-seal = record { asks-nothing = λ κs a. tt; one-outcome = one.comet-seal };
   comet-open = record { asks-nothing = λ κs a. tt; one-outcome = one.comet-open };
+  comet-seal-in-place = record { asks-nothing = λ κs a. tt; one-outcome = one.comet-seal-in-place };
+  comet-open-in-place = record { asks-nothing = λ κs a. tt; one-outcome = one.comet-open-in-place };
+  comet-verify = record { asks-nothing = λ κs a. tt; one-outcome = one.comet-verify };
   comet-seal-counted = record { asks-nothing = λ κs a. tt; one-outcome = one.comet-seal-counted };
   comet-open-counted = record { asks-nothing = λ κs a. tt; one-outcome = one.comet-open-counted };
   comet-session-start = record { asks-nothing = λ κs a. tt; one-outcome = one.comet-session-start };
@@ -33,6 +36,9 @@ pub c-routines : CRoutines
 c-routines = record {
   comet-seal = λ κs suite key nonce ad msg out tag x. x .ensures;
   comet-open = λ κs suite key nonce ad text tag out x. x .ensures;
+  comet-seal-in-place = λ κs suite key nonce ad text tag x. x .ensures;
+  comet-open-in-place = λ κs suite key nonce ad text tag x. x .ensures;
+  comet-verify = λ κs suite key nonce ad text tag x. x .ensures;
   comet-seal-counted = λ κs suite key nonce ad msg out tag calls x. x .ensures;
   comet-open-counted = λ κs suite key nonce ad text tag out calls x. x .ensures;
   comet-session-start = λ κs suite key nonce x. x .ensures;

@@ -1,13 +1,19 @@
 -- A contract that says what the outcome equals leaves one outcome, since each answer has a number of its own.
-use mathlib.Core.Path.{_≡_, refl, sym}
-use mathlib.Core.Bool.{Bool, true, false, true≢false}
+use mathlib.Core.Path.{_≡_, refl, sym, ap, subst}
+use mathlib.Core.Bool.{Bool, true, false, cond, not, true≢false}
 use mathlib.Core.Logic.{_⊎_, inl, inr, ⊎-elim}
 use Prim.Native.Nat.{ℕ, zero, suc, _≤_, _<_}
 use native.Mathlib.Nat.{not-suc-le-zero, suc-ne-zero, lt-irrefl}
 use native.Mathlib.Omega.{arith}
 use mathlib.Core.List.{List}
 use lib.ListN.{length, replicate}
-use Rattle.comet.specs.Answers.{refusal, sealedAs, sealing, openedAs, opening}
+use lib.Dec.{ltb, eqb}
+use borrow.Author.Tests.{eq-eqb}
+use Rattle.words.specs.Bytes.{sameBytes}
+use Rattle.words.proofs.Ladder.{rung}
+use Rattle.cipher.specs.Cipher.{isSuite, sizeOf, nonceOf, cipherOf}
+use Rattle.mode.specs.Mode.{ciphertext, tag, textOut, tagOut}
+use Rattle.comet.specs.Answers.{takes, refusal, Sealed, sealedAs, sealing, Opened, openedAs, opening, verifying}
 use Rattle.comet.proofs.Outcomes as comet
 use Rattle.session.proofs.Outcomes as session
 use Rattle.table.proofs.Outcomes as table
@@ -20,13 +26,16 @@ use Rattle.editions.proofs.Outcomes as editions
 use Rattle.compare.proofs.Outcomes as comparing
 use Rattle.reader.proofs.Outcomes as reading
 use Rattle.comet.proofs.Refuse.{refusal-most}
-use Rattle.promises.specs.Demand1.{EntryPoints, SealKeeps, OpenKeeps}
+use Rattle.promises.specs.Demand1.{EntryPoints, SealKeeps, OpenKeeps, SealInPlace, OpenInPlace, VerifyOpens}
 
 pub entry-points : EntryPoints
 entry-points =
     record {
       seal = record { asks-nothing = λ κs a. tt; one-outcome = comet.seal };
       unseal = record { asks-nothing = λ κs a. tt; one-outcome = comet.unseal };
+      seal-in-place = record { asks-nothing = λ κs a. tt; one-outcome = comet.seal-in-place };
+      unseal-in-place = record { asks-nothing = λ κs a. tt; one-outcome = comet.unseal-in-place };
+      verify = record { asks-nothing = λ κs a. tt; one-outcome = comet.verify };
       check = record { asks-nothing = λ κs a. tt; one-outcome = table.check };
       lookup = record { asks-nothing = λ κs a. tt; one-outcome = shift.lookup };
       entry = record { asks-nothing = λ κs a. tt; one-outcome = shift.entry };
@@ -75,3 +84,63 @@ unfolding opening
 open-keeps suite key nonce ad text tag out₀ =
     opened-keeps (refusal true suite (length key) (length nonce) (length ad) (length text) (length out₀) (length tag)) _ _ out₀
     (⊎-elim (λ h. h) (λ h. absurd (true≢false (h .2))) (refusal-most true suite (length key) (length nonce) (length ad) (length text) (length out₀) (length tag)))
+
+-- ---- in place: n is the first number that applies, and o and o′ are outputs of one length
+
+sealed-alike : (n : ℕ) (x y o o′ t : List ℕ) → (n ≡ 6 → ⊥)
+    → (sealedAs n x y o t .number ≡ sealedAs n x y o′ t .number) × (sealedAs n x y o t .tag ≡ sealedAs n x y o′ t .tag)
+    × (sealedAs n x y o t .number ≡ 0 → sealedAs n x y o t .out ≡ sealedAs n x y o′ t .out) × (0 < sealedAs n x y o t .number → sealedAs n x y o t .out ≡ o) × (sealedAs n x y o t .number ≡ 6 → ⊥)
+sealed-alike zero x y o o′ t h = (refl, refl, (λ e. refl), (λ p. absurd (not-suc-le-zero p)), (λ e. suc-ne-zero 5 (sym e)))
+sealed-alike (suc n) x y o o′ t h = (refl, refl, (λ e. absurd (suc-ne-zero n e)), (λ p. refl), h)
+
+opened-alike : (n : ℕ) (b : Bool) (x o o′ : List ℕ) → length o ≡ length o′ → n ≤ 7 → (n ≡ 6 → ⊥)
+    → (openedAs n b x o .number ≡ openedAs n b x o′ .number) × ((openedAs n b x o .number ≡ 0) ⊎ (openedAs n b x o .number ≡ 8) → openedAs n b x o .out ≡ openedAs n b x o′ .out)
+    × (0 < openedAs n b x o .number → openedAs n b x o .number < 8 → openedAs n b x o .out ≡ o) × (openedAs n b x o .number ≡ 6 → ⊥)
+opened-alike zero true x o o′ e l h = (refl, (λ p. refl), (λ p q. absurd (not-suc-le-zero p)), (λ z. suc-ne-zero 5 (sym z)))
+opened-alike zero false x o o′ e l h = (refl, (λ p. ap (λ (k : ℕ). replicate k 0) e), (λ p q. absurd (lt-irrefl 8 q)), (λ z. lt-irrefl 6 (omega arith)))
+opened-alike (suc n) b x o o′ e l h = (refl, (λ p. absurd (⊎-elim (λ z. suc-ne-zero n z) (λ z. lt-irrefl 8 (omega arith)) p)), (λ p q. refl), h)
+
+-- 6 is given for no output of the text's length
+Six : ℕ → Type 0
+Six j = j ≡ 6 → ⊥
+
+room-right : (d : Bool) (s k v a t g : ℕ) → Six (refusal d s k v a t t g)
+unfolding refusal Six
+room-right d s k v a t g =
+    rung Six (not (isSuite s)) 1 _ (λ e. lt-irrefl 6 (omega arith))
+    (rung Six (not (takes d s)) 10 _ (λ e. lt-irrefl 6 (omega arith))
+    (rung Six (not (eqb k 16)) 2 _ (λ e. lt-irrefl 6 (omega arith))
+    (rung Six (not (eqb v (nonceOf s))) 3 _ (λ e. lt-irrefl 6 (omega arith))
+    (rung Six (ltb 65536 a) 4 _ (λ e. lt-irrefl 6 (omega arith))
+    (rung Six (ltb 65536 t) 5 _ (λ e. lt-irrefl 6 (omega arith))
+    (subst (λ (b : Bool). Six (cond (not b) 6 (cond (not (eqb g (sizeOf s))) 7 0))) (sym (eq-eqb t t refl))
+    (rung Six (not (eqb g (sizeOf s))) 7 _ (λ e. lt-irrefl 6 (omega arith)) (λ e. lt-irrefl 6 (omega arith)))))))))
+
+pub seal-in-place : SealInPlace
+unfolding sealing Six
+seal-in-place suite key nonce ad text tag₀ out₀ e =
+    let n : ℕ → ℕ = λ k. refusal false suite (length key) (length nonce) (length ad) (length text) k (length tag₀) in
+    let at : ℕ → List ℕ → Sealed = λ k o. sealedAs (n k) (ciphertext (cipherOf suite) key nonce ad text) (tag (cipherOf suite) key nonce ad text) o tag₀ in
+    let r : Sealed = at (length text) text in
+    subst
+    (λ (k : ℕ). (r .number ≡ at k out₀ .number) × (r .tag ≡ at k out₀ .tag) × (r .number ≡ 0 → r .out ≡ at k out₀ .out) × (0 < r .number → r .out ≡ text) × (r .number ≡ 6 → ⊥))
+    (sym e)
+    (sealed-alike (n (length text)) _ _ text out₀ tag₀ (room-right false suite (length key) (length nonce) (length ad) (length text) (length tag₀)))
+
+pub open-in-place : OpenInPlace
+unfolding opening Six
+open-in-place suite key nonce ad text tag out₀ e =
+    let n : ℕ → ℕ = λ k. refusal true suite (length key) (length nonce) (length ad) (length text) k (length tag) in
+    let at : ℕ → List ℕ → Opened = λ k o. openedAs (n k) (sameBytes (tagOut (cipherOf suite) true key nonce ad text) tag) (textOut (cipherOf suite) true key nonce ad text) o in
+    let r : Opened = at (length text) text in
+    let most : n (length text) ≤ 7 = ⊎-elim (λ h. h) (λ h. absurd (true≢false (h .2))) (refusal-most true suite (length key) (length nonce) (length ad) (length text) (length text) (length tag)) in
+    subst
+    (λ (k : ℕ). (r .number ≡ at k out₀ .number) × ((r .number ≡ 0) ⊎ (r .number ≡ 8) → r .out ≡ at k out₀ .out) × (0 < r .number → r .number < 8 → r .out ≡ text) × (r .number ≡ 6 → ⊥))
+    (sym e)
+    (opened-alike (n (length text)) _ _ text out₀ (sym e) most (room-right true suite (length key) (length nonce) (length ad) (length text) (length tag)))
+
+pub verify-opens : VerifyOpens
+unfolding verifying
+verify-opens suite key nonce ad text tag out₀ e =
+    let both = open-in-place suite key nonce ad text tag out₀ e in
+    (both .0, open-keeps suite key nonce ad text tag text .0, both .3)

@@ -5,7 +5,7 @@ use mathlib.Core.List.{List, []}
 use lib.ListN.{length}
 use contract.Lifetimes.{Lfts}
 use denote.Ref.{RefT, now}
-use Rattle.comet.specs.Answers.{Sealed, sealing, Opened, opening}
+use Rattle.comet.specs.Answers.{Sealed, sealing, Opened, opening, verifying}
 use Rattle.comet.specs.Counted.{Counting, sealingCounted, openingCounted}
 use Rattle.session.specs.Value.{starting, dataPart, textPart, ending}
 use Rattle.table.specs.Answers.{answer}
@@ -31,6 +31,9 @@ use Rattle.promises.specs.Demand1.{Answers, Gave}
 pub record CInterface : Type 0 where
   pub comet-seal : Answers the.comet-seal
   pub comet-open : Answers the.comet-open
+  pub comet-seal-in-place : Answers the.comet-seal-in-place
+  pub comet-open-in-place : Answers the.comet-open-in-place
+  pub comet-verify : Answers the.comet-verify
   pub comet-seal-counted : Answers the.comet-seal-counted
   pub comet-open-counted : Answers the.comet-open-counted
   pub comet-session-start : Answers the.comet-session-start
@@ -54,13 +57,21 @@ pub record CInterface : Type 0 where
   pub shift-report : Answers the.shift-report
 
 pub record CRoutines : Type 0 where
-  -- sealer and opener; with their cipher calls
+  -- sealer and opener; in the text's place; the test of a record; with their cipher calls
   pub comet-seal : (κs : Lfts 6) (suite : ℕ) (key nonce ad msg out tag : RefT (List ℕ)) (x : Gave the.comet-seal κs (suite, (key, (nonce, (ad, (msg, (out, (tag, tt)))))))) →
       let (_, (_, (_, (_, (_, (out′, (tag′, _))))))) = x .last in
       _≡_ {A = Sealed} (record { number = x .result; out = out′; tag = tag′ }) (sealing suite (now key) (now nonce) (now ad) (now msg) (now out) (now tag))
   pub comet-open : (κs : Lfts 6) (suite : ℕ) (key nonce ad text tag out : RefT (List ℕ)) (x : Gave the.comet-open κs (suite, (key, (nonce, (ad, (text, (tag, (out, tt)))))))) →
       let (_, (_, (_, (_, (_, (_, (out′, _))))))) = x .last in
       _≡_ {A = Opened} (record { number = x .result; out = out′ }) (opening suite (now key) (now nonce) (now ad) (now text) (now tag) (now out))
+  pub comet-seal-in-place : (κs : Lfts 5) (suite : ℕ) (key nonce ad text tag : RefT (List ℕ)) (x : Gave the.comet-seal-in-place κs (suite, (key, (nonce, (ad, (text, (tag, tt))))))) →
+      let (_, (_, (_, (_, (text′, (tag′, _)))))) = x .last in
+      _≡_ {A = Sealed} (record { number = x .result; out = text′; tag = tag′ }) (sealing suite (now key) (now nonce) (now ad) (now text) (now text) (now tag))
+  pub comet-open-in-place : (κs : Lfts 5) (suite : ℕ) (key nonce ad text tag : RefT (List ℕ)) (x : Gave the.comet-open-in-place κs (suite, (key, (nonce, (ad, (text, (tag, tt))))))) →
+      let (_, (_, (_, (_, (text′, _))))) = x .last in
+      _≡_ {A = Opened} (record { number = x .result; out = text′ }) (opening suite (now key) (now nonce) (now ad) (now text) (now tag) (now text))
+  pub comet-verify : (κs : Lfts 5) (suite : ℕ) (key nonce ad text tag : RefT (List ℕ)) (x : Gave the.comet-verify κs (suite, (key, (nonce, (ad, (text, (tag, tt))))))) →
+      x .result ≡ verifying suite (now key) (now nonce) (now ad) (now text) (now tag)
   pub comet-seal-counted : (κs : Lfts 7) (suite : ℕ) (key nonce ad msg out tag : RefT (List ℕ)) (calls : RefT ℕ) (x : Gave the.comet-seal-counted κs (suite, (key, (nonce, (ad, (msg, (out, (tag, (calls, tt))))))))) →
       let (_, (_, (_, (_, (_, (out′, (tag′, (calls′, _)))))))) = x .last in
       _≡_ {A = Counting Sealed} (record { leaves = record { number = x .result; out = out′; tag = tag′ }; calls = calls′ })

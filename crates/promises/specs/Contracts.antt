@@ -10,6 +10,12 @@ use Rattle.comet.proofs.seal_counted.Kinds as seal-counted-kinds
 use Rattle.comet.proofs.seal_counted.Reads as seal-counted-reads
 use Rattle.comet.proofs.unseal_counted.Kinds as unseal-counted-kinds
 use Rattle.comet.proofs.unseal_counted.Reads as unseal-counted-reads
+use Rattle.comet.proofs.seal_in_place.Kinds as seal-in-place-kinds
+use Rattle.comet.proofs.seal_in_place.Reads as seal-in-place-reads
+use Rattle.comet.proofs.unseal_in_place.Kinds as unseal-in-place-kinds
+use Rattle.comet.proofs.unseal_in_place.Reads as unseal-in-place-reads
+use Rattle.comet.proofs.verify.Kinds as verify-kinds
+use Rattle.comet.proofs.verify.Reads as verify-reads
 use Rattle.session.proofs.Session.start.Kinds as session-start-kinds
 use Rattle.session.proofs.Session.start.Reads as session-start-reads
 use Rattle.session.proofs.Session.associated.Kinds as session-data-kinds
@@ -58,6 +64,12 @@ use Rattle.snoekeldraf.proofs.record.comet_seal.Kinds as comet-seal-kinds
 use Rattle.snoekeldraf.proofs.record.comet_seal.Reads as comet-seal-reads
 use Rattle.snoekeldraf.proofs.record.comet_open.Kinds as comet-open-kinds
 use Rattle.snoekeldraf.proofs.record.comet_open.Reads as comet-open-reads
+use Rattle.snoekeldraf.proofs.record.comet_seal_in_place.Kinds as comet-seal-in-place-kinds
+use Rattle.snoekeldraf.proofs.record.comet_seal_in_place.Reads as comet-seal-in-place-reads
+use Rattle.snoekeldraf.proofs.record.comet_open_in_place.Kinds as comet-open-in-place-kinds
+use Rattle.snoekeldraf.proofs.record.comet_open_in_place.Reads as comet-open-in-place-reads
+use Rattle.snoekeldraf.proofs.record.comet_verify.Kinds as comet-verify-kinds
+use Rattle.snoekeldraf.proofs.record.comet_verify.Reads as comet-verify-reads
 use Rattle.snoekeldraf.proofs.counting.comet_seal_counted.Kinds as comet-seal-counted-kinds
 use Rattle.snoekeldraf.proofs.counting.comet_seal_counted.Reads as comet-seal-counted-reads
 use Rattle.snoekeldraf.proofs.counting.comet_open_counted.Kinds as comet-open-counted-kinds
@@ -120,6 +132,15 @@ seal-counted = record { lifetimes = 6; params = seal-counted-kinds.ps; result = 
 
 abbrev pub unseal-counted : Contract
 unseal-counted = record { lifetimes = 6; params = unseal-counted-kinds.ps; result = unseal-counted-kinds.r; Pre = unseal-counted-reads.Pre; Post = unseal-counted-reads.Post }
+
+abbrev pub seal-in-place : Contract
+seal-in-place = record { lifetimes = 5; params = seal-in-place-kinds.ps; result = seal-in-place-kinds.r; Pre = seal-in-place-reads.Pre; Post = seal-in-place-reads.Post }
+
+abbrev pub unseal-in-place : Contract
+unseal-in-place = record { lifetimes = 5; params = unseal-in-place-kinds.ps; result = unseal-in-place-kinds.r; Pre = unseal-in-place-reads.Pre; Post = unseal-in-place-reads.Post }
+
+abbrev pub verify : Contract
+verify = record { lifetimes = 5; params = verify-kinds.ps; result = verify-kinds.r; Pre = verify-reads.Pre; Post = verify-reads.Post }
 
 abbrev pub session-start : Contract
 session-start = record { lifetimes = 2; params = session-start-kinds.ps; result = session-start-kinds.r; Pre = session-start-reads.Pre; Post = session-start-reads.Post }
@@ -194,6 +215,15 @@ comet-seal = record { lifetimes = 6; params = comet-seal-kinds.ps; result = come
 
 abbrev pub comet-open : Contract
 comet-open = record { lifetimes = 6; params = comet-open-kinds.ps; result = comet-open-kinds.r; Pre = comet-open-reads.Pre; Post = comet-open-reads.Post }
+
+abbrev pub comet-seal-in-place : Contract
+comet-seal-in-place = record { lifetimes = 5; params = comet-seal-in-place-kinds.ps; result = comet-seal-in-place-kinds.r; Pre = comet-seal-in-place-reads.Pre; Post = comet-seal-in-place-reads.Post }
+
+abbrev pub comet-open-in-place : Contract
+comet-open-in-place = record { lifetimes = 5; params = comet-open-in-place-kinds.ps; result = comet-open-in-place-kinds.r; Pre = comet-open-in-place-reads.Pre; Post = comet-open-in-place-reads.Post }
+
+abbrev pub comet-verify : Contract
+comet-verify = record { lifetimes = 5; params = comet-verify-kinds.ps; result = comet-verify-kinds.r; Pre = comet-verify-reads.Pre; Post = comet-verify-reads.Post }
 
 abbrev pub comet-seal-counted : Contract
 comet-seal-counted = record { lifetimes = 7; params = comet-seal-counted-kinds.ps; result = comet-seal-counted-kinds.r; Pre = comet-seal-counted-reads.Pre; Post = comet-seal-counted-reads.Post }

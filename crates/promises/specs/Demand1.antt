@@ -8,7 +8,7 @@ use contract.Lifetimes.{Lfts}
 use denote.Ref.{RefT, now}
 use borrow.Fn.Kinds.{Dens, resT}
 use Rattle.words.specs.Outcome.{Outcome, OneOutcome}
-use Rattle.comet.specs.Answers.{Sealed, sealing, Opened, opening}
+use Rattle.comet.specs.Answers.{Sealed, sealing, Opened, opening, verifying}
 use Rattle.promises.specs.Contracts.{Contract}
 use Rattle.promises.specs.Contracts as the
 
@@ -31,6 +31,10 @@ pub record AnswersPart (f : Contract) (part : (κs : Lfts (f .lifetimes)) → re
 pub record EntryPoints : Type 0 where
   pub seal : Answers the.seal
   pub unseal : Answers the.unseal
+  -- the same in the text's place, and the test of a record
+  pub seal-in-place : Answers the.seal-in-place
+  pub unseal-in-place : Answers the.unseal-in-place
+  pub verify : Answers the.verify
   pub check : Answers the.check
   pub lookup : Answers the.lookup
   pub entry : Answers the.entry
@@ -78,3 +82,26 @@ OpenKeeps =
     (suite : ℕ) (key nonce ad text tag out₀ : List ℕ) →
     let r : Opened = opening suite key nonce ad text tag out₀ in
     (r .number ≤ 8) × (0 < r .number → r .number < 8 → r .out ≡ out₀) × (r .number ≡ 8 → r .out ≡ replicate (length out₀) 0)
+
+-- in place, the sealer gives what it gives with any output of the text's length: number and tag are the same, on 0 the output too, and on any other number the text stays
+abbrev pub SealInPlace : Type 0
+SealInPlace =
+    (suite : ℕ) (key nonce ad text tag₀ out₀ : List ℕ) → length out₀ ≡ length text →
+    let r : Sealed = sealing suite key nonce ad text text tag₀ in
+    let q : Sealed = sealing suite key nonce ad text out₀ tag₀ in
+    (r .number ≡ q .number) × (r .tag ≡ q .tag) × (r .number ≡ 0 → r .out ≡ q .out) × (0 < r .number → r .out ≡ text) × (r .number ≡ 6 → ⊥)
+
+-- so does the opener: on 0 the message, on 8 zeros, and on any other number the text stays
+abbrev pub OpenInPlace : Type 0
+OpenInPlace =
+    (suite : ℕ) (key nonce ad text tag out₀ : List ℕ) → length out₀ ≡ length text →
+    let r : Opened = opening suite key nonce ad text tag text in
+    let q : Opened = opening suite key nonce ad text tag out₀ in
+    (r .number ≡ q .number) × ((r .number ≡ 0) ⊎ (r .number ≡ 8) → r .out ≡ q .out) × (0 < r .number → r .number < 8 → r .out ≡ text) × (r .number ≡ 6 → ⊥)
+
+-- the test of a record gives the opener's number for any output of the text's length: 0 exactly where that opens, 8 exactly where its tag is wrong; never 6
+abbrev pub VerifyOpens : Type 0
+VerifyOpens =
+    (suite : ℕ) (key nonce ad text tag out₀ : List ℕ) → length out₀ ≡ length text →
+    let n : ℕ = verifying suite key nonce ad text tag in
+    (n ≡ opening suite key nonce ad text tag out₀ .number) × (n ≤ 8) × (n ≡ 6 → ⊥)

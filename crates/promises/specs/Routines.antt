@@ -5,7 +5,7 @@ use mathlib.Core.List.{List, []}
 use lib.ListN.{length}
 use contract.Lifetimes.{Lfts}
 use denote.Ref.{RefT, now}
-use Rattle.comet.specs.Answers.{numberOf, Sealed, sealing, Opened, opening}
+use Rattle.comet.specs.Answers.{numberOf, Sealed, sealing, Opened, opening, verifying}
 use Rattle.comet.specs.Counted.{Counting, sealingCounted, openingCounted}
 use Rattle.session.specs.declared.Session.{Session}
 use Rattle.session.specs.Value.{starting, dataPart, textPart, ending}
@@ -46,6 +46,15 @@ pub record Routines : Type 0 where
       let (_, (_, (_, (_, (_, (_, (out′, _))))))) = x .last in
       _≡_ {A = Counting Opened} (record { leaves = record { number = numberOf (x .result .verdict); out = out′ }; calls = x .result .calls })
       (openingCounted suite (now key) (now nonce) (now ad) (now text) (now tag) (now out))
+  -- in the text's place; and the test of a record, which leaves nothing
+  pub seal-in-place : (κs : Lfts 5) (suite : ℕ) (key nonce ad text tag : RefT (List ℕ)) (x : Gave the.seal-in-place κs (suite, (key, (nonce, (ad, (text, (tag, tt))))))) →
+      let (_, (_, (_, (_, (text′, (tag′, _)))))) = x .last in
+      _≡_ {A = Sealed} (record { number = numberOf (x .result); out = text′; tag = tag′ }) (sealing suite (now key) (now nonce) (now ad) (now text) (now text) (now tag))
+  pub unseal-in-place : (κs : Lfts 5) (suite : ℕ) (key nonce ad text tag : RefT (List ℕ)) (x : Gave the.unseal-in-place κs (suite, (key, (nonce, (ad, (text, (tag, tt))))))) →
+      let (_, (_, (_, (_, (text′, _))))) = x .last in
+      _≡_ {A = Opened} (record { number = numberOf (x .result); out = text′ }) (opening suite (now key) (now nonce) (now ad) (now text) (now tag) (now text))
+  pub verify : (κs : Lfts 5) (suite : ℕ) (key nonce ad text tag : RefT (List ℕ)) (x : Gave the.verify κs (suite, (key, (nonce, (ad, (text, (tag, tt))))))) →
+      numberOf (x .result) ≡ verifying suite (now key) (now nonce) (now ad) (now text) (now tag)
   -- W2: a session's four calls
   pub session-start : (κs : Lfts 2) (suite : ℕ) (key nonce : RefT (List ℕ)) (x : Gave the.session-start κs (suite, (key, (nonce, tt)))) →
       gives (x .result) [] [] ≡ starting suite (now key) (now nonce)

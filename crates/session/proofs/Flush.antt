@@ -14,7 +14,7 @@ use Rattle.cipher.specs.Cipher.{Cipher}
 use Rattle.mode.specs.Blocks.{blocks}
 use Rattle.mode.specs.Walk.{States, turned, walked}
 use Rattle.session.specs.Value.{Value, states, heldOf, firstMark, begun}
-use Rattle.session.proofs.Hold.{walk-none, walk-short}
+use Rattle.walk.proofs.Front.{walk-none, walk-short}
 
 module _ (κ : Cipher) (v : Value) where
   abbrev flushed : States
@@ -33,7 +33,7 @@ module _ (κ : Cipher) (v : Value) where
     begun-none e z =
         let p : 0 < κ .size = omega arith in
         let z′ : v .came % κ .size ≡ 0 = subst (λ (k : ℕ). v .came % k ≡ 0) en z in
-        begun-first e ∙ walk-none κ p 0x10 (firstMark κ 0x08 (v .came)) (states κ v) (heldOf κ v (v .came)) (ap (λ (k : ℕ). length (take k (v .held))) z′)
+        begun-first e ∙ walk-none κ p false 0x10 (firstMark κ 0x08 (v .came)) (states κ v) (heldOf κ v (v .came)) (ap (λ (k : ℕ). length (take k (v .held))) z′)
 
     -- the short block as the code lends it, under the mark m that the code found
     pub begun-short : n ≤ 16 → length (v .held) ≡ 16 → v .text ≡ 0 → (v .came % n ≡ 0 → ⊥) → (m : ℕ) → m ≡ firstMark κ 0x08 (v .came)
@@ -47,5 +47,5 @@ module _ (κ : Cipher) (v : Value) where
         let h′ : j ≡ 0 → ⊥ = λ q. h (ej ∙ q) in
         let pj : 0 < j = omega arith in
         ap₂ (λ (a : ℕ) (b : List ℕ). turned κ (xor a 0x10) (states κ v) b) em (ap (λ (k : ℕ). take k (v .held)) (sub-zero (v .came % n) ∙ ej))
-        ∙ sym (walk-short κ p 0x10 (firstMark κ 0x08 (v .came)) (states κ v) (take j (v .held)) (omega arith) (omega arith))
+        ∙ sym (walk-short κ p false 0x10 (firstMark κ 0x08 (v .came)) (states κ v) (take j (v .held)) (omega arith) (omega arith))
         ∙ sym (begun-first e)

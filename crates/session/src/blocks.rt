@@ -1,7 +1,5 @@
-// Held bytes and a part behind them: the whole blocks go through the block step, and the rest is held.
+// Held bytes and a part behind them: the whole blocks go in (crate walk), and the rest is held.
 use cipher::Lent;
-use step::block::absorb_full;
-use step::block::crypt_full;
 use step::block::crypt_short;
 use step::state::State;
 ghost use mathlib.Core.Path.{_≡_};
@@ -35,27 +33,20 @@ fn joined(held: [u8; 16], h: usize, p: &[u8]) -> [u8; 16]
     r
 }
 
-// The whole blocks of ad go in, the first under the mark m, and the rest is held.
-fn absorb_blocks(tb: &[Lent], suite: u8, s: State, m: u8, ad: &[u8]) -> Fed
+// The whole blocks of ad go in, none of them the first, and the rest is held.
+fn absorb_blocks(tb: &[Lent], suite: u8, s: State, ad: &[u8]) -> Fed
     requires { ⌜ Ready suite (now tb) × IsSuite suite ⌝ }
-    ensures states { λ r. ⌜ twoOf suite (r .s) ≡ walked (cipherOf suite) false m 0x10 (twoOf suite s) (blocks (sizeOf suite) (whole (sizeOf suite) (now (ad .entry)))) ⌝ }
+    ensures states { λ r. ⌜ twoOf suite (r .s) ≡ walked (cipherOf suite) false 0 0x10 (twoOf suite s) (blocks (sizeOf suite) (whole (sizeOf suite) (now (ad .entry)))) ⌝ }
     ensures held { λ r. ⌜ r .held ≡ filled (rest (sizeOf suite) (now (ad .entry))) ⌝ }
 {
-    let n = cipher::size_of(suite);
-    let mut t = s;
-    let mut k = m;
-    let mut i: usize = 0;
-    while n <= ad.len() - i {
-        let e = i + n;
-        t = absorb_full(tb, suite, t, k, &ad[i..e]);
-        k = 0;
-        i = e;
-    }
+    let w = walk::absorb(tb, false, suite, s, 0, ad);
+    let t = w.s;
+    let i = w.at;
     let h = words::block::filled_bytes(&ad[i..ad.len()]);
     Fed { s: t, held: h }
 }
 
-// The same for h held bytes and then ad.
+// The whole blocks of h held bytes and then ad go in, the first under the mark m, and the rest is held.
 pub(crate) fn absorb_part(
     tb: &[Lent],
     suite: u8,
@@ -76,8 +67,8 @@ pub(crate) fn absorb_part(
         return Fed { s: s, held: g };
     }
     let b = joined(held, h, &ad[0..need]);
-    let t = absorb_full(tb, suite, s, m, &b[0..n]);
-    absorb_blocks(tb, suite, t, 0, &ad[need..ad.len()])
+    let t = walk::absorb(tb, false, suite, s, m, &b[0..n]);
+    absorb_blocks(tb, suite, t.s, &ad[need..ad.len()])
 }
 
 // The two states, what is held back, and how many bytes went out.
@@ -87,33 +78,17 @@ pub(crate) struct Made {
     pub count: usize,
 }
 
-// The whole blocks of part go in, the first under the mark m, and their ciphertext out; the rest is held.
-fn crypt_blocks(tb: &[Lent], suite: u8, s: State, m: u8, part: &[u8], out: &mut [u8]) -> Made
-    requires { ⌜ Ready suite (now tb) × IsSuite suite × (length (now part) ≤ length (now out)) ⌝ }
-    ensures text { λ _. ⌜ now (out .exit) ≡ written (covered (cipherOf suite) false m 0x40 (twoOf suite s) (blocks (sizeOf suite) (whole (sizeOf suite) (now (part .entry))))) (now (out .entry)) ⌝ }
-    ensures count { λ r. ⌜ r .count ≡ length (covered (cipherOf suite) false m 0x40 (twoOf suite s) (blocks (sizeOf suite) (whole (sizeOf suite) (now (part .entry))))) ⌝ }
-    ensures states { λ r. ⌜ twoOf suite (r .s) ≡ walked (cipherOf suite) false m 0x40 (twoOf suite s) (blocks (sizeOf suite) (whole (sizeOf suite) (now (part .entry)))) ⌝ }
-    ensures held { λ r. ⌜ r .held ≡ filled (rest (sizeOf suite) (now (part .entry))) ⌝ }
+// The first h bytes of held, then p, into an output of their length.
+fn gather(held: [u8; 16], h: usize, p: &[u8], out: &mut [u8])
+    requires { ⌜ (h ≤ 16) × (length (now out) ≡ h + length (now p)) ⌝ }
+    ensures { λ _. ⌜ now (out .exit) ≡ take h held ++ now (p .entry) ⌝ }
 {
-    let n = cipher::size_of(suite);
-    let mut t = s;
-    let mut k = m;
-    let mut i: usize = 0;
-    while n <= part.len() - i {
-        let e = i + n;
-        t = crypt_full(tb, false, suite, t, k, &part[i..e], &mut out[i..e]);
-        k = 0;
-        i = e;
-    }
-    let h = words::block::filled_bytes(&part[i..part.len()]);
-    Made {
-        s: t,
-        held: h,
-        count: i,
-    }
+    let end = out.len();
+    words::runs::copy(&held[0..h], &mut out[0..h]);
+    words::runs::copy(p, &mut out[h..end]);
 }
 
-// The same for h held bytes and then part.
+// The whole blocks of h held bytes and then part go in, the first under the mark m, and their ciphertext out; the rest is held.
 pub(crate) fn crypt_part(
     tb: &[Lent],
     suite: u8,
@@ -131,8 +106,8 @@ pub(crate) fn crypt_part(
     ensures held { λ r. ⌜ r .held ≡ filled (rest (sizeOf suite) (take h held ++ now (part .entry))) ⌝ }
 {
     let n = cipher::size_of(suite);
-    let need = n - h;
-    if part.len() < need {
+    let all = h + part.len();
+    if all < n {
         let g = joined(held, h, part);
         return Made {
             s: s,
@@ -140,16 +115,16 @@ pub(crate) fn crypt_part(
             count: 0,
         };
     }
-    let b = joined(held, h, &part[0..need]);
-    let t = crypt_full(tb, false, suite, s, m, &b[0..n], &mut out[0..n]);
-    let end = out.len();
-    let f = crypt_blocks(tb, suite, t, 0, &part[need..part.len()], &mut out[n..end]);
-    let u = f.s;
-    let g = f.held;
+    let w = all - all % n;
+    let e = w - h;
+    gather(held, h, &part[0..e], &mut out[0..w]);
+    let t = walk::crypt(tb, false, suite, s, m, &mut out[0..w]);
+    let u = t.s;
+    let g = words::block::filled_bytes(&part[e..part.len()]);
     Made {
         s: u,
         held: g,
-        count: n + f.count,
+        count: w,
     }
 }
 
@@ -171,5 +146,6 @@ pub(crate) fn last_in(
     if h == 0 {
         return s;
     }
-    crypt_short(tb, false, suite, s, m ^ 0x40, &held[0..h], &mut out[0..h])
+    words::runs::copy(&held[0..h], &mut out[0..h]);
+    crypt_short(tb, false, suite, s, m ^ 0x40, &mut out[0..h])
 }

@@ -147,7 +147,7 @@ fn begin(tb: &[Lent], s: Session) -> State
         return two;
     }
     let m = first_mark(suite, 0x08, came);
-    step::block::absorb_short(tb, suite, two, m ^ 0x10, &held[0..h])
+    step::block::absorb_short(tb, false, suite, two, m ^ 0x10, &held[0..h])
 }
 
 // Message goes in, at least one byte of it, and the ciphertext of the blocks that it completes out.

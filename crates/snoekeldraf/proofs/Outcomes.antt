@@ -20,6 +20,12 @@ use Rattle.snoekeldraf.proofs.record.comet_seal.Kinds as seal-kinds
 use Rattle.snoekeldraf.proofs.record.comet_seal.Reads as seal-reads
 use Rattle.snoekeldraf.proofs.record.comet_open.Kinds as open-kinds
 use Rattle.snoekeldraf.proofs.record.comet_open.Reads as open-reads
+use Rattle.snoekeldraf.proofs.record.comet_seal_in_place.Kinds as seal-in-place-kinds
+use Rattle.snoekeldraf.proofs.record.comet_seal_in_place.Reads as seal-in-place-reads
+use Rattle.snoekeldraf.proofs.record.comet_open_in_place.Kinds as open-in-place-kinds
+use Rattle.snoekeldraf.proofs.record.comet_open_in_place.Reads as open-in-place-reads
+use Rattle.snoekeldraf.proofs.record.comet_verify.Kinds as verify-kinds
+use Rattle.snoekeldraf.proofs.record.comet_verify.Reads as verify-reads
 use Rattle.snoekeldraf.proofs.counting.comet_seal_counted.Kinds as seal-counted-kinds
 use Rattle.snoekeldraf.proofs.counting.comet_seal_counted.Reads as seal-counted-reads
 use Rattle.snoekeldraf.proofs.counting.comet_open_counted.Kinds as open-counted-kinds
@@ -78,6 +84,19 @@ pub comet-open : OneOutcome open-kinds.ps open-kinds.r open-reads.Pre open-reads
 comet-open κs a h x y =
     let e = x .ensures ∙ sym (y .ensures) in
     (ap (λ (w : Opened). w .number) e, ap (λ (w : Opened). (tt, (tt, (tt, (tt, (tt, (tt, (w .out, tt)))))))) e)
+
+pub comet-seal-in-place : OneOutcome seal-in-place-kinds.ps seal-in-place-kinds.r seal-in-place-reads.Pre seal-in-place-reads.Post
+comet-seal-in-place κs a h x y =
+    let e = x .ensures ∙ sym (y .ensures) in
+    (ap (λ (w : Sealed). w .number) e, ap (λ (w : Sealed). (tt, (tt, (tt, (tt, (w .out, (w .tag, tt))))))) e)
+
+pub comet-open-in-place : OneOutcome open-in-place-kinds.ps open-in-place-kinds.r open-in-place-reads.Pre open-in-place-reads.Post
+comet-open-in-place κs a h x y =
+    let e = x .ensures ∙ sym (y .ensures) in
+    (ap (λ (w : Opened). w .number) e, ap (λ (w : Opened). (tt, (tt, (tt, (tt, (w .out, (tt, tt))))))) e)
+
+pub comet-verify : OneOutcome verify-kinds.ps verify-kinds.r verify-reads.Pre verify-reads.Post
+comet-verify κs a h x y = (x .ensures ∙ sym (y .ensures), refl)
 
 pub comet-seal-counted : OneOutcome seal-counted-kinds.ps seal-counted-kinds.r seal-counted-reads.Pre seal-counted-reads.Post
 comet-seal-counted κs a h x y =

@@ -1,6 +1,6 @@
-// The sealer and the opener.
+// The sealer and the opener, from buffer to buffer and in place, and the test of a record.
 ghost use mathlib.Core.Path.{_≡_};
-ghost use Rattle.comet.specs.Answers.{Sealed, sealing, Opened, opening};
+ghost use Rattle.comet.specs.Answers.{Sealed, sealing, Opened, opening, verifying};
 
 // Seals msg into out, and its tag into tag.
 #[no_mangle]
@@ -35,5 +35,55 @@ pub extern "C" fn comet_open(
         (opening suite (now (key .entry)) (now (nonce .entry)) (now (ad .entry)) (now (text .entry)) (now (tag .entry)) (now (out .entry))) ⌝ }
 {
     let a = comet::unseal(suite, key, nonce, ad, text, tag, out);
+    a.number() as u32
+}
+
+// Seals text in its place, and its tag into tag.
+#[no_mangle]
+pub extern "C" fn comet_seal_in_place(
+    suite: u8,
+    key: &[u8],
+    nonce: &[u8],
+    ad: &[u8],
+    text: &mut [u8],
+    tag: &mut [u8],
+) -> u32
+    ensures { λ r. ⌜ _≡_ {A = Sealed} (record { number = r; out = now (text .exit); tag = now (tag .exit) })
+        (sealing suite (now (key .entry)) (now (nonce .entry)) (now (ad .entry)) (now (text .entry)) (now (text .entry)) (now (tag .entry))) ⌝ }
+{
+    let a = comet::seal_in_place(suite, key, nonce, ad, text, tag);
+    a.number() as u32
+}
+
+// Opens text in its place, if its tag is right; else every byte of it is 0.
+#[no_mangle]
+pub extern "C" fn comet_open_in_place(
+    suite: u8,
+    key: &[u8],
+    nonce: &[u8],
+    ad: &[u8],
+    text: &mut [u8],
+    tag: &[u8],
+) -> u32
+    ensures { λ r. ⌜ _≡_ {A = Opened} (record { number = r; out = now (text .exit) })
+        (opening suite (now (key .entry)) (now (nonce .entry)) (now (ad .entry)) (now (text .entry)) (now (tag .entry)) (now (text .entry))) ⌝ }
+{
+    let a = comet::unseal_in_place(suite, key, nonce, ad, text, tag);
+    a.number() as u32
+}
+
+// Whether a record is genuine: the opener's number, and no text is written anywhere.
+#[no_mangle]
+pub extern "C" fn comet_verify(
+    suite: u8,
+    key: &[u8],
+    nonce: &[u8],
+    ad: &[u8],
+    text: &[u8],
+    tag: &[u8],
+) -> u32
+    ensures { λ r. ⌜ r ≡ verifying suite (now (key .entry)) (now (nonce .entry)) (now (ad .entry)) (now (text .entry)) (now (tag .entry)) ⌝ }
+{
+    let a = comet::verify(suite, key, nonce, ad, text, tag);
     a.number() as u32
 }

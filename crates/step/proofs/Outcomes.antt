@@ -19,8 +19,12 @@ use Rattle.step.proofs.block.absorb_full.Kinds as absorb-full-kinds
 use Rattle.step.proofs.block.absorb_full.Reads as absorb-full-reads
 use Rattle.step.proofs.block.absorb_short.Kinds as absorb-short-kinds
 use Rattle.step.proofs.block.absorb_short.Reads as absorb-short-reads
-use Rattle.step.proofs.block.crypt_full.Kinds as crypt-full-kinds
-use Rattle.step.proofs.block.crypt_full.Reads as crypt-full-reads
+use Rattle.step.proofs.block.verify_full.Kinds as verify-full-kinds
+use Rattle.step.proofs.block.verify_full.Reads as verify-full-reads
+use Rattle.step.proofs.block.seal_full.Kinds as seal-full-kinds
+use Rattle.step.proofs.block.seal_full.Reads as seal-full-reads
+use Rattle.step.proofs.block.open_full.Kinds as open-full-kinds
+use Rattle.step.proofs.block.open_full.Reads as open-full-reads
 use Rattle.step.proofs.block.crypt_short.Kinds as crypt-short-kinds
 use Rattle.step.proofs.block.crypt_short.Reads as crypt-short-reads
 use Rattle.step.proofs.tag.tag_of.Kinds as tag-of-kinds
@@ -29,16 +33,16 @@ use Rattle.step.proofs.tag.same.Kinds as same-kinds
 use Rattle.step.proofs.tag.same.Reads as same-reads
 
 -- both blocks of a state are numbers of 64 bits
-record Small (s : State) : Type 0 where
-  ya : s .y .a < 2 ^ 64
-  yb : s .y .b < 2 ^ 64
-  za : s .z .a < 2 ^ 64
-  zb : s .z .b < 2 ^ 64
+pub record Small (s : State) : Type 0 where
+  pub ya : s .y .a < 2 ^ 64
+  pub yb : s .y .b < 2 ^ 64
+  pub za : s .z .a < 2 ^ 64
+  pub zb : s .z .b < 2 ^ 64
 
 state-path : {x y u v : Block} {j k : ℕ} → x ≡ y → u ≡ v → j ≡ k → _≡_ {A = State} (record { y = x; z = u; calls = j }) (record { y = y; z = v; calls = k })
 state-path p q r = λ i. record { y = p i; z = q i; calls = r i }
 
-held-told : (suite : ℕ) (r q : State) (t : States) (n : ℕ) → Small r → Small q → Holds suite r t n → Holds suite q t n → r ≡ q
+pub held-told : (suite : ℕ) (r q : State) (t : States) (n : ℕ) → Small r → Small q → Holds suite r t n → Holds suite q t n → r ≡ q
 held-told suite r q t n a b h k =
     let e = h .two ∙ sym (k .two) in
     state-path
@@ -55,16 +59,25 @@ absorb-full κs a h x y = (held-told _ (x .result) (y .result) _ _ (omega arith)
 pub absorb-short : OneOutcome absorb-short-kinds.ps absorb-short-kinds.r absorb-short-reads.Pre absorb-short-reads.Post
 absorb-short κs a h x y = (held-told _ (x .result) (y .result) _ _ (omega arith) (omega arith) (x .ensures) (y .ensures), refl)
 
-pub crypt-full : OneOutcome crypt-full-kinds.ps crypt-full-kinds.r crypt-full-reads.Pre crypt-full-reads.Post
-crypt-full κs a h x y = (
+pub verify-full : OneOutcome verify-full-kinds.ps verify-full-kinds.r verify-full-reads.Pre verify-full-reads.Post
+verify-full κs a h x y = (held-told _ (x .result) (y .result) _ _ (omega arith) (omega arith) (x .ensures) (y .ensures), refl)
+
+pub seal-full : OneOutcome seal-full-kinds.ps seal-full-kinds.r seal-full-reads.Pre seal-full-reads.Post
+seal-full κs a h x y = (
   held-told _ (x .result) (y .result) _ _ (omega arith) (omega arith) (x .ensures .1) (y .ensures .1),
-  ap (λ (l : List ℕ). (tt, (tt, (tt, (tt, (tt, (tt, (l, tt)))))))) (x .ensures .0 ∙ sym (y .ensures .0)),
+  ap (λ (l : List ℕ). (tt, (tt, (tt, (tt, (l, tt)))))) (x .ensures .0 ∙ sym (y .ensures .0)),
+)
+
+pub open-full : OneOutcome open-full-kinds.ps open-full-kinds.r open-full-reads.Pre open-full-reads.Post
+open-full κs a h x y = (
+  held-told _ (x .result) (y .result) _ _ (omega arith) (omega arith) (x .ensures .1) (y .ensures .1),
+  ap (λ (l : List ℕ). (tt, (tt, (tt, (tt, (l, tt)))))) (x .ensures .0 ∙ sym (y .ensures .0)),
 )
 
 pub crypt-short : OneOutcome crypt-short-kinds.ps crypt-short-kinds.r crypt-short-reads.Pre crypt-short-reads.Post
 crypt-short κs a h x y = (
   held-told _ (x .result) (y .result) _ _ (omega arith) (omega arith) (x .ensures .1) (y .ensures .1),
-  ap (λ (l : List ℕ). (tt, (tt, (tt, (tt, (tt, (tt, (l, tt)))))))) (x .ensures .0 ∙ sym (y .ensures .0)),
+  ap (λ (l : List ℕ). (tt, (tt, (tt, (tt, (tt, (l, tt))))))) (x .ensures .0 ∙ sym (y .ensures .0)),
 )
 
 last-path : {x y : Block} {j k : ℕ} → x ≡ y → j ≡ k → _≡_ {A = Last} (record { tag = x; calls = j }) (record { tag = y; calls = k })

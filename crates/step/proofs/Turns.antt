@@ -1,9 +1,11 @@
 -- One turn of the code is one step of the walk: where X and Z for a block are held, what is XORed with X is the walk's, and the bytes that the suite does not use stay zero.
-use mathlib.Core.Path.{_≡_, sym, ap, ap₂, _∙_}
+use mathlib.Core.Path.{_≡_, refl, sym, ap, ap₂, _∙_}
 use Prim.Native.Nat.{ℕ, _-_, _≤_, _<_}
+use native.Mathlib.Omega.{arith}
 use native.Mathlib.Nat.{le-of-eq}
 use mathlib.Core.List.{List, _++_}
 use lib.ListN.{length, take, drop, replicate, drop-of-length-le}
+use lib.Seq.{take-at, length-take-le}
 use Rattle.words.specs.Xors.{xors}
 use Rattle.words.specs.declared.block.Block.{Block}
 use Rattle.words.specs.Blocks.{wide}
@@ -14,9 +16,10 @@ use Rattle.cipher.specs.Cipher.{sizeOf, cipherOf}
 use Rattle.cipher.proofs.Suites.{size-most}
 use Rattle.mode.specs.Words.{shuffle, pad}
 use Rattle.mode.specs.Walk.{States, turned, hidden}
+use Rattle.mode.proofs.Words.{pad-full}
 use Rattle.step.specs.declared.state.State.{State}
 use Rattle.step.specs.Two.{twoOf, Clean, Holds, oneMore, imaged}
-use Rattle.step.proofs.Words.{pad-kept, pad-cut, zeros-kept, zeros-cut}
+use Rattle.step.proofs.Words.{pad-kept, pad-cut, zeros-kept, zeros-cut, mask-is}
 
 pub states-path : {a b c d : List ℕ} → a ≡ b → c ≡ d → _≡_ {A = States} (record { Y = a; Z = c }) (record { Y = b; Z = d })
 states-path p q = λ i. record { Y = p i; Z = q i }
@@ -76,4 +79,39 @@ module _ (suite m : ℕ) (s t : State) (h : Holds suite t (imaged suite m (twoOf
             (e .0 ∙ ap (λ (w : States). w .Z) (h .two));
         clean = clean-xor suite (t .y) p (r .y) (h .clean) (g .clean) ey;
         made = e .1 ∙ h .made;
+      }
+
+-- ---- a block of text
+
+-- what is left of zeros behind b
+pub cut-in : (b : List ℕ) (p : Block) → wide p ≡ b ++ replicate (16 - length b) 0 → take (length b) (wide p) ≡ b
+cut-in b p e = ap (take (length b)) e ∙ take-at b (replicate (16 - length b) 0) (length b) refl
+
+-- the first bytes of p, padded as q
+pub cut-goes : (suite : ℕ) (v : List ℕ) (k : ℕ) (p q : Block) → take k (wide p) ≡ v → k < sizeOf suite → wide q ≡ pad 16 (take k (wide p)) → Goes suite v q
+cut-goes suite v k p q e h eq =
+    let l : length v ≡ k = sym (ap length e) ∙ length-take-le k (wide p) (omega (arith, length-wide (p .a) (p .b), size-most suite)) in
+    short-goes suite v q (omega arith) (eq ∙ ap (pad 16) e)
+
+-- b came in as p, and c is p XOR the shuffle x of X
+module _ (suite m : ℕ) (s t : State) (h : Holds suite t (imaged suite m (twoOf suite s)) (oneMore (s .calls))) (b : List ℕ) (p x c : Block)
+    (ep : wide p ≡ b ++ replicate (16 - length b) 0)
+    (ex : (take (sizeOf suite) (wide x) ≡ shuffle (sizeOf suite) (take (sizeOf suite) (wide (t .y)))) × Clean suite x)
+    (ec : wide c ≡ xors (wide p) (wide x)) where
+  -- its first bytes go out for b
+  pub goes-out : length b ≤ sizeOf suite → take (length b) (wide c) ≡ hidden (cipherOf suite) m (twoOf suite s) b
+  goes-out l =
+      ap (take (length b)) (ec ∙ ap (λ (v : List ℕ). xors v (wide x)) ep)
+      ∙ mask-is b (replicate (16 - length b) 0) (wide x) (length b) refl
+      ∙ mask-out suite m s t h b (wide x) l (ex .0)
+
+  -- and where b is full all of it goes in for what went out
+  pub out-goes : length b ≡ sizeOf suite → Goes suite (hidden (cipherOf suite) m (twoOf suite s) b) c
+  out-goes e =
+      let v : List ℕ = hidden (cipherOf suite) m (twoOf suite s) b in
+      let is : take (sizeOf suite) (wide c) ≡ v = ap (λ (k : ℕ). take k (wide c)) (sym e) ∙ goes-out (le-of-eq e) in
+      let l : length v ≡ sizeOf suite = sym (ap length is) ∙ length-take-le (sizeOf suite) (wide c) (omega (arith, length-wide (c .a) (c .b), size-most suite)) in
+      record {
+        front = is ∙ sym (pad-full (sizeOf suite) v l);
+        clean = clean-xor suite p x c (full-goes suite b p e ep .clean) (ex .1) ec;
       }

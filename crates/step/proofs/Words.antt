@@ -1,17 +1,17 @@
 -- The mode's work on bytes, done on two numbers of 64 bits: mark, shuffle, padding and mask.
 use mathlib.Core.Path.{_≡_, refl, sym, ap, ap₂, _∙_}
 use Prim.Native.Nat.{ℕ, zero, suc, _+_, _-_, _*_, _/_, _%_, _^_, _≤_, _<_}
-use native.Mathlib.Nat.{le-of-suc-le-suc, not-suc-le-zero, le-of-eq}
+use native.Mathlib.Nat.{le-of-suc-le-suc, not-suc-le-zero, le-of-eq, mod-lt, mod-eq-of-lt, mul-one, pow-le-pow-right}
 use native.Mathlib.Omega.{arith}
 use mathlib.Core.List.{List, [], _∷_, _++_, append-assoc, append-nil}
-use lib.ListN.{length, set, take, drop, replicate, length-append, length-drop, take-append-drop}
-use lib.Seq.{take-at, take-all, take-append-add, drop-append-add, drop-at, set-at, length-take-le}
+use lib.ListN.{length, take, drop, replicate, length-append, length-drop, take-append-drop, replicate-append-replicate}
+use lib.Seq.{take-at, take-all, take-append-le, take-append-add, drop-append-add, drop-at, length-take-le}
 use Rattle.words.specs.Words.{xor, rotr}
 use Rattle.words.specs.Bytes.{value, bytes, word}
 use Rattle.words.specs.Xors.{xors}
 use Rattle.words.proofs.Xor.{zero-r}
 use Rattle.words.proofs.Lists.{part-take}
-use Rattle.words.proofs.Bytes.{length-bytes, value-low, bytes-join, bytes-mod, bytes-split}
+use Rattle.words.proofs.Bytes.{length-bytes, value-low, bytes-join, bytes-mod, bytes-split, bytes-zeros, reach}
 use Rattle.words.proofs.Xors.{bytes-xor, take-xors, xors-take, xors-append}
 use Rattle.mode.specs.Words.{Four, four, fourOf, bytesOf, shuffleWords, shuffle, pad}
 use Rattle.mode.specs.Keys.{marked}
@@ -117,13 +117,51 @@ short-zeros n j b h k =
     ∙ take-append-add b (1 ∷ replicate j 0) (suc (n - suc (length b)))
     ∙ ap (λ (r : List ℕ). b ++ (1 ∷ r)) (take-replicate (n - suc (length b)) j 0 (omega arith))
 
--- b with zeros behind it, and 1 stored behind b
-pub pad-stored : (b r : List ℕ) → length b < 16 → r ≡ b ++ replicate (16 - length b) 0 → set r (length b) 1 ≡ pad 16 b
-pad-stored b r h q =
-    let e : 16 - length b ≡ suc (16 - suc (length b)) = omega arith in
-    ap (λ (l : List ℕ). set l (length b) 1) (q ∙ ap (λ (j : ℕ). b ++ replicate j 0) e)
-    ∙ set-at b 0 (replicate (16 - suc (length b)) 0) 1 (length b) refl
-    ∙ sym (pad-short 16 b h)
+-- the first k bytes of a number, and 1 behind them
+pub pad-low : (n k x q : ℕ) → k < n → q ≡ 256 ^ k → bytes n (x % q + q) ≡ pad n (take k (bytes n x))
+unfolding bytes
+pad-low n k x q h e =
+    let j = n - suc k in
+    let en : n ≡ k + suc j = omega arith in
+    let low : List ℕ = bytes k x in
+    let cut : take k (bytes n x) ≡ low =
+    ap (λ (i : ℕ). take k (bytes i x)) en ∙ ap (take k) (bytes-split k (suc j) x) ∙ take-at low (bytes (suc j) (x / 256 ^ k)) k (length-bytes k x) in
+    let one : x % q + q ≡ x % 256 ^ k + 256 ^ k * 1 = ap (λ (v : ℕ). x % v + v) e ∙ ap (λ (v : ℕ). x % 256 ^ k + v) (sym (mul-one (256 ^ k))) in
+    ap₂ bytes en one
+    ∙ bytes-join k (suc j) (x % 256 ^ k) 1 (mod-lt x (omega (arith, pow-le-pow-right {n = 256} (omega arith) {i = 0} {j = k} (omega arith))))
+    ∙ ap₂ (λ (a b : List ℕ). a ++ (1 ∷ b)) (bytes-mod k x) (bytes-zeros j)
+    ∙ sym (ap (pad n) cut ∙ pad-short n low (omega (arith, length-bytes k x)) ∙ ap (λ (i : ℕ). low ++ (1 ∷ replicate (n - suc i) 0)) (length-bytes k x))
+
+-- where the 1 stands
+pub place-low : (k : ℕ) → k < 8 → 256 ^ k ≤ 2 ^ 56
+place-low k h = pow-le-pow-right {n = 256} (omega arith) {i = k} {j = 7} (omega arith)
+
+pub place-is : (k : ℕ) → k < 8 → (1 * 2 ^ (8 * k)) % 2 ^ 64 ≡ 256 ^ k
+place-is k h = mod-eq-of-lt (omega (arith, place-low k h, reach k)) ∙ omega (arith, reach k)
+
+-- padding that ends in the first of two words, and in the second
+pub pad-first : (k a b r : ℕ) → k < 8 → bytes 8 r ≡ pad 8 (take k (bytes 8 a)) → bytes 8 r ++ bytes 8 0 ≡ pad 16 (take k (bytes 8 a ++ bytes 8 b))
+pad-first k a b r h e =
+    let low : List ℕ = take k (bytes 8 a) in
+    let l : length low ≡ k = length-take-le k (bytes 8 a) (omega (arith, length-bytes 8 a)) in
+    let z : 16 - suc (length low) ≡ 8 - suc (length low) + 8 = omega arith in
+    ap₂ (λ (x y : List ℕ). x ++ y) (e ∙ pad-short 8 low (omega arith)) (bytes-zeros 8)
+    ∙ append-assoc low (1 ∷ replicate (8 - suc (length low)) 0) (replicate 8 0)
+    ∙ ap (λ (x : List ℕ). low ++ (1 ∷ x)) (replicate-append-replicate (8 - suc (length low)) 8 0 ∙ ap (λ (i : ℕ). replicate i 0) (sym z))
+    ∙ sym (ap (pad 16) (take-append-le k (bytes 8 a) (bytes 8 b) (omega (arith, length-bytes 8 a))) ∙ pad-short 16 low (omega arith))
+
+pub pad-second : (k a b r : ℕ) → 8 ≤ k → k < 16 → bytes 8 r ≡ pad 8 (take (k - 8) (bytes 8 b)) → bytes 8 a ++ bytes 8 r ≡ pad 16 (take k (bytes 8 a ++ bytes 8 b))
+pad-second k a b r h g e =
+    let front : List ℕ = bytes 8 a in
+    let lf : length front ≡ 8 = length-bytes 8 a in
+    let low : List ℕ = take (k - 8) (bytes 8 b) in
+    let l : length low ≡ k - 8 = length-take-le (k - 8) (bytes 8 b) (omega (arith, length-bytes 8 b)) in
+    let all : length (front ++ low) ≡ k = length-append front low ∙ omega arith in
+    let ek : k ≡ length front + (k - 8) = omega arith in
+    let z : 8 - suc (length low) ≡ 16 - suc (length (front ++ low)) = omega arith in
+    ap (λ (x : List ℕ). front ++ x) (e ∙ pad-short 8 low (omega arith) ∙ ap (λ (i : ℕ). low ++ (1 ∷ replicate i 0)) z)
+    ∙ sym (append-assoc front low (1 ∷ replicate (16 - suc (length (front ++ low))) 0))
+    ∙ sym (ap (pad 16) (ap (λ (i : ℕ). take i (front ++ bytes 8 b)) ek ∙ take-append-add front (bytes 8 b) (k - 8)) ∙ pad-short 16 (front ++ low) (omega arith))
 
 -- the padding to n is the front of the padding to 16
 pub pad-cut : (n : ℕ) (b : List ℕ) → length b < n → n ≤ 16 → take n (pad 16 b) ≡ pad n b

@@ -30,12 +30,13 @@ fn shuffled8(x: u64) -> u64
     h / 0x1_0000 + 0x1_0000 * t + 0x1_0000_0000 * (x % 0x1_0000_0000)
 }
 
-// Of a block of the suite's size, and zeros behind it.
-pub(crate) fn shuffled(suite: u8, x: Block) -> Block
+// Of a block of the suite's size n, and zeros behind it.
+pub(crate) fn shuffled(suite: u8, x: Block, n: usize) -> Block
+    requires { ⌜ n ≡ sizeOf suite ⌝ }
     ensures is { λ r. ⌜ take (sizeOf suite) (wide r) ≡ shuffle (sizeOf suite) (take (sizeOf suite) (wide x)) ⌝ }
     ensures clean { λ r. ⌜ Clean suite r ⌝ }
 {
-    if cipher::size_of(suite) == 16 {
+    if n == 16 {
         return shuffled16(x);
     }
     Block {

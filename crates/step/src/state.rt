@@ -2,12 +2,12 @@
 use cipher::Lent;
 use words::block::Block;
 ghost use mathlib.Core.Path.{_≡_};
-ghost use lib.ListN.{length};
+ghost use lib.ListN.{length, take};
 ghost use Rattle.words.specs.Xors.{xors};
 ghost use Rattle.words.specs.Blocks.{wide};
-ghost use Rattle.cipher.specs.Cipher.{Ready, IsSuite, nonceOf, cipherOf};
+ghost use Rattle.cipher.specs.Cipher.{Ready, IsSuite, sizeOf, nonceOf, cipherOf};
 ghost use Rattle.mode.specs.Walk.{origin};
-ghost use Rattle.step.specs.Two.{twoOf, Holds, oneMore, imaged};
+ghost use Rattle.step.specs.Two.{twoOf, Clean, Holds, oneMore, imaged};
 
 // Y in the first bytes of y, as many as the suite's block has, Z, and how many cipher calls were made. The count goes round at 64 bits, so nothing is asked of a caller who does not read it.
 pub struct State {
@@ -40,15 +40,30 @@ pub fn start(tb: &[Lent], suite: u8, key: &[u8], nonce: &[u8]) -> State
     }
 }
 
-// The key of a block with the mark m; X, the image of Y under it, by one call; and the Z that is kept behind the block.
-pub(crate) fn turn(tb: &[Lent], suite: u8, s: State, m: u8) -> State
-    requires { ⌜ Ready suite (now tb) × IsSuite suite ⌝ }
+// The cipher's image of a block, by its size n: a loop over blocks tests that one number, whatever else it tests of it.
+fn image(tb: &[Lent], suite: u8, n: usize, key: Block, block: Block) -> Block
+    requires { ⌜ Ready suite (now tb) × IsSuite suite × (n ≡ sizeOf suite) ⌝ }
+    ensures image { λ r. ⌜ take (sizeOf suite) (wide r) ≡ cipherOf suite .E (wide key) (take (sizeOf suite) (wide block)) ⌝ }
+    ensures rest { λ r. ⌜ Clean suite r ⌝ }
+{
+    if n == 16 {
+        return cipher::encipher16(tb, suite, key, block);
+    }
+    Block {
+        a: cipher::encipher8(suite, key.a, key.b, block.a),
+        b: 0,
+    }
+}
+
+// The key of a block of n bytes with the mark m; X, the image of Y under it, by one call; and the Z that is kept behind the block.
+pub(crate) fn turn(tb: &[Lent], suite: u8, s: State, m: u8, n: usize) -> State
+    requires { ⌜ Ready suite (now tb) × IsSuite suite × (n ≡ sizeOf suite) ⌝ }
     ensures { λ r. ⌜ Holds suite r (imaged suite m (twoOf suite s)) (oneMore (s .calls)) ⌝ }
 {
     let y = s.y;
     let z0 = s.z;
     let k = crate::key::block_key(suite, z0, m);
-    let x = cipher::encipher(tb, suite, k, y);
+    let x = image(tb, suite, n, k, y);
     let z = crate::key::kept(suite, k, m);
     State {
         y: x,

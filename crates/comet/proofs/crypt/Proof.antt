@@ -5,7 +5,8 @@ use mathlib.Core.Bool.{false}
 use mathlib.Core.Path.{_≡_, sym, ap, _∙_}
 use lib.ListN.{length}
 use native.Mathlib.Omega.{arith}
-use Prim.Native.Nat.{ℕ, _+_, _-_, _≤_}
+use Prim.Native.Nat.{ℕ, _-_, _≤_}
+use Rattle.words.specs.Words.{add}
 use Rattle.cipher.specs.Cipher.{sizeOf, cipherOf}
 use Rattle.cipher.proofs.Lawful.{lawful}
 use Rattle.mode.specs.Blocks.{blocks}
@@ -21,27 +22,27 @@ use Rattle.comet.proofs.crypt.Tie as tie
 
 -- at most 65,536 blocks each
 data-most : (st : tie.Start) → length (blocks (sizeOf (st .args .suite)) (now (st .args .ad))) ≤ 65536
-data-most st = omega (arith, count-most (sizeOf (st .args .suite)) (some (cipherOf (st .args .suite)) (lawful (st .args .suite))) (now (st .args .ad)), st .pre .5)
+data-most st = omega (arith, count-most (sizeOf (st .args .suite)) (some (cipherOf (st .args .suite)) (lawful (st .args .suite))) (now (st .args .ad)), st .pre .4)
 
 text-most : (st : tie.Start) → length (blocks (sizeOf (st .args .suite)) (now (st .args .text))) ≤ 65536
-text-most st = omega (arith, count-most (sizeOf (st .args .suite)) (some (cipherOf (st .args .suite)) (lawful (st .args .suite))) (now (st .args .text)), st .pre .6)
+text-most st = omega (arith, count-most (sizeOf (st .args .suite)) (some (cipherOf (st .args .suite)) (lawful (st .args .suite))) (now (st .args .text)), st .pre .5)
 
 start-requires : tie.Need-start-requires
 start-requires c κs = search needs
 
 absorb-all-requires : tie.Need-absorb-all-requires
 absorb-all-requires c κs =
-    let st = c .before .before .before .before .before .before in
-    (st .pre .0, st .pre .1, omega (arith, c .start .ensures .made, data-most st))
+    let st = c .before .before .before .before .before in
+    (st .pre .0, st .pre .1)
 
 crypt-all-requires : tie.Need-crypt-all-requires
 crypt-all-requires c κs =
-    let st = c .before .before .before .before .before .before .before .before in
-    (st .pre .0, st .pre .1, st .pre .4, omega (arith, c .before .before .start .ensures .made, c .before .absorb-all .ensures .1, data-most st, text-most st))
+    let st = c .before .before .before .before .before .before .before in
+    (st .pre .0, st .pre .1)
 
 tag-of-requires : tie.Need-tag-of-requires
 tag-of-requires c κs =
-    let st = c .before .before .before .before .before .before .before .before .before .before .before in
+    let st = c .before .before .before .before .before .before .before .before .before .before in
     (st .pre .0, st .pre .1)
 
 same-length : tie.Need-same-length
@@ -49,7 +50,7 @@ same-length c = search needs
 
 returns : tie.Need-returns
 returns c =
-    let st = c .before .before .before .before .before .before .before .before .before .before .before .before in
+    let st = c .before .before .before .before .before .before .before .before .before .before .before in
     let suite = st .args .suite in
     let κ = cipherOf suite in
     let d = st .args .opening in
@@ -68,7 +69,7 @@ returns c =
         (
           c .tag-of .ensures .1 .0,
           count-all (length (blocks (sizeOf suite) ad)) (length (blocks (sizeOf suite) text)) (read .result .calls) (done .result .calls) _ (data-most st) (text-most st)
-              (read .ensures .1 ∙ ap (λ (k : ℕ). k + length (blocks (sizeOf suite) ad)) (begun .ensures .made)) (done .ensures .1 .1) (c .tag-of .ensures .1 .1)
+              (read .ensures .1 ∙ ap (λ (k : ℕ). add 64 k (length (blocks (sizeOf suite) ad))) (begun .ensures .made)) (done .ensures .1 .1) (c .tag-of .ensures .1 .1)
               ∙ sym (calls-count κ d key nonce ad text),
         ),
       ),

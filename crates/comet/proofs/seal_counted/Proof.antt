@@ -1,22 +1,29 @@
--- `comet::seal_counted` meets its contract: a refusal leaves the buffers and takes no call; else the suite's cipher is lent what it asks for, or nothing.
-use denote.Ref.{now}
-use mathlib.Core.Bool.{false}
-use lib.ListN.{length}
-use mathlib.Core.Path.{_≡_, sym, _∙_}
-use Rattle.cipher.proofs.Suites.{none-ready}
-use Rattle.comet.specs.Answers.{numberOf, refusal}
-use Rattle.comet.proofs.Refuse.{done-zero, other-some, sealing-kept}
-use Rattle.comet.proofs.Counts.{counting, calls-none}
+-- `comet::seal_counted` meets its contract: a refusal leaves the buffers and takes no call; else the text is copied, and sealed in its copy's place.
 use borrow.Author.Needs.{needs}
+use denote.Ref.{now}
+use lib.ListN.{length}
+use mathlib.Core.Bool.{false}
+use mathlib.Core.List.{List}
+use mathlib.Core.Path.{_≡_, sym, ap, _∙_, subst}
+use Prim.Native.Nat.{ℕ}
+use Rattle.comet.specs.Answers.{numberOf, refusal, Sealed}
+use Rattle.comet.specs.Counted.{Counting, sealingCounted}
+use Rattle.comet.proofs.Refuse.{Passed, passed, done-zero, other-some, sealing-kept}
+use Rattle.comet.proofs.Counts.{counting, calls-none, sealing-same}
 use Rattle.comet.proofs.seal_counted.Statement.{statement}
 use Rattle.comet.proofs.seal_counted.Tie as tie
 
--- nothing was refused
-zero : (c : tie.At-match-keys1) →
-    let st : tie.Start = c .before .before .before .before .before .before .before .before in
-    refusal false (st .args .suite) (length (now (st .args .key))) (length (now (st .args .nonce))) (length (now (st .args .ad)))
-    (length (now (st .args .msg))) (length (now (st .args .out))) (length (now (st .args .tag))) ≡ 0
-zero c = sym (c .before .refused .ensures) ∙ done-zero (c .before .refused .result) (c .match .keys1)
+module _ (m : tie.At-match-keys1) where
+  abbrev x : tie.Start
+  x = m .before .before .before .before .before .before .before .before
+
+  -- nothing was refused
+  zero : refusal false (x .args .suite) (length (now (x .args .key))) (length (now (x .args .nonce))) (length (now (x .args .ad)))
+      (length (now (x .args .msg))) (length (now (x .args .out))) (length (now (x .args .tag))) ≡ 0
+  zero = sym (m .before .refused .ensures) ∙ done-zero (m .before .refused .result) (m .match .keys1)
+
+  room : length (now (x .args .out)) ≡ length (now (x .args .msg))
+  room = passed _ _ _ _ _ _ _ _ zero .room
 
 refused-requires : tie.Need-refused-requires
 refused-requires c κs = search needs
@@ -33,17 +40,16 @@ returns c =
     (other-some a (c .match .keys2)))
     (calls-none false (x .suite) (now (x .key)) (now (x .nonce)) (now (x .ad)) (now (x .msg)) _ _ (numberOf a) (c .before .refused .ensures) (other-some a (c .match .keys2)))
 
-lends-requires : tie.Need-lends-requires
-lends-requires c κs = search needs
+copy-requires : tie.Need-copy-requires
+copy-requires c κs = room (c .before .before)
 
-tables-requires : tie.Need-tables-requires
-tables-requires c κs = sym (c .before .lends .ensures) ∙ c .if1 .taken
-
-slice-aggregate-seal-with : tie.Need-slice-aggregate-seal-with
-slice-aggregate-seal-with c = search needs
-
-seal-with-requires : tie.Need-seal-with-requires
-seal-with-requires c κs = (c .before .before .before .tables .ensures, zero (c .before .before .before .before .before .before .before))
+seal-taken-requires : tie.Need-seal-taken-requires
+seal-taken-requires c κs =
+    let m = c .before .before .before .before .before .before .before in
+    let a = x m .args in
+    let copied : length (c .before .before .before .before .copy .last .1 .0) ≡ length (now (a .msg)) = ap length (c .before .before .before .before .copy .ensures) in
+    subst (λ (n : ℕ). refusal false (a .suite) (length (now (a .key))) (length (now (a .nonce))) (length (now (a .ad))) n n (length (now (a .tag))) ≡ 0) (sym copied)
+    (subst (λ (n : ℕ). refusal false (a .suite) (length (now (a .key))) (length (now (a .nonce))) (length (now (a .ad))) (length (now (a .msg))) n (length (now (a .tag))) ≡ 0) (room m) (zero m))
 
 same-length : tie.Need-same-length
 same-length c = search needs
@@ -52,41 +58,14 @@ same-length-2 : tie.Need-same-length-2
 same-length-2 c = search needs
 
 returns-2 : tie.Need-returns-2
-returns-2 c = search needs
-
-slice-aggregate-seal-with-2 : tie.Need-slice-aggregate-seal-with-2
-slice-aggregate-seal-with-2 c = search needs
-
-seal-with-requires-2 : tie.Need-seal-with-requires-2
-seal-with-requires-2 c κs =
-    let k = c .before .before .before .before .before .before in
-    (none-ready (k .before .before .before .before .before .before .before .before .args .suite) (sym (c .before .before .before .before .lends .ensures) ∙ c .before .before .before .if1 .left), zero k)
-
-same-length-3 : tie.Need-same-length-3
-same-length-3 c = search needs
-
-same-length-4 : tie.Need-same-length-4
-same-length-4 c = search needs
-
-returns-3 : tie.Need-returns-3
-returns-3 c = search needs
+returns-2 c =
+    let m = c .before .before .before .before .before .before .before .before .before .before .before .before in
+    let a = x m .args in
+    c .before .before .before .before .seal-taken .ensures
+    ∙ ap (λ (l : List ℕ). sealingCounted (a .suite) (now (a .key)) (now (a .nonce)) (now (a .ad)) l l (now (a .tag))) (c .before .before .before .before .before .before .before .before .before .copy .ensures)
+    ∙ sealing-same (a .suite) (now (a .key)) (now (a .nonce)) (now (a .ad)) (now (a .msg)) (now (a .out)) (now (a .tag)) (zero m)
 
 pub seal-counted-spec : {M : Type 1} → statement M
 seal-counted-spec =
     tie.close
-    (tie.spec
-    refused-requires
-    enum-told
-    returns
-    lends-requires
-    tables-requires
-    slice-aggregate-seal-with
-    seal-with-requires
-    same-length
-    same-length-2
-    returns-2
-    slice-aggregate-seal-with-2
-    seal-with-requires-2
-    same-length-3
-    same-length-4
-    returns-3)
+    (tie.spec refused-requires enum-told returns copy-requires seal-taken-requires same-length same-length-2 returns-2)

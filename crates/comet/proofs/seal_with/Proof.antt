@@ -15,18 +15,18 @@ use Rattle.comet.proofs.seal_with.Tie as tie
 
 -- every length is right
 ok : (st : tie.Start) → Passed (st .args .suite) (length (now (st .args .key))) (length (now (st .args .nonce))) (length (now (st .args .ad)))
-    (length (now (st .args .msg))) (length (now (st .args .out))) (length (now (st .args .tag)))
+    (length (now (st .args .text))) (length (now (st .args .text))) (length (now (st .args .tag)))
 ok st = passed _ _ _ _ _ _ _ _ (st .pre .1)
 
 crypt-requires : tie.Need-crypt-requires
 crypt-requires c κs =
-    let st = c .before .before .before .before .before .before .before in
+    let st = c .before .before .before .before .before .before in
     let p = ok st in
-    (st .pre .0, p .suite, p .key, p .nonce, p .room, p .extra, p .text)
+    (st .pre .0, p .suite, p .key, p .nonce, p .extra, p .text)
 
 put-requires : tie.Need-put-requires
 put-requires c κs =
-    let st = c .before .before .before .before .before .before .before .before .before .before .before .before in
+    let st = c .before .before .before .before .before .before .before .before .before .before .before in
     omega (arith, ok st .tag, size-most (st .args .suite))
 
 same-length : tie.Need-same-length
@@ -37,14 +37,14 @@ same-length-2 c = search needs
 
 returns : tie.Need-returns
 returns c =
-    let st = c .before .before .before .before .before .before .before .before .before .before .before .before .before .before .before in
+    let st = c .before .before .before .before .before .before .before .before .before .before .before .before .before .before in
     let x = st .args in
     let t = c .before .before .before .before .before .before .before .crypt in
     counting
-    (sealing-done (x .suite) (now (x .key)) (now (x .nonce)) (now (x .ad)) (now (x .msg)) (now (x .out)) (now (x .tag)) 0 (sym (st .pre .1))
+    (sealing-done (x .suite) (now (x .key)) (now (x .nonce)) (now (x .ad)) (now (x .text)) (now (x .text)) (now (x .tag)) 0 (sym (st .pre .1))
     refl _ _ (t .ensures .0)
     (c .before .before .put .ensures ∙ ap (λ (n : ℕ). take n (wide (t .result .tag))) (ok st .tag) ∙ t .ensures .1 .0))
-    (t .ensures .1 .1 .1 ∙ calls-all false (x .suite) (now (x .key)) (now (x .nonce)) (now (x .ad)) (now (x .msg)) _ _ 0 (sym (st .pre .1)) refl)
+    (t .ensures .1 .1 .1 ∙ calls-all false (x .suite) (now (x .key)) (now (x .nonce)) (now (x .ad)) (now (x .text)) _ _ 0 (sym (st .pre .1)) refl)
 
 pub seal-with-spec : {M : Type 1} → statement M
 seal-with-spec = tie.close (tie.spec crypt-requires put-requires same-length same-length-2 returns)

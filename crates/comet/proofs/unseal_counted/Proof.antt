@@ -1,22 +1,29 @@
--- `comet::unseal_counted` meets its contract: a refusal leaves the buffer and takes no call; else the suite's cipher is lent what it asks for, or nothing.
-use denote.Ref.{now}
-use mathlib.Core.Bool.{true}
-use lib.ListN.{length}
-use mathlib.Core.Path.{_≡_, sym, _∙_}
-use Rattle.cipher.proofs.Suites.{none-ready}
-use Rattle.comet.specs.Answers.{numberOf, refusal}
-use Rattle.comet.proofs.Refuse.{done-zero, other-some, opening-kept}
-use Rattle.comet.proofs.Counts.{counting, calls-none}
+-- `comet::unseal_counted` meets its contract: a refusal leaves the buffer and takes no call; else the text is copied, and opened in its copy's place.
 use borrow.Author.Needs.{needs}
+use denote.Ref.{now}
+use lib.ListN.{length}
+use mathlib.Core.Bool.{true}
+use mathlib.Core.List.{List}
+use mathlib.Core.Path.{_≡_, sym, ap, _∙_, subst}
+use Prim.Native.Nat.{ℕ}
+use Rattle.comet.specs.Answers.{numberOf, refusal, Opened}
+use Rattle.comet.specs.Counted.{Counting, openingCounted}
+use Rattle.comet.proofs.Refuse.{Passed, passed, done-zero, other-some, opening-kept}
+use Rattle.comet.proofs.Counts.{counting, calls-none, opening-same}
 use Rattle.comet.proofs.unseal_counted.Statement.{statement}
 use Rattle.comet.proofs.unseal_counted.Tie as tie
 
--- nothing was refused
-zero : (c : tie.At-match-keys1) →
-    let st : tie.Start = c .before .before .before .before .before .before .before .before in
-    refusal true (st .args .suite) (length (now (st .args .key))) (length (now (st .args .nonce))) (length (now (st .args .ad)))
-    (length (now (st .args .text))) (length (now (st .args .out))) (length (now (st .args .tag))) ≡ 0
-zero c = sym (c .before .refused .ensures) ∙ done-zero (c .before .refused .result) (c .match .keys1)
+module _ (m : tie.At-match-keys1) where
+  abbrev x : tie.Start
+  x = m .before .before .before .before .before .before .before .before
+
+  -- nothing was refused
+  zero : refusal true (x .args .suite) (length (now (x .args .key))) (length (now (x .args .nonce))) (length (now (x .args .ad)))
+      (length (now (x .args .text))) (length (now (x .args .out))) (length (now (x .args .tag))) ≡ 0
+  zero = sym (m .before .refused .ensures) ∙ done-zero (m .before .refused .result) (m .match .keys1)
+
+  room : length (now (x .args .out)) ≡ length (now (x .args .text))
+  room = passed _ _ _ _ _ _ _ _ zero .room
 
 refused-requires : tie.Need-refused-requires
 refused-requires c κs = search needs
@@ -33,52 +40,29 @@ returns c =
     (other-some a (c .match .keys2)))
     (calls-none true (x .suite) (now (x .key)) (now (x .nonce)) (now (x .ad)) (now (x .text)) _ _ (numberOf a) (c .before .refused .ensures) (other-some a (c .match .keys2)))
 
-lends-requires : tie.Need-lends-requires
-lends-requires c κs = search needs
+copy-requires : tie.Need-copy-requires
+copy-requires c κs = room (c .before .before)
 
-tables-requires : tie.Need-tables-requires
-tables-requires c κs = sym (c .before .lends .ensures) ∙ c .if1 .taken
-
-slice-aggregate-unseal-with : tie.Need-slice-aggregate-unseal-with
-slice-aggregate-unseal-with c = search needs
-
-unseal-with-requires : tie.Need-unseal-with-requires
-unseal-with-requires c κs = (c .before .before .tables .ensures, zero (c .before .before .before .before .before .before))
+unseal-taken-requires : tie.Need-unseal-taken-requires
+unseal-taken-requires c κs =
+    let m = c .before .before .before .before .before .before in
+    let a = x m .args in
+    let copied : length (c .before .before .before .copy .last .1 .0) ≡ length (now (a .text)) = ap length (c .before .before .before .copy .ensures) in
+    subst (λ (n : ℕ). refusal true (a .suite) (length (now (a .key))) (length (now (a .nonce))) (length (now (a .ad))) n n (length (now (a .tag))) ≡ 0) (sym copied)
+    (subst (λ (n : ℕ). refusal true (a .suite) (length (now (a .key))) (length (now (a .nonce))) (length (now (a .ad))) (length (now (a .text))) n (length (now (a .tag))) ≡ 0) (room m) (zero m))
 
 same-length : tie.Need-same-length
 same-length c = search needs
 
 returns-2 : tie.Need-returns-2
-returns-2 c = search needs
-
-slice-aggregate-unseal-with-2 : tie.Need-slice-aggregate-unseal-with-2
-slice-aggregate-unseal-with-2 c = search needs
-
-unseal-with-requires-2 : tie.Need-unseal-with-requires-2
-unseal-with-requires-2 c κs =
-    let k = c .before .before .before .before .before in
-    (none-ready (k .before .before .before .before .before .before .before .before .args .suite) (sym (c .before .before .before .lends .ensures) ∙ c .before .before .if1 .left), zero k)
-
-same-length-2 : tie.Need-same-length-2
-same-length-2 c = search needs
-
-returns-3 : tie.Need-returns-3
-returns-3 c = search needs
+returns-2 c =
+    let m = c .before .before .before .before .before .before .before .before .before in
+    let a = x m .args in
+    c .before .before .unseal-taken .ensures
+    ∙ ap (λ (l : List ℕ). openingCounted (a .suite) (now (a .key)) (now (a .nonce)) (now (a .ad)) l (now (a .tag)) l) (c .before .before .before .before .before .before .copy .ensures)
+    ∙ opening-same (a .suite) (now (a .key)) (now (a .nonce)) (now (a .ad)) (now (a .text)) (now (a .tag)) (now (a .out)) (zero m)
 
 pub unseal-counted-spec : {M : Type 1} → statement M
 unseal-counted-spec =
     tie.close
-    (tie.spec
-    refused-requires
-    enum-told
-    returns
-    lends-requires
-    tables-requires
-    slice-aggregate-unseal-with
-    unseal-with-requires
-    same-length
-    returns-2
-    slice-aggregate-unseal-with-2
-    unseal-with-requires-2
-    same-length-2
-    returns-3)
+    (tie.spec refused-requires enum-told returns copy-requires unseal-taken-requires same-length returns-2)

@@ -21,12 +21,12 @@ use Rattle.comet.proofs.unseal_with.Tie as tie
 
 -- every length is right
 ok : (st : tie.Start) → Passed (st .args .suite) (length (now (st .args .key))) (length (now (st .args .nonce))) (length (now (st .args .ad)))
-    (length (now (st .args .text))) (length (now (st .args .out))) (length (now (st .args .tag)))
+    (length (now (st .args .text))) (length (now (st .args .text))) (length (now (st .args .tag)))
 ok st = passed _ _ _ _ _ _ _ _ (st .pre .1)
 
 module _ (d : tie.After-same) where
   abbrev x : tie.Start
-  x = d .before .before .before .before .before .before .before .before .before .before .before .before
+  x = d .before .before .before .before .before .before .before .before .before .before .before
 
   -- what the comparison compared
   same-is : d .same .result ≡ sameBytes (tagOut (cipherOf (x .args .suite)) true (now (x .args .key)) (now (x .args .nonce)) (now (x .args .ad)) (now (x .args .text))) (now (x .args .tag))
@@ -36,28 +36,28 @@ module _ (d : tie.After-same) where
 
   -- every length is right, and the comparison gave b
   done : (b : Bool) → d .same .result ≡ b
-      → openedAs 0 b (textOut (cipherOf (x .args .suite)) true (now (x .args .key)) (now (x .args .nonce)) (now (x .args .ad)) (now (x .args .text))) (now (x .args .out))
-      ≡ opening (x .args .suite) (now (x .args .key)) (now (x .args .nonce)) (now (x .args .ad)) (now (x .args .text)) (now (x .args .tag)) (now (x .args .out))
+      → openedAs 0 b (textOut (cipherOf (x .args .suite)) true (now (x .args .key)) (now (x .args .nonce)) (now (x .args .ad)) (now (x .args .text))) (now (x .args .text))
+      ≡ opening (x .args .suite) (now (x .args .key)) (now (x .args .nonce)) (now (x .args .ad)) (now (x .args .text)) (now (x .args .tag)) (now (x .args .text))
   done b e =
-      opening-done (x .args .suite) (now (x .args .key)) (now (x .args .nonce)) (now (x .args .ad)) (now (x .args .text)) (now (x .args .tag)) (now (x .args .out)) 0 (sym (x .pre .1))
+      opening-done (x .args .suite) (now (x .args .key)) (now (x .args .nonce)) (now (x .args .ad)) (now (x .args .text)) (now (x .args .tag)) (now (x .args .text)) 0 (sym (x .pre .1))
       refl b (sym e ∙ same-is)
 
   -- what was counted
   count-is : d .before .before .before .before .crypt .result .calls
-      ≡ callsOf true (x .args .suite) (now (x .args .key)) (now (x .args .nonce)) (now (x .args .ad)) (now (x .args .text)) (length (now (x .args .out))) (length (now (x .args .tag)))
+      ≡ callsOf true (x .args .suite) (now (x .args .key)) (now (x .args .nonce)) (now (x .args .ad)) (now (x .args .text)) (length (now (x .args .text))) (length (now (x .args .tag)))
   count-is =
       d .before .before .before .before .crypt .ensures .1 .1 .1
       ∙ calls-all true (x .args .suite) (now (x .args .key)) (now (x .args .nonce)) (now (x .args .ad)) (now (x .args .text)) _ _ 0 (sym (x .pre .1)) refl
 
 crypt-requires : tie.Need-crypt-requires
 crypt-requires c κs =
-    let st = c .before .before .before .before .before .before .before in
+    let st = c .before .before .before .before .before .before in
     let p = ok st in
-    (st .pre .0, p .suite, p .key, p .nonce, p .room, p .extra, p .text)
+    (st .pre .0, p .suite, p .key, p .nonce, p .extra, p .text)
 
 same-requires : tie.Need-same-requires
 same-requires c κs =
-    let st = c .before .before .before .before .before .before .before .before .before .before .before in
+    let st = c .before .before .before .before .before .before .before .before .before .before in
     let e = ok st .tag in
     let t = c .before .before .before .crypt in (
       full-two _ (st .args .suite) e,
@@ -73,7 +73,7 @@ same-length c = search needs
 returns : tie.Need-returns
 returns c =
     let d = c .before .before .before .before .before in
-    let e = c .before .before .wipe .ensures ∙ ap (λ (n : ℕ). replicate n 0) (d .before .before .before .before .crypt .kept .1 .1 .1 .1 .1 .1 .1 .0) in
+    let e = c .before .before .wipe .ensures ∙ ap (λ (n : ℕ). replicate n 0) (d .before .before .before .before .crypt .kept .1 .1 .1 .1 .1 .1 .0) in
     let path : _≡_ {A = Opened} (record { number = 8; out = _ }) (record { number = 8; out = _ }) = λ i. record { number = 8; out = e i } in
     counting (path ∙ done d false (not-true _ (c .before .before .before .before .if1 .taken))) (count-is d)
 

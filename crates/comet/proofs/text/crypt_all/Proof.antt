@@ -1,217 +1,148 @@
--- `comet::text::crypt_all` meets its contract: each turn takes one full block off what is left, and the last takes the short one.
+-- `comet::text::crypt_all` meets its contract: behind the whole blocks the short one goes in, if there is one, and what goes out takes its place.
 use borrow.Author.Needs.{needs}
-use borrow.Rule.Slice.PartMut.{postOf, same-len-mid}
 use denote.Ref.{now}
-use lib.ListN.{length, take, drop, length-drop, length-take}
-use mathlib.Core.List.{List, _++_}
-use mathlib.Core.Path.{_≡_, refl, sym, ap, _∙_}
-use native.Mathlib.Nat.{le-of-eq}
+use lib.ListN.{length, take, drop}
+use mathlib.Core.Bool.{Bool}
+use mathlib.Core.List.{List}
+use mathlib.Core.Path.{_≡_, sym, ap, _∙_}
 use native.Mathlib.Omega.{arith}
-use Prim.Native.Nat.{ℕ, _+_, _-_, _≤_, _<_}
+use Prim.Native.Nat.{ℕ, _-_, _<_}
 use Rattle.words.specs.Words.{xor}
-use Rattle.cipher.specs.Cipher.{sizeOf, cipherOf}
-use Rattle.mode.specs.Blocks.{blocks}
-use Rattle.mode.specs.Walk.{markOf, walked, covered}
-use Rattle.mode.proofs.Walk.{mark-full, mark-short, walked-turn, covered-turn, walked-done, covered-done}
+use Rattle.words.proofs.Lists.{nil-of}
+use Rattle.cipher.specs.Cipher.{Cipher, sizeOf, cipherOf}
+use Rattle.cipher.proofs.Lawful.{lawful}
+use Rattle.mode.specs.Walk.{States, rest}
+use Rattle.mode.proofs.Chain.{some}
+use Rattle.mode.proofs.Cut.{rest-less}
 use Rattle.step.specs.Two.{twoOf}
-use Rattle.comet.specs.Answers.{opening}
-use Rattle.comet.proofs.Turns.{text-turn, text-done}
-use Rattle.comet.proofs.Counts.{count-turn, count-done}
+use Rattle.walk.proofs.Front.{left-long, walk-none, cover-none, walk-short, cover-short}
+use Rattle.comet.proofs.Turns.{lent, last-walk, last-out, none-walk, none-out, last-count, none-count, empty-count, short-count}
 use Rattle.comet.proofs.text.crypt_all.Statement.{statement}
 use Rattle.comet.proofs.text.crypt_all.Tie as tie
 
-abbrev Inv-loop : tie.InvT-loop
-Inv-loop tb opening suite text out₀ n t₀ m₀ i₀ out t m i =
-    (i ≤ length text)
-    × (length out ≡ length out₀)
-    × (take i out ++ covered (cipherOf suite) opening m 0x40 (twoOf suite t) (blocks (sizeOf suite) (drop i text))
-    ≡ covered (cipherOf suite) opening 0x20 0x40 (twoOf suite t₀) (blocks (sizeOf suite) text))
-    × (walked (cipherOf suite) opening m 0x40 (twoOf suite t) (blocks (sizeOf suite) (drop i text))
-    ≡ walked (cipherOf suite) opening 0x20 0x40 (twoOf suite t₀) (blocks (sizeOf suite) text))
-    × (t .calls + length (blocks (sizeOf suite) (drop i text)) ≡ t₀ .calls + length (blocks (sizeOf suite) text))
+module _ (g : tie.After-crypt) where
+  abbrev st : tie.Start
+  st = g .before .before .before .before .before .before
 
-abbrev μ-loop : tie.MeasureT-loop
-μ-loop tb opening suite text out₀ n t₀ m₀ i₀ out t m i = length text - i
+  abbrev κ : Cipher
+  κ = cipherOf (st .args .suite)
 
-size-of-requires : tie.Need-size-of-requires Inv-loop μ-loop
-size-of-requires c κs = search needs
+  abbrev n : ℕ
+  n = sizeOf (st .args .suite)
 
-loop-holds : tie.Need-loop-holds Inv-loop μ-loop
-loop-holds c = (omega arith, refl, refl, refl, refl)
+  pos : 0 < n
+  pos = some κ (lawful (st .args .suite))
 
-sub-loop : tie.Need-sub-loop Inv-loop μ-loop
-sub-loop c = omega arith
+  abbrev S : States
+  S = twoOf (st .args .suite) (st .args .s)
 
-add-end : tie.Need-add-end Inv-loop μ-loop
-add-end c = search needs
+  abbrev U : States
+  U = twoOf (st .args .suite) (g .crypt .result .s)
 
-sub-crypt-full : tie.Need-sub-crypt-full Inv-loop μ-loop
-sub-crypt-full c = search needs
+  abbrev l : List ℕ
+  l = now (st .args .text)
 
-part-crypt-full-start : tie.Need-part-crypt-full-start Inv-loop μ-loop
-part-crypt-full-start c = search needs
+  -- the text behind the walk
+  abbrev o : List ℕ
+  o = g .crypt .last .1 .1 .1 .1 .1 .0
 
-part-crypt-full-end : tie.Need-part-crypt-full-end Inv-loop μ-loop
-part-crypt-full-end c = search needs
+  abbrev i : ℕ
+  i = g .crypt .result .at
 
-sub-crypt-full-2 : tie.Need-sub-crypt-full-2 Inv-loop μ-loop
-sub-crypt-full-2 c = search needs
+  lent-is : take (length l - i) (drop i o) ≡ rest n l
+  lent-is =
+      let w = g .crypt .ensures .1 in
+      lent κ pos (st .args .opening) 0x20 0x40 S l U (g .crypt .result .mark) (w .two 0x40) (w .next) o i (g .crypt .ensures .0 0x40) (g .crypt .kept .1 .1 .1 .1 .1 .0) (w .gone)
 
-part-crypt-full-start-2 : tie.Need-part-crypt-full-start-2 Inv-loop μ-loop
-part-crypt-full-start-2 c = search needs
-
-part-crypt-full-end-2 : tie.Need-part-crypt-full-end-2 Inv-loop μ-loop
-part-crypt-full-end-2 c = search needs
-
-crypt-full-requires : tie.Need-crypt-full-requires Inv-loop μ-loop
-crypt-full-requires c κs =
-    let st = c .before .before .before .before .before .before .before in
-    let at = c .before .before .before .loop in
-    let size = c .before .before .before .before .size-of in
-    let i = at .i in
-    let e = i + size .result in
-    let text = now (st .args .text) in (
-      st .pre .0,
-      st .pre .1,
-      omega (arith, length-take (e - i) (drop i text), length-drop i text, size .ensures .0),
-      omega (arith, at .inv .1, st .pre .2, length-take (e - i) (drop i text), length-take (e - i) (drop i (at .out)), length-drop i text, length-drop i (at .out)),
-    )
-
-loop-less : tie.Need-loop-less Inv-loop μ-loop
-loop-less c = omega arith
-
-loop-again : tie.Need-loop-again Inv-loop μ-loop
-loop-again c =
-    let st = c .before .before .before .before .before .before .before .before .before .before in
-    let at = c .before .before .before .before .before .before .loop in
-    let call = c .before .before .crypt-full in
-    let suite = st .args .suite in
-    let κ = cipherOf suite in
-    let d = st .args .opening in
-    let text = now (st .args .text) in
-    let size = c .before .before .before .before .before .before .before .size-of in
-    let i = at .i in
-    let e = i + size .result in
-    let out = at .out in
-    let x = call .last .1 .1 .1 .1 .1 .1 .0 in
-    let kept = call .kept .1 .1 .1 .1 .1 .1 .0 in
-    let en : size .result ≡ sizeOf suite = size .ensures .0 in
-    let pos : 0 < sizeOf suite = omega (arith, size .ensures .1 .0) in
-    let le : e ≤ length text = omega (arith, c .before .before .before .before .before .loop-test .taken) in
-    let inside : i < length text = omega arith in
-    let lo : length out ≡ length text = at .inv .1 ∙ st .pre .2 in
-    let lx : length x ≡ e - i = kept ∙ omega (arith, length-take (e - i) (drop i out), length-drop i out) in
-    let S = twoOf suite (at .t) in
-    let r = twoOf suite (call .result) in
-    let lb : length (take (e - i) (drop i text)) ≡ sizeOf suite = omega (arith, length-take (e - i) (drop i text), length-drop i text) in
-    let em = mark-full (sizeOf suite) (at .m) 0x40 (length (take (e - i) (drop i text))) lb in (
-      omega arith,
-      same-len-mid i (e - i) out x kept ∙ at .inv .1,
-      text-turn out x (postOf i (e - i) out) _ i e (omega arith) (omega arith) lx
-          ∙ ap (λ (l : List ℕ). take i out ++ l)
-          (covered-turn κ pos d (at .m) 0x40 S text i e inside (omega arith) (at .m) em r (call .ensures .1 .two) x (call .ensures .0))
-          ∙ at .inv .2,
-      walked-turn κ pos d (at .m) 0x40 S text i e inside (omega arith) (at .m) em r (call .ensures .1 .two) ∙ at .inv .3,
-      count-turn (sizeOf suite) pos text (at .t .calls) (st .args .s .calls) i e _ inside (omega arith) (call .ensures .1 .made) (st .pre .3) (at .inv .4),
-    )
-
-sub-crypt-short : tie.Need-sub-crypt-short Inv-loop μ-loop
-sub-crypt-short c = search needs
-
-part-crypt-short-start : tie.Need-part-crypt-short-start Inv-loop μ-loop
-part-crypt-short-start c = search needs
-
-part-crypt-short-end : tie.Need-part-crypt-short-end Inv-loop μ-loop
-part-crypt-short-end c = search needs
-
-sub-crypt-short-2 : tie.Need-sub-crypt-short-2 Inv-loop μ-loop
-sub-crypt-short-2 c = search needs
-
-part-crypt-short-start-2 : tie.Need-part-crypt-short-start-2 Inv-loop μ-loop
-part-crypt-short-start-2 c = search needs
-
-part-crypt-short-end-2 : tie.Need-part-crypt-short-end-2 Inv-loop μ-loop
-part-crypt-short-end-2 c = search needs
-
-crypt-short-requires : tie.Need-crypt-short-requires Inv-loop μ-loop
-crypt-short-requires c κs =
-    let st = c .before .before .before .before .before .before .before .before in
-    let at = c .before .before .before .before .loop in
-    let i = at .i in
-    let text = now (st .args .text) in
-    let k = length text - i in (
-      st .pre .0,
-      st .pre .1,
-      omega (arith, length-take k (drop i text), c .before .before .before .before .before .size-of .ensures .0),
-      omega (arith, at .inv .1, st .pre .2, length-take k (drop i text), length-take k (drop i (at .out)), length-drop i text, length-drop i (at .out)),
-    )
-
-same-length : tie.Need-same-length Inv-loop μ-loop
-same-length c =
-    let at = c .before .before .before .before .before .before .before .loop in
-    let call = c .before .before .crypt-short in
-    same-len-mid (at .i) (length (now (c .before .before .before .before .before .before .before .before .before .before .before .args .text)) - at .i) (at .out) (call .last .1 .1 .1 .1 .1 .1 .0) (call .kept .1 .1 .1 .1 .1 .1 .0) ∙ at .inv .1
-
-returns : tie.Need-returns Inv-loop μ-loop
-unfolding xor
+returns : tie.Need-returns
 returns c =
-    let st = c .before .before .before .before .before .before .before .before .before .before .before in
-    let at = c .before .before .before .before .before .before .before .loop in
-    let call = c .before .before .crypt-short in
-    let suite = st .args .suite in
-    let κ = cipherOf suite in
-    let d = st .args .opening in
-    let text = now (st .args .text) in
-    let size = c .before .before .before .before .before .before .before .before .size-of in
-    let i = at .i in
-    let e = length text in
-    let out = at .out in
-    let x = call .last .1 .1 .1 .1 .1 .1 .0 in
-    let kept = call .kept .1 .1 .1 .1 .1 .1 .0 in
-    let en : size .result ≡ sizeOf suite = size .ensures .0 in
-    let pos : 0 < sizeOf suite = omega (arith, size .ensures .1 .0) in
-    let inside : i < e = omega (arith, c .before .before .before .before .before .if1 .taken) in
-    let lo : length out ≡ e = at .inv .1 ∙ st .pre .2 in
-    let lx : length x ≡ e - i = kept ∙ omega (arith, length-take (e - i) (drop i out), length-drop i out) in
-    let S = twoOf suite (at .t) in
-    let r = twoOf suite (call .result) in
-    let lb : length (take (e - i) (drop i text)) < sizeOf suite = omega (arith, length-take (e - i) (drop i text)) in
-    let em = mark-short (sizeOf suite) (at .m) 0x40 (length (take (e - i) (drop i text))) lb in
-    let lw : length (take i out ++ (x ++ postOf i (e - i) out)) ≤ e = le-of-eq (same-len-mid i (e - i) out x kept ∙ lo) in (
-      text-done _ (covered κ d 0 0x40 r (blocks (sizeOf suite) (drop e text))) _ e lw (covered-done κ pos d 0 0x40 r text e (omega arith))
-          (text-turn out x (postOf i (e - i) out) _ i e (omega arith) (omega arith) lx
-          ∙ ap (λ (l : List ℕ). take i out ++ l)
-          (covered-turn κ pos d (at .m) 0x40 S text i e inside (omega arith) (xor (at .m) 0x40) em r (call .ensures .1 .two) x (call .ensures .0))
-          ∙ at .inv .2),
+    let a = c .before .before .args in
+    let pos = some (cipherOf (a .suite)) (lawful (a .suite)) in
+    let l = now (a .text) in (
+      nil-of l (c .if1 .taken) ∙ sym (cover-none (cipherOf (a .suite)) pos (a .opening) 0x40 0x20 (twoOf (a .suite) (a .s)) l (c .if1 .taken)),
       (
-        sym (walked-done κ pos d 0 0x40 r text e (omega arith))
-            ∙ walked-turn κ pos d (at .m) 0x40 S text i e inside (omega arith) (xor (at .m) 0x40) em r (call .ensures .1 .two)
-            ∙ at .inv .3,
-        count-done (sizeOf suite) pos text (call .result .calls) (st .args .s .calls) e (omega arith)
-            (count-turn (sizeOf suite) pos text (at .t .calls) (st .args .s .calls) i e _ inside (omega arith) (call .ensures .1 .made) (st .pre .3) (at .inv .4)),
+        sym (walk-none (cipherOf (a .suite)) pos (a .opening) 0x40 0x20 (twoOf (a .suite) (a .s)) l (c .if1 .taken)),
+        empty-count (sizeOf (a .suite)) pos l (a .s .calls) (c .if1 .taken) (omega arith),
       ),
     )
 
-same-length-2 : tie.Need-same-length-2 Inv-loop μ-loop
-same-length-2 c = c .before .before .loop .inv .1
+size-of-requires : tie.Need-size-of-requires
+size-of-requires c κs = search needs
 
-returns-2 : tie.Need-returns-2 Inv-loop μ-loop
+crypt-short-requires : tie.Need-crypt-short-requires
+crypt-short-requires c κs =
+    let st = c .before .before .before .before .before in
+    (st .pre .0, st .pre .1, omega (arith, c .before .if2 .taken, c .before .before .size-of .ensures .0))
+
+same-length : tie.Need-same-length
+same-length c = search needs
+
+returns-2 : tie.Need-returns-2
+unfolding xor
 returns-2 c =
-    let st = c .before .before .before .before .before .before in
-    let at = c .before .before .loop in
-    let suite = st .args .suite in
-    let κ = cipherOf suite in
-    let d = st .args .opening in
-    let text = now (st .args .text) in
-    let size = c .before .before .before .size-of in
-    let pos : 0 < sizeOf suite = omega (arith, size .ensures .0, size .ensures .1 .0) in
-    let S = twoOf suite (at .t) in
-    let end : length text ≤ at .i = omega arith in
-    let lo : length (at .out) ≤ at .i = omega (arith, at .inv .1, st .pre .2, end) in (
-      text-done (at .out) (covered κ d (at .m) 0x40 S (blocks (sizeOf suite) (drop (at .i) text))) _ (at .i) lo (covered-done κ pos d (at .m) 0x40 S text (at .i) end) (at .inv .2),
+    let a = c .before .before .before .before .before .before .before .before .args in
+    let pos = some (cipherOf (a .suite)) (lawful (a .suite)) in
+    let l = now (a .text) in
+    let call = c .before .before .crypt-short in
+    let more : 0 < length l = omega (arith, c .before .before .before .before .before .before .if1 .left) in
+    let less : length l < sizeOf (a .suite) = omega (arith, c .before .before .before .before .if2 .taken, c .before .before .before .before .before .size-of .ensures .0) in (
+      call .ensures .0 ∙ sym (cover-short (cipherOf (a .suite)) pos (a .opening) 0x40 0x20 (twoOf (a .suite) (a .s)) l more less),
       (
-        sym (walked-done κ pos d (at .m) 0x40 S text (at .i) end) ∙ at .inv .3,
-        count-done (sizeOf suite) pos text (at .t .calls) (st .args .s .calls) (at .i) end (at .inv .4),
+        call .ensures .1 .two ∙ sym (walk-short (cipherOf (a .suite)) pos (a .opening) 0x40 0x20 (twoOf (a .suite) (a .s)) l more less),
+        short-count (sizeOf (a .suite)) pos l (a .s .calls) more less _ (call .ensures .1 .made),
+      ),
+    )
+
+crypt-requires : tie.Need-crypt-requires
+crypt-requires c κs = search needs
+
+sub-crypt-short : tie.Need-sub-crypt-short
+sub-crypt-short c = search needs
+
+part-crypt-short-start : tie.Need-part-crypt-short-start
+part-crypt-short-start c = search needs
+
+part-crypt-short-end : tie.Need-part-crypt-short-end
+part-crypt-short-end c = search needs
+
+crypt-short-requires-2 : tie.Need-crypt-short-requires-2
+crypt-short-requires-2 c κs =
+    let g = c .before .before .before .before .before in
+    (st g .pre .0, st g .pre .1, omega (arith, ap length (lent-is g), rest-less (n g) (pos g) (l g)))
+
+same-length-2 : tie.Need-same-length-2
+same-length-2 c = search needs
+
+returns-3 : tie.Need-returns-3
+unfolding xor
+returns-3 c =
+    let g = c .before .before .before .before .before .before .before .before in
+    let w = g .crypt .ensures .1 in
+    let m = g .crypt .result .mark in
+    let d = st g .args .opening in
+    let call = c .before .before .crypt-short2 in
+    let more : 0 < length (rest (n g) (l g)) = omega (arith, left-long (n g) (pos g) (l g) (i g) (w .gone), c .before .before .before .before .if3 .taken) in (
+      last-out (κ g) (pos g) d 0x20 0x40 (S g) (l g) (U g) m (w .two 0x40) (w .next) (o g) (i g) (g .crypt .ensures .0 0x40) (g .crypt .kept .1 .1 .1 .1 .1 .0) (w .gone) more _ (call .ensures .0),
+      (
+        last-walk (κ g) (pos g) d 0x20 0x40 (S g) (l g) (U g) m (w .two 0x40) (w .next) _ (lent-is g) more _ (call .ensures .1 .two),
+        last-count (n g) (pos g) (l g) (g .crypt .result .s .calls) (st g .args .s .calls) (w .made) more _ (call .ensures .1 .made),
+      ),
+    )
+
+same-length-3 : tie.Need-same-length-3
+same-length-3 c = search needs
+
+returns-4 : tie.Need-returns-4
+returns-4 c =
+    let g = c .before .before .before .before in
+    let w = g .crypt .ensures .1 in
+    let m = g .crypt .result .mark in
+    let d = st g .args .opening in
+    let none : length (rest (n g) (l g)) ≡ 0 = omega (arith, left-long (n g) (pos g) (l g) (i g) (w .gone), c .if3 .left) in (
+      none-out (κ g) (pos g) d 0x20 0x40 (S g) (l g) (U g) m (w .two 0x40) (w .next) (o g) (i g) (g .crypt .ensures .0 0x40) (g .crypt .kept .1 .1 .1 .1 .1 .0) (w .gone) none,
+      (
+        none-walk (κ g) (pos g) d 0x20 0x40 (S g) (l g) (U g) m (w .two 0x40) (w .next) none,
+        none-count (n g) (pos g) (l g) (g .crypt .result .s .calls) (st g .args .s .calls) (w .made) none,
       ),
     )
 
@@ -219,29 +150,17 @@ pub crypt-all-spec : {M : Type 1} → statement M
 crypt-all-spec =
     tie.close
     (tie.spec
-    Inv-loop
-    μ-loop
+    returns
     size-of-requires
-    loop-holds
-    sub-loop
-    add-end
-    sub-crypt-full
-    part-crypt-full-start
-    part-crypt-full-end
-    sub-crypt-full-2
-    part-crypt-full-start-2
-    part-crypt-full-end-2
-    crypt-full-requires
-    loop-less
-    loop-again
+    crypt-short-requires
+    same-length
+    returns-2
+    crypt-requires
     sub-crypt-short
     part-crypt-short-start
     part-crypt-short-end
-    sub-crypt-short-2
-    part-crypt-short-start-2
-    part-crypt-short-end-2
-    crypt-short-requires
-    same-length
-    returns
+    crypt-short-requires-2
     same-length-2
-    returns-2)
+    returns-3
+    same-length-3
+    returns-4)

@@ -3,6 +3,7 @@ use borrow.Author.Needs.{needs}
 use denote.Ref.{now}
 use lib.ListN.{length, take, drop, length-append}
 use lib.Seq.{length-take-le}
+use mathlib.Core.Bool.{false}
 use mathlib.Core.List.{List, _++_}
 use mathlib.Core.Path.{_≡_, sym, ap, _∙_}
 use native.Mathlib.Omega.{arith}
@@ -11,7 +12,8 @@ use Rattle.cipher.specs.Cipher.{sizeOf, cipherOf}
 use Rattle.session.specs.Value.{filled}
 use Rattle.step.specs.Two.{twoOf}
 use Rattle.mode.proofs.Cut.{rest-short}
-use Rattle.session.proofs.Hold.{short-walk, more-walk, more-rest, block-size}
+use Rattle.walk.proofs.Front.{short-walk}
+use Rattle.session.proofs.Hold.{more-walk, more-rest}
 use Rattle.session.proofs.blocks.absorb_part.Statement.{statement}
 use Rattle.session.proofs.blocks.absorb_part.Tie as tie
 
@@ -36,7 +38,7 @@ returns c =
     let lh : length (st .args .held) ≡ 16 = search needs in
     let lx : length x ≡ st .args .h = length-take-le (st .args .h) (st .args .held) (omega (arith, st .pre .2, size .ensures .1 .1)) in
     let l : length (x ++ part) < sizeOf suite = omega (arith, length-append x part, c .before .if1 .taken) in
-    (sym (short-walk (cipherOf suite) pos 0x10 (st .args .m) (twoOf suite (st .args .s)) (x ++ part) l), c .joined .ensures ∙ ap filled (sym (rest-short (sizeOf suite) pos (x ++ part) l)))
+    (sym (short-walk (cipherOf suite) pos false 0x10 (st .args .m) (twoOf suite (st .args .s)) (x ++ part) l), c .joined .ensures ∙ ap filled (sym (rest-short (sizeOf suite) pos (x ++ part) l)))
 
 sub-joined : tie.Need-sub-joined
 sub-joined c = search needs
@@ -50,17 +52,17 @@ part-joined-end c = search needs
 joined-requires-2 : tie.Need-joined-requires-2
 joined-requires-2 c κs = search needs
 
-sub-absorb-full : tie.Need-sub-absorb-full
-sub-absorb-full c = search needs
+sub-absorb : tie.Need-sub-absorb
+sub-absorb c = search needs
 
-part-absorb-full-start : tie.Need-part-absorb-full-start
-part-absorb-full-start c = search needs
+part-absorb-start : tie.Need-part-absorb-start
+part-absorb-start c = search needs
 
-part-absorb-full-end : tie.Need-part-absorb-full-end
-part-absorb-full-end c = search needs
+part-absorb-end : tie.Need-part-absorb-end
+part-absorb-end c = search needs
 
-absorb-full-requires : tie.Need-absorb-full-requires
-absorb-full-requires c κs = search needs
+absorb-requires : tie.Need-absorb-requires
+absorb-requires c κs = search needs
 
 sub-absorb-blocks : tie.Need-sub-absorb-blocks
 sub-absorb-blocks c = search needs
@@ -93,8 +95,8 @@ returns-2 c =
     let lp : need ≤ length part = omega (arith, c .before .before .before .before .before .before .before .if1 .left) in
     let j = c .before .before .before .before .before .joined2 in
     let k = cipherOf suite in (
-      more-walk k pos 0x10 x part (j .result) h need lx ln lp most (j .ensures) (st .args .m) (size .result) (twoOf suite (st .args .s)) (twoOf suite (c .before .before .absorb-full .result)) _ en
-          (c .before .before .absorb-full .ensures .two) (c .absorb-blocks .ensures .0),
+      more-walk k pos 0x10 x part (j .result) h need lx ln lp most (j .ensures) (st .args .m) (size .result) (twoOf suite (st .args .s)) (twoOf suite (c .before .before .absorb .result .s)) _ en
+          (c .before .before .absorb .ensures .two 0x10) (c .absorb-blocks .ensures .0),
       more-rest k pos 0x10 x part (j .result) h need lx ln lp most (j .ensures) _ (c .absorb-blocks .ensures .1),
     )
 
@@ -110,10 +112,10 @@ absorb-part-spec =
     part-joined-start
     part-joined-end
     joined-requires-2
-    sub-absorb-full
-    part-absorb-full-start
-    part-absorb-full-end
-    absorb-full-requires
+    sub-absorb
+    part-absorb-start
+    part-absorb-end
+    absorb-requires
     sub-absorb-blocks
     part-absorb-blocks-start
     part-absorb-blocks-end

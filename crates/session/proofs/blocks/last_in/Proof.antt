@@ -1,7 +1,8 @@
 -- `session::blocks::last_in` meets its contract: less than a block is one short block, or none.
 use denote.Ref.{now}
-use lib.ListN.{length, take, drop, length-take}
+use lib.ListN.{length, take, drop}
 use lib.Seq.{length-take-le}
+use mathlib.Core.Bool.{false}
 use mathlib.Core.List.{List, []}
 use mathlib.Core.Path.{_≡_, refl, sym, ap, _∙_}
 use native.Mathlib.Nat.{sub-zero}
@@ -10,11 +11,14 @@ use Prim.Native.Nat.{ℕ, _-_, _≤_, _<_}
 use Rattle.words.specs.Words.{xor}
 use Rattle.cipher.specs.Cipher.{sizeOf, cipherOf}
 use Rattle.cipher.proofs.Suites.{size-most}
-use Rattle.mode.specs.Walk.{hidden, turned}
-use Rattle.session.specs.Value.{written}
+use Rattle.mode.specs.Blocks.{blocks}
+use Rattle.mode.specs.Walk.{hidden, turned, covered}
 use Rattle.step.specs.Two.{twoOf}
-use Rattle.session.proofs.Hold.{walk-none, cover-none, walk-short, cover-short, half-written}
+use Rattle.walk.proofs.Front.{walk-none, cover-none, walk-short, cover-short}
+use Rattle.session.specs.Value.{written}
+use Rattle.session.proofs.Hold.{lent-again, twice-written}
 use borrow.Author.Needs.{needs}
+use borrow.Rule.Slice.PartMut.{putMid}
 use Rattle.session.proofs.blocks.last_in.Statement.{statement}
 use Rattle.session.proofs.blocks.last_in.Tie as tie
 
@@ -30,8 +34,32 @@ returns c =
     let pos : 0 < sizeOf suite = omega (arith, st .pre .2) in
     let x : List ℕ = take (st .args .h) (st .args .t5) in
     let e : length x ≡ 0 = ap (λ (i : ℕ). length (take i (st .args .t5))) (c .if1 .taken) in
-    let ec = sym (cover-none k pos 0x40 (st .args .m) s x e) in
-    (ap (λ (w : List ℕ). written w (now (st .args .out))) ec, (c .if1 .taken ∙ ap length ec, sym (walk-none k pos 0x40 (st .args .m) s x e)))
+    let ec = sym (cover-none k pos false 0x40 (st .args .m) s x e) in
+    (ap (λ (w : List ℕ). written w (now (st .args .out))) ec, (c .if1 .taken ∙ ap length ec, sym (walk-none k pos false 0x40 (st .args .m) s x e)))
+
+sub-copy : tie.Need-sub-copy
+sub-copy c = search needs
+
+part-copy-start : tie.Need-part-copy-start
+part-copy-start c = search needs
+
+part-copy-end : tie.Need-part-copy-end
+part-copy-end c =
+    let st = c .before .before .before in
+    let l16 : length (st .args .t5) ≡ 16 = held-long st in
+    omega (arith, st .pre .2, size-most (st .args .suite))
+
+sub-copy-2 : tie.Need-sub-copy-2
+sub-copy-2 c = search needs
+
+part-copy-start-2 : tie.Need-part-copy-start-2
+part-copy-start-2 c = search needs
+
+part-copy-end-2 : tie.Need-part-copy-end-2
+part-copy-end-2 c = search needs
+
+copy-requires : tie.Need-copy-requires
+copy-requires c κs = search needs
 
 sub-crypt-short : tie.Need-sub-crypt-short
 sub-crypt-short c = search needs
@@ -40,19 +68,7 @@ part-crypt-short-start : tie.Need-part-crypt-short-start
 part-crypt-short-start c = search needs
 
 part-crypt-short-end : tie.Need-part-crypt-short-end
-part-crypt-short-end c =
-    let st = c .before .before .before in
-    let l16 : length (st .args .t5) ≡ 16 = held-long st in
-    omega (arith, st .pre .2, size-most (st .args .suite))
-
-sub-crypt-short-2 : tie.Need-sub-crypt-short-2
-sub-crypt-short-2 c = search needs
-
-part-crypt-short-start-2 : tie.Need-part-crypt-short-start-2
-part-crypt-short-start-2 c = search needs
-
-part-crypt-short-end-2 : tie.Need-part-crypt-short-end-2
-part-crypt-short-end-2 c = search needs
+part-crypt-short-end c = search needs
 
 crypt-short-requires : tie.Need-crypt-short-requires
 crypt-short-requires c κs = search needs
@@ -63,7 +79,7 @@ same-length c = search needs
 returns-2 : tie.Need-returns-2
 unfolding xor
 returns-2 c =
-    let st = c .before .before .before .before .before .before .before .before in
+    let st = c .before .before .before .before .before .before .before .before .before .before .before .before in
     let suite = st .args .suite in
     let k = cipherOf suite in
     let s = twoOf suite (st .args .s) in
@@ -77,17 +93,22 @@ returns-2 c =
     let pos : 0 < sizeOf suite = omega arith in
     let x : List ℕ = take h held in
     let lx : length x ≡ h = length-take-le h held (omega arith) in
-    let hp : h ≡ 0 → ⊥ = c .before .before .before .before .before .before .if1 .left in
+    let hp : h ≡ 0 → ⊥ = c .before .before .before .before .before .before .before .before .before .before .if1 .left in
     let px : 0 < length x = omega arith in
+    let copied = c .before .before .before .before .before .before .copy in
+    let y = copied .last .1 .0 in
+    let ey : y ≡ x = copied .ensures ∙ ap (λ (i : ℕ). take i held) (sub-zero h) in
+    let ly : length y ≡ h = ap length ey ∙ lx in
+    let ho : h ≤ length out = omega arith in
     let call = c .before .before .crypt-short in
-    let o = call .last .1 .1 .1 .1 .1 .1 .0 in
-    let ex : take (h - 0) (drop 0 held) ≡ x = ap (λ (i : ℕ). take i held) (sub-zero h) in
-    let lo : length o ≡ h = call .kept .1 .1 .1 .1 .1 .1 .0 ∙ omega (arith, length-take (h - 0) (drop 0 out)) in
-    let ec = call .ensures .0 ∙ ap (hidden k (xor (st .args .m) 0x40) s) ex ∙ sym (cover-short k pos 0x40 (st .args .m) s x px (omega arith)) in (
-      half-written out o h lo (omega arith) ∙ ap (λ (w : List ℕ). written w out) ec,
+    let o = call .last .1 .1 .1 .1 .1 .0 in
+    let ex : take (h - 0) (drop 0 (putMid 0 (h - 0) out y)) ≡ x = lent-again out y h ly ho ∙ ey in
+    let ec : o ≡ covered k false (st .args .m) 0x40 s (blocks (sizeOf suite) x) = call .ensures .0 ∙ ap (hidden k (xor (st .args .m) 0x40) s) ex ∙ sym (cover-short k pos false 0x40 (st .args .m) s x px (omega arith)) in
+    let lo : length o ≡ h = call .kept .1 .1 .1 .1 .1 .0 ∙ ap length ex ∙ lx in (
+      twice-written out y h ly ho o _ (call .kept .1 .1 .1 .1 .1 .0) ec,
       (
         sym lo ∙ ap length ec,
-        call .ensures .1 .two ∙ ap (turned k (xor (st .args .m) 0x40) s) ex ∙ sym (walk-short k pos 0x40 (st .args .m) s x px (omega arith)),
+        call .ensures .1 .two ∙ ap (turned k (xor (st .args .m) 0x40) s) ex ∙ sym (walk-short k pos false 0x40 (st .args .m) s x px (omega arith)),
       ),
     )
 
@@ -96,12 +117,16 @@ last-in-spec =
     tie.close
     (tie.spec
     returns
+    sub-copy
+    part-copy-start
+    part-copy-end
+    sub-copy-2
+    part-copy-start-2
+    part-copy-end-2
+    copy-requires
     sub-crypt-short
     part-crypt-short-start
     part-crypt-short-end
-    sub-crypt-short-2
-    part-crypt-short-start-2
-    part-crypt-short-end-2
     crypt-short-requires
     same-length
     returns-2)

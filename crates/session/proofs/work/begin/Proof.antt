@@ -22,6 +22,9 @@ use borrow.Author.Needs.{needs}
 use Rattle.session.proofs.work.begin.Statement.{statement}
 use Rattle.session.proofs.work.begin.Tie as tie
 
+held-long : (st : tie.Start) → length (st .args .s .held) ≡ 16
+held-long st = search needs
+
 returns : tie.Need-returns
 returns c =
     let s = c .before .before .before .before .args .s in
@@ -71,9 +74,8 @@ returns-3 c =
     let st = c .before .before .before .before .before .before .before .before .before .before in
     let s = st .args .s in
     let n = c .before .before .before .before .before .size-of in
-    let lh : length (s .held) ≡ 16 = search needs in
     c .absorb-short .ensures .two
-    ∙ begun-short (cipherOf (s .suite)) (asValue s) (n .result) (n .ensures .0) (n .ensures .1 .0) (n .ensures .1 .1) lh (c .before .before .before .before .before .before .if1 .left) (c .before .before .before .before .if2 .left)
+    ∙ begun-short (cipherOf (s .suite)) (asValue s) (n .result) (n .ensures .0) (n .ensures .1 .0) (n .ensures .1 .1) (held-long st) (c .before .before .before .before .before .before .if1 .left) (c .before .before .before .before .if2 .left)
     (c .before .before .before .first-mark .result) (c .before .before .before .first-mark .ensures)
 
 pub begin-spec : {M : Type 1} → statement M

@@ -1,74 +1,57 @@
 -- `step::block::crypt_short` meets its contract: the mask is of X, and the message goes in padded, whichever way the text goes.
 use borrow.Author.Needs.{needs}
 use denote.Ref.{now}
-use lib.ListN.{length}
+use lib.ListN.{length, take}
 use mathlib.Core.List.{List}
-use mathlib.Core.Path.{_≡_, _∙_, subst}
-use native.Mathlib.Omega.{arith}
-use Prim.Native.Nat.{ℕ, _-_, _<_}
+use mathlib.Core.Path.{_≡_, _∙_}
+use native.Mathlib.Nat.{le-of-lt}
+use Prim.Native.Nat.{ℕ}
 use Rattle.words.specs.declared.block.Block.{Block}
 use Rattle.words.specs.Blocks.{wide}
-use Rattle.words.specs.Xors.{xors}
-use Rattle.cipher.specs.Cipher.{Cipher, sizeOf, cipherOf}
-use Rattle.cipher.proofs.Suites.{size-most}
-use Rattle.mode.specs.Walk.{States, turned, hidden}
-use Rattle.step.specs.declared.state.State.{State}
-use Rattle.step.specs.Two.{twoOf, Holds, oneMore}
-use Rattle.step.proofs.Turns.{Goes, short-goes, mask-out, put-in}
+use Rattle.cipher.specs.Cipher.{cipherOf}
+use Rattle.mode.specs.Walk.{hidden}
+use Rattle.step.specs.Two.{twoOf}
+use Rattle.step.proofs.Turns.{cut-in, cut-goes, goes-out, put-in}
 use Rattle.step.proofs.block.crypt_short.Statement.{statement}
 use Rattle.step.proofs.block.crypt_short.Tie as tie
 
-module _ (d : tie.After-mask) where
+module _ (d : tie.After-put) where
   abbrev st : tie.Start
-  st = d .before .before .before .before .before .before .before
-
-  abbrev suite : ℕ
-  suite = st .args .suite
-
-  abbrev κ : Cipher
-  κ = cipherOf suite
-
-  abbrev S : States
-  S = twoOf suite (st .args .s)
+  st = d .before .before .before .before .before .before .before .before .before .before
 
   abbrev B : List ℕ
   B = now (st .args .b)
 
-  -- what went out
-  abbrev o : List ℕ
-  o = d .mask .last .1 .1 .0
+  -- the first bytes of c go out
+  out-is : take (length B) (wide (d .before .before .xor .result)) ≡ hidden (cipherOf (st .args .suite)) (st .args .m) (twoOf (st .args .suite) (st .args .s)) B
+  out-is =
+      let a = st .args in
+      let t = d .before .before .before .before .before .before .before .turn in
+      let p = d .before .before .before .before .filled in
+      let x = d .before .before .before .shuffled in
+      let w = d .before .before .xor in
+      goes-out (a .suite) (a .m) (a .s) (t .result) (t .ensures) B (p .result) (x .result) (w .result) (p .ensures) (x .ensures) (w .ensures) (le-of-lt (st .pre .2))
 
-  out-short : length o < sizeOf suite
-  out-short = omega (arith, d .mask .kept .1 .1 .0, st .pre .3, st .pre .2)
-
-  hidden-is : o ≡ hidden κ (st .args .m) S B
-  hidden-is =
-      let t = d .before .before .before .before .turn in
-      let h = d .before .before .shuffled in
-      d .mask .ensures ∙ mask-out suite (st .args .m) (st .args .s) (t .result) (t .ensures) B (wide (h .result)) (omega (arith, st .pre .2)) (h .ensures .0)
-
-  -- the state r after v went in as p
-  put-v : (v : List ℕ) (p : Block) (r : State) → Goes suite v p → wide (r .y) ≡ xors (wide (d .before .before .before .before .turn .result .y)) (wide p)
-      → (wide (r .z) ≡ wide (d .before .before .before .before .turn .result .z)) × (r .calls ≡ d .before .before .before .before .turn .result .calls) → Holds suite r (turned κ (st .args .m) S v) (oneMore (st .args .s .calls))
-  put-v v p r g ey e =
-      let t = d .before .before .before .before .turn in
-      put-in suite (st .args .m) (st .args .s) (t .result) (t .ensures) v p r g ey e
+size-of-requires : tie.Need-size-of-requires
+size-of-requires c κs = search needs
 
 turn-requires : tie.Need-turn-requires
 turn-requires c κs = search needs
 
+filled-requires : tie.Need-filled-requires
+filled-requires c κs = search needs
+
 shuffled-requires : tie.Need-shuffled-requires
 shuffled-requires c κs = search needs
 
-mask-requires : tie.Need-mask-requires
-mask-requires c κs =
-    let st = c .before .before .before .before .before .before in
-    (omega (arith, st .pre .2, size-most (st .args .suite)), st .pre .3)
+xor-requires : tie.Need-xor-requires
+xor-requires c κs = search needs
+
+put-requires : tie.Need-put-requires
+put-requires c κs = search needs
 
 padded-requires : tie.Need-padded-requires
-padded-requires c κs =
-    let d = c .before .before .before .before in
-    omega (arith, out-short d, size-most (st d .args .suite))
+padded-requires c κs = search needs
 
 mix-requires : tie.Need-mix-requires
 mix-requires c κs = search needs
@@ -78,18 +61,20 @@ same-length c = search needs
 
 returns : tie.Need-returns
 returns c =
-    let d = c .before .before .before .before .before .before in
-    let p = c .before .padded in (
-      hidden-is d,
-      rw (c .before .before .before .if1 .taken)
-          (subst (λ (v : List ℕ). Holds (suite d) (c .mix .result) (turned (κ d) (st d .args .m) (S d) v) (oneMore (st d .args .s .calls))) (hidden-is d)
-          (put-v d (o d) (p .result) (c .mix .result) (short-goes (suite d) (o d) (p .result) (out-short d) (p .ensures)) (c .mix .ensures .0) (c .mix .ensures .1))),
+    let d = c .before .before .before .before .before in
+    let a = st d .args in
+    let t = d .before .before .before .before .before .before .before .turn in
+    let p = d .before .before .before .before .filled in
+    let w = d .before .before .xor in
+    let q = c .before .padded in (
+      d .put .ensures ∙ out-is d,
+      rw (c .before .before .if1 .taken)
+          (put-in (a .suite) (a .m) (a .s) (t .result) (t .ensures) _ (q .result) (c .mix .result)
+          (cut-goes (a .suite) _ (length (B d)) (w .result) (q .result) (out-is d) (st d .pre .2) (q .ensures)) (c .mix .ensures .0) (c .mix .ensures .1)),
     )
 
 padded-requires-2 : tie.Need-padded-requires-2
-padded-requires-2 c κs =
-    let st = c .before .before .before .before .before .before .before .before .before .before in
-    omega (arith, st .pre .2, size-most (st .args .suite))
+padded-requires-2 c κs = search needs
 
 mix-requires-2 : tie.Need-mix-requires-2
 mix-requires-2 c κs = search needs
@@ -100,19 +85,27 @@ same-length-2 c = search needs
 returns-2 : tie.Need-returns-2
 returns-2 c =
     let d = c .before .before .before .before .before in
-    let p = c .before .padded2 in (
-      hidden-is d,
+    let a = st d .args in
+    let t = d .before .before .before .before .before .before .before .turn in
+    let p = d .before .before .before .before .filled in
+    let w = d .before .before .xor in
+    let q = c .before .padded2 in (
+      d .put .ensures ∙ out-is d,
       rw (c .before .before .if1 .left)
-          (put-v d (B d) (p .result) (c .mix2 .result) (short-goes (suite d) (B d) (p .result) (st d .pre .2) (p .ensures)) (c .mix2 .ensures .0) (c .mix2 .ensures .1)),
+          (put-in (a .suite) (a .m) (a .s) (t .result) (t .ensures) _ (q .result) (c .mix2 .result)
+          (cut-goes (a .suite) (B d) (length (B d)) (p .result) (q .result) (cut-in (B d) (p .result) (p .ensures)) (st d .pre .2) (q .ensures)) (c .mix2 .ensures .0) (c .mix2 .ensures .1)),
     )
 
 pub crypt-short-spec : {M : Type 1} → statement M
 crypt-short-spec =
     tie.close
     (tie.spec
+    size-of-requires
     turn-requires
+    filled-requires
     shuffled-requires
-    mask-requires
+    xor-requires
+    put-requires
     padded-requires
     mix-requires
     same-length

@@ -1,26 +1,33 @@
--- `step::pad::padded` meets its contract: 01 is stored behind the block.
+-- `step::pad::padded` meets its contract: the word in which the bytes end is padded.
 use borrow.Author.Needs.{needs}
-use denote.Ref.{now}
-use mathlib.Core.Path.{_∙_}
 use native.Mathlib.Omega.{arith}
-use Prim.Native.Nat.{_-_}
-use Rattle.step.proofs.Words.{pad-stored}
+use Rattle.step.proofs.Words.{pad-first, pad-second}
 use Rattle.step.proofs.pad.padded.Statement.{statement}
 use Rattle.step.proofs.pad.padded.Tie as tie
 
-filled-bytes-requires : tie.Need-filled-bytes-requires
-filled-bytes-requires c κs = search needs
+cast-padded8 : tie.Need-cast-padded8
+cast-padded8 c = search needs
 
-array-write-r : tie.Need-array-write-r
-array-write-r c = search needs
-
-block-of-requires : tie.Need-block-of-requires
-block-of-requires c κs = search needs
+padded8-requires : tie.Need-padded8-requires
+padded8-requires c κs = search needs
 
 returns : tie.Need-returns
 returns c =
-    let st = c .before .before .before in
-    c .block-of .ensures ∙ pad-stored (now (st .args .b)) (c .before .filled-bytes .result) (omega arith) (c .before .filled-bytes .ensures)
+    let x = c .before .before .args in
+    pad-first (x .k) (x .x .a) (x .x .b) (c .padded8 .result) (c .before .if1 .taken) (c .padded8 .ensures)
+
+cast-padded8-2 : tie.Need-cast-padded8-2
+cast-padded8-2 c = search needs
+
+padded8-requires-2 : tie.Need-padded8-requires-2
+padded8-requires-2 c κs = search needs
+
+returns-2 : tie.Need-returns-2
+returns-2 c =
+    let x = c .before .before .args in
+    pad-second (x .k) (x .x .a) (x .x .b) (c .padded82 .result) (omega (arith, c .before .if1 .left)) (c .before .before .pre) (c .padded82 .ensures)
 
 pub padded-spec : {M : Type 1} → statement M
-padded-spec = tie.close (tie.spec filled-bytes-requires array-write-r block-of-requires returns)
+padded-spec =
+    tie.close
+    (tie.spec cast-padded8 padded8-requires returns cast-padded8-2 padded8-requires-2 returns-2)

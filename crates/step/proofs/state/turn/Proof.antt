@@ -14,8 +14,8 @@ use Rattle.step.proofs.state.turn.Tie as tie
 block-key-requires : tie.Need-block-key-requires
 block-key-requires c κs = search needs
 
-encipher-requires : tie.Need-encipher-requires
-encipher-requires c κs = search needs
+image-requires : tie.Need-image-requires
+image-requires c κs = search needs
 
 kept-requires : tie.Need-kept-requires
 kept-requires c κs = search needs
@@ -31,11 +31,11 @@ returns c =
     record {
       two =
           states-path
-          (c .before .before .encipher .ensures .0 ∙ ap (λ (k : List ℕ). cipherOf (x .suite) .E k (take n (wide (x .s .y)))) ek)
+          (c .before .before .image .ensures .0 ∙ ap (λ (k : List ℕ). cipherOf (x .suite) .E k (take n (wide (x .s .y)))) ek)
           (c .before .kept .ensures ∙ ap (keptBehind (versionOf (x .suite)) (x .m)) ek);
-      clean = c .before .before .encipher .ensures .1;
+      clean = c .before .before .image .ensures .1;
       made = c .wrapping-add-u64 .ensures;
     }
 
 pub turn-spec : {M : Type 1} → statement M
-turn-spec = tie.close (tie.spec block-key-requires encipher-requires kept-requires wrapping-add-u64-requires returns)
+turn-spec = tie.close (tie.spec block-key-requires image-requires kept-requires wrapping-add-u64-requires returns)

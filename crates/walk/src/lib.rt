@@ -1,0 +1,167 @@
+// The whole blocks of a text, one step each, by loops that test no block's length: what the one-call sealer, the opener and the sessions have in common. The direction stands in each loop as a literal, and nobody else calls the full block's steps, so the compiler puts them into the loops.
+use cipher::Lent;
+use step::block::absorb_full;
+use step::block::open_full;
+use step::block::seal_full;
+use step::block::verify_full;
+use step::state::State;
+ghost use mathlib.Core.Path.{_≡_};
+ghost use mathlib.Core.Bool.{true, false};
+ghost use mathlib.Core.List.{_++_};
+ghost use Prim.Native.Nat.{ℕ};
+ghost use Rattle.cipher.specs.Cipher.{Ready, IsSuite, sizeOf, cipherOf};
+ghost use Rattle.mode.specs.Walk.{rest, covered};
+ghost use Rattle.step.specs.Two.{twoOf};
+ghost use Rattle.walk.specs.Behind.{wholes, Passed};
+
+// What stands behind the whole blocks: the state, the mark that the next block takes as the first, and how many bytes have gone in.
+pub struct Behind {
+    pub s: State,
+    pub mark: u8,
+    pub at: usize,
+}
+
+// Whole blocks of associated data.
+fn absorb_blocks(tb: &[Lent], suite: u8, s: State, m: u8, b: &[u8]) -> Behind
+    requires { ⌜ Ready suite (now tb) × IsSuite suite ⌝ }
+    ensures { λ r. ⌜ Passed suite false m s (now (b .entry)) r ⌝ }
+{
+    let n = cipher::size_of(suite);
+    if b.len() < n {
+        return Behind {
+            s: s,
+            mark: m,
+            at: 0,
+        };
+    }
+    let last = b.len() - n;
+    let mut t = s;
+    let mut k = m;
+    let mut i: usize = 0;
+    while i <= last {
+        let e = i + n;
+        t = absorb_full(tb, suite, t, k, &b[i..e]);
+        k = 0;
+        i = e;
+    }
+    Behind {
+        s: t,
+        mark: k,
+        at: i,
+    }
+}
+
+// Whole blocks of ciphertext, whose message goes in.
+fn verify_blocks(tb: &[Lent], suite: u8, s: State, m: u8, b: &[u8]) -> Behind
+    requires { ⌜ Ready suite (now tb) × IsSuite suite ⌝ }
+    ensures { λ r. ⌜ Passed suite true m s (now (b .entry)) r ⌝ }
+{
+    let n = cipher::size_of(suite);
+    if b.len() < n {
+        return Behind {
+            s: s,
+            mark: m,
+            at: 0,
+        };
+    }
+    let last = b.len() - n;
+    let mut t = s;
+    let mut k = m;
+    let mut i: usize = 0;
+    while i <= last {
+        let e = i + n;
+        t = verify_full(tb, suite, t, k, &b[i..e]);
+        k = 0;
+        i = e;
+    }
+    Behind {
+        s: t,
+        mark: k,
+        at: i,
+    }
+}
+
+// The whole blocks of b go in, the first under the mark m, and nothing is written: of associated data as they are, of ciphertext that is opened the message's.
+pub fn absorb(tb: &[Lent], opening: bool, suite: u8, s: State, m: u8, b: &[u8]) -> Behind
+    requires { ⌜ Ready suite (now tb) × IsSuite suite ⌝ }
+    ensures { λ r. ⌜ Passed suite opening m s (now (b .entry)) r ⌝ }
+{
+    if opening {
+        return verify_blocks(tb, suite, s, m, b);
+    }
+    absorb_blocks(tb, suite, s, m, b)
+}
+
+// Whole blocks of a message, sealed.
+fn seal_blocks(tb: &[Lent], suite: u8, s: State, m: u8, text: &mut [u8]) -> Behind
+    requires { ⌜ Ready suite (now tb) × IsSuite suite ⌝ }
+    ensures text { λ _. ⌜ ((short : ℕ) → now (text .exit) ≡ covered (cipherOf suite) false m short (twoOf suite s) (wholes (sizeOf suite) (now (text .entry))) ++ rest (sizeOf suite) (now (text .entry))) ⌝ }
+    ensures state { λ r. ⌜ Passed suite false m s (now (text .entry)) r ⌝ }
+{
+    let n = cipher::size_of(suite);
+    if text.len() < n {
+        return Behind {
+            s: s,
+            mark: m,
+            at: 0,
+        };
+    }
+    let last = text.len() - n;
+    let mut t = s;
+    let mut k = m;
+    let mut i: usize = 0;
+    while i <= last {
+        let e = i + n;
+        t = seal_full(tb, suite, t, k, &mut text[i..e]);
+        k = 0;
+        i = e;
+    }
+    Behind {
+        s: t,
+        mark: k,
+        at: i,
+    }
+}
+
+// Whole blocks of ciphertext, opened.
+fn open_blocks(tb: &[Lent], suite: u8, s: State, m: u8, text: &mut [u8]) -> Behind
+    requires { ⌜ Ready suite (now tb) × IsSuite suite ⌝ }
+    ensures text { λ _. ⌜ ((short : ℕ) → now (text .exit) ≡ covered (cipherOf suite) true m short (twoOf suite s) (wholes (sizeOf suite) (now (text .entry))) ++ rest (sizeOf suite) (now (text .entry))) ⌝ }
+    ensures state { λ r. ⌜ Passed suite true m s (now (text .entry)) r ⌝ }
+{
+    let n = cipher::size_of(suite);
+    if text.len() < n {
+        return Behind {
+            s: s,
+            mark: m,
+            at: 0,
+        };
+    }
+    let last = text.len() - n;
+    let mut t = s;
+    let mut k = m;
+    let mut i: usize = 0;
+    while i <= last {
+        let e = i + n;
+        t = open_full(tb, suite, t, k, &mut text[i..e]);
+        k = 0;
+        i = e;
+    }
+    Behind {
+        s: t,
+        mark: k,
+        at: i,
+    }
+}
+
+// The whole blocks of a text go in, the first under the mark m, and what goes out for them takes their place; what lies behind them stays.
+pub fn crypt(tb: &[Lent], opening: bool, suite: u8, s: State, m: u8, text: &mut [u8]) -> Behind
+    requires { ⌜ Ready suite (now tb) × IsSuite suite ⌝ }
+    ensures text { λ _. ⌜ ((short : ℕ) → now (text .exit) ≡ covered (cipherOf suite) opening m short (twoOf suite s) (wholes (sizeOf suite) (now (text .entry))) ++ rest (sizeOf suite) (now (text .entry))) ⌝ }
+    ensures state { λ r. ⌜ Passed suite opening m s (now (text .entry)) r ⌝ }
+{
+    if opening {
+        return open_blocks(tb, suite, s, m, text);
+    }
+    seal_blocks(tb, suite, s, m, text)
+}
