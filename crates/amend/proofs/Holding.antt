@@ -17,7 +17,8 @@ use Rattle.shift.specs.Lookup.{lookupJob}
 use Rattle.shift.specs.Entry.{dataStart, dataLength, textStart, textLength, entryOf}
 use Rattle.shift.proofs.Finding.{finds}
 use Rattle.amend.specs.declared.Amended.{Amended}
-use Rattle.amend.specs.Amending.{noEntry, inFile, refused, amendedEntry, refusing}
+use Rattle.amend.specs.Amending.{noEntry, inFile, refused, amendedEntry}
+use Rattle.amend.specs.Inside.{refusing, Tells}
 
 -- a number is 0 or not
 pub zero-or-not : {A : Type 0} (m : ℕ) → (m ≡ 0 → A) → ((m ≡ 0 → ⊥) → A) → A
@@ -76,9 +77,9 @@ module _ (f : List ℕ) (job : ℕ) where
   pub passes-file : refusing (lookupJob f job .number) ≡ false → checkFile f .number ≡ 0
   passes-file e = eqb-true _ _ (not-false _ (sym number-tells ∙ e))
 
-  -- as the code asks it, of an entry that it was given
-  pub flag : (x : Entry) (r b : Bool) → x ≡ entryOf f job → r ≡ refusing (x .number) → r ≡ b → refusing (lookupJob f job .number) ≡ b
-  flag x r b q p e = sym (ap (λ (y : Entry). refusing (y .number)) q) ∙ sym p ∙ e
+  -- as the code asks it, of a number that it was given
+  pub flag : (m : ℕ) (r b : Bool) → m ≡ lookupJob f job .number → r ≡ refusing m → r ≡ b → refusing (lookupJob f job .number) ≡ b
+  flag m r b q p e = sym (ap refusing q) ∙ sym p ∙ e
 
 -- ---- the five cases
 
@@ -140,3 +141,32 @@ module _ (a d : List ℕ) (job : ℕ) where
 
       pub told-neither : (lookupJob a job .number ≡ 0 → ⊥) → (lookupJob d job .number ≡ 0 → ⊥) → inFile 0 (entryOf d job) ≡ amendedEntry a d job
       told-neither n m = ap (inFile 0) (entry-missing d job (passes-file d job g) m) ∙ sym (in-neither (passes-file a job e) (passes-file d job g) n m)
+
+  -- ---- what the code looks up: a file, and a lookup
+
+  -- the amendment's lookup, where the number speaks of it
+  pub first-tells : (x : Answer) → x ≡ lookupJob a job → inFile 1 (entryOf a job) ≡ amendedEntry a d job → Tells a d job 1 x
+  first-tells x q e = record { named = ap (λ (y : Amended). y .file) e; amendment = λ k. q; day = λ n. absurd (n refl) }
+
+  -- else the day's
+  pub second-tells : (k : ℕ) (x : Answer) → (k ≡ 1 → ⊥) → x ≡ lookupJob d job → inFile k (entryOf d job) ≡ amendedEntry a d job → Tells a d job k x
+  second-tells k x n q e = record { named = ap (λ (y : Amended). y .file) e; amendment = λ z. absurd (n z); day = λ z. q }
+
+  -- and they tell the entry
+  pub first-located : amendedEntry a d job .file ≡ 1 → inFile 1 (entryOf a job) ≡ amendedEntry a d job
+  first-located =
+      five (λ y. y .file ≡ 1 → inFile 1 (entryOf a job) ≡ y)
+      (λ p k. ap (inFile 1) (entry-refused a job p))
+      (λ p q k. absurd (omega arith))
+      (λ p q h k. refl)
+      (λ p q n h k. absurd (omega arith))
+      (λ p q n m k. absurd (omega arith))
+
+  pub second-located : (amendedEntry a d job .file ≡ 1 → ⊥) → inFile (amendedEntry a d job .file) (entryOf d job) ≡ amendedEntry a d job
+  second-located =
+      five (λ y. (y .file ≡ 1 → ⊥) → inFile (y .file) (entryOf d job) ≡ y)
+      (λ p n. absurd (n refl))
+      (λ p q n. ap (inFile 2) (entry-refused d job q))
+      (λ p q h n. absurd (n refl))
+      (λ p q n h z. refl)
+      (λ p q n m z. ap (inFile 0) (entry-missing d job q m))

@@ -15,7 +15,7 @@ use Rattle.table.specs.Check.{checkFile}
 use Rattle.shift.specs.declared.answers.Entry.{Entry}
 use Rattle.shift.specs.Lookup.{lookupJob}
 use Rattle.shift.specs.Entry.{entryOf}
-use Rattle.shift.specs.Opening.{JobOpened, left, jobOpening}
+use Rattle.shift.specs.Opening.{JobOpened, left, foundOpening, jobOpening}
 use Rattle.shift.proofs.Places.{data-in}
 use Rattle.amend.specs.declared.Amended.{Amended}
 use Rattle.amend.specs.Amending.{amendedEntry, holder, CurrentPart, openedIn, amendedOpening}
@@ -33,6 +33,11 @@ holder-day a d x z q = simp (eq-eqb _ _ z, eq-eqb _ _ q)
 pub holder-amendment : {A : Type 0} (a d : A) (x : Amended) → x .entry .number ≡ 0 → (x .file ≡ 2 → ⊥) → holder a d x ≡ a
 unfolding holder
 holder-amendment a d x z n = simp (eq-eqb _ _ z, ne-eqb _ _ n)
+
+-- what a file's lookup found, opened, is the job's opening
+pub found-opens : (f ring : List ℕ) (job : ℕ) (out₀ : List ℕ) (x : Answer) → x ≡ lookupJob f job → foundOpening f ring x out₀ ≡ jobOpening f ring job out₀
+unfolding jobOpening
+found-opens f ring job out₀ x q = ap (λ (y : Answer). foundOpening f ring y out₀) q
 
 -- a refusal has no place
 pub record NoPlace (x : Amended) : Type 0 where

@@ -67,7 +67,3 @@ amendedOpening a d ring job out₀ =
     (cond (eqb (x .entry .number) 0)
     (jobOpening (holder a d x) ring job out₀)
     (left (answer (x .entry .number) (x .entry .row)) out₀))
-
--- a lookup's number that is no row and not 32: the file was refused
-unfoldable pub refusing : ℕ → Bool
-refusing m = not (eqb m 0) && not (eqb m 32)

@@ -1,2 +1,3 @@
 pub mod Amending
+pub mod Inside
 pub mod Promised

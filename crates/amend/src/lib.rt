@@ -1,10 +1,14 @@
 // Amendments: a small file that replaces some jobs of the day's.
 use shift::answers::Entry;
+use shift::answers::Found;
 use shift::answers::JobAnswer;
+use shift::found::entry_found;
+use shift::found::open_found;
 use table::row::stretch;
 ghost use mathlib.Core.Path.{_≡_};
-ghost use Rattle.shift.specs.Answers.{openedAnswer};
-ghost use Rattle.amend.specs.Amending.{refusing, amendedEntry, CurrentPart, AmendedOpening, amendedOpening};
+ghost use Rattle.shift.specs.Answers.{foundAnswer, openedAnswer};
+ghost use Rattle.amend.specs.Amending.{amendedEntry, CurrentPart, AmendedOpening, amendedOpening};
+ghost use Rattle.amend.specs.Inside.{refusing, Tells};
 
 // The current entry of a job: the file that its number speaks of (1 the amendment, 2 the day's, 0 where neither has the
 // job), and the entry.
@@ -19,6 +23,12 @@ pub struct OpenedIn {
     pub opened: JobAnswer,
 }
 
+// What tells the current entry: the file that its number speaks of, and that file's lookup (the day's, where neither has the job).
+struct Looked {
+    file: u8,
+    found: Found,
+}
+
 // A lookup's number that refuses the file: neither a row nor 32.
 fn refuses(number: u8) -> bool
     ensures { λ r. ⌜ r ≡ refusing number ⌝ }
@@ -29,39 +39,59 @@ fn refuses(number: u8) -> bool
     number != 32
 }
 
+// The full check of the amendment, then of the day's file; then the amendment's lookup if it has the job, else the day's.
+fn look_up(amendment: &[u8], day: &[u8], job: u32) -> Looked
+    ensures { λ r. ⌜ Tells (now (amendment .entry)) (now (day .entry)) job (r .file) (foundAnswer (r .found)) ⌝ }
+{
+    let one = shift::lookup(amendment, job);
+    let first = one.answer();
+    if refuses(first.number) {
+        return Looked {
+            file: 1,
+            found: one,
+        };
+    }
+    let two = shift::lookup(day, job);
+    let second = two.answer();
+    if refuses(second.number) {
+        return Looked {
+            file: 2,
+            found: two,
+        };
+    }
+    if first.number == 0 {
+        return Looked {
+            file: 1,
+            found: one,
+        };
+    }
+    if second.number == 0 {
+        return Looked {
+            file: 2,
+            found: two,
+        };
+    }
+    Looked {
+        file: 0,
+        found: two,
+    }
+}
+
 // The full check of the amendment, then of the day's file; then the amendment's entry if it has the job, else the day's, or 32.
 pub fn locate(amendment: &[u8], day: &[u8], job: u32) -> Amended
     ensures { λ r. ⌜ r ≡ amendedEntry (now (amendment .entry)) (now (day .entry)) job ⌝ }
 {
-    let first = shift::entry(amendment, job);
-    if refuses(first.number) {
+    let x = look_up(amendment, day, job);
+    let found = x.found;
+    if x.file == 1 {
         return Amended {
             file: 1,
-            entry: first,
-        };
-    }
-    let second = shift::entry(day, job);
-    if refuses(second.number) {
-        return Amended {
-            file: 2,
-            entry: second,
-        };
-    }
-    if first.number == 0 {
-        return Amended {
-            file: 1,
-            entry: first,
-        };
-    }
-    if second.number == 0 {
-        return Amended {
-            file: 2,
-            entry: second,
+            entry: entry_found(amendment, found),
         };
     }
     Amended {
-        file: 0,
-        entry: second,
+        file: x.file,
+        entry: entry_found(day, found),
     }
 }
 
@@ -87,15 +117,17 @@ pub fn open_current(amendment: &[u8], day: &[u8], ring: &[u8], job: u32, out: &m
     ensures { λ r. ⌜ _≡_ {A = AmendedOpening} (record { file = r .file; answer = openedAnswer (r .opened); out = now (out .exit) })
         (amendedOpening (now (amendment .entry)) (now (day .entry)) (now (ring .entry)) job (now (out .entry))) ⌝ }
 {
-    let x = locate(amendment, day, job);
-    if x.file == 1 {
+    let x = look_up(amendment, day, job);
+    let file = x.file;
+    let found = x.found;
+    if file == 1 {
         return OpenedIn {
             file: 1,
-            opened: shift::open_job(amendment, ring, job, out),
+            opened: open_found(amendment, ring, found, out),
         };
     }
     OpenedIn {
-        file: x.file,
-        opened: shift::open_job(day, ring, job, out),
+        file: file,
+        opened: open_found(day, ring, found, out),
     }
 }

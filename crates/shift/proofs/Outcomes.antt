@@ -27,6 +27,10 @@ use Rattle.shift.proofs.associated.Kinds as associated-kinds
 use Rattle.shift.proofs.associated.Reads as associated-reads
 use Rattle.shift.proofs.open_job.Kinds as open-job-kinds
 use Rattle.shift.proofs.open_job.Reads as open-job-reads
+use Rattle.shift.proofs.found.entry_found.Kinds as entry-found-kinds
+use Rattle.shift.proofs.found.entry_found.Reads as entry-found-reads
+use Rattle.shift.proofs.found.open_found.Kinds as open-found-kinds
+use Rattle.shift.proofs.found.open_found.Reads as open-found-reads
 use Rattle.shift.proofs.lend.row_of.Kinds as row-of-kinds
 use Rattle.shift.proofs.lend.row_of.Reads as row-of-reads
 use Rattle.shift.proofs.lend.seal_as.Kinds as seal-as-kinds
@@ -85,6 +89,14 @@ associated κs a x y = part-one (x .ensures) (y .ensures)
 
 pub open-job : OneOutcome open-job-kinds.ps open-job-kinds.r open-job-reads.Pre open-job-reads.Post
 open-job κs a h x y =
+    let e = x .ensures ∙ sym (y .ensures) in
+    (opened-one (ap (λ (z : JobOpened). z .answer) e), ap (λ (z : JobOpened). (tt, (tt, (tt, (z .out, tt))))) e)
+
+pub entry-found : OneOutcome entry-found-kinds.ps entry-found-kinds.r entry-found-reads.Pre entry-found-reads.Post
+entry-found κs a h x y = (x .ensures ∙ sym (y .ensures), refl)
+
+pub open-found : OneOutcome open-found-kinds.ps open-found-kinds.r open-found-reads.Pre open-found-reads.Post
+open-found κs a h x y =
     let e = x .ensures ∙ sym (y .ensures) in
     (opened-one (ap (λ (z : JobOpened). z .answer) e), ap (λ (z : JobOpened). (tt, (tt, (tt, (z .out, tt))))) e)
 

@@ -13,26 +13,26 @@ use Rattle.table.specs.Format.{rowOf, bodyEnd}
 use Rattle.table.specs.Answers.{answer}
 use Rattle.shift.specs.declared.answers.Entry.{Entry}
 use Rattle.shift.specs.Lookup.{lookupJob}
-use Rattle.shift.specs.Entry.{dataStart, dataLength, textStart, textLength, entryOf, Lies, EntriesLie}
+use Rattle.shift.specs.Entry.{dataStart, dataLength, textStart, textLength, entryAt, entryOf, Lies, EntriesLie}
 use Rattle.shift.proofs.Lookups.{holding, found-in}
 
 -- an entry's six values
 abbrev placed : Answer → ℕ → ℕ → ℕ → ℕ → Entry
 placed x a b c d = record { number = x .number; row = x .row; «ad_at» = a; «ad_len» = b; «text_at» = c; «text_len» = d }
 
-module _ (f : List ℕ) (job : ℕ) where
-  pub places-found : (i : ℕ) → lookupJob f job ≡ answer 0 i → placed (answer 0 i) (rowOf f i .at) (rowOf f i .ad) (rowOf f i .at + rowOf f i .ad) (rowOf f i .len) ≡ entryOf f job
+module _ (f : List ℕ) (x : Answer) where
+  pub places-found : (i : ℕ) → x ≡ answer 0 i → placed (answer 0 i) (rowOf f i .at) (rowOf f i .ad) (rowOf f i .at + rowOf f i .ad) (rowOf f i .len) ≡ entryAt f x
   unfolding dataStart dataLength textStart textLength
   places-found i q = simp q
 
-  pub places-none : (a : Answer) → (a .number ≡ lookupJob f job .number) × (a .row ≡ lookupJob f job .row) → (lookupJob f job .number ≡ 0 → ⊥) → placed a 0 0 0 0 ≡ entryOf f job
+  pub places-none : (a : Answer) → (a .number ≡ x .number) × (a .row ≡ x .row) → (x .number ≡ 0 → ⊥) → placed a 0 0 0 0 ≡ entryAt f x
   unfolding dataStart dataLength textStart textLength
   places-none a q n = simp (q .0, q .1, ne-eqb _ _ n)
 
-  -- a found row's text starts at a place of 32 bits
-  pub text-low : (i : ℕ) → lookupJob f job ≡ answer 0 i → rowOf f i .at + rowOf f i .ad ≤ 1048576
-  unfolding bodyEnd
-  text-low i q = omega (arith, found-in f job i q .body-in, holding f job i q .file .head .short)
+-- a found row's text starts at a place of 32 bits
+pub text-low : (f : List ℕ) (job i : ℕ) → lookupJob f job ≡ answer 0 i → rowOf f i .at + rowOf f i .ad ≤ 1048576
+unfolding bodyEnd
+text-low f job i q = omega (arith, found-in f job i q .body-in, holding f job i q .file .head .short)
 
 -- the theorem
 pub entries-lie : EntriesLie

@@ -25,16 +25,20 @@ textStart f x = cond (eqb (x .number) 0) (rowOf f (x .row) .at + rowOf f (x .row
 unfoldable pub textLength : List ℕ → Answer → ℕ
 textLength f x = cond (eqb (x .number) 0) (rowOf f (x .row) .len) 0
 
--- the lookup's number and row, and the places
-abbrev pub entryOf : List ℕ → ℕ → Entry
-entryOf f job = record {
-  number = lookupJob f job .number;
-  row = lookupJob f job .row;
-  «ad_at» = dataStart f (lookupJob f job);
-  «ad_len» = dataLength f (lookupJob f job);
-  «text_at» = textStart f (lookupJob f job);
-  «text_len» = textLength f (lookupJob f job);
+-- a lookup's number and row, and the places
+abbrev pub entryAt : List ℕ → Answer → Entry
+entryAt f x = record {
+  number = x .number;
+  row = x .row;
+  «ad_at» = dataStart f x;
+  «ad_len» = dataLength f x;
+  «text_at» = textStart f x;
+  «text_len» = textLength f x;
 }
+
+-- those of a job
+abbrev pub entryOf : List ℕ → ℕ → Entry
+entryOf f job = entryAt f (lookupJob f job)
 
 -- an entry lies in the file, its text right behind its associated data
 pub record Lies (f : List ℕ) (x : Entry) : Type 0 where

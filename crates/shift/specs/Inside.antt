@@ -3,9 +3,11 @@ use Prim.Native.Nat.{ℕ, _+_, _*_, _≤_}
 use mathlib.Core.Path.{_≡_}
 use mathlib.Core.List.{List}
 use lib.ListN.{length}
+use Rattle.table.specs.declared.answers.Answer.{Answer}
 use Rattle.table.specs.declared.row.Row.{Row}
 use Rattle.table.specs.Format.{widthOf, rowOf, bodyEnd}
 use Rattle.table.specs.Inside.{RowIn}
+use Rattle.shift.specs.Lookup.{lookupJob}
 
 -- what the opener is lent of row i lies in the file and in the ring
 pub record Lendable (f ring : List ℕ) (i : ℕ) (r : Row) : Type 0 where
@@ -13,3 +15,8 @@ pub record Lendable (f ring : List ℕ) (i : ℕ) (r : Row) : Type 0 where
   pub row-in : RowIn (widthOf f) f i
   pub key-in : 16 * r .key + 16 ≤ length ring
   pub body-in : bodyEnd r ≤ length f
+
+-- a lookup in the file gave x
+pub record FoundIn (f : List ℕ) (x : Answer) : Type 0 where
+  pub job : ℕ
+  pub gives : x ≡ lookupJob f job

@@ -51,9 +51,9 @@ rowOpening f ring i out₀ =
     (cond (not (eqb (length out₀) (rowOf f i .len))) (left (answer 6 0) out₀)
     (left (answer (entryOpening f ring i out₀ .number) 0) (entryOpening f ring i out₀ .out)))
 
--- a lookup that refuses is the answer, and no key is touched
+-- a lookup that refuses is the answer, and no key is touched; else the row that it found is opened
+abbrev pub foundOpening : List ℕ → List ℕ → Answer → List ℕ → JobOpened
+foundOpening f ring x out₀ = cond (eqb (x .number) 0) (rowOpening f ring (x .row) out₀) (left x out₀)
+
 unfoldable pub jobOpening : List ℕ → List ℕ → ℕ → List ℕ → JobOpened
-jobOpening f ring job out₀ =
-    cond (eqb (lookupJob f job .number) 0)
-    (rowOpening f ring (lookupJob f job .row) out₀)
-    (left (lookupJob f job) out₀)
+jobOpening f ring job out₀ = foundOpening f ring (lookupJob f job) out₀

@@ -1,13 +1,13 @@
 // The jobs of the plant's shift file: the lookup of a job, its entry, its associated data, and its opening.
 pub mod answers;
 mod find;
+pub mod found;
 pub mod lend;
 mod opening;
 
 use answers::Entry;
 use answers::Found;
 use answers::JobAnswer;
-use lend::row_of;
 use table::answers::Checked;
 use table::check;
 use table::row::count;
@@ -37,27 +37,7 @@ pub fn lookup(file: &[u8], job: u32) -> Found
 pub fn entry(file: &[u8], job: u32) -> Entry
     ensures { λ r. ⌜ r ≡ entryOf (now (file .entry)) job ⌝ }
 {
-    let found = lookup(file, job);
-    let Found::At(i) = found else {
-        let a = found.answer();
-        return Entry {
-            number: a.number,
-            row: a.row,
-            ad_at: 0,
-            ad_len: 0,
-            text_at: 0,
-            text_len: 0,
-        };
-    };
-    let row = row_of(file, i);
-    Entry {
-        number: 0,
-        row: i,
-        ad_at: row.at,
-        ad_len: row.ad as u32,
-        text_at: row.at + row.ad as u32,
-        text_len: row.len,
-    }
+    found::entry_found(file, lookup(file, job))
 }
 
 // The associated data of a job, as a part of the file; its first zero bytes where the lookup refuses.
@@ -72,9 +52,5 @@ pub fn associated(file: &[u8], job: u32) -> &[u8]
 pub fn open_job(file: &[u8], ring: &[u8], job: u32, out: &mut [u8]) -> JobAnswer
     ensures { λ r. ⌜ _≡_ {A = JobOpened} (record { answer = openedAnswer r; out = now (out .exit) }) (jobOpening (now (file .entry)) (now (ring .entry)) job (now (out .entry))) ⌝ }
 {
-    let found = lookup(file, job);
-    let Found::At(i) = found else {
-        return opening::stopped(found);
-    };
-    opening::open_entry(file, ring, i, out)
+    found::open_found(file, ring, lookup(file, job), out)
 }

@@ -1,48 +1,46 @@
--- The file that the located entry speaks of answers: a refusal by its own lookup, an entry by opening it.
+-- The file that the number speaks of answers: a refusal of its own lookup stands, and a row that it found is opened.
 use mathlib.Core.Path.{sym, ap, ap₂, _∙_}
 use borrow.Author.Needs.{needs}
-use Rattle.amend.specs.declared.Amended.{Amended}
 use Rattle.amend.specs.Amending.{openedIn}
-use Rattle.amend.proofs.Parts.{opens-first, opens-second}
+use Rattle.amend.proofs.Parts.{found-opens, opens-first, opens-second}
 use Rattle.amend.proofs.open_current.Statement.{statement}
 use Rattle.amend.proofs.open_current.Tie as tie
 
-locate-requires : tie.Need-locate-requires
-locate-requires c κs = search needs
+look-up-requires : tie.Need-look-up-requires
+look-up-requires c κs = search needs
 
-open-job-requires : tie.Need-open-job-requires
-open-job-requires c κs = search needs
+open-found-requires : tie.Need-open-found-requires
+open-found-requires c κs = record { job = c .before .before .before .before .before .before .before .args .job; gives = c .before .before .look-up .ensures .amendment (c .before .if1 .taken) }
 
 same-length : tie.Need-same-length
 same-length c = search needs
 
 returns : tie.Need-returns
 returns c =
-    let l = c .before .before .before .before .before .before .locate .ensures in
-    ap (openedIn 1) (c .before .before .open-job .ensures)
-    ∙ opens-first _ _ _ _ _ (sym (ap (λ (x : Amended). x .file) l) ∙ c .before .before .before .before .if1 .taken)
+    let i = c .before .before .before .before in
+    let t = i .before .look-up .ensures in
+    ap (openedIn 1) (c .before .before .open-found .ensures ∙ found-opens _ _ _ _ _ (t .amendment (i .if1 .taken))) ∙ opens-first _ _ _ _ _ (sym (t .named) ∙ i .if1 .taken)
 
-open-job-requires-2 : tie.Need-open-job-requires-2
-open-job-requires-2 c κs = search needs
+open-found-requires-2 : tie.Need-open-found-requires-2
+open-found-requires-2 c κs = record { job = c .before .before .before .before .before .before .before .args .job; gives = c .before .before .look-up .ensures .day (c .before .if1 .left) }
 
 same-length-2 : tie.Need-same-length-2
 same-length-2 c = search needs
 
 returns-2 : tie.Need-returns-2
 returns-2 c =
-    let l = c .before .before .before .before .before .before .locate .ensures in
-    let k = ap (λ (x : Amended). x .file) l in
-    ap₂ openedIn k (c .before .before .open-job2 .ensures)
-    ∙ opens-second _ _ _ _ _ (λ z. c .before .before .before .before .if1 .left (k ∙ z))
+    let i = c .before .before .before .before in
+    let t = i .before .look-up .ensures in
+    ap₂ openedIn (t .named) (c .before .before .open-found2 .ensures ∙ found-opens _ _ _ _ _ (t .day (i .if1 .left))) ∙ opens-second _ _ _ _ _ (λ z. i .if1 .left (t .named ∙ z))
 
 pub open-current-spec : {M : Type 1} → statement M
 open-current-spec =
     tie.close
     (tie.spec
-    locate-requires
-    open-job-requires
+    look-up-requires
+    open-found-requires
     same-length
     returns
-    open-job-requires-2
+    open-found-requires-2
     same-length-2
     returns-2)

@@ -1,6 +1,6 @@
 -- 0 and 32 are the numbers that refuse no file.
 use borrow.Author.Tests.{eq-eqb, ne-eqb}
-use Rattle.amend.specs.Amending.{refusing}
+use Rattle.amend.specs.Inside.{refusing}
 use Rattle.amend.proofs.refuses.Statement.{statement}
 use Rattle.amend.proofs.refuses.Tie as tie
 
