@@ -2,8 +2,8 @@
 
 use reference::calls::{Case, REFERENCE};
 use reference::data::{
-    amending, cases, comparing, counted, files, moving, parts, reading, resealing, searching, sessions, writing,
-    FOLDERS,
+    amending, cases, comparing, counted, files, moving, parts, printing, reading, resealing, searching, sessions,
+    writing, FOLDERS,
 };
 use reference::random::Random;
 use reference::trials;
@@ -108,6 +108,34 @@ fn counted_provokes_every_number() {
 fn reading_provokes_every_number() {
     let numbers: BTreeSet<u32> = reading::calls().iter().map(|call| call.answer(&REFERENCE).report.number).collect();
     assert_eq!(numbers, [0, 2, 6, 34].into_iter().chain(20..=31).collect());
+}
+
+/// The first line of what a program prints has every number that it can have, and its entries are shown in every way.
+#[test]
+fn printing_provokes_every_number() {
+    use printing::PrintCall::{Current, Differ, Inspect, Job};
+    let calls = printing::calls();
+    let first = |is: fn(&printing::PrintCall) -> bool, word: usize| -> BTreeSet<String> {
+        let lines = calls.iter().filter(|call| is(call)).map(|call| call.printed());
+        lines.map(|text| text.lines().next().unwrap().split(' ').nth(word).unwrap_or("").to_string()).collect()
+    };
+    let numbers = |more: &[&str]| -> BTreeSet<String> {
+        (20..=31).chain([34]).map(|number| number.to_string()).chain(more.iter().map(|word| word.to_string())).collect()
+    };
+    assert_eq!(first(|call| matches!(call, Job { .. }), 0), numbers(&["0", "2", "8", "32"]));
+    assert_eq!(first(|call| matches!(call, Current { .. }), 0), numbers(&["0", "2", "8", "32"]));
+    assert_eq!(first(|call| matches!(call, Current { .. }), 1), ["0", "1", "2"].map(String::from).into());
+    assert_eq!(first(|call| matches!(call, Differ { .. }), 2), numbers(&[""]));
+    assert_eq!(first(|call| matches!(call, Differ { .. }), 1), ["", "1", "2"].map(String::from).into());
+    let inspected = first(|call| matches!(call, Inspect { .. }), 1);
+    assert!(numbers(&["0", "2", "3", "512"]).is_subset(&inspected));
+    let text: String = calls.iter().map(|call| call.printed()).collect();
+    for line in ["unit 1 newton-metres", "unit 2 inch-pounds", "data empty", "message empty", "station 0"] {
+        assert!(text.contains(&format!("\n{line}\n")), "{line}");
+    }
+    for start in ["data text ", "data hex ", "message text ", "message hex ", "station 4294967295"] {
+        assert!(text.contains(&format!("\n{start}")), "{start}");
+    }
 }
 
 /// The random files of the comparison are of all kinds too.
