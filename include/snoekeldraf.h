@@ -7,7 +7,8 @@
  *   - what is written (out, tag of the sealer, row, places and lengths) overlaps nothing else that is passed:
  *     a record is not sealed or opened in place;
  *   - suite is one byte, and C cuts a larger number to its lowest eight bits before the call: 257 would be suite 1.
- * The functions keep nothing from one call to the next, need no memory but the stack, and call memcpy and memset alone.
+ * The functions keep nothing from one call to the next, need no memory but the stack (docs/LIBRARY.md says how much for
+ * each; most take 1 to 6 KiB), and call memcpy and memset alone.
  * Nothing is promised of the time that a call takes.
  *
  * Suite        1 AES-128   2 CHAM-128/128   3 Speck-64/128   4 CHAM-64/128
@@ -248,7 +249,7 @@ uint32_t shift_unseal_file(const uint8_t *file, size_t file_len,
  *   6   out_len is not file_len
  *   8   the tag of a suite 4 row differs; the first such row. Every byte of out is 0
  *   0   done: out is written whole; it passes shift_check and has no suite 4 row
- * out may not overlap file or ring. The pass takes some 80 KiB of stack.
+ * out may not overlap file or ring. The pass takes some 70 KiB of stack.
  */
 uint32_t shift_reseal(const uint8_t *file, size_t file_len,
                       const uint8_t *ring, size_t ring_len,
@@ -336,7 +337,7 @@ uint32_t shift_compare(const uint8_t *first, size_t first_len,
  *   6             a list has fewer places than there are entries
  *   0             *count entries
  * *count and *row are written always, and are 0 where nothing else is said. Every refusal leaves both lists unchanged, and 0
- * leaves the places past the count. The call uses 64 KiB of stack.
+ * leaves the places past the count. The call takes some 70 KiB of stack.
  */
 uint32_t shift_report(const uint8_t *file, size_t file_len,
                       const uint8_t *ring, size_t ring_len,
