@@ -151,7 +151,8 @@ fn unreadable_and_oversized() {
     std::fs::create_dir(folder.0.join("folder")).unwrap();
     assert_eq!(folder.printed("job", &["just", "ring", "3"]), printed::job(&folder.get("just"), &ring, 3));
     assert_eq!(folder.printed("current", &["day", "just", "ring", "3"])[..6], *"0 2 0\n");
-    for bad in ["over", "missing", "folder", ""] {
+    // the last opens, and cannot be read
+    for bad in ["over", "missing", "folder", "", "/proc/self/mem"] {
         assert_eq!(folder.printed("job", &[bad, "ring", "3"]), "20 0\n");
         assert_eq!(folder.printed("current", &[bad, "day", "ring", "4103"]), "20 1 0\n");
         assert_eq!(folder.printed("current", &["day", bad, "ring", "4103"]), "20 2 0\n");
