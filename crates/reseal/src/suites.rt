@@ -2,13 +2,10 @@
 use shift::lend::row_of;
 use table::answers::Fault;
 use table::answers::Refusal;
-use table::marks::has;
-use table::marks::mark;
-use table::marks::put;
 use table::row::row_start;
 use table::row::set_suite;
 use table::row::width;
-use table::rules::seen_before;
+use table::rules::nonce_seen;
 use words::runs::copy;
 use writer::answers::Written;
 ghost use mathlib.Core.Path.{_≡_};
@@ -44,21 +41,16 @@ pub(crate) fn put_suites(f: &[u8], n: usize, out: &mut [u8])
     }
 }
 
-// The first of n rows that clashes with an earlier one, behind the check's filter.
+// The first of n rows that clashes with an earlier one.
 fn first_seen(t: &[u8], n: usize) -> Written
     requires { ⌜ TableIn (widthOf (now t)) (now t) n × Spared (widthOf (now t)) (now t) n ⌝ }
     ensures { λ r. ⌜ writtenAnswer r ≡ seenFrom (now (t .entry)) n 0 ⌝ }
 {
-    let w = width(t);
-    let mut seen = [0u64; 128];
     let mut i: usize = 0;
     while i < n {
-        let x = mark(w, t, i);
-        let marked = has(&seen, x);
-        if seen_before(w, t, n, i, marked) {
+        if nonce_seen(width(t), t, n, i) {
             return Written::Refused(Refusal::InRow(Fault::Nonce, i));
         }
-        put(&mut seen, x);
         i += 1;
     }
     Written::Done

@@ -44,14 +44,8 @@ use Rattle.table.proofs.row.nonce_start.Kinds as nonce-start-kinds
 use Rattle.table.proofs.row.nonce_start.Reads as nonce-start-reads
 use Rattle.table.proofs.row.set_suite.Kinds as set-suite-kinds
 use Rattle.table.proofs.row.set_suite.Reads as set-suite-reads
-use Rattle.table.proofs.rules.seen_before.Kinds as seen-before-kinds
-use Rattle.table.proofs.rules.seen_before.Reads as seen-before-reads
-use Rattle.table.proofs.marks.mark.Kinds as mark-kinds
-use Rattle.table.proofs.marks.mark.Reads as mark-reads
-use Rattle.table.proofs.marks.has.Kinds as has-kinds
-use Rattle.table.proofs.marks.has.Reads as has-reads
-use Rattle.table.proofs.marks.put.Kinds as put-kinds
-use Rattle.table.proofs.marks.put.Reads as put-reads
+use Rattle.table.proofs.rules.nonce_seen.Kinds as nonce-seen-kinds
+use Rattle.table.proofs.rules.nonce_seen.Reads as nonce-seen-reads
 use Rattle.table.proofs.row.row_at.Kinds as row-at-kinds
 use Rattle.table.proofs.row.row_at.Reads as row-at-reads
 use Rattle.table.proofs.row.stretch.Kinds as stretch-kinds
@@ -172,17 +166,8 @@ nonce-start κs a h x y = (x .ensures .0 ∙ sym (y .ensures .0), refl)
 pub set-suite : OneOutcome set-suite-kinds.ps set-suite-kinds.r set-suite-reads.Pre set-suite-reads.Post
 set-suite κs a h x y = (refl, ap (λ (l : List ℕ). (tt, (l, (tt, (tt, tt))))) (x .ensures ∙ sym (y .ensures)))
 
-pub seen-before : OneOutcome seen-before-kinds.ps seen-before-kinds.r seen-before-reads.Pre seen-before-reads.Post
-seen-before κs a h x y = (x .ensures ∙ sym (y .ensures), refl)
-
-pub mark : OneOutcome mark-kinds.ps mark-kinds.r mark-reads.Pre mark-reads.Post
-mark κs a h x y = (x .ensures ∙ sym (y .ensures), refl)
-
-pub has : OneOutcome has-kinds.ps has-kinds.r has-reads.Pre has-reads.Post
-has κs a h x y = (x .ensures ∙ sym (y .ensures), refl)
-
-pub put : OneOutcome put-kinds.ps put-kinds.r put-reads.Pre put-reads.Post
-put κs a h x y = (refl, ap (λ (l : List ℕ). (l, (tt, tt))) (x .ensures ∙ sym (y .ensures)))
+pub nonce-seen : OneOutcome nonce-seen-kinds.ps nonce-seen-kinds.r nonce-seen-reads.Pre nonce-seen-reads.Post
+nonce-seen κs a h x y = (x .ensures ∙ sym (y .ensures), refl)
 
 pub row-at : OneOutcome row-at-kinds.ps row-at-kinds.r row-at-reads.Pre row-at-reads.Post
 row-at κs a h x y = (x .ensures ∙ sym (y .ensures), refl)

@@ -1,7 +1,7 @@
 // The table of contents of the plant's shift file: its rows, and the full check.
 pub mod answers;
 pub mod body;
-pub mod marks;
+mod marks;
 pub mod row;
 pub mod rules;
 

@@ -22,7 +22,7 @@ fn mix(suite: u8, key: u8, x: u64) -> u64
 }
 
 // What row i is marked by.
-pub fn mark(w: usize, f: &[u8], i: usize) -> u64
+pub(crate) fn mark(w: usize, f: &[u8], i: usize) -> u64
     requires { ⌜ RowIn w (now f) i ⌝ }
     ensures { λ r. ⌜ r ≡ markOf w (now (f .entry)) i ⌝ }
 {
@@ -46,7 +46,7 @@ fn bits_of(x: u64) -> u64
 }
 
 // Whether both bits of the mark are there.
-pub fn has(seen: &[u64; 128], x: u64) -> bool
+pub(crate) fn has(seen: &[u64; 128], x: u64) -> bool
     ensures { λ r. ⌜ r ≡ has (now (seen .entry)) x ⌝ }
 {
     let at = word_of(x);
@@ -55,7 +55,7 @@ pub fn has(seen: &[u64; 128], x: u64) -> bool
 }
 
 // Leaves the mark.
-pub fn put(seen: &mut [u64; 128], x: u64)
+pub(crate) fn put(seen: &mut [u64; 128], x: u64)
     ensures { λ _. ⌜ now (seen .exit) ≡ with (now (seen .entry)) x ⌝ }
 {
     let at = word_of(x);

@@ -116,7 +116,7 @@ fn clashes(w: usize, f: &[u8], n: usize, i: usize, j: usize) -> bool
 }
 
 // 29: the row clashes with an earlier one.
-fn nonce_seen(w: usize, f: &[u8], n: usize, i: usize) -> bool
+pub fn nonce_seen(w: usize, f: &[u8], n: usize, i: usize) -> bool
     requires { ⌜ TableIn w (now f) n × ((i < n) × Spared w (now f) (i + 1)) ⌝ }
     ensures { λ r. ⌜ r ≡ nonceSeen w (now (f .entry)) i ⌝ }
 {
@@ -131,7 +131,7 @@ fn nonce_seen(w: usize, f: &[u8], n: usize, i: usize) -> bool
 }
 
 // 29, where the filter was asked first: a row whose mark is not there need not be compared.
-pub fn seen_before(w: usize, f: &[u8], n: usize, i: usize, marked: bool) -> bool
+fn seen_before(w: usize, f: &[u8], n: usize, i: usize, marked: bool) -> bool
     requires { ⌜ TableIn w (now f) n × ((i < n) × (Spared w (now f) (i + 1) × Sieved w (now f) i marked)) ⌝ }
     ensures { λ r. ⌜ r ≡ nonceSeen w (now (f .entry)) i ⌝ }
 {
