@@ -56,7 +56,7 @@ pub lent-refused : OneOutcome lent-kinds.ps lent-kinds.r lent-reads.Pre lent-rea
 lent-refused κs a h x y = (written-one (x .ensures ∙ sym (y .ensures)), refl)
 
 pub seal-into : OneOutcome into-kinds.ps into-kinds.r into-reads.Pre into-reads.Post
-seal-into κs a h x y = (refl, ap (λ (l : List ℕ). (tt, (tt, (tt, (tt, (tt, (tt, (l, tt)))))))) (x .ensures ∙ sym (y .ensures)))
+seal-into κs a h x y = (refl, ap (λ (l : List ℕ). (tt, (tt, (tt, (tt, (tt, (l, tt))))))) (x .ensures ∙ sym (y .ensures)))
 
 pub seal-file : OneOutcome seal-kinds.ps seal-kinds.r seal-reads.Pre seal-reads.Post
 seal-file κs a h x y =
