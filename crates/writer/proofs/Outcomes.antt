@@ -1,15 +1,13 @@
 -- One outcome for each input: an answer's number and row are those of one case, so what a contract allows is one value.
 use Prim.Native.Nat.{ℕ, _<_}
-use native.Mathlib.Omega.{arith}
-use mathlib.Core.Path.{_≡_, refl, sym, ap, ap₂, _∙_}
-use mathlib.Core.Bool.{false, cond}
+use mathlib.Core.Path.{_≡_, refl, sym, ap, _∙_}
+use mathlib.Core.Bool.{cond}
 use mathlib.Core.List.{List}
 use lib.Dec.{eqb}
 use borrow.Author.Tests.{ne-eqb}
 use Rattle.words.specs.Outcome.{OneOutcome}
 use Rattle.table.specs.declared.answers.Answer.{Answer}
-use Rattle.table.specs.Answers.{refusalAnswer}
-use Rattle.table.proofs.Numbers.{refusal-range, refusal-some}
+use Rattle.table.proofs.Numbers.{refusal-some}
 use Rattle.table.proofs.Outcomes.{refusalOf, refusal-back, unlike, answer-one}
 use mathlib.Core.Logic.{inl, inr}
 use lib.Dec.{lit<}
