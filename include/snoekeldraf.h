@@ -7,9 +7,13 @@
  *   - what is written (out, text of the functions in place, tag of the sealer, row, places and lengths) overlaps nothing
  *     else that is passed: a record is sealed or opened in place by comet_seal_in_place and comet_open_in_place alone;
  *   - suite is one byte, and C cuts a larger number to its lowest eight bits before the call: 257 would be suite 1.
- * The functions keep nothing from one call to the next, need no memory but the stack (docs/LIBRARY.md says how much for
- * each; most take 1 to 6 KiB), and call memcpy and memset alone.
+ * The functions keep nothing from one call to the next, need no memory but the stack, and call memcpy and memset alone.
  * Nothing is promised of the time that a call takes.
+ * Stack of a call with all that it calls, in bytes, measured on the archive for x86-64 and no promise; 4 KiB of the larger
+ * ones are the table of suites 1 and 5, which the other suites leave alone:
+ *   comet_seal, comet_open and those in place or counted, comet_verify, comet_session_*     5,200
+ *   shift_open_job, shift_open_amended, shift_seal_file, shift_unseal_file, shift_report    5,500
+ *   every other shift_ function, shift_reseal among them                                   1,500
  *
  * Suite        1 AES-128   2 CHAM-128/128   3 Speck-64/128   4 CHAM-64/128
  * Key bytes    16          16               16               16
@@ -284,7 +288,7 @@ uint32_t shift_unseal_file(const uint8_t *file, size_t file_len,
  *   6   out_len is not file_len
  *   8   the tag of a suite 4 row differs; the first such row. Every byte of out is 0
  *   0   done: out is written whole; it passes shift_check and has no suite 4 row
- * out may not overlap file or ring. The pass takes some 70 KiB of stack.
+ * out may not overlap file or ring. Messages stand nowhere but in out, and nothing else of their length is taken.
  */
 uint32_t shift_reseal(const uint8_t *file, size_t file_len,
                       const uint8_t *ring, size_t ring_len,
@@ -372,7 +376,7 @@ uint32_t shift_compare(const uint8_t *first, size_t first_len,
  *   6             a list has fewer places than there are entries
  *   0             *count entries
  * *count and *row are written always, and are 0 where nothing else is said. Every refusal leaves both lists unchanged, and 0
- * leaves the places past the count. The call takes some 70 KiB of stack.
+ * leaves the places past the count. No message is written anywhere.
  */
 uint32_t shift_report(const uint8_t *file, size_t file_len,
                       const uint8_t *ring, size_t ring_len,
