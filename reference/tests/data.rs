@@ -1,8 +1,9 @@
 //! The data of the test programs: it provokes every number, and the repository's files are what is generated.
 
-use reference::calls::{Case, REFERENCE};
+use reference::calls::{Case, Deed, REFERENCE};
 use reference::data::{
-    amending, cases, comparing, counted, files, moving, parts, printing, reading, resealing, searching, sessions,
+    amending, cases, comparing, counted, files, in_place, moving, parts, printing, reading, resealing, searching,
+    sessions,
     writing, FOLDERS,
 };
 use reference::random::Random;
@@ -102,6 +103,18 @@ fn counted_provokes_every_number() {
     };
     assert_eq!(numbers(false), [0, 1, 2, 3, 4, 6, 7, 10].into());
     assert_eq!(numbers(true), [0, 1, 2, 3, 6, 7, 8].into());
+}
+
+/// But for the number of a long input that each leaves to the comparison.
+#[test]
+fn in_place_provokes_every_number() {
+    let numbers = |deed: Deed| -> BTreeSet<u32> {
+        let calls = in_place::calls().into_iter().filter(|call| call.deed == deed);
+        calls.map(|call| call.answer(&REFERENCE).number).collect()
+    };
+    assert_eq!(numbers(Deed::Seal), [0, 1, 2, 3, 5, 7, 10].into());
+    assert_eq!(numbers(Deed::Open), [0, 1, 2, 3, 5, 7, 8].into());
+    assert_eq!(numbers(Deed::Verify), [0, 1, 2, 3, 4, 7, 8].into());
 }
 
 #[test]

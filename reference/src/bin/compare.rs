@@ -4,9 +4,9 @@
 //!     compare [SEED]
 
 use reference::bridge::PROVED;
-use reference::calls::{Case, CountedCall, Library, REFERENCE};
+use reference::calls::{Call, Case, CountedCall, InPlaceCall, Library, REFERENCE};
 use reference::data::{
-    amending, cases, comparing, counted, files, moving, reading, resealing, searching, sessions, writing,
+    amending, cases, comparing, counted, files, in_place, moving, reading, resealing, searching, sessions, writing,
 };
 use reference::linked::{COLUMNS, PLAIN};
 use reference::random::Random;
@@ -160,6 +160,21 @@ fn compare_counts(tally: &mut Tally, random: &mut Random) {
     tally.report("counts of random records, good, damaged and faulty");
 }
 
+/// The sealer's calls sealed in place; the opener's opened in place, and verified.
+fn compare_in_place(tally: &mut Tally, random: &mut Random) {
+    let each = |tally: &mut Tally, call: &Call| InPlaceCall::of(call).iter().for_each(|call| tally.proved(call));
+    in_place::calls().iter().for_each(|call| tally.proved(call));
+    cases::calls().iter().for_each(|call| each(tally, call));
+    tally.report("the calls of test_comet in place, and verified");
+    trials::lengths(random, |call| each(tally, call));
+    tally.report("all lengths up to 3 blocks + 1 in place, good and damaged");
+    trials::faults(random, |call| each(tally, call));
+    trials::limits(random, |call| each(tally, call));
+    tally.report("refusals in place, and lengths around 65,536");
+    trials::records(random, 30_000, |call| each(tally, call));
+    tally.report("random records in place, good, damaged and faulty");
+}
+
 fn compare_reports(tally: &mut Tally, random: &mut Random) {
     reading::calls().iter().for_each(|call| tally.proved(call));
     tally.report("the calls of the program reading");
@@ -184,6 +199,7 @@ fn main() {
     compare_amendments(&mut tally, &mut random);
     compare_counts(&mut tally, &mut random);
     compare_reports(&mut tally, &mut random);
+    compare_in_place(&mut tally, &mut random);
     println!("{} cases, {} differences", tally.cases, tally.differences);
     if tally.differences > 0 {
         std::process::exit(1);
