@@ -11,9 +11,9 @@
  * Nothing is promised of the time that a call takes.
  * Stack of a call with all that it calls, in bytes, measured on the archive for x86-64 and no promise; 4 KiB of the larger
  * ones are the table of suites 1 and 5, which the other suites leave alone:
- *   comet_seal, comet_open and those in place or counted, comet_verify, comet_session_*     5,200
- *   shift_open_job, shift_open_amended, shift_seal_file, shift_unseal_file, shift_report    5,500
- *   every other shift_ function, shift_reseal among them                                   1,500
+ *   comet_seal, comet_open and those in place or counted, comet_verify, comet_session_*     5,300
+ *   shift_open_job, shift_open_amended, shift_seal_file, shift_unseal_file, shift_report    5,600
+ *   every other shift_ function, shift_reseal among them                                   1,600
  *
  * Suite        1 AES-128   2 CHAM-128/128   3 Speck-64/128   4 CHAM-64/128
  * Key bytes    16          16               16               16
