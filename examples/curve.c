@@ -1,5 +1,5 @@
-/* Seals a tightening curve while it is being measured, a few values at a time, and opens it by one call. From the root of
- * the repository:
+/* Seals a tightening curve while it is being measured, a few values at a time, and opens it by one call, where its
+ * ciphertext lies. From the root of the repository:
  *
  *     rt staticlib snoekeldraf
  *     cc examples/curve.c -Iinclude target/staticlib/libsnoekeldraf.a -o target/curve
@@ -33,7 +33,7 @@ int main(void) {
     static const uint8_t key[16] = {0, 1, 2, 3, 4, 5, 6, 7, 8, 9, 10, 11, 12, 13, 14, 15};
     static const uint8_t nonce[15] = {2};
     static const uint8_t ad[5] = {7, 0, 0, 0, 1}; /* job 7, newton-metres */
-    uint8_t curve[CURVE], text[CURVE + BLOCK], opened[CURVE], tag[BLOCK];
+    uint8_t curve[CURVE], text[CURVE + BLOCK], tag[BLOCK];
     size_t sealed = 0; /* bytes of ciphertext so far */
 
     comet_step step = comet_session_start(SUITE, key, sizeof key, nonce, sizeof nonce);
@@ -62,9 +62,12 @@ int main(void) {
     step = comet_session_part(step.next, curve, 2, text, sizeof text);
     printf("a part behind the end gives %u\n", step.number);
 
-    uint32_t number = comet_open(SUITE, key, sizeof key, nonce, sizeof nonce, ad, sizeof ad,
-                                 text, sealed, tag, sizeof tag, opened, CURVE);
-    printf("opening by one call gives %u, and the curve is %s\n", number,
-           memcmp(opened, curve, CURVE) == 0 ? "the one that was measured" : "another");
+    uint32_t number = comet_verify(SUITE, key, sizeof key, nonce, sizeof nonce, ad, sizeof ad,
+                                   text, sealed, tag, sizeof tag);
+    printf("verifying gives %u\n", number);
+    number = comet_open_in_place(SUITE, key, sizeof key, nonce, sizeof nonce, ad, sizeof ad,
+                                 text, sealed, tag, sizeof tag);
+    printf("opening in place gives %u, and the curve is %s\n", number,
+           sealed == CURVE && memcmp(text, curve, CURVE) == 0 ? "the one that was measured" : "another");
     return 0;
 }

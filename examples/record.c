@@ -1,4 +1,4 @@
-/* Seals and opens a record, and reads a shift file. From the root of the repository:
+/* Seals and opens a record, from buffer to buffer and in place, and reads a shift file. From the root of the repository:
  *
  *     rt staticlib snoekeldraf
  *     cc examples/record.c -Iinclude target/staticlib/libsnoekeldraf.a -o target/record
@@ -53,6 +53,39 @@ static void seal_and_open(void) {
     print_hex("output", opened, sizeof opened);
 }
 
+/* The same with one buffer, where memory is short: the ciphertext takes the message's place, and the message the
+ * ciphertext's. Verifying writes no message, so it can come first, as often as is wanted.
+ */
+static void in_place(void) {
+    static const uint8_t key[16] = {0, 1, 2, 3, 4, 5, 6, 7, 8, 9, 10, 11, 12, 13, 14, 15};
+    static const uint8_t nonce[15] = {3}; /* never one that this key has used */
+    static const uint8_t ad[5] = {8, 0, 0, 0, 1}, other[5] = {8, 0, 0, 0, 2};
+    uint8_t text[] = "torque 51.0 51.2 50.9", tag[8];
+
+    uint32_t number = comet_seal_in_place(3, key, sizeof key, nonce, sizeof nonce, ad, sizeof ad,
+                                          text, sizeof text, tag, sizeof tag);
+    printf("sealing in place gives %u\n", number);
+    print_hex("text", text, sizeof text);
+    print_hex("tag", tag, sizeof tag);
+
+    number = comet_verify(3, key, sizeof key, nonce, sizeof nonce, ad, sizeof ad, text, sizeof text, tag, sizeof tag);
+    printf("verifying gives %u", number);
+    number = comet_verify(3, key, sizeof key, nonce, sizeof nonce, other, sizeof other,
+                          text, sizeof text, tag, sizeof tag);
+    printf(", and with another unit %u\n", number);
+
+    number = comet_open_in_place(3, key, sizeof key, nonce, sizeof nonce, ad, sizeof ad,
+                                 text, sizeof text, tag, sizeof tag);
+    printf("opening in place gives %u\n", number);
+    printf("  %-16s%s\n", "text", (const char *)text);
+
+    /* the text is the message now, and the tag is not its tag */
+    number = comet_open_in_place(3, key, sizeof key, nonce, sizeof nonce, ad, sizeof ad,
+                                 text, sizeof text, tag, sizeof tag);
+    printf("opening it twice gives %u\n", number);
+    print_hex("text", text, sizeof text);
+}
+
 /* Up to room bytes of the file at path; a file that cannot be read counts as no bytes. */
 static size_t read_file(const char *path, uint8_t *bytes, size_t room) {
     FILE *from = fopen(path, "rb");
@@ -92,6 +125,7 @@ static void open_job(const char *file_path, const char *ring_path, uint32_t job)
 
 int main(int count, char **words) {
     seal_and_open();
+    in_place();
     if (count == 4) {
         open_job(words[1], words[2], (uint32_t)strtoul(words[3], NULL, 10));
     }

@@ -9,6 +9,11 @@
  *   - suite is one byte, and C cuts a larger number to its lowest eight bits before the call: 257 would be suite 1.
  * The functions keep nothing from one call to the next, need no memory but the stack, and call memcpy and memset alone.
  * Nothing is promised of the time that a call takes.
+ * Stack of a call with all that it calls, in bytes, measured on the archive for x86-64 and no promise; 4 KiB of the larger
+ * ones are the table of suites 1 and 5, which the other suites leave alone:
+ *   comet_seal, comet_open and those in place or counted, comet_verify, comet_session_*     5,300
+ *   shift_open_job, shift_open_amended, shift_seal_file, shift_unseal_file, shift_report    5,600
+ *   every other shift_ function, shift_reseal among them                                   1,600
  *
  * Suite        1 AES-128   2 CHAM-128/128   3 Speck-64/128   4 CHAM-64/128
  * Key bytes    16          16               16               16
@@ -126,8 +131,9 @@ uint32_t comet_open_counted(uint8_t suite,
  * A session is a plain struct that goes in and comes back by value: each call hands back a step, and its session `next`
  * takes the place of the one that was given. The fields are for the functions alone, and hold what the key makes: keep
  * them as secret as the key. Any value may arrive: one whose suite seals no record (is not 1 to 6, or is 4) or whose
- * totals are over 65,536 (as a session that was refused at the start, or has ended) is answered by 9; any other is taken as what it says. Going on
- * from one session value twice, with different messages, is sealing two records with one key and one nonce.
+ * totals are over 65,536 (as a session that was refused at the start, or has ended) is answered by 9; any other is taken
+ * as what it says. Going on from one session value twice, with different messages, is sealing two records with one key and
+ * one nonce.
  */
 typedef struct {
     uint8_t suite;
@@ -263,7 +269,9 @@ uint32_t shift_seal_file(const uint8_t *draft, size_t draft_len,
                          uint8_t *out, size_t out_len,
                          uint32_t *row);
 
-/* Gives the draft of a sealed file back: out is the draft. Sealing it with the same ring gives the file. */
+/* Gives the draft of a sealed file back: out is the draft. Where no entry has suite 4, sealing it with the same ring gives
+ * the file; where one has, sealing it is 10.
+ */
 uint32_t shift_unseal_file(const uint8_t *file, size_t file_len,
                            const uint8_t *ring, size_t ring_len,
                            uint8_t *out, size_t out_len,
@@ -274,13 +282,13 @@ uint32_t shift_unseal_file(const uint8_t *file, size_t file_len,
  * the length too. Only suite 4 entries are opened; the rest are copied unchecked, wrong tags too. Numbers, in this order;
  * out is as it was after every number but 0 and 8. *row is written always: the row after 25 to 30, 34 and 8, and 0 after
  * every other number, 0 too.
- *  20 to 31, 34   as above, of the file as it is
+ *  20 to 31, 34   as above, of the file as it is; 21 says that its edition is not 1: a file of edition 2 is not taken
  *  29   also where resealing would make two rows clash: the lowest row that would clash with an earlier one
  *   2   the ring is not 256 bytes long
  *   6   out_len is not file_len
  *   8   the tag of a suite 4 row differs; the first such row. Every byte of out is 0
  *   0   done: out is written whole; it passes shift_check and has no suite 4 row
- * out may not overlap file or ring. The pass takes some 80 KiB of stack.
+ * out may not overlap file or ring. Messages stand nowhere but in out, and nothing else of their length is taken.
  */
 uint32_t shift_reseal(const uint8_t *file, size_t file_len,
                       const uint8_t *ring, size_t ring_len,
@@ -318,6 +326,7 @@ uint32_t shift_open_amended(const uint8_t *amendment, size_t amendment_len,
                             uint32_t job,
                             uint8_t *out, size_t out_len,
                             uint32_t *file, uint32_t *row);
+
 /* The moves between editions. Edition 2 has a station number in every row, four bytes more. Numbers, in this order; out
  * is as it was after every number but 0. *row is written always: the row after 25 to 30, 34 and 35, and 0 after every
  * other number, 0 too.
@@ -340,6 +349,7 @@ uint32_t shift_to_edition2(const uint8_t *file, size_t file_len,
 uint32_t shift_to_edition1(const uint8_t *file, size_t file_len,
                            uint8_t *out, size_t out_len,
                            uint32_t *row);
+
 /* Compares two files. Job numbers are written in rising order from the front of three lists: those only in the first file
  * (only_first), only in the second (only_second), and in both but different in suite, key number, associated data length,
  * nonce, body or station (differ); offsets do not count. Each file is of edition 1, where every station is 0, or 2. A list's
@@ -366,7 +376,7 @@ uint32_t shift_compare(const uint8_t *first, size_t first_len,
  *   6             a list has fewer places than there are entries
  *   0             *count entries
  * *count and *row are written always, and are 0 where nothing else is said. Every refusal leaves both lists unchanged, and 0
- * leaves the places past the count. The call uses 64 KiB of stack.
+ * leaves the places past the count. No message is written anywhere.
  */
 uint32_t shift_report(const uint8_t *file, size_t file_len,
                       const uint8_t *ring, size_t ring_len,

@@ -221,6 +221,26 @@ static uint32_t report(void) {
     return shift_report(SLICE(file), SLICE(ring), LIST(jobs), SLICE(numbers), count, row);
 }
 
+static uint32_t seal_in_place(void) {
+    uint8_t suite = (uint8_t)number();
+    bytes key = given(), nonce = given(), ad = given(), text = lent(), tag = lent();
+    return comet_seal_in_place(suite, SLICE(key), SLICE(nonce), SLICE(ad), SLICE(text), SLICE(tag));
+}
+
+/* What these two only read, the tag and the text that is verified, comes back too: it is to be as it was. */
+
+static uint32_t open_in_place(void) {
+    uint8_t suite = (uint8_t)number();
+    bytes key = given(), nonce = given(), ad = given(), text = lent(), tag = lent();
+    return comet_open_in_place(suite, SLICE(key), SLICE(nonce), SLICE(ad), SLICE(text), SLICE(tag));
+}
+
+static uint32_t verify(void) {
+    uint8_t suite = (uint8_t)number();
+    bytes key = given(), nonce = given(), ad = given(), text = lent(), tag = lent();
+    return comet_verify(suite, SLICE(key), SLICE(nonce), SLICE(ad), SLICE(text), SLICE(tag));
+}
+
 static uint32_t (*const functions[])(void) = {
     seal, open_record, check, lookup, associated, open_job, entry,
     session_start, session_data, session_part, session_end,
@@ -232,6 +252,7 @@ static uint32_t (*const functions[])(void) = {
     amended, open_amended,
     seal_counted, open_counted,
     report,
+    seal_in_place, open_in_place, verify,
 };
 
 int main(void) {

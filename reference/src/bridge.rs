@@ -260,6 +260,27 @@ fn open_counted(
     (number, u64::from_le_bytes(calls))
 }
 
+/// Text and tag are lent for all three, so that a byte written where none may be comes back.
+#[rustfmt::skip]
+fn on_record(
+    function: u8, suite: u8, key: &[u8], nonce: &[u8], ad: &[u8], text: &mut [u8], tag: &mut [u8],
+) -> u32 {
+    let given = vec![Number(suite.into()), Given(key), Given(nonce), Given(ad), Lent(text), Lent(tag)];
+    ask::<0>(function, given).0
+}
+
+fn seal_in_place(suite: u8, key: &[u8], nonce: &[u8], ad: &[u8], text: &mut [u8], tag: &mut [u8]) -> u32 {
+    on_record(23, suite, key, nonce, ad, text, tag)
+}
+
+fn open_in_place(suite: u8, key: &[u8], nonce: &[u8], ad: &[u8], text: &mut [u8], tag: &mut [u8]) -> u32 {
+    on_record(24, suite, key, nonce, ad, text, tag)
+}
+
+fn verify(suite: u8, key: &[u8], nonce: &[u8], ad: &[u8], text: &mut [u8], tag: &mut [u8]) -> u32 {
+    on_record(25, suite, key, nonce, ad, text, tag)
+}
+
 fn report(file: &[u8], ring: &[u8], jobs: &mut [u32], numbers: &mut [u8]) -> Report {
     let mut lent = bytes_of(jobs);
     let (number, [count, row]) = ask(22, vec![Given(file), Given(ring), Lent(&mut lent), Lent(numbers)]);
@@ -270,6 +291,9 @@ fn report(file: &[u8], ring: &[u8], jobs: &mut [u32], numbers: &mut [u8]) -> Rep
 pub const PROVED: Library = Library {
     seal,
     open,
+    seal_in_place,
+    open_in_place,
+    verify,
     check,
     lookup,
     associated,

@@ -20,6 +20,9 @@ pub type Open = fn(u8, &[u8], &[u8], &[u8], &[u8], &[u8], &mut [u8]) -> u32;
 pub type SealCounted = fn(u8, &[u8], &[u8], &[u8], &[u8], &mut [u8], &mut [u8]) -> (u32, u64);
 pub type OpenCounted = fn(u8, &[u8], &[u8], &[u8], &[u8], &[u8], &mut [u8]) -> (u32, u64);
 
+/// Works on a record where it lies: text and tag come back as they are afterwards, also where they are only read.
+pub type OnRecord = fn(u8, &[u8], &[u8], &[u8], &mut [u8], &mut [u8]) -> u32;
+
 /// Takes a file and a ring, and writes a file.
 pub type Rewrite = fn(&[u8], &[u8], &mut [u8]) -> shift::Answer;
 
@@ -28,6 +31,9 @@ pub type Rewrite = fn(&[u8], &[u8], &mut [u8]) -> shift::Answer;
 pub struct Library {
     pub seal: Seal,
     pub open: Open,
+    pub seal_in_place: OnRecord,
+    pub open_in_place: OnRecord,
+    pub verify: OnRecord,
     pub check: fn(&[u8]) -> shift::Answer,
     pub lookup: fn(&[u8], u32) -> shift::Answer,
     pub associated: fn(&[u8], u32) -> (u32, usize, usize),
@@ -54,6 +60,9 @@ pub struct Library {
 pub const REFERENCE: Library = Library {
     seal: comet::seal,
     open: comet::open,
+    seal_in_place: comet::seal_in_place,
+    open_in_place: |suite, key, nonce, ad, text, tag| comet::open_in_place(suite, key, nonce, ad, text, tag),
+    verify: |suite, key, nonce, ad, text, tag| comet::verify(suite, key, nonce, ad, text, tag),
     check: shift::check,
     lookup: shift::lookup,
     associated: |file, job| {
@@ -127,7 +136,8 @@ pub struct Outcome {
 }
 
 impl Call {
-    /// The call as `test_comet` reads it; op 0 and 2 seal, 1 and 3 open, 2 and 3 counted.
+    /// The call as `test_comet` reads it; op 0 and 2 seal, 1 and 3 open, 2 and 3 counted; 4 seals and 5 opens in place,
+    /// and 6 verifies.
     fn record_as(&self, op: u8) -> Vec<u8> {
         let parts = [&self.key, &self.nonce, &self.ad, &self.text];
         let [key, nonce, ad, text] = parts.map(|part| part.len());
@@ -204,6 +214,60 @@ impl Case for CountedCall {
             format!("{number} {calls} {}\n", shown(&out))
         } else {
             format!("{number} {calls} {} {}\n", shown(&out), shown(&tag))
+        }
+    }
+}
+
+/// What is done with a record where it lies.
+#[derive(Clone, Copy, PartialEq, Debug)]
+pub enum Deed {
+    Seal,
+    Open,
+    Verify,
+}
+
+/// A call on a record where it lies. The call's output is no part of it.
+#[derive(Clone)]
+pub struct InPlaceCall {
+    pub deed: Deed,
+    pub call: Call,
+}
+
+impl InPlaceCall {
+    /// A call of the sealer in place, or of the opener both in place and without a message.
+    pub fn of(call: &Call) -> Vec<InPlaceCall> {
+        let deeds: &[Deed] = if call.opens { &[Deed::Open, Deed::Verify] } else { &[Deed::Seal] };
+        deeds.iter().map(|deed| InPlaceCall { deed: *deed, call: call.clone() }).collect()
+    }
+}
+
+/// The outcome's `out` is the text afterwards.
+impl Case for InPlaceCall {
+    type Outcome = Outcome;
+
+    fn answer(&self, by: &Library) -> Outcome {
+        let Call { suite, key, nonce, ad, .. } = &self.call;
+        let (mut out, mut tag) = (self.call.text.clone(), self.call.tag.clone());
+        let function = match self.deed {
+            Deed::Seal => by.seal_in_place,
+            Deed::Open => by.open_in_place,
+            Deed::Verify => by.verify,
+        };
+        let number = function(*suite, key, nonce, ad, &mut out, &mut tag);
+        Outcome { number, out, tag }
+    }
+
+    fn record(&self) -> Vec<u8> {
+        let call = Call { out: 0, ..self.call.clone() };
+        call.record_as(4 + self.deed as u8)
+    }
+
+    fn lines(&self, by: &Library) -> String {
+        let Outcome { number, out, tag } = self.answer(by);
+        match self.deed {
+            Deed::Seal => format!("{number} {} {}\n", shown(&out), shown(&tag)),
+            Deed::Open => format!("{number} {}\n", shown(&out)),
+            Deed::Verify => format!("{number}\n"),
         }
     }
 }

@@ -302,6 +302,24 @@ pub fn open_counted(
     (0, calls)
 }
 
+/// Seals a text in its place: the sealer with an output of the text's length, so that there is no 6. On a refusal text
+/// and tag are unchanged.
+pub fn seal_in_place(suite: u8, key: &[u8], nonce: &[u8], ad: &[u8], text: &mut [u8], tag: &mut [u8]) -> u32 {
+    let msg = text.to_vec();
+    seal(suite, key, nonce, ad, &msg, text, tag)
+}
+
+/// Opens a text in its place in the same way. On 8 every byte of it is 0; on another refusal it is unchanged.
+pub fn open_in_place(suite: u8, key: &[u8], nonce: &[u8], ad: &[u8], text: &mut [u8], tag: &[u8]) -> u32 {
+    let sealed = text.to_vec();
+    open(suite, key, nonce, ad, &sealed, tag, text)
+}
+
+/// Whether a record is genuine: the opener's number with an output of the text's length, and no message comes out.
+pub fn verify(suite: u8, key: &[u8], nonce: &[u8], ad: &[u8], text: &[u8], tag: &[u8]) -> u32 {
+    open(suite, key, nonce, ad, text, tag, &mut vec![0; text.len()])
+}
+
 /// The specification's ciphertext and tag of a message, under a retired suite too. Every length is right.
 pub fn specified(suite: u8, key: &[u8], nonce: &[u8], ad: &[u8], msg: &[u8]) -> (Vec<u8>, Vec<u8>) {
     let mut text = vec![0; msg.len()];

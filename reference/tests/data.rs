@@ -1,9 +1,10 @@
 //! The data of the test programs: it provokes every number, and the repository's files are what is generated.
 
-use reference::calls::{Case, REFERENCE};
+use reference::calls::{Case, Deed, REFERENCE};
 use reference::data::{
-    amending, cases, comparing, counted, files, moving, parts, reading, resealing, searching, sessions, writing,
-    FOLDERS,
+    amending, cases, comparing, counted, files, in_place, moving, parts, printing, reading, resealing, searching,
+    sessions,
+    writing, FOLDERS,
 };
 use reference::random::Random;
 use reference::trials;
@@ -104,10 +105,50 @@ fn counted_provokes_every_number() {
     assert_eq!(numbers(true), [0, 1, 2, 3, 6, 7, 8].into());
 }
 
+/// But for the number of a long input that each leaves to the comparison.
+#[test]
+fn in_place_provokes_every_number() {
+    let numbers = |deed: Deed| -> BTreeSet<u32> {
+        let calls = in_place::calls().into_iter().filter(|call| call.deed == deed);
+        calls.map(|call| call.answer(&REFERENCE).number).collect()
+    };
+    assert_eq!(numbers(Deed::Seal), [0, 1, 2, 3, 5, 7, 10].into());
+    assert_eq!(numbers(Deed::Open), [0, 1, 2, 3, 5, 7, 8].into());
+    assert_eq!(numbers(Deed::Verify), [0, 1, 2, 3, 4, 7, 8].into());
+}
+
 #[test]
 fn reading_provokes_every_number() {
     let numbers: BTreeSet<u32> = reading::calls().iter().map(|call| call.answer(&REFERENCE).report.number).collect();
     assert_eq!(numbers, [0, 2, 6, 34].into_iter().chain(20..=31).collect());
+}
+
+/// The first line of what a program prints has every number that it can have, and its entries are shown in every way.
+#[test]
+fn printing_provokes_every_number() {
+    use printing::PrintCall::{Current, Differ, Inspect, Job};
+    let calls = printing::calls();
+    let first = |is: fn(&printing::PrintCall) -> bool, word: usize| -> BTreeSet<String> {
+        let lines = calls.iter().filter(|call| is(call)).map(|call| call.printed());
+        lines.map(|text| text.lines().next().unwrap().split(' ').nth(word).unwrap_or("").to_string()).collect()
+    };
+    let numbers = |more: &[&str]| -> BTreeSet<String> {
+        (20..=31).chain([34]).map(|number| number.to_string()).chain(more.iter().map(|word| word.to_string())).collect()
+    };
+    assert_eq!(first(|call| matches!(call, Job { .. }), 0), numbers(&["0", "2", "8", "32"]));
+    assert_eq!(first(|call| matches!(call, Current { .. }), 0), numbers(&["0", "2", "8", "32"]));
+    assert_eq!(first(|call| matches!(call, Current { .. }), 1), ["0", "1", "2"].map(String::from).into());
+    assert_eq!(first(|call| matches!(call, Differ { .. }), 2), numbers(&[""]));
+    assert_eq!(first(|call| matches!(call, Differ { .. }), 1), ["", "1", "2"].map(String::from).into());
+    let inspected = first(|call| matches!(call, Inspect { .. }), 1);
+    assert!(numbers(&["0", "2", "3", "512"]).is_subset(&inspected));
+    let text: String = calls.iter().map(|call| call.printed()).collect();
+    for line in ["unit 1 newton-metres", "unit 2 inch-pounds", "data empty", "message empty", "station 0"] {
+        assert!(text.contains(&format!("\n{line}\n")), "{line}");
+    }
+    for start in ["data text ", "data hex ", "message text ", "message hex ", "station 4294967295"] {
+        assert!(text.contains(&format!("\n{start}")), "{start}");
+    }
 }
 
 /// The random files of the comparison are of all kinds too.

@@ -103,7 +103,7 @@ impl Debug for Ring {
 
 /// The tag of a sealed record: 16 bytes, or 8 where the suite's block is small. It reads as a slice.
 ///
-/// Two tags are not compared here: opening does, and compares them whole.
+/// Two tags are not compared here: opening does, and [`verify`](crate::verify), and they compare them whole.
 ///
 /// ```
 /// use snoekeldraf::{seal, Key, Suite};

@@ -65,7 +65,7 @@ pub use difference::{compare, Difference};
 pub use editions::{len_in_edition1, len_in_edition2, to_edition1, to_edition2};
 pub use file::{search, Entries, Searched, ShiftFile};
 pub use keys::{Key, Ring, Tag};
-pub use record::{open, open_counted, seal, seal_counted, Counted};
+pub use record::{open, open_counted, open_in_place, seal, seal_counted, seal_in_place, verify, Counted};
 pub use refused::Refused;
 pub use report::{report, Report};
 pub use rows::Entry;

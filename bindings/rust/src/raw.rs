@@ -44,6 +44,18 @@ extern "C" {
         suite: u8, key: *const u8, key_len: usize, nonce: *const u8, nonce_len: usize, ad: *const u8, ad_len: usize,
         text: *const u8, text_len: usize, tag: *const u8, tag_len: usize, out: *mut u8, out_len: usize, calls: *mut u64,
     ) -> u32;
+    fn comet_seal_in_place(
+        suite: u8, key: *const u8, key_len: usize, nonce: *const u8, nonce_len: usize, ad: *const u8, ad_len: usize,
+        text: *mut u8, text_len: usize, tag: *mut u8, tag_len: usize,
+    ) -> u32;
+    fn comet_open_in_place(
+        suite: u8, key: *const u8, key_len: usize, nonce: *const u8, nonce_len: usize, ad: *const u8, ad_len: usize,
+        text: *mut u8, text_len: usize, tag: *const u8, tag_len: usize,
+    ) -> u32;
+    fn comet_verify(
+        suite: u8, key: *const u8, key_len: usize, nonce: *const u8, nonce_len: usize, ad: *const u8, ad_len: usize,
+        text: *const u8, text_len: usize, tag: *const u8, tag_len: usize,
+    ) -> u32;
     fn comet_session_start(
         suite: u8, key: *const u8, key_len: usize, nonce: *const u8, nonce_len: usize,
     ) -> CometStep;
@@ -140,6 +152,30 @@ pub fn open_counted(
             text.as_ptr(), text.len(), tag.as_ptr(), tag.len(), out.as_mut_ptr(), out.len(), &mut calls)
     };
     (number, calls)
+}
+
+#[rustfmt::skip]
+pub fn seal_in_place(suite: u8, key: &[u8], nonce: &[u8], ad: &[u8], text: &mut [u8], tag: &mut [u8]) -> u32 {
+    unsafe {
+        comet_seal_in_place(suite, key.as_ptr(), key.len(), nonce.as_ptr(), nonce.len(), ad.as_ptr(), ad.len(),
+            text.as_mut_ptr(), text.len(), tag.as_mut_ptr(), tag.len())
+    }
+}
+
+#[rustfmt::skip]
+pub fn open_in_place(suite: u8, key: &[u8], nonce: &[u8], ad: &[u8], text: &mut [u8], tag: &[u8]) -> u32 {
+    unsafe {
+        comet_open_in_place(suite, key.as_ptr(), key.len(), nonce.as_ptr(), nonce.len(), ad.as_ptr(), ad.len(),
+            text.as_mut_ptr(), text.len(), tag.as_ptr(), tag.len())
+    }
+}
+
+#[rustfmt::skip]
+pub fn verify(suite: u8, key: &[u8], nonce: &[u8], ad: &[u8], text: &[u8], tag: &[u8]) -> u32 {
+    unsafe {
+        comet_verify(suite, key.as_ptr(), key.len(), nonce.as_ptr(), nonce.len(), ad.as_ptr(), ad.len(),
+            text.as_ptr(), text.len(), tag.as_ptr(), tag.len())
+    }
 }
 
 pub fn session_start(suite: u8, key: &[u8], nonce: &[u8]) -> CometStep {

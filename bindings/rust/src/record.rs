@@ -73,6 +73,76 @@ pub fn open(
     done(raw::open(suite.number(), key.bytes(), nonce, ad, text, tag, out))
 }
 
+/// Seals a message in its place: `text` is the message before and the ciphertext after, and the tag comes back. It gives
+/// what [`seal`] gives of that message.
+///
+/// Numbers, in this order: 10 where the suite is 4; 3 where the nonce does not have the suite's length; 4 where the
+/// associated data, 5 where the message is over 65,536 bytes long. A refusal leaves `text` as it was.
+///
+/// Never seal two records with one key and one nonce.
+///
+/// ```
+/// use snoekeldraf::{open_in_place, seal_in_place, Key, Suite};
+///
+/// let (key, nonce, ad) = (Key::from([7; 16]), [1; 15], [7, 0, 0, 0, 1]);
+/// let mut record = *b"torque 48.5";
+/// let tag = seal_in_place(Suite::Speck64, &key, &nonce, &ad, &mut record)?;
+/// assert_ne!(&record, b"torque 48.5");
+/// open_in_place(Suite::Speck64, &key, &nonce, &ad, &mut record, &tag)?;
+/// assert_eq!(&record, b"torque 48.5");
+/// # Ok::<(), snoekeldraf::Refused>(())
+/// ```
+pub fn seal_in_place(suite: Suite, key: &Key, nonce: &[u8], ad: &[u8], text: &mut [u8]) -> Result<Tag, Refused> {
+    let mut tag = Tag::unwritten(suite);
+    done(raw::seal_in_place(suite.number(), key.bytes(), nonce, ad, text, tag.lent()))?;
+    Ok(tag)
+}
+
+/// Opens a ciphertext in its place, if `tag` is its tag: `text` is the ciphertext before and the message after. It gives
+/// what [`open`] gives of that ciphertext.
+///
+/// Numbers, in this order: 3 where the nonce does not have the suite's length; 4 where the associated data, 5 where the
+/// ciphertext is over 65,536 bytes long; 7 where the tag does not have the suite's length; 8 where the tag differs. On 8
+/// every byte of `text` is 0: the ciphertext is gone too. Every other refusal leaves it as it was.
+///
+/// ```
+/// use snoekeldraf::{open_in_place, Key, Suite};
+///
+/// let mut record = [0xaa; 4];
+/// let refused = open_in_place(Suite::Aes128, &Key::from([7; 16]), &[1; 16], b"", &mut record, &[0; 16]).unwrap_err();
+/// assert_eq!((refused.number, record), (8, [0; 4]));
+/// ```
+pub fn open_in_place(
+    suite: Suite,
+    key: &Key,
+    nonce: &[u8],
+    ad: &[u8],
+    text: &mut [u8],
+    tag: &[u8],
+) -> Result<(), Refused> {
+    done(raw::open_in_place(suite.number(), key.bytes(), nonce, ad, text, tag))
+}
+
+/// Says whether a record is genuine, and writes no text anywhere: `Ok` exactly where [`open`], given an output of the
+/// text's length, opens it.
+///
+/// Numbers, in this order: 3 where the nonce does not have the suite's length; 4 where the associated data, 5 where the
+/// ciphertext is over 65,536 bytes long; 7 where the tag does not have the suite's length; 8 where the tag differs.
+///
+/// ```
+/// use snoekeldraf::{seal, verify, Key, Suite};
+///
+/// let (key, nonce) = (Key::from([7; 16]), [1; 16]);
+/// let mut text = [0; 4];
+/// let tag = seal(Suite::Aes128, &key, &nonce, b"data", b"48.5", &mut text)?;
+/// verify(Suite::Aes128, &key, &nonce, b"data", &text, &tag)?;
+/// assert_eq!(verify(Suite::Aes128, &key, &nonce, b"date", &text, &tag).unwrap_err().number, 8);
+/// # Ok::<(), snoekeldraf::Refused>(())
+/// ```
+pub fn verify(suite: Suite, key: &Key, nonce: &[u8], ad: &[u8], text: &[u8], tag: &[u8]) -> Result<(), Refused> {
+    done(raw::verify(suite.number(), key.bytes(), nonce, ad, text, tag))
+}
+
 /// What the sealer or the opener gives, and how many block cipher calls it took.
 ///
 /// With a and m the block counts of associated data and text, the calls are a + m + 2 whenever the text was worked on,

@@ -39,7 +39,7 @@ fn calls_of_the_program_files() {
     let calls = files::calls();
     calls.iter().for_each(same);
     calls.iter().for_each(|call| entries_are_the_rows(&call.file));
-    println!("{} cases: the calls of the program files", calls.len());
+    println!("{} cases: the calls of test_shift: check, lookup, opening", calls.len());
 }
 
 #[test]

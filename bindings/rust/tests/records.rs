@@ -48,7 +48,7 @@ impl Tally {
 fn calls_of_the_program_cases() {
     let mut tally = Tally::default();
     cases::calls().iter().for_each(|call| tally.put(call));
-    tally.says("the calls of the program cases");
+    tally.says("the calls of test_comet: sealed and opened");
 }
 
 #[test]
@@ -86,5 +86,5 @@ fn random_records() {
 fn calls_of_the_program_counted() {
     let mut tally = Tally::default();
     counted::calls().iter().for_each(|call| tally.put_counted(&call.0));
-    tally.says("the calls of the program counted");
+    tally.says("the calls of test_comet: counted");
 }

@@ -1,4 +1,4 @@
--- Every public function of `aes` leaves one outcome: a word or columns bytesOf by their bytes, the table by its rule, the image by the definition.
+-- Every public function of `aes` leaves one outcome: a word or columns are told by their bytes (`bytesOf`), the table by its rule, the image by the definition.
 use mathlib.Core.Path.{_≡_, refl, sym, ap, _∙_}
 use native.Mathlib.Omega.{arith}
 use Prim.Native.Nat.{ℕ}

@@ -22,7 +22,7 @@ TwoBlocks =
 abbrev pub Complements : ℕ → List ℕ → List ℕ → Type 0
 Complements n x x′ = xors x x′ ≡ replicate n 0xff
 
--- in bytes: each is 255 less the other
+-- in bytes: each is 255 minus the other
 abbrev pub ComplementBytes : Type 0
 ComplementBytes =
     (n : ℕ) (x x′ : List ℕ) → Block n x → Block n x′

@@ -19,7 +19,7 @@ use Rattle.table.proofs.Searches.{any-hit, first-at, first-none}
 use Rattle.shift.specs.Nonces.{SameNonce}
 use Rattle.promises.specs.Tables.{None}
 use Rattle.promises.specs.Numbers.{tagSize, headTable, rowTable, endTable, SoundTo, CheckNumbers, Numbers}
-use Rattle.promises.proofs.Tables.{Tells, tells-eq, tells-lt, tells-le, tells-same, tells-not, tells-or, tells-and, tells-as, first-of, Rungs, ladder, fresh, fresh-some, not-given, By, lines, nothing}
+use Rattle.promises.proofs.Tables.{Tells, tells-eq, tells-lt, tells-le, tells-same, tells-not, tells-or, tells-and, tells-as, first-of, Rungs, ladder, numbersOf, fresh, fresh-some, not-given, By, lines, nothing}
 use Rattle.promises.proofs.Numbers.{tells-suite, seal-numbers, open-numbers, start-numbers, data-numbers, part-numbers, end-numbers}
 
 -- ---- the tests
@@ -205,16 +205,16 @@ module _ (low high : ℕ) (f : List ℕ) where
   num a = a .number
 
   module _ (k : ℕ) where
-    not-head : fresh k (headTable low high f) ≡ true → H ≡ k → ⊥
+    not-head : fresh k (numbersOf (headTable low high f)) ≡ true → H ≡ k → ⊥
     not-head h e = not-given k Unit (headTable low high f) (head-rungs low high f) h (sym (head-is low high f) ∙ e)
 
-    not-row : fresh k (rowTable f 0) ≡ true → (i : ℕ) → R i ≡ k → ⊥
+    not-row : fresh k (numbersOf (rowTable f 0)) ≡ true → (i : ℕ) → R i ≡ k → ⊥
     not-row h i e = not-given k Unit (rowTable f i) (row-rungs Unit f i) h (sym (row-is Unit f i) ∙ e)
 
-    not-end : fresh k (endTable f) ≡ true → E ≡ k → ⊥
+    not-end : fresh k (numbersOf (endTable f)) ≡ true → E ≡ k → ⊥
     not-end h e = not-given k Unit (endTable f) (end-rungs Unit f) h e
 
-    of-head : fresh k (rowTable f 0) ≡ true → fresh k (endTable f) ≡ true → By (λ j. said ≡ answer j 0) Unit (ladder Unit (headTable low high f) (head-rungs low high f)) k
+    of-head : fresh k (numbersOf (rowTable f 0)) ≡ true → fresh k (numbersOf (endTable f)) ≡ true → By (λ j. said ≡ answer j 0) Unit (ladder Unit (headTable low high f) (head-rungs low high f)) k
     of-head r t = (
       λ e. (
         tt,
@@ -225,10 +225,10 @@ module _ (low high : ℕ) (f : List ℕ) where
       ),
       λ y.
           let h : H ≡ k = head-is low high f ∙ y .1 in
-          head-stands (λ z. fresh-some k (endTable f) t (sym h ∙ z)) ∙ ap (λ (m : ℕ). answer m 0) h,
+          head-stands (λ z. fresh-some k (numbersOf (endTable f)) t (sym h ∙ z)) ∙ ap (λ (m : ℕ). answer m 0) h,
     )
 
-    of-row : fresh k (headTable low high f) ≡ true → fresh k (endTable f) ≡ true → (i : ℕ) →
+    of-row : fresh k (numbersOf (headTable low high f)) ≡ true → fresh k (numbersOf (endTable f)) ≡ true → (i : ℕ) →
         let reached : Type 0 = None (headTable low high f) × ((i < countOf f) × SoundTo f i) in
         By (λ j. said ≡ answer j i) reached (ladder reached (rowTable f i) (row-rungs reached f i)) k
     of-row h t i = (
@@ -242,10 +242,10 @@ module _ (low high : ℕ) (f : List ℕ) where
           (w .0, sym (row-is _ f i) ∙ w .1),
       λ y.
           let q : R i ≡ k = row-is _ f i ∙ y .1 in
-          row-stands (none-head .1 (y .0 .0)) i (y .0 .1 .0) (sound-to i .1 (y .0 .1 .1)) (λ z. fresh-some k (endTable f) t (sym q ∙ z)) ∙ ap (λ (m : ℕ). answer m i) q,
+          row-stands (none-head .1 (y .0 .0)) i (y .0 .1 .0) (sound-to i .1 (y .0 .1 .1)) (λ z. fresh-some k (numbersOf (endTable f)) t (sym q ∙ z)) ∙ ap (λ (m : ℕ). answer m i) q,
     )
 
-    of-end : fresh k (headTable low high f) ≡ true → fresh k (rowTable f 0) ≡ true →
+    of-end : fresh k (numbersOf (headTable low high f)) ≡ true → fresh k (numbersOf (rowTable f 0)) ≡ true →
         let reached : Type 0 = None (headTable low high f) × SoundTo f (countOf f) in
         By (λ j. said ≡ answer j 0) reached (ladder reached (endTable f) (end-rungs reached f)) k
     unfolding end-rungs
@@ -274,10 +274,10 @@ check-numbers low high f =
       );
     }
   where
-    given : (k : ℕ) → fresh k (rowTable f 0) ≡ true → fresh k (endTable f) ≡ true → By (λ j. checkBetween low high f ≡ answer j 0) Unit (ladder Unit (headTable low high f) (head-rungs low high f)) k
+    given : (k : ℕ) → fresh k (numbersOf (rowTable f 0)) ≡ true → fresh k (numbersOf (endTable f)) ≡ true → By (λ j. checkBetween low high f ≡ answer j 0) Unit (ladder Unit (headTable low high f) (head-rungs low high f)) k
     given = of-head low high f
 
-    in-row : (i k : ℕ) → fresh k (headTable low high f) ≡ true → fresh k (endTable f) ≡ true →
+    in-row : (i k : ℕ) → fresh k (numbersOf (headTable low high f)) ≡ true → fresh k (numbersOf (endTable f)) ≡ true →
         let reached : Type 0 = None (headTable low high f) × ((i < countOf f) × SoundTo f i) in
         By (λ j. checkBetween low high f ≡ answer j i) reached (ladder reached (rowTable f i) (row-rungs reached f i)) k
     in-row i k h t = of-row low high f k h t i

@@ -1,7 +1,7 @@
 -- Answers one after the other give the numbers of an order, where each test tells whether its stage applies.
 use mathlib.Core.Path.{_≡_, refl, sym, ap, _∙_, subst}
 use mathlib.Core.Logic.{_↔_, ⊎-elim}
-use mathlib.Core.Bool.{Bool, true, false, cond, not, _&&_, true≢false}
+use mathlib.Core.Bool.{Bool, true, false, cond, not, true≢false}
 use Prim.Native.Nat.{ℕ, _-_, _<_}
 use mathlib.Core.List.{List, [], _∷_}
 use lib.Dec.{eqb}
@@ -13,7 +13,7 @@ use Rattle.table.specs.Answers.{answer}
 use Rattle.table.specs.Check.{andThen}
 use Rattle.table.proofs.Searches.{first-at, first-none}
 use Rattle.promises.specs.Orders.{Stage, whole, rows, Quiet, Stages, Order}
-use Rattle.promises.proofs.Tables.{Tells, not-told, first-of, ne-true}
+use Rattle.promises.proofs.Tables.{Tells, not-told, first-of, fresh, distinct, ne-true, fresh-some}
 
 -- ---- the first row
 
@@ -81,38 +81,27 @@ climb [] t = answer 0 0
 climb (whole k c ∷ ss) t = cond (t .0) (answer k 0) (climb ss (t .2))
 climb (rows k n c ∷ ss) t = andThen (firstRow k n (t .0)) (climb ss (t .2))
 
-abbrev numberOf : Stage → ℕ
-numberOf (whole k c) = k
-numberOf (rows k n c) = k
-
--- a number is no stage's, and not 0; no two stages have one number
-abbrev fresh : ℕ → List Stage → Bool
-fresh k [] = not (eqb k 0)
-fresh k (s ∷ ss) = not (eqb k (numberOf s)) && fresh k ss
-
-abbrev pub distinct : List Stage → Bool
-distinct [] = true
-distinct (s ∷ ss) = fresh (numberOf s) ss && distinct ss
-
-fresh-some : (k : ℕ) (ss : List Stage) → fresh k ss ≡ true → k ≡ 0 → ⊥
-fresh-some k [] f e = ne-true k 0 f e
-fresh-some k (s ∷ ss) f e = fresh-some k ss (and-true (not (eqb k (numberOf s))) (fresh k ss) f .1) e
+-- the numbers of an order
+abbrev pub numbersIn : List Stage → List ℕ
+numbersIn [] = []
+numbersIn (whole k c ∷ ss) = k ∷ numbersIn ss
+numbersIn (rows k n c ∷ ss) = k ∷ numbersIn ss
 
 -- a climb never gives a number that is fresh
-not-given : (k : ℕ) (ss : List Stage) (t : Steps ss) → distinct ss ≡ true → fresh k ss ≡ true → climb ss t .number ≡ k → ⊥
+not-given : (k : ℕ) (ss : List Stage) (t : Steps ss) → distinct (numbersIn ss) ≡ true → fresh k (numbersIn ss) ≡ true → climb ss t .number ≡ k → ⊥
 not-given k [] t d f e = ne-true k 0 f (sym e)
 not-given k (whole m c ∷ ss) t d f e =
-    let g = and-true (not (eqb k m)) (fresh k ss) f in
-    let h = and-true (fresh m ss) (distinct ss) d in
+    let g = and-true (not (eqb k m)) (fresh k (numbersIn ss)) f in
+    let h = and-true (fresh m (numbersIn ss)) (distinct (numbersIn ss)) d in
     by (t .0) e (ne-true k m (g .0)) (not-given k ss (t .2) (h .1) (g .1))
   where
     by : (b : Bool) → cond b (answer m 0) (climb ss (t .2)) .number ≡ k → (k ≡ m → ⊥) → (climb ss (t .2) .number ≡ k → ⊥) → ⊥
     by true e n r = n (sym e)
     by false e n r = r e
 not-given k (rows m n c ∷ ss) t d f e =
-    let g = and-true (not (eqb k m)) (fresh k ss) f in
-    let h = and-true (fresh m ss) (distinct ss) d in
-    let some = fresh-some m ss (h .0) in
+    let g = and-true (not (eqb k m)) (fresh k (numbersIn ss)) f in
+    let h = and-true (fresh m (numbersIn ss)) (distinct (numbersIn ss)) d in
+    let some = fresh-some m (numbersIn ss) (h .0) in
     let r = climb ss (t .2) in
     ⊎-elim
     (λ q. not-given k ss (t .2) (h .1) (g .1) (ap (λ (a : Answer). a .number) (sym (misses m n (t .0) some r q)) ∙ e))
@@ -132,23 +121,23 @@ module _ (Gives : ℕ → ℕ → Type 0) where
   EachBy reached x (rows k n c ∷ ss) = ((i : ℕ) → By reached x k i) × EachBy reached x ss
 
   -- a stage is passed
-  past : (reached after : Type 0) (x r : Answer) (k : ℕ) (ss : List Stage) → fresh k ss ≡ true
+  past : (reached after : Type 0) (x r : Answer) (k : ℕ) (ss : List Stage) → fresh k (numbersIn ss) ≡ true
       → ((m i : ℕ) → (k ≡ m → ⊥) → (reached × (x ≡ answer m i)) ↔ (after × (r ≡ answer m i)))
       → EachBy reached x ss → EachBy after r ss
   past reached after x r k [] f h e = tt
   past reached after x r k (whole m c ∷ ss) f h e =
-      let g = and-true (not (eqb k m)) (fresh k ss) f in
+      let g = and-true (not (eqb k m)) (fresh k (numbersIn ss)) f in
       let s = h m 0 (ne-true k m (g .0)) in
       ((λ y. s .0 (e .0 .0 y), λ y. e .0 .1 (s .1 y)), past reached after x r k ss (g .1) h (e .1))
   past reached after x r k (rows m n c ∷ ss) f h e =
-      let g = and-true (not (eqb k m)) (fresh k ss) f in
+      let g = and-true (not (eqb k m)) (fresh k (numbersIn ss)) f in
       let o = ne-true k m (g .0) in
       (λ i. (λ y. h m i o .0 (e .0 i .0 y), λ y. e .0 i .1 (h m i o .1 y)), past reached after x r k ss (g .1) h (e .1))
 
-  stages : (reached : Type 0) (ss : List Stage) (t : Steps ss) → distinct ss ≡ true → EachBy reached (climb ss t) ss → Stages Gives reached ss
+  stages : (reached : Type 0) (ss : List Stage) (t : Steps ss) → distinct (numbersIn ss) ≡ true → EachBy reached (climb ss t) ss → Stages Gives reached ss
   stages reached [] t d e = tt
   stages reached (whole k c ∷ ss) t d e =
-      let g = and-true (fresh k ss) (distinct ss) d in
+      let g = and-true (fresh k (numbersIn ss)) (distinct (numbersIn ss)) d in
       let r = climb ss (t .2) in
       let a = at-whole (t .0) k r (not-given k ss (t .2) (g .1) (g .0)) in (
         (λ y. let z = e .0 .0 y in (z .0, t .1 .0 (a .0 (z .1))), λ y. e .0 .1 (y .0, a .1 (t .1 .1 (y .1)))),
@@ -160,10 +149,10 @@ module _ (Gives : ℕ → ℕ → Type 0) where
             (e .1)),
       )
   stages reached (rows k n c ∷ ss) t d e =
-      let g = and-true (fresh k ss) (distinct ss) d in
+      let g = and-true (fresh k (numbersIn ss)) (distinct (numbersIn ss)) d in
       let r = climb ss (t .2) in
       let p = t .0 in
-      let some = fresh-some k ss (g .0) in
+      let some = fresh-some k (numbersIn ss) (g .0) in
       let a = at-rows k n p some r (not-given k ss (t .2) (g .1) (g .0)) in
       let no : (j : ℕ) → p j ≡ false → c j → ⊥ = λ j q w. true≢false (sym (t .1 j .1 w) ∙ q) in
       let un : (j : ℕ) → (c j → ⊥) → p j ≡ false = λ j w. not-told (t .1 j) w in (
@@ -183,16 +172,16 @@ module _ (Gives : ℕ → ℕ → Type 0) where
       )
 
 -- 0 exactly if nothing applies
-quiet : (ss : List Stage) (t : Steps ss) → distinct ss ≡ true → (climb ss t ≡ answer 0 0) ↔ Quiet ss
+quiet : (ss : List Stage) (t : Steps ss) → distinct (numbersIn ss) ≡ true → (climb ss t ≡ answer 0 0) ↔ Quiet ss
 quiet [] t d = (λ e. tt, λ e. refl)
 quiet (whole k c ∷ ss) t d =
-    let g = and-true (fresh k ss) (distinct ss) d in
-    let q = past-whole (t .0) k (climb ss (t .2)) 0 0 (fresh-some k ss (g .0)) in
+    let g = and-true (fresh k (numbersIn ss)) (distinct (numbersIn ss)) d in
+    let q = past-whole (t .0) k (climb ss (t .2)) 0 0 (fresh-some k (numbersIn ss) (g .0)) in
     let s = quiet ss (t .2) (g .1) in
     (λ e. let z = q .0 e in (λ w. z .0 (t .1 .1 w), s .0 (z .1)), λ h. q .1 (λ b. h .0 (t .1 .0 b), s .1 (h .1)))
 quiet (rows k n c ∷ ss) t d =
-    let g = and-true (fresh k ss) (distinct ss) d in
-    let some = fresh-some k ss (g .0) in
+    let g = and-true (fresh k (numbersIn ss)) (distinct (numbersIn ss)) d in
+    let some = fresh-some k (numbersIn ss) (g .0) in
     let q = past-rows k n (t .0) some (climb ss (t .2)) 0 0 some in
     let s = quiet ss (t .2) (g .1) in
     (λ e. let z = q .0 e in (λ j l w. true≢false (sym (t .1 j .1 w) ∙ z .0 j l), s .0 (z .1)), λ h. q .1 (λ j l. not-told (t .1 j) (h .0 j l), s .1 (h .1)))
@@ -203,7 +192,7 @@ each-by x (whole k c ∷ ss) = ((λ e. (tt, e), λ y. y .1), each-by x ss)
 each-by x (rows k n c ∷ ss) = (λ i. (λ e. (tt, e), λ y. y .1), each-by x ss)
 
 -- of an answer that is the climb's
-pub order : (x : Answer) (ss : List Stage) (t : Steps ss) → distinct ss ≡ true → x ≡ climb ss t → Order (λ k i. x ≡ answer k i) ss
+pub order : (x : Answer) (ss : List Stage) (t : Steps ss) → distinct (numbersIn ss) ≡ true → x ≡ climb ss t → Order (λ k i. x ≡ answer k i) ss
 order x ss t d q =
     subst (λ (y : Answer). Order (λ k i. y ≡ answer k i) ss) (sym q)
     (record {

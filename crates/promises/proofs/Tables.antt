@@ -100,14 +100,19 @@ abbrev pub ladder : (reached : Type 0) (ls : List Line) → Rungs reached ls →
 ladder reached [] t = 0
 ladder reached (l ∷ ls) t = cond (t .0) (l .number) (ladder (reached × (l .applies → ⊥)) ls (t .2))
 
--- a number is no line's, and not 0; no two lines have one number
-abbrev pub fresh : ℕ → List Line → Bool
-fresh k [] = not (eqb k 0)
-fresh k (l ∷ ls) = not (eqb k (l .number)) && fresh k ls
+-- the numbers of a table
+abbrev pub numbersOf : List Line → List ℕ
+numbersOf [] = []
+numbersOf (l ∷ ls) = l .number ∷ numbersOf ls
 
-abbrev pub distinct : List Line → Bool
+-- a number is none of these, and not 0; no two are the same
+abbrev pub fresh : ℕ → List ℕ → Bool
+fresh k [] = not (eqb k 0)
+fresh k (m ∷ ms) = not (eqb k m) && fresh k ms
+
+abbrev pub distinct : List ℕ → Bool
 distinct [] = true
-distinct (l ∷ ls) = fresh (l .number) ls && distinct ls
+distinct (m ∷ ms) = fresh m ms && distinct ms
 
 -- what holds of every number of the table
 abbrev pub Each : (ℕ → Type 0) → List Line → Type 0
@@ -124,15 +129,15 @@ pub ne-true : (x y : ℕ) → not (eqb x y) ≡ true → x ≡ y → ⊥
 ne-true x y h = eqb-false x y (not-true (eqb x y) h)
 
 -- a fresh number is not 0
-pub fresh-some : (k : ℕ) (ls : List Line) → fresh k ls ≡ true → k ≡ 0 → ⊥
+pub fresh-some : (k : ℕ) (ms : List ℕ) → fresh k ms ≡ true → k ≡ 0 → ⊥
 fresh-some k [] f e = ne-true k 0 f e
-fresh-some k (l ∷ ls) f e = fresh-some k ls (and-true (not (eqb k (l .number))) (fresh k ls) f .1) e
+fresh-some k (m ∷ ms) f e = fresh-some k ms (and-true (not (eqb k m)) (fresh k ms) f .1) e
 
 -- a ladder never gives a number that is fresh
-pub not-given : (k : ℕ) (reached : Type 0) (ls : List Line) (t : Rungs reached ls) → fresh k ls ≡ true → ladder reached ls t ≡ k → ⊥
+pub not-given : (k : ℕ) (reached : Type 0) (ls : List Line) (t : Rungs reached ls) → fresh k (numbersOf ls) ≡ true → ladder reached ls t ≡ k → ⊥
 not-given k reached [] t f e = ne-true k 0 f (sym e)
 not-given k reached (l ∷ ls) t f e =
-    let g = and-true (not (eqb k (l .number))) (fresh k ls) f in
+    let g = and-true (not (eqb k (l .number))) (fresh k (numbersOf ls)) f in
     by (t .0) e (ne-true k (l .number) (g .0)) (not-given k (reached × (l .applies → ⊥)) ls (t .2) (g .1))
   where
     by : (b : Bool) → cond b (l .number) (ladder (reached × (l .applies → ⊥)) ls (t .2)) ≡ k → (k ≡ l .number → ⊥) → (ladder (reached × (l .applies → ⊥)) ls (t .2) ≡ k → ⊥) → ⊥
@@ -154,11 +159,11 @@ module _ (Gives : ℕ → Type 0) where
   abbrev pub By : Type 0 → ℕ → ℕ → Type 0
   By reached n k = Gives k ↔ (reached × (n ≡ k))
 
-  past : (reached P : Type 0) (b : Bool) (k r : ℕ) (ls : List Line) → (reached → Tells b P) → fresh k ls ≡ true
+  past : (reached P : Type 0) (b : Bool) (k r : ℕ) (ls : List Line) → (reached → Tells b P) → fresh k (numbersOf ls) ≡ true
       → Each (By reached (cond b k r)) ls → Each (By (reached × (P → ⊥)) r) ls
   past reached P b k r [] t f h = tt
   past reached P b k r (l ∷ ls) t f h =
-      let g = and-true (not (eqb k (l .number))) (fresh k ls) f in
+      let g = and-true (not (eqb k (l .number))) (fresh k (numbersOf ls)) f in
       let n = ne-true k (l .number) (g .0) in (
         (
           λ x.
@@ -170,10 +175,10 @@ module _ (Gives : ℕ → Type 0) where
         past reached P b k r ls t (g .1) (h .1),
       )
 
-  pub lines : (reached : Type 0) (ls : List Line) (t : Rungs reached ls) → distinct ls ≡ true → Each (By reached (ladder reached ls t)) ls → Lines Gives reached ls
+  pub lines : (reached : Type 0) (ls : List Line) (t : Rungs reached ls) → distinct (numbersOf ls) ≡ true → Each (By reached (ladder reached ls t)) ls → Lines Gives reached ls
   lines reached [] t d h = tt
   lines reached (l ∷ ls) t d h =
-      let g = and-true (fresh (l .number) ls) (distinct ls) d in
+      let g = and-true (fresh (l .number) (numbersOf ls)) (distinct (numbersOf ls)) d in
       let r = ladder (reached × (l .applies → ⊥)) ls (t .2) in
       let a = at-line (t .0) (l .number) r (not-given (l .number) (reached × (l .applies → ⊥)) ls (t .2) (g .0)) in (
         (
@@ -184,12 +189,12 @@ module _ (Gives : ℕ → Type 0) where
       )
 
 -- 0 exactly if none applies
-pub nothing : (reached : Type 0) (ls : List Line) (t : Rungs reached ls) → distinct ls ≡ true → reached → (ladder reached ls t ≡ 0) ↔ None ls
+pub nothing : (reached : Type 0) (ls : List Line) (t : Rungs reached ls) → distinct (numbersOf ls) ≡ true → reached → (ladder reached ls t ≡ 0) ↔ None ls
 nothing reached [] t d x = (λ e. tt, λ n. refl)
 nothing reached (l ∷ ls) t d x =
-    let g = and-true (fresh (l .number) ls) (distinct ls) d in
+    let g = and-true (fresh (l .number) (numbersOf ls)) (distinct (numbersOf ls)) d in
     let after = reached × (l .applies → ⊥) in
-    let p = past-line (t .0) (l .number) 0 (ladder after ls (t .2)) (fresh-some (l .number) ls (g .0)) in (
+    let p = past-line (t .0) (l .number) 0 (ladder after ls (t .2)) (fresh-some (l .number) (numbersOf ls) (g .0)) in (
       λ e.
           let q = p .0 e in
           let n : l .applies → ⊥ = λ a. q .0 (t .1 x .1 a) in
@@ -198,16 +203,16 @@ nothing reached (l ∷ ls) t d x =
     )
 
 -- a whole table, where `Gives k` says that the ladder gives k
-table-as : (Gives : ℕ → Type 0) (ls : List Line) (t : Rungs Unit ls) → distinct ls ≡ true → ((k : ℕ) → Gives k ↔ (ladder Unit ls t ≡ k)) → Table Gives ls
+table-as : (Gives : ℕ → Type 0) (ls : List Line) (t : Rungs Unit ls) → distinct (numbersOf ls) ≡ true → ((k : ℕ) → Gives k ↔ (ladder Unit ls t ≡ k)) → Table Gives ls
 table-as Gives ls t d g = record {
   lines = lines Gives Unit ls t d (each _ (λ k. (λ e. (tt, g k .0 e), λ x. g k .1 (x .1))) ls);
   success = (λ e. nothing Unit ls t d tt .0 (g 0 .0 e), λ h. g 0 .1 (nothing Unit ls t d tt .1 h));
 }
 
 -- of a number that is the ladder's
-pub table : (n : ℕ) (ls : List Line) (t : Rungs Unit ls) → distinct ls ≡ true → n ≡ ladder Unit ls t → Table (λ k. n ≡ k) ls
+pub table : (n : ℕ) (ls : List Line) (t : Rungs Unit ls) → distinct (numbersOf ls) ≡ true → n ≡ ladder Unit ls t → Table (λ k. n ≡ k) ls
 table n ls t d q = table-as (λ k. n ≡ k) ls t d (λ k. (λ e. sym q ∙ e, λ e. q ∙ e))
 
 -- of an answer whose number is, with a row
-pub answers : (x : Answer) (i : ℕ) (ls : List Line) (t : Rungs Unit ls) → distinct ls ≡ true → x ≡ answer (ladder Unit ls t) i → Table (λ k. x ≡ answer k i) ls
+pub answers : (x : Answer) (i : ℕ) (ls : List Line) (t : Rungs Unit ls) → distinct (numbersOf ls) ≡ true → x ≡ answer (ladder Unit ls t) i → Table (λ k. x ≡ answer k i) ls
 answers x i ls t d q = table-as (λ k. x ≡ answer k i) ls t d (λ k. (λ e. ap (λ (a : Answer). a .number) (sym q ∙ e), λ e. q ∙ ap (λ (m : ℕ). answer m i) e))

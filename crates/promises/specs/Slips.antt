@@ -24,7 +24,7 @@ SlipsThrough =
 pub record Slips : Type 0 where
   -- exactly two blocks go to zero under shuffle XOR identity: all zeros and all ones
   pub two-blocks : TwoBlocks
-  -- blocks are complements exactly if each byte of one is 255 less that of the other
+  -- blocks are complements exactly if each byte of one is 255 minus that of the other
   pub complement-bytes : ComplementBytes
   pub slips-through : SlipsThrough
   -- and over the identity, which is a lawful cipher, there are such records; a short block after the change catches them

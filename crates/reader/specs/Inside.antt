@@ -2,19 +2,17 @@
 use Prim.Native.Nat.{ℕ, _≤_}
 use mathlib.Core.Path.{_≡_}
 use mathlib.Core.List.{List}
-use lib.ListN.{length, replicate}
+use lib.ListN.{length}
 use Rattle.table.specs.declared.row.Row.{Row}
 use Rattle.table.specs.Format.{widthOf, countOf, rowOf}
 use Rattle.table.specs.Check.{checkFile}
 use Rattle.table.specs.Inside.{EntryIn}
 
--- row i can be opened under the ring, and any message has room, where nothing but zeros stands
-pub record Openable (f ring : List ℕ) (i : ℕ) (r : Row) (scratch : List ℕ) : Type 0 where
+-- row i can be opened under the ring
+pub record Openable (f ring : List ℕ) (i : ℕ) (r : Row) : Type 0 where
   pub is-row : r ≡ rowOf f i
   pub entry : EntryIn (widthOf f) f i
   pub ring-long : length ring ≡ 256
-  pub room : 65536 ≤ length scratch
-  pub blank : scratch ≡ replicate (length scratch) 0
 
 -- all n entries can be listed
 pub record Listable (f ring : List ℕ) (n : ℕ) (jobs numbers : List ℕ) : Type 0 where

@@ -1,11 +1,11 @@
 -- The answers one after the other: which numbers there are, and what each says.
-use Prim.Native.Nat.{ℕ, _+_, _-_, _≤_, _<_}
+use Prim.Native.Nat.{ℕ, _-_, _<_}
 use native.Mathlib.Omega.{arith}
-use mathlib.Core.Path.{_≡_, refl, sym, ap, ap₂, _∙_}
-use mathlib.Core.Bool.{Bool, true, false, not, _&&_, cond, true≢false}
+use mathlib.Core.Path.{_≡_, refl, sym, ap, _∙_}
+use mathlib.Core.Bool.{Bool, true, false, not, _&&_, true≢false}
 use mathlib.Core.List.{List}
 use mathlib.Core.Logic.{_⊎_, inl, inr, ⊎-elim}
-use lib.ListN.{length, replicate}
+use lib.ListN.{length}
 use lib.Dec.{eqb, lit<}
 use borrow.Author.Tests.{eq-eqb, ne-eqb, eqb-true, eqb-false, not-false}
 use Rattle.cipher.specs.Cipher.{retiredSuite}
@@ -15,12 +15,12 @@ use Rattle.table.specs.Answers.{answer}
 use Rattle.table.specs.Check.{nonceSeen, andThen, checkAs}
 use Rattle.table.proofs.Searches.{first-none, first-at}
 use Rattle.table.proofs.Passed.{both-zero}
-use Rattle.draft.specs.Answers.{tagRight, lentAnswer, FileWritten, writes, leaves}
+use Rattle.draft.specs.Answers.{tagRight, lentAnswer, writes, leaves}
 use Rattle.draft.specs.Promised.{RightTag}
 use Rattle.draft.proofs.Answers.{right-test, right-told, wrong-test, found-none, found-number, eight-leaves, Room, room-told, room-right, ring-wrong, out-wrong, lent-number, not-eight, kept}
 use Rattle.reseal.specs.Files.{retabled, resealedFile}
 use Rattle.reseal.specs.Answers.{seenFrom, wrongAgain, wrongAgainFrom, takeAnswer, resealAnswer, fileResealing}
-use Rattle.reseal.specs.Promised.{HasFour, Clashes, Calm, ResealCases, Resealing, ResealNumbers}
+use Rattle.reseal.specs.Promised.{HasFour, Calm, ResealCases, Resealing, ResealNumbers}
 
 not-true-false : (b : Bool) → (b ≡ true → ⊥) → b ≡ false
 not-true-false true n = absurd (n refl)

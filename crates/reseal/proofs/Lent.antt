@@ -5,20 +5,21 @@ use native.Mathlib.Omega.{arith}
 use mathlib.Core.Path.{_≡_, refl, sym, ap, ap₂, _∙_}
 use mathlib.Core.Bool.{Bool, true, false, not, _&&_}
 use mathlib.Core.List.{List, [], _∷_}
-use lib.ListN.{length, getD, drop, set, length-take, List·getD-append}
-use lib.Seq.{getD-take}
+use lib.ListN.{length, take, set}
 use lib.Dec.{eqb}
 use borrow.Author.Tests.{eq-eqb, ne-eqb}
 use borrow.Rule.Slice.PartMut.{putMid, same-len-mid}
+use Rattle.words.specs.Bytes.{sameBytes}
 use Rattle.cipher.specs.Cipher.{retiredSuite, factsOf, isSuite, retired, seals, Seals, sizeOf}
 use Rattle.table.specs.declared.row.Row.{Row}
 use Rattle.table.specs.declared.answers.Answer.{Answer}
 use Rattle.table.specs.Part.{stretch}
-use Rattle.table.specs.Format.{editionOf, countOf, edition, rowSize, widthOf, rowStart, restStart, rowOf}
-use Rattle.table.specs.Check.{checkAs}
-use Rattle.table.specs.Inside.{RowIn, TableIn, Spared}
-use Rattle.table.proofs.Rows.{row-in, row-broad, row-late, rows-small, stretch-length}
-use Rattle.table.proofs.Passed.{Passes, passes, own-edition}
+use Rattle.table.specs.Format.{countOf, edition, widthOf, restStart, rowOf, nonceAt}
+use Rattle.table.specs.Check.{checkAs, unreadSet, clash}
+use Rattle.table.specs.Inside.{RowIn, TableIn}
+use Rattle.table.proofs.Rows.{row-in, row-late, stretch-length}
+use Rattle.table.proofs.Nonces.{clash-keys, clash-none}
+use Rattle.table.proofs.Passed.{Passes, passes}
 use Rattle.draft.specs.Put.{put, putAll}
 use Rattle.draft.specs.Files.{pieceStart, pieceAs, entryOut}
 use Rattle.draft.specs.Answers.{tagRight}
@@ -26,11 +27,11 @@ use Rattle.writer.specs.declared.answers.Written.{Written}
 use Rattle.writer.specs.declared.answers.Written.the-variants as written
 use Rattle.writer.specs.Answers.{writtenAnswer}
 use Rattle.writer.specs.Inside.{PieceWritable}
-use Rattle.writer.proofs.Lent.{body-fits, part-is}
+use Rattle.writer.proofs.Lent.{body-fits, front-is}
 use Rattle.reseal.specs.Files.{successor, newSuite, resuited, retabled, againPiece}
-use Rattle.reseal.specs.Answers.{seenFrom, wrongAgain, takeAnswer}
-use Rattle.reseal.specs.Inside.{Passing, tableMost, Resealable}
-use Rattle.reseal.proofs.Retabled.{tab, unread-kept, new-table, seen-same}
+use Rattle.reseal.specs.Answers.{wrongAgain, takeAnswer}
+use Rattle.reseal.specs.Inside.{Passing, Resealable}
+use Rattle.reseal.proofs.Retabled.{withSuite, tab, t-row, t-nonce, t-table, t-unread}
 use Rattle.reseal.proofs.Pieces.{put-one, put-none}
 use Rattle.reseal.proofs.Answers.{Takeable, takeable}
 
@@ -48,14 +49,7 @@ four-size r q = ap sizeOf q
 -- ---- a suite 4 entry's places
 
 module _ (f : List ℕ) (i : ℕ) (r : Row) (ring out : List ℕ) (p : Resealable f i r ring out) where
-  pub len-high : r .len ≤ 65536
-  len-high = rw (p .is-row) (p .row .entry .text-high)
-
-  -- the room has a front for its piece
-  pub room-long : (room : List ℕ) (n : ℕ) → length room ≡ 65552 → n ≤ 16 → length (stretch room 0 (r .len + n - 0)) ≡ r .len + n
-  room-long room n l h = stretch-length room 0 (r .len + n - 0) (omega (arith, len-high)) ∙ omega arith
-
-  -- which as suite 3 is as long, so it lies in the output
+  -- its piece as suite 3 is as long, so it lies in the output
   pub piece-in : (a n : ℕ) → a ≡ r .at + r .ad → n ≡ sizeOf successor → a + (r .len + n) ≤ length out
   piece-in a n q k = omega (arith, body-fits f i r (p .row .entry) (p .is-row), p .row .out-long, four-size r (p .four))
 
@@ -74,25 +68,19 @@ module _ (f : List ℕ) (i : ℕ) (r : Row) (ring out : List ℕ) (p : Resealabl
       pub opened-long : length x ≡ a + r .len - a
       opened-long = k ∙ text-long ∙ omega arith
 
-      pub opened-is : stretch (putMid a (a + r .len - a) out x) a (a + r .len - a) ≡ x
-      opened-is = part-is out x a (a + r .len) (omega (arith, text-in)) opened-long
+      module _ (n : ℕ) (m : n ≡ sizeOf successor) where
+        pub opened-in : a + (r .len + n) ≤ length (putMid a (a + r .len - a) out x)
+        opened-in = omega (arith, piece-in a n q m, same-len-mid a (a + r .len - a) out x k)
 
-      pub opened-in : (n : ℕ) → n ≡ sizeOf successor → a + (r .len + n) ≤ length (putMid a (a + r .len - a) out x)
-      opened-in n m = omega (arith, piece-in a n q m, same-len-mid a (a + r .len - a) out x k)
+        pub piece-long : length (stretch (putMid a (a + r .len - a) out x) a (a + (r .len + n) - a)) ≡ a + (r .len + n) - a
+        piece-long = stretch-length (putMid a (a + r .len - a) out x) a (a + (r .len + n) - a) (omega (arith, opened-in))
 
-      -- from where the sealer takes it
-      pub can-seal : (room : List ℕ) (n : ℕ) → length room ≡ 65552 → n ≡ sizeOf successor → n ≤ 16
-          → PieceWritable f ring i r successor (stretch (putMid a (a + r .len - a) out x) a (a + r .len - a)) (stretch room 0 (r .len + n - 0))
-      can-seal room n l m h =
-          let lt : length (stretch (putMid a (a + r .len - a) out x) a (a + r .len - a)) ≡ r .len = ap length opened-is ∙ opened-long ∙ omega arith in
-          record {
-            is-row = p .is-row;
-            entry = p .row .entry;
-            still = three-seals;
-            ring-long = p .row .ring-long;
-            text-high = omega (arith, len-high);
-            out-long = omega (arith, room-long room n l h);
-          }
+        -- where the sealer takes it
+        pub opened-is : take (r .len) (stretch (putMid a (a + r .len - a) out x) a (a + (r .len + n) - a)) ≡ x
+        opened-is = front-is out x a (r .len) (a + (r .len + n)) (omega arith) (omega (arith, text-in)) (k ∙ text-long)
+
+        pub can-seal : PieceWritable f ring i r successor (stretch (putMid a (a + r .len - a) out x) a (a + (r .len + n) - a))
+        can-seal = record { is-row = p .is-row; entry = p .row .entry; still = three-seals; ring-long = p .row .ring-long; out-long = omega (arith, piece-long, m) }
 
 -- ---- a row
 
@@ -134,9 +122,6 @@ head-fits w f n t = omega (arith, row-late w n, t .fits)
 pub table-row : (w : ℕ) (l₀ l : List ℕ) (n : ℕ) {i : ℕ} → TableIn w l₀ n → length l ≡ length l₀ → i < n → RowIn w l i
 table-row w l₀ l n {i} t q b = row-in w l n i (record { broad = t .broad; fits = omega (arith, t .fits, q) }) b
 
-pub spared-part : (w : ℕ) (f : List ℕ) (n i : ℕ) → Spared w f n → i < n → Spared w f (i + 1)
-spared-part w f n i h l = record { spare = λ j b. h .spare j (omega arith) }
-
 -- one suite more
 pub suite-step : (f out out₀ new : List ℕ) (i w s : ℕ) (r : Row) → RowIn (widthOf f) out i → w ≡ widthOf f → s ≡ newSuite (r .suite) → r ≡ rowOf f i
     → out ≡ resuited f i out₀ → new ≡ set out (restStart w i) s → new ≡ resuited f (i + 1) out₀
@@ -154,51 +139,36 @@ module _ (f : List ℕ) (n : ℕ) (p : Passing f n) where
   pub table-in : TableIn (widthOf f) f n
   table-in = rw (p .rows) (tab f (p .passed))
 
-  few : n ≤ 512
-  few = omega (arith, p .rows, P .head .few)
+  pub row-own : (i : ℕ) → i < n → RowIn (widthOf f) f i
+  row-own i h = row-in (widthOf f) f n i table-in h
 
-  -- rows of edition 1
-  own-width : widthOf f ≡ rowSize edition
-  own-width = ap rowSize (own-edition edition f P)
+  -- its rows with the new suites
+  abbrev T : List ℕ
+  T = retabled f
 
-  table-small : rowStart (widthOf f) n ≤ tableMost
-  unfolding rowStart rowSize
-  table-small = rw own-width (omega (arith, few))
+  below : (i : ℕ) → i < n → i < countOf f
+  below i h = omega (arith, h, p .rows)
 
-  pub start-small : (w : ℕ) → w ≡ widthOf f → rowStart w n < 0x1_0000_0000_0000_0000
-  start-small w v = rw v (rows-small (editionOf f) n few)
+  row-anew : (i : ℕ) → i < n → RowIn (widthOf T) T i
+  row-anew i h = row-in (widthOf T) T (countOf f) i (t-table f (p .passed)) (below i h)
 
-  -- a list that begins with the table
-  module _ (l : List ℕ) (tl : TableIn (widthOf f) l n) (agree : (k : ℕ) → k < rowStart (widthOf f) n → getD l k 0 ≡ getD f k 0) where
-    pub t-spared : Spared (widthOf (resuited f n l)) (resuited f n l) n
-    t-spared = record { spare = λ j b. unread-kept f l n table-in tl agree j b ∙ P .walk .rows j (rw (p .rows) at b) .spare }
+  spare-anew : (i : ℕ) → i < n → unreadSet (widthOf T) T i ≡ false
+  spare-anew i h = t-unread f (p .passed) i (below i h) ∙ P .walk .rows i (below i h) .spare
 
-    pub t-table : TableIn (widthOf (resuited f n l)) (resuited f n l) n
-    t-table = new-table f l n table-in tl agree
+  module _ (i j : ℕ) (hi : i < n) (hj : j < n) where
+    nonces-anew : sameBytes (nonceAt (widthOf T) T i) (nonceAt (widthOf T) T j) ≡ sameBytes (nonceAt (widthOf f) f i) (nonceAt (widthOf f) f j)
+    nonces-anew = ap₂ sameBytes (t-nonce f (p .passed) i (below i hi)) (t-nonce f (p .passed) j (below j hj))
 
-    pub t-seen : seenFrom (resuited f n l) n 0 ≡ seenFrom (retabled f) n 0
-    t-seen = seen-same f l f n table-in tl table-in agree (λ k b. refl) ∙ ap (λ (k : ℕ). seenFrom (resuited f k f) n 0) (p .rows)
+    -- equal nonces: new suite and key number tell
+    pub anew-keys : (a b : Row) → a ≡ rowOf f i → b ≡ rowOf f j → sameBytes (nonceAt (widthOf f) f i) (nonceAt (widthOf f) f j) ≡ true
+        → (eqb (newSuite (a .suite)) (newSuite (b .suite)) && eqb (a .key) (b .key)) ≡ clash (widthOf T) T i j
+    anew-keys a b q r e =
+        clash-keys (widthOf T) T i j (row-anew i hi) (row-anew j hj) (spare-anew i hi) (spare-anew j hj) (withSuite a) (withSuite b)
+        (ap withSuite q ∙ sym (t-row f (p .passed) i (below i hi))) (ap withSuite r ∙ sym (t-row f (p .passed) j (below j hj))) (nonces-anew ∙ e)
 
-  -- header and table are copied to the front
-  module _ (e w : ℕ) (q : e ≡ rowStart w n) (v : w ≡ widthOf f) where
-    end-is : e ≡ rowStart (widthOf f) n
-    end-is = q ∙ ap (λ (x : ℕ). rowStart x n) v
-
-    pub end-in : e ≤ length f
-    end-in = omega (arith, end-is, table-in .fits)
-
-    pub end-small : e ≤ tableMost
-    end-small = omega (arith, end-is, table-small)
-
-    pub copied : (l x : List ℕ) → x ≡ stretch f 0 (e - 0) → (k : ℕ) → k < rowStart (widthOf f) n → getD (putMid 0 (e - 0) l x) k 0 ≡ getD f k 0
-    copied l x r k b =
-        let lx : length x ≡ e = ap length r ∙ length-take (e - 0) f ∙ omega (arith, end-in) in
-        List·getD-append x (drop (e - 0) (drop 0 l)) 0 k (omega (arith, lx, end-is))
-        ∙ ap (λ (y : List ℕ). getD y k 0) r
-        ∙ getD-take (e - 0) f k 0 (omega (arith, end-is))
-
-    pub copied-in : (l x : List ℕ) → length l ≡ tableMost → length (putMid 0 (e - 0) l x) ≡ length l → TableIn (widthOf f) (putMid 0 (e - 0) l x) n
-    copied-in l x m s = record { broad = row-broad (editionOf f); fits = omega (arith, s, m, table-small) }
+    -- others: no clash
+    pub anew-none : sameBytes (nonceAt (widthOf f) f i) (nonceAt (widthOf f) f j) ≡ false → false ≡ clash (widthOf T) T i j
+    anew-none e = clash-none (widthOf T) T i j (row-anew i hi) (row-anew j hj) (spare-anew i hi) (spare-anew j hj) (nonces-anew ∙ e)
 
 -- ---- the entry point
 

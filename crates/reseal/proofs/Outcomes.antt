@@ -1,5 +1,5 @@
 -- One outcome for each input: the contract is one equation over answer and output.
-use mathlib.Core.Path.{_≡_, refl, sym, ap, _∙_}
+use mathlib.Core.Path.{sym, ap, _∙_}
 use Rattle.words.specs.Outcome.{OneOutcome}
 use Rattle.draft.specs.Answers.{FileWritten}
 use Rattle.writer.proofs.Outcomes.{written-one}

@@ -3,8 +3,8 @@ use Prim.Native.Nat.{ℕ, zero, suc, _+_, _≤_, _<_}
 use native.Mathlib.Omega.{arith}
 use mathlib.Core.Path.{_≡_, refl, sym, ap, ap₂, _∙_}
 use mathlib.Core.List.{List, [], _∷_, _++_}
-use mathlib.Core.Logic.{_⊎_, inl, inr, ⊎-elim}
-use lib.ListN.{length, getD, take, drop, set, take-append-drop}
+use mathlib.Core.Logic.{_⊎_, inr, ⊎-elim}
+use lib.ListN.{length, take, drop, set, take-append-drop}
 use lib.Seq.{drop-drop, set-split}
 use Rattle.table.specs.Part.{stretch}
 use Rattle.table.proofs.Rows.{stretch-length}

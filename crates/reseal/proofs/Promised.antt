@@ -1,6 +1,6 @@
 -- The theorems: each follows from what 0 says and from the file that it leaves.
 use Prim.Native.Nat.{ℕ, _<_}
-use mathlib.Core.Path.{_≡_, refl, sym, ap, ap₂, _∙_}
+use mathlib.Core.Path.{_≡_, sym, ap, _∙_}
 use mathlib.Core.Bool.{Bool, true, false, true≢false}
 use mathlib.Core.List.{List}
 use lib.ListN.{length}
@@ -14,15 +14,15 @@ use Rattle.table.specs.Check.{nonceSeen, checkAs}
 use Rattle.table.proofs.Passed.{passes}
 use Rattle.shift.specs.Opening.{entryOpening}
 use Rattle.draft.specs.Files.{entryOut}
-use Rattle.draft.specs.Answers.{tagRight, FileWritten, writes}
+use Rattle.draft.specs.Answers.{FileWritten, writes}
 use Rattle.draft.specs.Promised.{RightTag}
 use Rattle.draft.proofs.Answers.{right-test}
 use Rattle.draft.proofs.Pieces.{entry-at}
 use Rattle.draft.proofs.Takes.{open-done}
 use Rattle.draft.proofs.Back.{plain-file}
-use Rattle.reseal.specs.Files.{retabled, resealedFile}
+use Rattle.reseal.specs.Files.{resealedFile}
 use Rattle.reseal.specs.Answers.{fileResealing}
-use Rattle.reseal.specs.Promised.{HasFour, Clashes, Calm, Resealed, Renewed, Renewing, NothingRetired, ResealedTwice, ClashOfCheck}
+use Rattle.reseal.specs.Promised.{HasFour, Calm, Resealed, Renewed, Renewing, NothingRetired, ResealedTwice, ClashOfCheck}
 use Rattle.reseal.proofs.Retabled.{clash-of-check, t-same}
 use Rattle.reseal.proofs.Resealed.{resealed-passes, resealed-length, resealed-count, resealed-nonce, none-left, row-three, data-three, same-message, right-again, kept-else, unchanged}
 use Rattle.reseal.proofs.Answers.{went, resealing}

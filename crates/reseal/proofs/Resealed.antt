@@ -1,12 +1,12 @@
 -- The resealed file is the file with the new suites, its suite 4 pieces put anew: it passes, no suite 4 row is left, and each resealed entry opens to the message that the old one opened to.
-use Prim.Native.Nat.{ℕ, zero, suc, _+_, _-_, _*_, _≤_, _<_}
+use Prim.Native.Nat.{ℕ, _+_, _-_, _≤_, _<_}
 use native.Mathlib.Decide.{decLt}
 use native.Mathlib.Omega.{arith}
 use mathlib.Core.Path.{_≡_, refl, sym, ap, ap₂, _∙_}
-use mathlib.Core.Bool.{Bool, true, false, not, cond}
-use mathlib.Core.List.{List, [], _∷_, _++_}
+use mathlib.Core.Bool.{Bool, true, false, cond}
+use mathlib.Core.List.{List, [], _++_}
 use mathlib.Core.Logic.{_⊎_, inl, inr, ⊎-elim}
-use lib.ListN.{length, getD, take, drop, length-append}
+use lib.ListN.{length, getD, take, length-append}
 use lib.Dec.{eqb}
 use borrow.Author.Tests.{eq-eqb, ne-eqb, eqb-true, eqb-false}
 use Rattle.words.specs.Bytes.{AllBytes}
@@ -18,7 +18,7 @@ use Rattle.mode.proofs.Start.{suite-nonce}
 use Rattle.table.specs.declared.row.Row.{Row}
 use Rattle.table.specs.declared.answers.Answer.{Answer}
 use Rattle.table.specs.Part.{stretch}
-use Rattle.table.specs.Format.{countOf, edition, widthOf, rowStart, restStart, nonceAt, rowOf, dataOf, textOf, tagOf}
+use Rattle.table.specs.Format.{countOf, edition, widthOf, nonceAt, rowOf, dataOf, textOf, tagOf}
 use Rattle.table.specs.Answers.{answer}
 use Rattle.table.specs.Check.{checkAs}
 use Rattle.table.specs.Inside.{EntryIn}
@@ -33,7 +33,7 @@ use Rattle.draft.proofs.Puts.{Apart, all-outside}
 use Rattle.draft.proofs.Rewritten.{head, edition-own, piece-in, piece-end, start-is, body-late, bodies-apart, pieces-apart, same-length, same-row, same-nonce, same-data, same-count, parts-are, passes-again, edition-same, pair-low, pair-high}
 use Rattle.draft.proofs.Pieces.{entry-at, text-all, out-long}
 use Rattle.draft.proofs.Back.{plain-file}
-use Rattle.reseal.specs.Files.{successor, newSuite, resuited, retabled, againPiece, resealedFile}
+use Rattle.reseal.specs.Files.{successor, retabled, againPiece, resealedFile}
 use Rattle.reseal.specs.Promised.{HasFour, Elsewhere, Calm}
 use Rattle.reseal.proofs.Retabled.{withSuite, size-new, nonce-new, new-four, new-not, t-length, t-row, t-nonce, t-head, t-body, t-count, t-kept, t-same, clash-of-check}
 use Rattle.reseal.proofs.Pieces.{put-places, put-empty, put-alike}

@@ -3,31 +3,28 @@ use Prim.Native.Nat.{ℕ, zero, suc, _+_, _-_, _≤_, _<_}
 use native.Mathlib.Decide.{decLt}
 use native.Mathlib.Omega.{arith}
 use mathlib.Core.Path.{_≡_, refl, sym, ap, ap₂, _∙_}
-use mathlib.Core.Bool.{Bool, true, false, not, _||_, _&&_, cond, true≢false}
+use mathlib.Core.Bool.{Bool, true, false, not, _&&_, cond, true≢false}
 use mathlib.Core.List.{List, [], _∷_}
 use mathlib.Core.Logic.{_⊎_, inl, inr, ⊎-elim}
-use lib.ListN.{length, getD, take, drop}
+use lib.ListN.{length, getD, take}
 use lib.Seq.{ext-getD}
 use lib.Dec.{eqb, leb}
 use borrow.Author.Tests.{le-ltb, eq-eqb, ne-eqb, eqb-true}
 use Rattle.words.specs.Bytes.{sameBytes}
-use Rattle.cipher.specs.Cipher.{retiredSuite, factsOf, isSuite, IsSuite, sizeOf, nonceOf}
+use Rattle.cipher.specs.Cipher.{retiredSuite, factsOf, isSuite, sizeOf, nonceOf}
 use Rattle.table.specs.declared.row.Row.{Row}
-use Rattle.table.specs.declared.answers.Answer.{Answer}
-use Rattle.table.specs.Search.{anyBelow}
 use Rattle.table.specs.Format.{editionOf, countOf, totalOf, edition, rowSize, widthOf, rowStart, restStart, rowAt, nonceStart, nonceAt, nonceReadAt, padded, rowOf, bodyEnd}
 use Rattle.table.specs.Answers.{answer}
 use Rattle.table.specs.Check.{notAbove, badSuite, badLength, bodyStart, misplaced, unreadSet, clash, nonceSeen, badData, bodyNumber, rowNumber, endAnswer, rowsFrom, headNumber, checkBetween, checkAs}
-use Rattle.table.specs.Inside.{RowIn, TableIn}
+use Rattle.table.specs.Inside.{TableIn}
 use Rattle.table.proofs.Rows.{row-broad, row-late, row-below, row-in, nonce-length}
 use Rattle.table.proofs.Sound.{Sound}
 use Rattle.table.proofs.Passed.{Passes, passes}
-use Rattle.table.proofs.Alike.{any-same, word-same}
+use Rattle.table.proofs.Alike.{word-same}
 use Rattle.table.proofs.Searches.{first-same}
 use Rattle.table.proofs.Kept.{data-held}
 use Rattle.shift.proofs.Changed.{stretch-at}
-use Rattle.draft.specs.Put.{put, putAll}
-use Rattle.draft.proofs.Puts.{Beside, Apart, Inside, Outside, where-is, all-length, all-outside, all-inside, own-pieces}
+use Rattle.draft.proofs.Puts.{Apart, Inside, Outside, where-is, all-length, all-outside, all-inside}
 use Rattle.draft.proofs.Rewritten.{body-late}
 use Rattle.draft.proofs.Back.{plain-file}
 use Rattle.reseal.specs.Files.{successor, newSuite, resuited, retabled}
@@ -204,31 +201,6 @@ module _ (f l : List ℕ) (n : ℕ) (tf : TableIn (widthOf f) f n) (tl : TableIn
   pub unread-kept : (i : ℕ) → i < n → unreadSet (widthOf g) g i ≡ unreadSet w f i
   unread-kept i b = ap (λ (v : ℕ). unreadSet v g i) new-width ∙ unread-at i b
 
-  -- 29 goes by the file's rows with their new suites, whatever stands behind the table
-  abbrev newClash : ℕ → ℕ → Bool
-  newClash i j =
-      eqb (newSuite (rowOf f i .suite)) (newSuite (rowOf f j .suite))
-      && (eqb (rowOf f i .key) (rowOf f j .key) && sameBytes (nonceReadAt w f i) (nonceReadAt w f j))
-
-  seen-at : (i : ℕ) → i < n → nonceSeen w g i ≡ anyBelow (newClash i) i
-  unfolding nonceSeen clash
-  seen-at i b = any-same (clash w g i) (newClash i) i (λ k c. clash-new k (omega arith))
-    where
-      clash-new : (k : ℕ) → k < n → clash w g i k ≡ newClash i k
-      clash-new k c =
-          ap₂ (λ (r q : Row). eqb (r .suite) (q .suite) && (eqb (r .key) (q .key) && sameBytes (nonceReadAt w g i) (nonceReadAt w g k))) (row-at i b) (row-at k c)
-          ∙ ap₂ (λ (s t : List ℕ). eqb (newSuite (rowOf f i .suite)) (newSuite (rowOf f k .suite)) && (eqb (rowOf f i .key) (rowOf f k .key) && sameBytes s t)) (read-at i b) (read-at k c)
-
-  pub seen-new : (i : ℕ) → i < n → nonceSeen (widthOf g) g i ≡ anyBelow (newClash i) i
-  seen-new i b = ap (λ (v : ℕ). nonceSeen v g i) new-width ∙ seen-at i b
-
--- so a copy of the table tells
-pub seen-same : (f l m : List ℕ) (n : ℕ) (tf : TableIn (widthOf f) f n) (tl : TableIn (widthOf f) l n) (tm : TableIn (widthOf f) m n) → ((k : ℕ) → k < rowStart (widthOf f) n → getD l k 0 ≡ getD f k 0)
-    → ((k : ℕ) → k < rowStart (widthOf f) n → getD m k 0 ≡ getD f k 0) → seenFrom (resuited f n l) n 0 ≡ seenFrom (resuited f n m) n 0
-unfolding seenFrom
-seen-same f l m n tf tl tm a b =
-    first-same _ _ _ _ _ _ (n - 0) 0 (λ j c. seen-new f l n tf tl a j (omega arith) ∙ sym (seen-new f m n tf tm b j (omega arith))) (λ j c e. refl) refl
-
 -- ---- a file that passes, with the new suites
 
 module _ (f : List ℕ) (z : checkAs edition f .number ≡ 0) where
@@ -255,6 +227,12 @@ module _ (f : List ℕ) (z : checkAs edition f .number ≡ 0) where
 
   pub t-nonce : (i : ℕ) → i < n → nonceAt (widthOf T) T i ≡ nonceAt v f i
   t-nonce = nonce-kept f f n tab tab (λ k b. refl)
+
+  pub t-table : TableIn (widthOf T) T n
+  t-table = new-table f f n tab tab (λ k b. refl)
+
+  pub t-unread : (i : ℕ) → i < n → unreadSet (widthOf T) T i ≡ unreadSet v f i
+  t-unread = unread-kept f f n tab tab (λ k b. refl)
 
   pub t-head : (k : ℕ) → k < 8 → getD T k 0 ≡ getD f k 0
   t-head = head-kept f f n tab tab (λ k b. refl)

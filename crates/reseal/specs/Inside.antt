@@ -13,10 +13,6 @@ pub record Passing (f : List ℕ) (n : ℕ) : Type 0 where
   pub passed : checkAs edition f .number ≡ 0
   pub rows : n ≡ countOf f
 
--- the most bytes that header and table have: 512 rows of edition 1
-abbrev pub tableMost : ℕ
-tableMost = 16392
-
 -- row i can be written, and is one of suite 4
 pub record Resealable (f : List ℕ) (i : ℕ) (r : Row) (ring out : List ℕ) : Type 0 where
   pub is-row : r ≡ rowOf f i

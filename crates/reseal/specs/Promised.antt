@@ -1,7 +1,7 @@
 -- What is promised of the reseal pass (document 02, W7). The statements speak of the definitions; the contract of `reseal` says that the code does what they say.
 use Prim.Native.Nat.{ℕ, _+_, _≤_, _<_}
 use mathlib.Core.Path.{_≡_}
-use mathlib.Core.Bool.{true, false}
+use mathlib.Core.Bool.{true}
 use mathlib.Core.List.{List}
 use mathlib.Core.Logic.{_⊎_}
 use lib.ListN.{length, getD, replicate}

@@ -6,7 +6,6 @@ use shift::lend::open_row;
 use shift::lend::row_of;
 use table::body::text_start;
 use table::row::Row;
-use words::runs::copy;
 use words::zeros::wipe;
 use writer::answers::Written;
 use writer::piece::seal_into;
@@ -21,7 +20,7 @@ ghost use Rattle.reseal.specs.Files.{againPiece};
 ghost use Rattle.reseal.specs.Answers.{wrongAgain, wrongAgainFrom};
 ghost use Rattle.reseal.specs.Inside.{Resealable};
 
-// Opens row i into its own place in the output, and seals it over from there; false where the tag is wrong. The message stands nowhere else: the room for the longest text and tag holds what is sealed alone.
+// Opens row i into its own place in the output, and seals it there; false where the tag is wrong. The message stands nowhere else.
 fn reseal_entry(f: &[u8], ring: &[u8], i: usize, row: Row, out: &mut [u8]) -> bool
     requires { ⌜ Resealable (now f) i row (now ring) (now out) ⌝ }
     ensures right { λ r. ⌜ r ≡ tagRight (now (f .entry)) (now (ring .entry)) i ⌝ }
@@ -36,9 +35,7 @@ fn reseal_entry(f: &[u8], ring: &[u8], i: usize, row: Row, out: &mut [u8]) -> bo
     let Verdict::Done = opened else {
         return false;
     };
-    let mut room = [0u8; 65552];
-    seal_into(f, ring, i, row, SUCCESSOR, &out[a..b], &mut room[0..n]);
-    copy(&room[0..n], &mut out[a..e]);
+    seal_into(f, ring, i, row, SUCCESSOR, &mut out[a..e]);
     true
 }
 

@@ -11,13 +11,13 @@ use Rattle.words.specs.Bytes.{sameBytes}
 use Rattle.cipher.specs.Cipher.{sizeOf, nonceOf, cipherOf}
 use Rattle.cipher.proofs.Suites.{nonce-most}
 use Rattle.mode.specs.Mode.{textOut, tagOut}
-use Rattle.comet.specs.Answers.{refusal, Sealed, sealing, Opened, openedAs, opening}
+use Rattle.comet.specs.Answers.{refusal, Sealed, sealing, Opened, openedAs, opening, verifying}
 use Rattle.table.specs.declared.row.Row.{Row}
 use Rattle.table.specs.Format.{widthOf, nonceAt, rowOf, dataOf, textOf, tagOf, bodyEnd}
 use Rattle.table.specs.Answers.{answer}
 use Rattle.table.specs.Inside.{EntryIn}
 use Rattle.table.proofs.Rows.{stretch-length, nonce-length}
-use Rattle.shift.specs.Opening.{ringKey, nonceRead, entrySealingAs, entryOpening, left, rowOpening}
+use Rattle.shift.specs.Opening.{ringKey, nonceRead, entrySealingAs, entryOpening, entryVerifying, left, rowOpening}
 use Rattle.shift.specs.Inside.{Lendable}
 
 -- lent the entry's own bytes, the opener gives and leaves what the definition says
@@ -26,6 +26,17 @@ pub lent : (f ring : List ℕ) (i : ℕ) (r : Row) (x : Opened) (key nonce ad te
     → ad ≡ dataOf f r → text ≡ textOf f r → tag ≡ tagOf f r → x ≡ entryOpening f ring i out
 unfolding entryOpening
 lent f ring i r x key nonce ad text tag out e q ek en ea et eg = e ∙ simp (ek, en, ea, et, eg, q)
+
+-- and so does the record's test, whose number is the opener's into an output of the text's length
+pub lent-test : (f ring : List ℕ) (i : ℕ) (r : Row) (x : ℕ) (key nonce ad text tag : List ℕ) → x ≡ verifying (r .suite) key nonce ad text tag → r ≡ rowOf f i
+    → key ≡ ringKey ring (r .key) → nonce ≡ take (nonceOf (r .suite)) (nonceAt (widthOf f) f i)
+    → ad ≡ dataOf f r → text ≡ textOf f r → tag ≡ tagOf f r → x ≡ entryVerifying f ring i
+unfolding entryVerifying
+lent-test f ring i r x key nonce ad text tag e q ek en ea et eg = e ∙ simp (ek, en, ea, et, eg, q)
+
+pub test-number : (f ring : List ℕ) (i : ℕ) → entryVerifying f ring i ≡ entryOpening f ring i (textOf f (rowOf f i)) .number
+unfolding entryVerifying entryOpening verifying
+test-number f ring i = refl
 
 -- and so does the sealer, of any text under any suite
 pub lent-sealer : (f ring : List ℕ) (i suite : ℕ) (r : Row) (x : Sealed) (key nonce ad text out tag : List ℕ) → x ≡ sealing suite key nonce ad text out tag → r ≡ rowOf f i

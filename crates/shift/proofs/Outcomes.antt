@@ -37,6 +37,8 @@ use Rattle.shift.proofs.lend.seal_as.Kinds as seal-as-kinds
 use Rattle.shift.proofs.lend.seal_as.Reads as seal-as-reads
 use Rattle.shift.proofs.lend.open_row.Kinds as open-row-kinds
 use Rattle.shift.proofs.lend.open_row.Reads as open-row-reads
+use Rattle.shift.proofs.lend.verify_row.Kinds as verify-row-kinds
+use Rattle.shift.proofs.lend.verify_row.Reads as verify-row-reads
 use Rattle.shift.proofs.answers.Found.answer.Kinds as found-kinds
 use Rattle.shift.proofs.answers.Found.answer.Reads as found-reads
 use Rattle.shift.proofs.answers.JobAnswer.answer.Kinds as opened-kinds
@@ -112,9 +114,12 @@ row-of κs a h x y = (x .ensures ∙ sym (y .ensures), refl)
 pub seal-as : OneOutcome seal-as-kinds.ps seal-as-kinds.r seal-as-reads.Pre seal-as-reads.Post
 seal-as κs a h x y =
     let e = x .ensures ∙ sym (y .ensures) in
-    (number-tells _ _ (ap (λ (z : comet.Sealed). z .number) e), ap (λ (z : comet.Sealed). (tt, (tt, (tt, (tt, (tt, (tt, (z .out, (z .tag, tt))))))))) e)
+    (number-tells _ _ (ap (λ (z : comet.Sealed). z .number) e), ap (λ (z : comet.Sealed). (tt, (tt, (tt, (tt, (tt, (z .out, (z .tag, tt)))))))) e)
 
 pub open-row : OneOutcome open-row-kinds.ps open-row-kinds.r open-row-reads.Pre open-row-reads.Post
 open-row κs a h x y =
     let e = x .ensures ∙ sym (y .ensures) in
     (number-tells _ _ (ap (λ (z : comet.Opened). z .number) e), ap (λ (z : comet.Opened). (tt, (tt, (tt, (tt, (z .out, tt)))))) e)
+
+pub verify-row : OneOutcome verify-row-kinds.ps verify-row-kinds.r verify-row-reads.Pre verify-row-reads.Post
+verify-row κs a h x y = (number-tells _ _ (x .ensures ∙ sym (y .ensures)), refl)

@@ -35,6 +35,12 @@ entryOpening f ring i out₀ =
     let r = rowOf f i in
     comet.opening (r .suite) (ringKey ring (r .key)) (nonceRead f i) (dataOf f r) (textOf f r) (tagOf f r) out₀
 
+-- the number of the record's test on the same bytes
+unfoldable pub entryVerifying : List ℕ → List ℕ → ℕ → ℕ
+entryVerifying f ring i =
+    let r = rowOf f i in
+    comet.verifying (r .suite) (ringKey ring (r .key)) (nonceRead f i) (dataOf f r) (textOf f r) (tagOf f r)
+
 -- what opening a job gives and leaves
 pub record JobOpened : Type 0 where
   pub answer : Answer

@@ -1,4 +1,4 @@
-// What sealer and opener are lent of a row: the entry's own stretch of the file, and its key.
+// What sealer, opener and the record's test are lent of a row: the entry's own stretch of the file, and its key.
 use comet::Verdict;
 use table::body::data_of;
 use table::body::tag_of;
@@ -15,7 +15,7 @@ ghost use Rattle.cipher.specs.Cipher.{nonceOf};
 ghost use Rattle.comet.specs.Answers.{numberOf, Sealed, Opened};
 ghost use Rattle.table.specs.Format.{widthOf, rowOf, nonceAt};
 ghost use Rattle.table.specs.Inside.{RowIn};
-ghost use Rattle.shift.specs.Opening.{ringKey, entrySealingAs, entryOpening};
+ghost use Rattle.shift.specs.Opening.{ringKey, entrySealingAs, entryOpening, entryVerifying};
 ghost use Rattle.shift.specs.Inside.{Lendable};
 
 // Row i of a shift file.
@@ -44,24 +44,23 @@ fn nonce_read(f: &[u8], i: usize, suite: u8) -> &[u8]
     stretch(nonce, 0, cipher::nonce_size(suite))
 }
 
-// Lends row i to the sealer, under a suite and with a text that the caller names.
+// Lends row i to the sealer, under a suite and with a text that the caller names: it is sealed in its place.
 pub fn seal_as(
     f: &[u8],
     ring: &[u8],
     i: usize,
     row: Row,
     suite: u8,
-    text: &[u8],
-    out: &mut [u8],
+    text: &mut [u8],
     tag: &mut [u8],
 ) -> Verdict
     requires { ⌜ Lendable (now f) (now ring) i row ⌝ }
-    ensures { λ r. ⌜ _≡_ {A = Sealed} (record { number = numberOf r; out = now (out .exit); tag = now (tag .exit) })
-        (entrySealingAs (now (f .entry)) (now (ring .entry)) i suite (now (text .entry)) (now (out .entry)) (now (tag .entry))) ⌝ }
+    ensures { λ r. ⌜ _≡_ {A = Sealed} (record { number = numberOf r; out = now (text .exit); tag = now (tag .exit) })
+        (entrySealingAs (now (f .entry)) (now (ring .entry)) i suite (now (text .entry)) (now (text .entry)) (now (tag .entry))) ⌝ }
 {
     let key = ring_key(ring, row.key);
     let nonce = nonce_read(f, i, suite);
-    comet::seal(suite, key, nonce, data_of(f, row), text, out, tag)
+    comet::seal_in_place(suite, key, nonce, data_of(f, row), text, tag)
 }
 
 // Lends row i to the opener.
@@ -79,5 +78,22 @@ pub fn open_row(f: &[u8], ring: &[u8], i: usize, row: Row, out: &mut [u8]) -> Ve
         text_of(f, row),
         tag_of(f, row),
         out,
+    )
+}
+
+// Lends row i to the record's test: no text is written.
+pub fn verify_row(f: &[u8], ring: &[u8], i: usize, row: Row) -> Verdict
+    requires { ⌜ Lendable (now f) (now ring) i row ⌝ }
+    ensures { λ r. ⌜ numberOf r ≡ entryVerifying (now (f .entry)) (now (ring .entry)) i ⌝ }
+{
+    let key = ring_key(ring, row.key);
+    let nonce = nonce_read(f, i, row.suite);
+    comet::verify(
+        row.suite,
+        key,
+        nonce,
+        data_of(f, row),
+        text_of(f, row),
+        tag_of(f, row),
     )
 }

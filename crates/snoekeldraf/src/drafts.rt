@@ -4,7 +4,7 @@ ghost use mathlib.Core.Path.{_≡_};
 ghost use Rattle.table.specs.Answers.{answer};
 ghost use Rattle.draft.specs.Answers.{FileWritten, fileSealing, fileUnsealing};
 
-// Seals a draft into out: the checks with 0 for the edition, 33, 2, 6.
+// Seals a draft into out: the checks with 0 for the edition, 33, 10, 2, 6.
 #[no_mangle]
 pub extern "C" fn shift_seal_file(draft: &[u8], ring: &[u8], out: &mut [u8], row: &mut u32) -> u32
     ensures { λ r. ⌜ _≡_ {A = FileWritten} (record { answer = answer r (now (row .exit)); out = now (out .exit) })

@@ -1,9 +1,10 @@
 // Runs the calls of the sealer and the opener that stand in the input, and writes a line for each.
 //
 // A call's numbers are the lengths of key, nonce, associated data, text, output and tag; the bytes of key, nonce,
-// associated data and text follow and, to open, those of the tag. Op 0 seals and 1 opens; 2 and 3 are the same, counted.
-// A line is the number, for 2 and 3 the count of the cipher calls, the output and, to seal, the tag. The lent buffers
-// hold 0xa5 before the call.
+// associated data and text follow and, to open or verify, those of the tag. Op 0 seals and 1 opens; 2 and 3 are the same,
+// counted; 4 seals and 5 opens in place, and 6 verifies, without an output. A line is the number, for 2 and 3 the count of
+// the cipher calls, the output (for 4 and 5 the text) and, to seal, the tag; for 6 the number alone. What is lent for
+// writing alone holds 0xa5 before the call.
 use comet::Counted;
 use libc::STDIN_FILENO;
 use lines::call::Call;
@@ -125,6 +126,80 @@ fn answer(c: Call, key: &[u8], nonce: &[u8], ad: &[u8], text: &[u8], line: &mut 
     )
 }
 
+// Reads the text and seals it in its place.
+fn seal_in_place(
+    c: Call,
+    key: &[u8],
+    nonce: &[u8],
+    ad: &[u8],
+    text: &mut [u8],
+    tag: &mut [u8],
+    line: &mut [u8],
+) -> usize {
+    if io::read_full(STDIN_FILENO, text) != text.len() {
+        return 0;
+    }
+    let a = comet::seal_in_place(c.suite, key, nonce, ad, text, tag);
+    let at = number(line, 0, a.number() as u64);
+    let at = and_shown(line, at, text);
+    let at = and_shown(line, at, tag);
+    end(line, at)
+}
+
+// Opens text in its place, or verifies it.
+fn unsealed_in_place(
+    c: Call,
+    key: &[u8],
+    nonce: &[u8],
+    ad: &[u8],
+    text: &mut [u8],
+    tag: &[u8],
+    line: &mut [u8],
+) -> usize {
+    if c.op == 6 {
+        let a = comet::verify(c.suite, key, nonce, ad, text, tag);
+        let at = number(line, 0, a.number() as u64);
+        return end(line, at);
+    }
+    let a = comet::unseal_in_place(c.suite, key, nonce, ad, text, tag);
+    let at = number(line, 0, a.number() as u64);
+    let at = and_shown(line, at, text);
+    end(line, at)
+}
+
+// The same, once the text and its tag are read.
+fn unseal_in_place(
+    c: Call,
+    key: &[u8],
+    nonce: &[u8],
+    ad: &[u8],
+    text: &mut [u8],
+    tag: &mut [u8],
+    line: &mut [u8],
+) -> usize {
+    let n = io::read_full(STDIN_FILENO, text);
+    let g = io::read_full(STDIN_FILENO, tag);
+    if n != text.len() || g != tag.len() {
+        return 0;
+    }
+    unsealed_in_place(c, key, nonce, ad, text, tag, line)
+}
+
+// Runs a call on a text where it lies; no line where text or tag have no room or end early.
+fn in_place(c: Call, key: &[u8], nonce: &[u8], ad: &[u8], line: &mut [u8]) -> usize {
+    let mut text = [0u8; 65537];
+    let mut tag = [0xa5u8; 40];
+    let n = c.fourth;
+    let g = c.sixth;
+    if 65537 < n || 40 < g || 6 < c.op {
+        return 0;
+    }
+    if c.op == 4 {
+        return seal_in_place(c, key, nonce, ad, &mut text[0..n], &mut tag[0..g], line);
+    }
+    unseal_in_place(c, key, nonce, ad, &mut text[0..n], &mut tag[0..g], line)
+}
+
 // Reads the rest of a call and runs it; no line where a buffer has no room or the input ends.
 fn run(c: Call, line: &mut [u8]) -> usize {
     let mut k = [0u8; 40];
@@ -134,12 +209,14 @@ fn run(c: Call, line: &mut [u8]) -> usize {
     let key = lines::read::field(&mut k, c.first);
     let nonce = lines::read::field(&mut v, c.second);
     let ad = lines::read::field(&mut a, c.third);
+    if key.len() != c.first || nonce.len() != c.second || ad.len() != c.third {
+        return 0;
+    }
+    if 3 < c.op {
+        return in_place(c, key, nonce, ad, line);
+    }
     let text = lines::read::field(&mut t, c.fourth);
-    if key.len() != c.first
-        || nonce.len() != c.second
-        || ad.len() != c.third
-        || text.len() != c.fourth
-    {
+    if text.len() != c.fourth {
         return 0;
     }
     answer(c, key, nonce, ad, text, line)

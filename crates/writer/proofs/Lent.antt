@@ -5,7 +5,7 @@ use mathlib.Core.Path.{_≡_, refl, sym, ap, ap₂, _∙_}
 use mathlib.Core.Bool.{Bool, true, false}
 use mathlib.Core.List.{List, _++_, append-assoc, append-nil}
 use lib.ListN.{length, take, drop, replicate, length-append}
-use lib.Seq.{take-at, drop-at, drop-drop, drop-length, length-take-le}
+use lib.Seq.{take-at, take-take, drop-at, drop-drop, drop-length, length-take-le}
 use borrow.Rule.Slice.PartMut.{putMid, post-is, take-put, drop-put}
 use Rattle.cipher.specs.Cipher.{Seals, sizeOf}
 use Rattle.comet.specs.Answers.{Sealed, Opened, openedAs}
@@ -53,9 +53,12 @@ part-is l x a e h q =
     let r = drop (e - a) (drop a l) in
     ap (take (e - a)) (drop-at (take a l) (x ++ r) a (length-take-le a l h)) ∙ take-at x r (e - a) q
 
-pub put-part : (out x : List ℕ) (a e : ℕ) → a ≤ e → length x ≡ e - a → putMid a (e - a) out x ≡ put out a x
-unfolding put
-put-part out x a e h l = ap (λ (v : List ℕ). take a out ++ (x ++ v)) (post-is a e out h ∙ ap (λ (k : ℕ). drop k out) (let q : e ≡ a + length x = omega arith in q))
+-- and it is the front of a longer part
+pub front-is : (l x : List ℕ) (a n e : ℕ) → a + n ≤ e → a ≤ length l → length x ≡ n → take n (stretch (putMid a (a + n - a) l x) a (e - a)) ≡ x
+front-is l x a n e k h q =
+    let m = putMid a (a + n - a) l x in
+    let w : n ≡ a + n - a = omega arith in
+    ap (λ (j : ℕ). take j (stretch m a (e - a))) w ∙ take-take (a + n - a) (e - a) (drop a m) (omega arith) ∙ part-is l x a (a + n) h (q ∙ w)
 
 -- a longer one over a shorter one, from the same place on
 pub put-over : (out x y : List ℕ) (a b e : ℕ) → a ≤ b → b ≤ e → e ≤ length out → length x ≡ b - a → length y ≡ e - a

@@ -1,15 +1,13 @@
 -- One outcome for each input: an answer's number and row are those of one case, so what a contract allows is one value.
 use Prim.Native.Nat.{ℕ, _<_}
-use native.Mathlib.Omega.{arith}
-use mathlib.Core.Path.{_≡_, refl, sym, ap, ap₂, _∙_}
-use mathlib.Core.Bool.{false, cond}
+use mathlib.Core.Path.{_≡_, refl, sym, ap, _∙_}
+use mathlib.Core.Bool.{cond}
 use mathlib.Core.List.{List}
 use lib.Dec.{eqb}
 use borrow.Author.Tests.{ne-eqb}
 use Rattle.words.specs.Outcome.{OneOutcome}
 use Rattle.table.specs.declared.answers.Answer.{Answer}
-use Rattle.table.specs.Answers.{refusalAnswer}
-use Rattle.table.proofs.Numbers.{refusal-range, refusal-some}
+use Rattle.table.proofs.Numbers.{refusal-some}
 use Rattle.table.proofs.Outcomes.{refusalOf, refusal-back, unlike, answer-one}
 use mathlib.Core.Logic.{inl, inr}
 use lib.Dec.{lit<}
@@ -56,7 +54,7 @@ pub lent-refused : OneOutcome lent-kinds.ps lent-kinds.r lent-reads.Pre lent-rea
 lent-refused κs a h x y = (written-one (x .ensures ∙ sym (y .ensures)), refl)
 
 pub seal-into : OneOutcome into-kinds.ps into-kinds.r into-reads.Pre into-reads.Post
-seal-into κs a h x y = (refl, ap (λ (l : List ℕ). (tt, (tt, (tt, (tt, (tt, (tt, (l, tt)))))))) (x .ensures ∙ sym (y .ensures)))
+seal-into κs a h x y = (refl, ap (λ (l : List ℕ). (tt, (tt, (tt, (tt, (tt, (l, tt))))))) (x .ensures ∙ sym (y .ensures)))
 
 pub seal-file : OneOutcome seal-kinds.ps seal-kinds.r seal-reads.Pre seal-reads.Post
 seal-file κs a h x y =

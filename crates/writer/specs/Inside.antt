@@ -1,5 +1,5 @@
 -- What the crate's own functions ask of each other; no entry point's contract cites it.
-use Prim.Native.Nat.{ℕ, _+_, _≤_, _<_}
+use Prim.Native.Nat.{ℕ, _+_, _<_}
 use mathlib.Core.Path.{_≡_}
 use mathlib.Core.List.{List}
 use lib.ListN.{length}
@@ -27,11 +27,10 @@ pub record RowWritable (f : List ℕ) (i : ℕ) (ring out : List ℕ) : Type 0 w
   pub ring-long : length ring ≡ 256
   pub out-long : length out ≡ length f
 
--- the suite seals, and text and output are as long as they have to be: the output has room for the tag too
-pub record PieceWritable (f ring : List ℕ) (i : ℕ) (r : Row) (suite : ℕ) (text out : List ℕ) : Type 0 where
+-- the suite seals, and the output is as long as text and tag
+pub record PieceWritable (f ring : List ℕ) (i : ℕ) (r : Row) (suite : ℕ) (out : List ℕ) : Type 0 where
   pub is-row : r ≡ rowOf f i
   pub entry : EntryIn (widthOf f) f i
   pub still : Seals suite
   pub ring-long : length ring ≡ 256
-  pub text-high : length text ≤ 65536
-  pub out-long : length out ≡ length text + sizeOf suite
+  pub out-long : length out ≡ r .len + sizeOf suite

@@ -6,6 +6,7 @@ use shift::lend::open_row;
 use shift::lend::row_of;
 use table::body::text_of;
 use table::body::text_start;
+use words::runs::copy;
 use words::zeros::wipe;
 ghost use mathlib.Core.Path.{_≡_};
 ghost use mathlib.Core.Bool.{true};
@@ -29,7 +30,7 @@ pub(crate) fn put_edition(e: u16, out: &mut [u8])
     out[1] = (h % 256) as u8;
 }
 
-// Seals row i of a draft into the output.
+// Seals row i of a draft in its place in the output; its text is put there first, whatever stood there.
 fn seal_entry(f: &[u8], ring: &[u8], i: usize, out: &mut [u8])
     requires { ⌜ RowWritable (now f) i (now ring) (now out) × Seals (rowOf (now f) i .suite) ⌝ }
     ensures { λ _. ⌜ now (out .exit) ≡ put (now (out .entry)) (pieceStart (now (f .entry)) i) (sealedPiece (now (f .entry)) (now (ring .entry)) i) ⌝ }
@@ -38,8 +39,10 @@ fn seal_entry(f: &[u8], ring: &[u8], i: usize, out: &mut [u8])
     let len = row.len as usize;
     let n = cipher::size_of(row.suite);
     let a = text_start(row);
-    let e = a + len + n;
-    seal_into(f, ring, i, row, row.suite, text_of(f, row), &mut out[a..e]);
+    let b = a + len;
+    let e = b + n;
+    copy(text_of(f, row), &mut out[a..b]);
+    seal_into(f, ring, i, row, row.suite, &mut out[a..e]);
 }
 
 // Seals the n rows of a draft into the output.

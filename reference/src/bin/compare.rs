@@ -4,9 +4,9 @@
 //!     compare [SEED]
 
 use reference::bridge::PROVED;
-use reference::calls::{Case, CountedCall, Library, REFERENCE};
+use reference::calls::{Call, Case, CountedCall, InPlaceCall, Library, REFERENCE};
 use reference::data::{
-    amending, cases, comparing, counted, files, moving, reading, resealing, searching, sessions, writing,
+    amending, cases, comparing, counted, files, in_place, moving, reading, resealing, searching, sessions, writing,
 };
 use reference::linked::{COLUMNS, PLAIN};
 use reference::random::Random;
@@ -63,7 +63,7 @@ impl Tally {
 
 fn compare_records(tally: &mut Tally, random: &mut Random) {
     cases::calls().iter().for_each(|call| tally.all(call));
-    tally.report("the calls of the program cases");
+    tally.report("the calls of test_comet: sealed and opened");
     trials::lengths(random, |call| tally.all(call));
     tally.report("all lengths up to 3 blocks + 1, good and damaged");
     trials::faults(random, |call| tally.all(call));
@@ -76,7 +76,7 @@ fn compare_records(tally: &mut Tally, random: &mut Random) {
 
 fn compare_files(tally: &mut Tally, random: &mut Random) {
     files::calls().iter().for_each(|call| tally.all(call));
-    tally.report("the calls of the program files");
+    tally.report("the calls of test_shift: check, lookup, opening");
     trials::single_bytes(|call| tally.all(call));
     tally.report("every single-byte damage of three small files");
     trials::shift_files(random, 60_000, |call| tally.all(call));
@@ -87,7 +87,7 @@ fn compare_files(tally: &mut Tally, random: &mut Random) {
 
 fn compare_sessions(tally: &mut Tally, random: &mut Random) {
     sessions::runs().iter().for_each(|run| tally.proved(run));
-    tally.report("the runs of the program sessions");
+    tally.report("the runs of test_session");
     sessions::all_cuttings(random, |run| tally.proved(run));
     tally.report("every cutting into three parts of up to three blocks");
     sessions::long_runs(random, 5_000, |run| tally.proved(run));
@@ -98,7 +98,7 @@ fn compare_sessions(tally: &mut Tally, random: &mut Random) {
 
 fn compare_writer(tally: &mut Tally, random: &mut Random) {
     writing::calls().iter().for_each(|call| tally.proved(call));
-    tally.report("the calls of the program writing");
+    tally.report("the calls of test_writer: writer");
     writing::single_bytes(|call| tally.proved(call));
     tally.report("single-byte changes of a draft and of a file");
     writing::trials(random, 20_000, |call| tally.proved(call));
@@ -107,7 +107,7 @@ fn compare_writer(tally: &mut Tally, random: &mut Random) {
 
 fn compare_search(tally: &mut Tally, random: &mut Random) {
     searching::calls().iter().for_each(|call| tally.proved(call));
-    tally.report("the calls of the program searching");
+    tally.report("the calls of test_shift: search");
     searching::trials(random, 3_000, |call| tally.proved(call));
     tally.report("jobs looked for in random files and tables");
     searching::longest(|call| tally.proved(call));
@@ -116,7 +116,7 @@ fn compare_search(tally: &mut Tally, random: &mut Random) {
 
 fn compare_reseal(tally: &mut Tally, random: &mut Random) {
     resealing::calls().iter().for_each(|call| tally.proved(call));
-    tally.report("the calls of the program resealing");
+    tally.report("the calls of test_writer: reseal");
     resealing::single_bytes(|call| tally.proved(call));
     tally.report("single-byte changes of a file to reseal");
     resealing::trials(random, 10_000, |call| tally.proved(call));
@@ -125,7 +125,7 @@ fn compare_reseal(tally: &mut Tally, random: &mut Random) {
 
 fn compare_compare(tally: &mut Tally, random: &mut Random) {
     comparing::calls().iter().for_each(|call| tally.proved(call));
-    tally.report("the calls of the program comparing");
+    tally.report("the calls of test_shift: comparison");
     comparing::trials(random, 10_000, |call| tally.proved(call));
     tally.report("random pairs of files, good and edited");
     comparing::longest(|call| tally.proved(call));
@@ -134,7 +134,7 @@ fn compare_compare(tally: &mut Tally, random: &mut Random) {
 
 fn compare_moves(tally: &mut Tally, random: &mut Random) {
     moving::calls().iter().for_each(|call| tally.proved(call));
-    tally.report("the calls of the program moving");
+    tally.report("the calls of test_writer: moves");
     moving::trials(random, 10_000, |call| tally.proved(call));
     tally.report("random files moved, good and edited");
     moving::longest(|call| tally.proved(call));
@@ -143,7 +143,7 @@ fn compare_moves(tally: &mut Tally, random: &mut Random) {
 
 fn compare_amendments(tally: &mut Tally, random: &mut Random) {
     amending::calls().iter().for_each(|call| tally.proved(call));
-    tally.report("the calls of the program amending");
+    tally.report("the calls of test_shift: amendments");
     amending::trials(random, 10_000, |call| tally.proved(call));
     tally.report("random amendments, good and edited");
     amending::longest(|call| tally.proved(call));
@@ -152,7 +152,7 @@ fn compare_amendments(tally: &mut Tally, random: &mut Random) {
 
 fn compare_counts(tally: &mut Tally, random: &mut Random) {
     counted::calls().iter().for_each(|call| tally.proved(call));
-    tally.report("the calls of the program counted");
+    tally.report("the calls of test_comet: counted");
     trials::faults(random, |call| tally.proved(&CountedCall(call.clone())));
     trials::limits(random, |call| tally.proved(&CountedCall(call.clone())));
     tally.report("counts of refusals, and of lengths around 65,536");
@@ -160,9 +160,24 @@ fn compare_counts(tally: &mut Tally, random: &mut Random) {
     tally.report("counts of random records, good, damaged and faulty");
 }
 
+/// The sealer's calls sealed in place; the opener's opened in place, and verified.
+fn compare_in_place(tally: &mut Tally, random: &mut Random) {
+    let each = |tally: &mut Tally, call: &Call| InPlaceCall::of(call).iter().for_each(|call| tally.proved(call));
+    in_place::calls().iter().for_each(|call| tally.proved(call));
+    cases::calls().iter().for_each(|call| each(tally, call));
+    tally.report("the calls of test_comet: in place, verified");
+    trials::lengths(random, |call| each(tally, call));
+    tally.report("all lengths up to 3 blocks + 1 in place, good and damaged");
+    trials::faults(random, |call| each(tally, call));
+    trials::limits(random, |call| each(tally, call));
+    tally.report("refusals in place, and lengths around 65,536");
+    trials::records(random, 30_000, |call| each(tally, call));
+    tally.report("random records in place, good, damaged and faulty");
+}
+
 fn compare_reports(tally: &mut Tally, random: &mut Random) {
     reading::calls().iter().for_each(|call| tally.proved(call));
-    tally.report("the calls of the program reading");
+    tally.report("the calls of test_shift: report and reader");
     reading::trials(random, 10_000, |call| tally.proved(call));
     tally.report("random files reported, good and edited");
     reading::long_files(|call| tally.proved(call));
@@ -184,6 +199,7 @@ fn main() {
     compare_amendments(&mut tally, &mut random);
     compare_counts(&mut tally, &mut random);
     compare_reports(&mut tally, &mut random);
+    compare_in_place(&mut tally, &mut random);
     println!("{} cases, {} differences", tally.cases, tally.differences);
     if tally.differences > 0 {
         std::process::exit(1);

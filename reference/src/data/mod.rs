@@ -5,6 +5,7 @@ pub mod cases;
 pub mod comparing;
 pub mod counted;
 pub mod files;
+pub mod in_place;
 pub mod moving;
 pub mod printing;
 pub mod reading;
@@ -54,7 +55,9 @@ pub fn parts(folder: &str) -> Vec<Part> {
     match folder {
         "samples" => samples::parts().to_vec(),
         "crates/test_ciphers" => vectors::parts().to_vec(),
-        "crates/test_comet" => joined([parts_of(&cases::calls()), parts_of(&counted::calls())]),
+        "crates/test_comet" => {
+            joined([parts_of(&cases::calls()), parts_of(&counted::calls()), parts_of(&in_place::calls())])
+        }
         "crates/test_session" => sessions::parts().to_vec(),
         "crates/test_shift" => joined([
             files::parts(),

@@ -36,7 +36,7 @@ pub fn sealing(suite: u8, key: &[u8]) -> Result<(Suite, Key), Refused> {
     Ok((suite, Key::try_from(key)?))
 }
 
-fn opening(suite: u8, key: &[u8]) -> Result<(Suite, Key), Refused> {
+pub fn opening(suite: u8, key: &[u8]) -> Result<(Suite, Key), Refused> {
     Ok((Suite::try_from(suite)?, Key::try_from(key)?))
 }
 

@@ -6,9 +6,9 @@ use mathlib.Core.Bool.{true}
 use mathlib.Core.List.{List}
 use mathlib.Core.Path.{_≡_, sym, ap, _∙_, subst}
 use Prim.Native.Nat.{ℕ}
-use Rattle.comet.specs.Answers.{numberOf, refusal, Opened}
-use Rattle.comet.specs.Counted.{Counting, openingCounted}
-use Rattle.comet.proofs.Refuse.{Passed, passed, done-zero, other-some, opening-kept}
+use Rattle.comet.specs.Answers.{numberOf, refusal}
+use Rattle.comet.specs.Counted.{openingCounted}
+use Rattle.comet.proofs.Refuse.{passed, done-zero, other-some, opening-kept}
 use Rattle.comet.proofs.Counts.{counting, calls-none, opening-same}
 use Rattle.comet.proofs.unseal_counted.Statement.{statement}
 use Rattle.comet.proofs.unseal_counted.Tie as tie

@@ -1,5 +1,4 @@
 -- `comet::verify_with` meets its contract: the answer is the comparison's, as the opener's number is.
-use borrow.Author.Needs.{needs}
 use borrow.Author.Tests.{not-true, not-false}
 use denote.Ref.{now}
 use lib.ListN.{length, take, drop, replicate}

@@ -1,11 +1,7 @@
 -- A refusal leaves the output; else the file is copied, its suites changed, and each suite 4 entry resealed.
 use borrow.Author.Needs.{needs}
 use denote.Ref.{now}
-use lib.ListN.{length}
-use mathlib.Core.List.{List}
-use mathlib.Core.Path.{_≡_, sym, ap, ap₂, _∙_}
-use native.Mathlib.Omega.{arith}
-use Prim.Native.Nat.{ℕ}
+use mathlib.Core.Path.{sym, ap, ap₂, _∙_}
 use Rattle.table.specs.declared.answers.Answer.{Answer}
 use Rattle.table.specs.Format.{edition}
 use Rattle.draft.specs.Put.{putAll}

@@ -1,10 +1,8 @@
--- After i turns both lists hold the first i entries, and what stood behind them; the room is blank.
-use Prim.Native.Nat.{ℕ, _-_, _≤_, _<_}
+-- After i turns both lists hold the first i entries, and what stood behind them.
+use Prim.Native.Nat.{_-_, _≤_, _<_}
 use native.Mathlib.Omega.{arith}
-use mathlib.Core.Path.{_≡_, sym, ap, _∙_}
-use mathlib.Core.List.{List}
+use mathlib.Core.Path.{_≡_, ap}
 use denote.Ref.{now}
-use lib.ListN.{length, replicate, length-replicate}
 use borrow.Author.Needs.{needs}
 use Rattle.table.specs.declared.row.Row.{Row}
 use Rattle.table.specs.Format.{edition, newest, countOf}
@@ -15,13 +13,13 @@ use Rattle.reader.proofs.entries.list_all.Statement.{statement}
 use Rattle.reader.proofs.entries.list_all.Tie as tie
 
 abbrev Inv-loop : tie.InvT-loop
-Inv-loop f ring n jobs₀ numbers₀ scratch₀ i₀ jobs numbers scratch i = (i ≤ n) × (jobs ≡ front (jobOf f) i jobs₀) × (numbers ≡ front (tagNumber f ring) i numbers₀) × (length scratch ≡ 65536) × (scratch ≡ replicate (length scratch) 0)
+Inv-loop f ring n jobs₀ numbers₀ i₀ jobs numbers i = (i ≤ n) × (jobs ≡ front (jobOf f) i jobs₀) × (numbers ≡ front (tagNumber f ring) i numbers₀)
 
 abbrev μ-loop : tie.MeasureT-loop
-μ-loop f ring n jobs₀ numbers₀ scratch₀ i₀ jobs numbers scratch i = n - i
+μ-loop f ring n jobs₀ numbers₀ i₀ jobs numbers i = n - i
 
 loop-holds : tie.Need-loop-holds Inv-loop μ-loop
-loop-holds c = let k = length-replicate {A = ℕ} 65536 0 in (omega arith, front-none _ _, front-none _ _, k, ap (λ (m : ℕ). replicate m 0) (sym k))
+loop-holds c = (omega arith, front-none _ _, front-none _ _)
 
 row-of-requires : tie.Need-row-of-requires Inv-loop μ-loop
 row-of-requires c κs =
@@ -42,22 +40,18 @@ slice-write-jobs c =
     let l = front-length _ _ _ _ (omega (arith, p .pre .jobs-room, c .before .loop-test .taken)) (c .before .before .loop .inv .1) in
     omega (arith, p .pre .jobs-room, c .before .loop-test .taken, l)
 
-slice-aggregate-tag-number : tie.Need-slice-aggregate-tag-number Inv-loop μ-loop
-slice-aggregate-tag-number c = search needs
-
 tag-number-requires : tie.Need-tag-number-requires Inv-loop μ-loop
 tag-number-requires c κs =
-    let p = c .before .before .before .before .before .before .before .before in
+    let p = c .before .before .before .before .before .before .before in
     let f = now (p .args .f) in
-    let l : c .before .before .before .loop .i < countOf f = omega (arith, p .pre .all, c .before .before .loop-test .taken) in
+    let l : c .before .before .loop .i < countOf f = omega (arith, p .pre .all, c .before .loop-test .taken) in
     let e = entry-in edition newest f (passes edition newest f (p .pre .passed)) _ l in
-    let h = c .before .before .before .loop .inv in
-    record { is-row = c .before .row-of .ensures; entry = e; ring-long = p .pre .ring-long; room = omega (arith, h .3); blank = h .4 }
+    record { is-row = c .row-of .ensures; entry = e; ring-long = p .pre .ring-long }
 
 slice-write-numbers : tie.Need-slice-write-numbers Inv-loop μ-loop
 slice-write-numbers c =
-    let p = c .before .before .before .before .before .before .before .before .before .before in
-    let t = c .before .before .before .before in
+    let p = c .before .before .before .before .before .before .before .before in
+    let t = c .before .before in
     let l = front-length _ _ _ _ (omega (arith, p .pre .numbers-room, t .loop-test .taken)) (t .before .loop .inv .2) in
     omega (arith, p .pre .numbers-room, t .loop-test .taken, l)
 
@@ -69,16 +63,13 @@ loop-less c = search needs
 
 loop-again : tie.Need-loop-again Inv-loop μ-loop
 loop-again c =
-    let p = c .before .before .before .before .before .before .before .before .before .before in
-    let t = c .before .before .before .before in
+    let p = c .before .before .before .before .before .before .before .before in
+    let t = c .before .before in
     let h = t .before .loop .inv in
-    let same = c .before .tag-number .ensures .1 in
-    let job = ap (λ (r : Row). r .job) (c .before .before .before .row-of .ensures) in (
+    let job = ap (λ (r : Row). r .job) (c .before .row-of .ensures) in (
       omega arith,
       front-step (jobOf (now (p .args .f))) _ _ _ _ (omega (arith, p .pre .jobs-room, t .loop-test .taken)) (h .1) job,
-      front-step (tagNumber (now (p .args .f)) (now (p .args .ring))) _ _ _ _ (omega (arith, p .pre .numbers-room, t .loop-test .taken)) (h .2) (c .before .tag-number .ensures .0),
-      ap length same ∙ h .3,
-      same ∙ h .4 ∙ ap (λ (l : List ℕ). replicate (length l) 0) (sym same),
+      front-step (tagNumber (now (p .args .f)) (now (p .args .ring))) _ _ _ _ (omega (arith, p .pre .numbers-room, t .loop-test .taken)) (h .2) (c .tag-number .ensures),
     )
 
 same-length : tie.Need-same-length Inv-loop μ-loop
@@ -107,7 +98,6 @@ list-all-spec =
     row-of-requires
     mul-jobs
     slice-write-jobs
-    slice-aggregate-tag-number
     tag-number-requires
     slice-write-numbers
     add-i

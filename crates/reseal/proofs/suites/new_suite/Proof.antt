@@ -1,5 +1,4 @@
 -- One test.
-use borrow.Author.Needs.{needs}
 use borrow.Author.Tests.{eq-eqb, ne-eqb}
 use Rattle.reseal.specs.Files.{newSuite}
 use Rattle.reseal.proofs.suites.new_suite.Statement.{statement}

@@ -1,7 +1,7 @@
 -- `session::blocks::absorb_part` meets its contract: the held bytes and the first of the associated data make a block, if they are enough.
 use borrow.Author.Needs.{needs}
 use denote.Ref.{now}
-use lib.ListN.{length, take, drop, length-append}
+use lib.ListN.{length, take, length-append}
 use lib.Seq.{length-take-le}
 use mathlib.Core.Bool.{false}
 use mathlib.Core.List.{List, _++_}

@@ -2,17 +2,17 @@
 use borrow.Author.Needs.{needs}
 use borrow.Rule.Slice.PartMut.{putMid}
 use denote.Ref.{now}
-use lib.ListN.{length, take, drop, length-append, length-take, length-drop}
+use lib.ListN.{length, take, drop, length-append}
 use lib.Seq.{length-take-le}
 use mathlib.Core.Bool.{false}
 use mathlib.Core.List.{List, _++_, append-nil}
-use mathlib.Core.Path.{_≡_, refl, sym, ap, ap₂, _∙_}
+use mathlib.Core.Path.{_≡_, sym, ap, ap₂, _∙_}
 use native.Mathlib.Nat.{div-add-mod', mod-lt, le-div-iff-mul-le, mul-le-mul-right}
 use native.Mathlib.Omega.{arith}
 use Prim.Native.Nat.{ℕ, _+_, _-_, _*_, _/_, _%_, _≤_, _<_}
-use Rattle.cipher.specs.Cipher.{Cipher, sizeOf, cipherOf}
+use Rattle.cipher.specs.Cipher.{sizeOf, cipherOf}
 use Rattle.mode.specs.Blocks.{blocks}
-use Rattle.mode.specs.Walk.{States, whole, rest, walked, covered}
+use Rattle.mode.specs.Walk.{whole, rest, walked, covered}
 use Rattle.mode.proofs.Cut.{length-whole, rest-less, rest-short}
 use Rattle.step.specs.Two.{twoOf}
 use Rattle.walk.proofs.Front.{short-walk, short-cover}

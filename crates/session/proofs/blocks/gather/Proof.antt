@@ -1,8 +1,7 @@
 -- `session::blocks::gather` meets its contract: the held bytes at the front, and the part from there to the end.
 use borrow.Author.Needs.{needs}
-use borrow.Rule.Slice.PartMut.{putMid}
 use denote.Ref.{now}
-use lib.ListN.{length, take, drop, length-take}
+use lib.ListN.{length, take}
 use lib.Seq.{length-take-le}
 use mathlib.Core.List.{List, _++_}
 use mathlib.Core.Path.{_≡_, ap, ap₂, _∙_}

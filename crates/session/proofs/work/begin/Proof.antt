@@ -1,21 +1,11 @@
 -- `session::work::begin` meets its contract: where the message has not begun, the last bytes of the associated data are one short block, or none.
-use denote.Ref.{now}
-use borrow.Author.Tests.{eq-eqb, ne-eqb}
-use lib.ListN.{length, take, length-take}
-use lib.Dec.{eqb}
-use lib.Seq.{length-take-le}
-use mathlib.Core.Bool.{Bool, cond}
-use mathlib.Core.List.{List}
-use mathlib.Core.Path.{_≡_, refl, sym, ap, ap₂, _∙_, subst}
-use native.Mathlib.Nat.{mod-lt, sub-zero}
+use lib.ListN.{length, length-take}
+use mathlib.Core.Path.{_≡_, sym, _∙_}
+use native.Mathlib.Nat.{mod-lt}
 use native.Mathlib.Omega.{arith}
-use Prim.Native.Nat.{ℕ, _-_, _%_, _≤_, _<_}
+use Prim.Native.Nat.{_-_, _%_, _<_}
 use Rattle.words.specs.Words.{xor}
-use Rattle.cipher.specs.Cipher.{sizeOf, cipherOf}
-use Rattle.mode.specs.Blocks.{blocks}
-use Rattle.mode.specs.Walk.{States, turned, walked}
-use Rattle.session.specs.Value.{Value, states, heldOf, firstMark, begun}
-use Rattle.step.specs.Two.{twoOf}
+use Rattle.cipher.specs.Cipher.{cipherOf}
 use Rattle.session.specs.Structs.{asValue}
 use Rattle.session.proofs.Flush.{begun-on, begun-none, begun-short}
 use borrow.Author.Needs.{needs}

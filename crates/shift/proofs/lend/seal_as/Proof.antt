@@ -14,8 +14,8 @@ nonce-read-requires c κs = search needs
 data-of-requires : tie.Need-data-of-requires
 data-of-requires c κs = search needs
 
-seal-requires : tie.Need-seal-requires
-seal-requires c κs = search needs
+seal-in-place-requires : tie.Need-seal-in-place-requires
+seal-in-place-requires c κs = search needs
 
 same-length : tie.Need-same-length
 same-length c = search needs
@@ -28,8 +28,8 @@ returns c =
     let ad = c .before .before .before .before .before .before .before in
     let nonce = ad .before in
     let key = nonce .before in
-    let s = key .before .before .before .before .before .before in
-    lent-sealer (now (s .args .f)) (now (s .args .ring)) (s .args .i) (s .args .suite) (s .args .row) _ _ _ _ (now (s .args .text)) (now (s .args .out)) (now (s .args .tag)) (c .before .before .before .before .seal .ensures) (s .pre .is-row)
+    let s = key .before .before .before .before .before in
+    lent-sealer (now (s .args .f)) (now (s .args .ring)) (s .args .i) (s .args .suite) (s .args .row) _ _ _ _ (now (s .args .text)) (now (s .args .text)) (now (s .args .tag)) (c .before .before .before .before .seal-in-place .ensures) (s .pre .is-row)
     (key .ring-key .ensures) (nonce .nonce-read .ensures) (ad .data-of .ensures .bytes)
 
 pub seal-as-spec : {M : Type 1} → statement M
@@ -39,7 +39,7 @@ seal-as-spec =
     ring-key-requires
     nonce-read-requires
     data-of-requires
-    seal-requires
+    seal-in-place-requires
     same-length
     same-length-2
     returns)

@@ -3,8 +3,6 @@ use borrow.Author.Needs.{needs}
 use denote.Ref.{now}
 use lib.ListN.{length}
 use native.Mathlib.Nat.{le-of-lt}
-use native.Mathlib.Omega.{arith}
-use Rattle.cipher.proofs.Suites.{size-most}
 use Rattle.step.proofs.Turns.{cut-in, cut-goes, goes-out, put-in}
 use Rattle.step.proofs.block.absorb_short.Statement.{statement}
 use Rattle.step.proofs.block.absorb_short.Tie as tie

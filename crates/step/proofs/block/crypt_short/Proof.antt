@@ -6,7 +6,6 @@ use mathlib.Core.List.{List}
 use mathlib.Core.Path.{_≡_, _∙_}
 use native.Mathlib.Nat.{le-of-lt}
 use Prim.Native.Nat.{ℕ}
-use Rattle.words.specs.declared.block.Block.{Block}
 use Rattle.words.specs.Blocks.{wide}
 use Rattle.cipher.specs.Cipher.{cipherOf}
 use Rattle.mode.specs.Walk.{hidden}

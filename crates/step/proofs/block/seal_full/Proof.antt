@@ -1,8 +1,7 @@
 -- `step::block::seal_full` meets its contract: the mask is of X, and the block that came goes in.
 use borrow.Author.Needs.{needs}
 use denote.Ref.{now}
-use lib.ListN.{length, take}
-use mathlib.Core.Path.{ap, _∙_}
+use mathlib.Core.Path.{_∙_}
 use native.Mathlib.Nat.{le-of-eq}
 use Rattle.cipher.proofs.Suites.{full-two}
 use Rattle.step.proofs.Turns.{goes-out, full-goes, put-in}

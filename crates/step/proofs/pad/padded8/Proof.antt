@@ -1,6 +1,6 @@
 -- `step::pad::padded8` meets its contract: what lies above the bytes falls to the remainder, and 1 stands there.
 use borrow.Author.Needs.{needs}
-use mathlib.Core.Path.{_≡_, sym, subst}
+use mathlib.Core.Path.{sym, subst}
 use native.Mathlib.Nat.{mod-lt}
 use native.Mathlib.Omega.{arith}
 use Prim.Native.Nat.{ℕ, _+_, _*_, _%_, _^_, _<_}

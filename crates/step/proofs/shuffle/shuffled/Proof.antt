@@ -1,13 +1,9 @@
 -- `step::shuffle::shuffled` meets its contract: by the suite's block size.
 use borrow.Author.Needs.{needs}
-use lib.ListN.{take}
 use lib.Seq.{take-all}
-use mathlib.Core.List.{_++_}
 use mathlib.Core.Path.{_≡_, sym, ap, _∙_}
 use native.Mathlib.Nat.{le-of-eq}
-use Prim.Native.Nat.{ℕ}
 use Rattle.words.specs.Blocks.{wide}
-use Rattle.words.specs.Bytes.{bytes}
 use Rattle.words.proofs.Blocks.{length-wide, first-eight}
 use Rattle.cipher.specs.Cipher.{sizeOf}
 use Rattle.cipher.proofs.Suites.{size-other}

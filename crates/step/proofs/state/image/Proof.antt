@@ -1,5 +1,4 @@
 -- `step::state::image` meets its contract: the image fills the front of the block, and zeros the rest.
-use borrow.Author.Needs.{needs}
 use mathlib.Core.Path.{_≡_, sym, ap, _∙_}
 use mathlib.Core.List.{List, _++_}
 use Prim.Native.Nat.{ℕ}

@@ -4,7 +4,6 @@ use mathlib.Core.List.{List, [], _∷_}
 use mathlib.Core.Path.{_≡_, refl}
 use native.Mathlib.Omega.{arith}
 use Prim.Native.Nat.{ℕ, _≤_, _/_, _%_}
-use denote.Ref.{now}
 use lib.ListN.{length, set}
 use Rattle.words.specs.Bytes.{bytes}
 use Rattle.draft.specs.Put.{put}

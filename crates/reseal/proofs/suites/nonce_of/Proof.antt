@@ -1,0 +1,30 @@
+-- Sixteen bytes fill a block and leave no zeros.
+use denote.Ref.{now}
+use mathlib.Core.Path.{ap, _∙_}
+use Prim.Native.Nat.{ℕ}
+use Rattle.words.proofs.Fill.{full-zeros}
+use Rattle.table.specs.Format.{nonceAt}
+use borrow.Author.Needs.{needs}
+use Rattle.reseal.proofs.suites.nonce_of.Statement.{statement}
+use Rattle.reseal.proofs.suites.nonce_of.Tie as tie
+
+width-requires : tie.Need-width-requires
+width-requires c κs = search needs
+
+nonce-at-requires : tie.Need-nonce-at-requires
+nonce-at-requires c κs = rw (c .width .ensures) (c .before .before .pre)
+
+filled-requires : tie.Need-filled-requires
+filled-requires c κs = search needs
+
+returns : tie.Need-returns
+unfolding nonceAt
+returns c =
+    let s = c .before .before .before .before in
+    c .filled .ensures
+    ∙ full-zeros _ (c .before .nonce-at .ensures .1)
+    ∙ c .before .nonce-at .ensures .0 .bytes
+    ∙ ap (λ (w : ℕ). nonceAt w (now (s .args .f)) (s .args .i)) (c .before .before .width .ensures)
+
+pub nonce-of-spec : {M : Type 1} → statement M
+nonce-of-spec = tie.close (tie.spec width-requires nonce-at-requires filled-requires returns)

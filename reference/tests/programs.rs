@@ -1,0 +1,419 @@
+//! The plant's programs on real files, by `./run` and by themselves: what they print, the files that they write, how `./run`
+//! ends, and what is left where a file cannot be read or written. Each test is skipped, and says so, where the programs are
+//! not built (`rt check`).
+
+use reference::data::printing::{self, PrintCall};
+use reference::data::{files, samples};
+use reference::plan::{Entry, Plan};
+use reference::printed::ROOM;
+use reference::shift::{self, rows};
+use reference::{difference, editions, printed, report, reseal, writer};
+use std::path::{Path, PathBuf};
+use std::process::{Command, Output};
+use std::sync::Mutex;
+
+static ALONE: Mutex<()> = Mutex::new(());
+
+const PROGRAMS: [&str; 6] = ["job", "current", "write", "convert", "differ", "inspect"];
+
+fn root() -> PathBuf {
+    Path::new(env!("CARGO_MANIFEST_DIR")).join("..").canonicalize().unwrap()
+}
+
+fn is_built() -> bool {
+    let kit = Command::new("rt").arg("doc").output().is_ok_and(|output| output.status.success());
+    let missing = PROGRAMS.into_iter().find(|name| !root().join("target/bin").join(name).exists());
+    if !kit {
+        eprintln!("skipped: the Rattle kit is not there");
+    } else if let Some(name) = missing {
+        eprintln!("skipped: target/bin/{name} is not built (rt check {name})");
+    }
+    kit && missing.is_none()
+}
+
+/// A folder of a test's own, gone at its end.
+struct Folder(PathBuf);
+
+impl Folder {
+    fn new(name: &str) -> Folder {
+        let path = std::env::temp_dir().join(format!("snoekeldraf-{name}-{}", std::process::id()));
+        std::fs::create_dir_all(&path).unwrap();
+        Folder(path)
+    }
+
+    fn put(&self, name: &str, bytes: &[u8]) {
+        std::fs::write(self.0.join(name), bytes).unwrap();
+    }
+
+    fn get(&self, name: &str) -> Vec<u8> {
+        std::fs::read(self.0.join(name)).unwrap()
+    }
+
+    fn names(&self) -> Vec<String> {
+        let entries = std::fs::read_dir(&self.0).unwrap();
+        let mut names: Vec<String> = entries.map(|entry| entry.unwrap().file_name().into_string().unwrap()).collect();
+        names.sort();
+        names
+    }
+
+    /// A built program by itself, under the kit's loader.
+    fn program(&self, name: &str, arguments: &[&str]) -> Output {
+        let program = root().join("target/bin").join(name);
+        Command::new(root().join("run")).arg(program).args(arguments).current_dir(&self.0).output().unwrap()
+    }
+
+    fn printed(&self, name: &str, arguments: &[&str]) -> String {
+        String::from_utf8(self.program(name, arguments).stdout).unwrap()
+    }
+
+    /// `./run NAME`: how it ends, what it prints, and what it says beside. One at a time: it asks `rt` for the program.
+    fn run(&self, arguments: &[&str]) -> (i32, String, String) {
+        let _alone = ALONE.lock().unwrap_or_else(|broken| broken.into_inner());
+        let output = Command::new(root().join("run")).args(arguments).current_dir(&self.0).output().unwrap();
+        let text = |bytes: Vec<u8>| String::from_utf8(bytes).unwrap();
+        (output.status.code().unwrap(), text(output.stdout), text(output.stderr))
+    }
+}
+
+impl Drop for Folder {
+    fn drop(&mut self) {
+        let _ = std::fs::remove_dir_all(&self.0);
+    }
+}
+
+/// The data's runs of the printing functions, some of each kind, on files.
+#[test]
+fn what_is_printed() {
+    if !is_built() {
+        return;
+    }
+    let folder = Folder::new("printed");
+    for call in printing::calls().iter().step_by(7) {
+        let (name, files, job): (&str, Vec<&Vec<u8>>, Option<u32>) = match call {
+            PrintCall::Job { file, ring, job } => ("job", vec![file, ring], Some(*job)),
+            PrintCall::Current { amendment, day, ring, job } => ("current", vec![amendment, day, ring], Some(*job)),
+            PrintCall::Differ { first, second } => ("differ", vec![first, second], None),
+            PrintCall::Inspect { file, ring } => ("inspect", vec![file, ring], None),
+        };
+        let mut arguments: Vec<String> = vec![];
+        for (i, bytes) in files.iter().enumerate() {
+            folder.put(&i.to_string(), bytes);
+            arguments.push(i.to_string());
+        }
+        arguments.extend(job.map(|job| job.to_string()));
+        let arguments: Vec<&str> = arguments.iter().map(String::as_str).collect();
+        assert_eq!(folder.printed(name, &arguments), call.printed(), "{name}");
+    }
+}
+
+/// A message as long as it can be, as text and in hex.
+#[test]
+fn the_longest_message() {
+    if !is_built() {
+        return;
+    }
+    let folder = Folder::new("longest");
+    folder.put("ring", &samples::ring());
+    for call in printing::calls() {
+        if let PrintCall::Job { file, job: u32::MAX, .. } = &call {
+            folder.put("file", file);
+            assert!(folder.printed("job", &["file", "ring", "4294967295"]) == call.printed());
+        }
+    }
+}
+
+/// A good file of eight jobs, 1 to 8, that is so long.
+fn of_length(length: usize) -> Vec<u8> {
+    let ring = samples::ring();
+    let entry = |job: u32| Entry::new(job, 6, 0, 2, [job as u8; 16], b"");
+    let mut plan = Plan::new((1..=8).map(entry).collect());
+    let left = length - plan.file(&ring).len();
+    for (i, entry) in plan.entries.iter_mut().enumerate() {
+        entry.message = vec![b'.'; left / 8 + (i < left % 8) as usize];
+    }
+    let file = plan.file(&ring);
+    assert_eq!((file.len(), shift::check(&file)), (length, (0, 0)));
+    file
+}
+
+/// Zero bytes stand for a file that is missing, a folder, or one byte longer than a program takes; the longest is taken.
+#[test]
+fn unreadable_and_oversized() {
+    if !is_built() {
+        return;
+    }
+    let folder = Folder::new("oversized");
+    let (ring, day) = (samples::ring(), samples::day());
+    folder.put("ring", &ring);
+    folder.put("day", &day);
+    folder.put("just", &of_length(ROOM));
+    folder.put("over", &of_length(ROOM + 1));
+    std::fs::create_dir(folder.0.join("folder")).unwrap();
+    assert_eq!(folder.printed("job", &["just", "ring", "3"]), printed::job(&folder.get("just"), &ring, 3));
+    assert_eq!(folder.printed("current", &["day", "just", "ring", "3"])[..6], *"0 2 0\n");
+    // the last opens, and cannot be read
+    for bad in ["over", "missing", "folder", "", "/proc/self/mem"] {
+        assert_eq!(folder.printed("job", &[bad, "ring", "3"]), "20 0\n");
+        assert_eq!(folder.printed("current", &[bad, "day", "ring", "4103"]), "20 1 0\n");
+        assert_eq!(folder.printed("current", &["day", bad, "ring", "4103"]), "20 2 0\n");
+        assert_eq!(folder.printed("write", &["back", bad, "ring", "out"]), "20 0\n");
+        assert_eq!(folder.printed("write", &["reseal", bad, "ring", "out"]), "20 0\n");
+        assert_eq!(folder.printed("write", &[bad, "ring", "out"]), "20 0\n");
+        assert_eq!(folder.printed("convert", &[bad, "out"]), "20 0\n");
+        assert_eq!(folder.printed("convert", &["back", bad, "out"]), "20 0\n");
+        assert_eq!(folder.printed("differ", &[bad, "day"]), "refused 1 20 0\n");
+        assert_eq!(folder.printed("differ", &["day", bad]), "refused 2 20 0\n");
+        assert_eq!(folder.printed("inspect", &[bad, "ring"]), "refused 20 0\n");
+    }
+    for bad in ["missing", "folder", "day"] {
+        assert_eq!(folder.printed("job", &["day", bad, "4103"]), "2 0\n");
+        assert_eq!(folder.printed("inspect", &["day", bad]), "refused 2 0\n");
+    }
+    assert_eq!(folder.names(), ["day", "folder", "just", "over", "ring"]);
+}
+
+/// `differ` and `inspect` take 65,280 bytes and no more.
+#[test]
+fn small_files_alone() {
+    if !is_built() {
+        return;
+    }
+    let folder = Folder::new("small");
+    let ring = samples::ring();
+    folder.put("ring", &ring);
+    let longest = difference::PROGRAM_LONGEST;
+    folder.put("day", &samples::day());
+    for length in [longest, longest + 1] {
+        let file = of_length(length);
+        folder.put("file", &file);
+        assert_eq!(folder.printed("inspect", &["file", "ring"]), report::printed(&file, &ring));
+        assert_eq!(folder.printed("differ", &["file", "day"]), difference::printed(&file, &samples::day()));
+        assert_eq!(folder.printed("differ", &["day", "file"]), difference::printed(&samples::day(), &file));
+    }
+}
+
+/// What the reference makes of a file.
+fn made(length: usize, pass: impl Fn(&mut [u8]) -> shift::Answer) -> (shift::Answer, Vec<u8>) {
+    let mut out = vec![0; length];
+    (pass(&mut out), out)
+}
+
+/// Every file that is written, byte for byte, over an old one and new; there and back.
+#[test]
+fn what_is_written() {
+    if !is_built() {
+        return;
+    }
+    let folder = Folder::new("written");
+    let ring = samples::ring();
+    folder.put("ring", &ring);
+    let wide = Plan::new(vec![]).in_edition(2).file(&[]);
+    let no_station = files::three_rows().without_stations();
+    let drafts = [samples::draft(), files::three_rows().resuited(4, 6).draft(), Plan::new(vec![]).draft()];
+    for draft in drafts {
+        let (answer, file) = made(draft.len(), |out| writer::seal_file(&draft, &ring, out));
+        assert_eq!(answer, (0, 0));
+        folder.put("draft", &draft);
+        assert_eq!(folder.printed("write", &["draft", "ring", "file"]), "0 0\n");
+        assert!(folder.get("file") == file);
+        assert_eq!(folder.printed("write", &["back", "file", "ring", "again"]), "0 0\n");
+        assert!(folder.get("again") == draft);
+    }
+    for old in [samples::day(), files::three_rows().file(&ring)] {
+        let (answer, file) = made(old.len(), |out| reseal::reseal(&old, &ring, out));
+        assert_eq!(answer, (0, 0));
+        folder.put("old", &old);
+        assert_eq!(folder.printed("write", &["reseal", "old", "ring", "file"]), "0 0\n");
+        assert!(folder.get("file") == file);
+    }
+    for one in [samples::day(), no_station.file(&ring), files::many_rows_plan(512).without_stations().file(&ring)] {
+        let length = one.len() + 4 * rows(&one).len();
+        let (answer, two) = made(length, |out| editions::to_edition2(&one, out));
+        assert_eq!(answer, (0, 0));
+        folder.put("one", &one);
+        assert_eq!(folder.printed("convert", &["one", "two"]), "0 0\n");
+        assert!(folder.get("two") == two);
+        assert_eq!(folder.printed("convert", &["back", "two", "again"]), "0 0\n");
+        assert!(folder.get("again") == one);
+    }
+    folder.put("empty", &wide);
+    assert_eq!(folder.printed("convert", &["back", "empty", "file"]), "0 0\n");
+    assert!(folder.get("file") == Plan::new(vec![]).file(&[]));
+    assert_eq!(folder.names(), ["again", "draft", "empty", "file", "old", "one", "ring", "two"]);
+}
+
+/// A refusal leaves what stands under OUT, and makes nothing.
+#[test]
+fn refused_and_left_alone() {
+    if !is_built() {
+        return;
+    }
+    let folder = Folder::new("refused");
+    folder.put("ring", &samples::ring());
+    folder.put("day", &samples::day());
+    folder.put("stations", &samples::stations());
+    folder.put("draft", &files::three_rows().draft());
+    folder.put("out", b"as it was");
+    let calls: [(&str, &[&str], &str); 8] = [
+        ("write", &["day", "ring", "out"], "21 0\n"),
+        ("write", &["draft", "ring", "out"], "10 2\n"),
+        ("write", &["draft", "day", "out"], "10 2\n"),
+        ("write", &["back", "stations", "ring", "out"], "21 0\n"),
+        ("write", &["back", "day", "day", "new"], "2 0\n"),
+        ("write", &["reseal", "draft", "ring", "out"], "21 0\n"),
+        ("convert", &["stations", "out"], "21 0\n"),
+        ("convert", &["back", "stations", "new"], "35 0\n"),
+    ];
+    for (name, arguments, printed) in calls {
+        assert_eq!(folder.printed(name, arguments), printed, "{name} {arguments:?}");
+        assert_eq!(folder.get("out"), b"as it was");
+    }
+    assert_eq!(folder.names(), ["day", "draft", "out", "ring", "stations"]);
+}
+
+const NOT_WRITTEN: &str = "OUT cannot be written\n";
+
+/// A missing folder, a folder, an endless name, a full device and a file that may not grow: the program says so first, and
+/// what stood there stands, the input too.
+#[test]
+fn not_written() {
+    if !is_built() {
+        return;
+    }
+    let folder = Folder::new("unwritable");
+    let (ring, draft, day) = (samples::ring(), samples::draft(), samples::day());
+    folder.put("ring", &ring);
+    folder.put("draft", &draft);
+    folder.put("day", &day);
+    std::fs::create_dir(folder.0.join("folder")).unwrap();
+    let endless = "x".repeat(300);
+    for out in ["missing/out", "folder", "/dev/full", "ring/out", &endless, ""] {
+        assert_eq!(folder.printed("write", &["draft", "ring", out]), NOT_WRITTEN, "{out}");
+        assert_eq!(folder.printed("write", &["reseal", "day", "ring", out]), NOT_WRITTEN, "{out}");
+        assert_eq!(folder.printed("convert", &["day", out]), NOT_WRITTEN, "{out}");
+        let (ended, printed, said) = folder.run(&["write", "draft", "ring", out]);
+        assert_eq!((ended, &printed[..]), (3, NOT_WRITTEN));
+        assert!(!said.contains("run: 0"));
+    }
+    // a device is written to, and stays one
+    assert_eq!(folder.printed("write", &["draft", "ring", "/dev/null"]), "0 0\n");
+    assert!(!std::fs::metadata("/dev/null").unwrap().is_file() && !std::fs::metadata("/dev/full").unwrap().is_file());
+    // no file may grow: the signal is ignored, and the write fails
+    let program = root().join("target/bin/write");
+    let script = "trap '' XFSZ; ulimit -f 0; exec \"$0\" \"$@\"";
+    for (input, out) in [("draft", "draft"), ("draft", "day"), ("draft", "new")] {
+        let run = root().join("run");
+        let mut command = Command::new("bash");
+        command.args(["-c", script]).arg(run).arg(&program).args([input, "ring", out]).current_dir(&folder.0);
+        assert_eq!(String::from_utf8(command.output().unwrap().stdout).unwrap(), NOT_WRITTEN);
+    }
+    assert_eq!((folder.get("draft"), folder.get("day")), (draft, day));
+    assert_eq!(folder.names(), ["day", "draft", "folder", "ring"]);
+}
+
+/// OUT may be an input.
+#[test]
+fn over_its_input() {
+    if !is_built() {
+        return;
+    }
+    let folder = Folder::new("input");
+    let (ring, draft) = (samples::ring(), samples::draft());
+    folder.put("ring", &ring);
+    folder.put("file", &draft);
+    assert_eq!(folder.printed("write", &["file", "ring", "file"]), "0 0\n");
+    let (_, sealed) = made(draft.len(), |out| writer::seal_file(&draft, &ring, out));
+    assert!(folder.get("file") == sealed);
+    assert_eq!(folder.printed("write", &["file", "ring", "file"]), "21 0\n");
+    assert!(folder.get("file") == sealed);
+    assert_eq!(folder.printed("convert", &["file", "file"]), "0 0\n");
+    assert_eq!(folder.printed("convert", &["back", "file", "file"]), "0 0\n");
+    assert!(folder.get("file") == sealed);
+    assert_eq!(folder.printed("write", &["back", "file", "ring", "file"]), "0 0\n");
+    assert!(folder.get("file") == draft);
+    assert_eq!(folder.names(), ["file", "ring"]);
+}
+
+/// How `./run` ends, and what it says beside a refusal.
+#[test]
+fn statuses() {
+    if !is_built() {
+        return;
+    }
+    let folder = Folder::new("statuses");
+    let ring = samples::ring();
+    folder.put("ring", &ring);
+    folder.put("day", &samples::day());
+    folder.put("amendment", &samples::amendment());
+    folder.put("stations", &samples::stations());
+    let mut wrong = samples::day();
+    let tag = rows(&wrong)[2].tag();
+    wrong[tag.start] ^= 1;
+    folder.put("wrong", &wrong);
+    let mut repeats = files::three_rows();
+    files::fault(&mut repeats, 29, 2);
+    folder.put("repeats", &repeats.file(&ring));
+    let runs: [(&[&str], i32, &str, &str); 19] = [
+        (&["job", "day", "ring", "4103"], 0, "0 0\nunit 2 inch-pounds\n", ""),
+        (&["job", "day", "ring", "4104"], 1, "32 0\n", "run: 32: no row has the job\n"),
+        (&["job", "wrong", "ring", "4103"], 1, "8 0\n", "run: 8: the tag differs\n"),
+        (&["job", "day", "day", "4103"], 1, "2 0\n", "run: 2: the ring is not 256 bytes long\n"),
+        (&["job", "missing", "ring", "4103"], 1, "20 0\n", "run: 20: the file is shorter than 8 bytes"),
+        (&["job", "repeats", "ring", "10"], 1, "29 2\n", "run: 29: row 2 repeats the suite, key number and nonce"),
+        (&["current", "amendment", "day", "ring", "4102"], 0, "0 1 0\n", ""),
+        (&["current", "amendment", "day", "ring", "1"], 1, "32 0 0\n", "run: 32: no row has the job\n"),
+        (&["current", "amendment", "repeats", "ring", "1"], 1, "29 2 2\n", "run: 29: the day's file: row 2 repeats"),
+        (&["differ", "day", "day"], 0, "first\nsecond\ndiffer\n", ""),
+        (&["differ", "repeats", "day"], 1, "refused 1 29 2\n", "run: 29: the first file: row 2 repeats"),
+        (&["inspect", "day", "ring"], 0, "entries 8\n", ""),
+        (&["inspect", "wrong", "ring"], 1, "entries 8\n", "run: 8: the tag of an entry differs\n"),
+        (&["inspect", "repeats", "ring"], 1, "refused 29 2\n", "run: 29: row 2 repeats"),
+        (&["convert", "day", "out"], 0, "0 0\n", ""),
+        (&["convert", "back", "stations", "out"], 1, "35 0\n", "run: 35: row 0's station is not 0\n"),
+        (&["write", "back", "wrong", "ring", "out"], 1, "8 2\n", "run: 8: row 2: the tag differs\n"),
+        (&["job", "day", "ring", "forty"], 2, "", "job FILE RING JOB\n"),
+        (&["job", "day", "ring", "4294967296"], 2, "", "job FILE RING JOB\n"),
+    ];
+    for (arguments, ends, starts, says) in runs {
+        let (ended, printed, said) = folder.run(arguments);
+        assert!(ended == ends && printed.starts_with(starts), "{arguments:?}: {ended} {printed}");
+        assert!(said.contains(says) && (ends != 0 || !said.contains("run: ")), "{arguments:?}: {said}");
+    }
+}
+
+/// Wrong arguments, no such program, `./run help`: the programs and how they are called, and nothing on the standard output
+/// but help's own lines. What a program says itself is the same.
+#[test]
+fn usage() {
+    if !is_built() {
+        return;
+    }
+    let folder = Folder::new("usage");
+    let (ended, help, _) = folder.run(&["help"]);
+    assert_eq!(ended, 0);
+    for name in PROGRAMS {
+        let (ended, printed, said) = folder.run(&[name]);
+        assert_eq!((ended, &printed[..]), (2, ""));
+        let output = folder.program(name, &["one"]);
+        assert!(output.stdout.is_empty());
+        for way in String::from_utf8(output.stderr).unwrap().lines() {
+            assert!(way.starts_with(name) && help.contains(&format!("./run {way} ")) && said.contains(way));
+        }
+    }
+    let (ended, printed, said) = folder.run(&["nosuch"]);
+    assert_eq!((ended, &printed[..]), (2, ""));
+    assert!(PROGRAMS.iter().all(|name| said.contains(&format!("./run {name} "))) && !said.contains("test_"));
+    let (ended, printed, said) = folder.run(&[]);
+    assert!(ended == 0 && printed.contains("unit 2 inch-pounds\n") && said.contains("./run help"));
+}
+
+/// The header has words for every number of the shift file and its tools.
+#[test]
+fn every_number_has_a_meaning() {
+    let header = std::fs::read_to_string(root().join("include/snoekeldraf.h")).unwrap();
+    let table = header.split("/* Numbers of the shift file").nth(1).unwrap().split("*/").next().unwrap();
+    for number in [0, 2, 6, 8, 10].into_iter().chain(20..=36) {
+        let lines = table.lines().filter(|line| line.split_whitespace().nth(1) == Some(&number.to_string()));
+        assert_eq!(lines.count(), 1, "{number}");
+    }
+}
