@@ -14,7 +14,7 @@ use Rattle.table.specs.Search.{anyBelow}
 use Rattle.table.specs.Format.{countOf, rowOf}
 use Rattle.table.proofs.Searches.{any-hit}
 use Rattle.compare.specs.Kept.{kept}
-use Rattle.compare.specs.Comparing.{sameFields, nonceOf, bodyOf, sameEntry, jobAt, has, hasJob, differs, onlyIn, differing}
+use Rattle.compare.specs.Comparing.{sameFields, nonceBytes, bodyOf, sameEntry, jobAt, has, hasJob, differs, onlyIn, differing}
 use Rattle.compare.specs.Promised.{InFile, Same, Different}
 use Rattle.compare.proofs.Keeping.{any-none}
 
@@ -123,7 +123,7 @@ same-says f g i j q =
 
 pub same-tells : (f g : List ℕ) (i j : ℕ) → Same f g i j → sameEntry f g i j ≡ true
 unfolding sameEntry sameFields
-same-tells f g i j h = simp (eq-eqb _ _ (h .suite), eq-eqb _ _ (h .key), eq-eqb _ _ (h .ad), eq-eqb _ _ (h .station), h .nonce, h .body, same-refl (nonceOf g j), same-refl (bodyOf g j))
+same-tells f g i j h = simp (eq-eqb _ _ (h .suite), eq-eqb _ _ (h .key), eq-eqb _ _ (h .ad), eq-eqb _ _ (h .station), h .nonce, h .body, same-refl (nonceBytes g j), same-refl (bodyOf g j))
 
 -- a test that is not true is false
 is-false : (b : Bool) → (b ≡ true → ⊥) → b ≡ false

@@ -28,8 +28,8 @@ abbrev pub sameStation : List ℕ → List ℕ → ℕ → ℕ → Bool
 sameStation f g i j = eqb (stationOf f i) (stationOf g j)
 
 -- the nonce of row i, all sixteen bytes
-abbrev pub nonceOf : List ℕ → ℕ → List ℕ
-nonceOf f i = nonceAt (widthOf f) f i
+abbrev pub nonceBytes : List ℕ → ℕ → List ℕ
+nonceBytes f i = nonceAt (widthOf f) f i
 
 -- its body: associated data, ciphertext and tag
 abbrev pub bodyOf : List ℕ → ℕ → List ℕ
@@ -39,7 +39,7 @@ bodyOf f i = bodyAt (widthOf f) f i
 unfoldable pub sameEntry : List ℕ → List ℕ → ℕ → ℕ → Bool
 sameEntry f g i j =
     sameFields (rowOf f i) (rowOf g j)
-    && (sameStation f g i j && (sameBytes (nonceOf f i) (nonceOf g j) && sameBytes (bodyOf f i) (bodyOf g j)))
+    && (sameStation f g i j && (sameBytes (nonceBytes f i) (nonceBytes g j) && sameBytes (bodyOf f i) (bodyOf g j)))
 
 -- ---- the three lists
 

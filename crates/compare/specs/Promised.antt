@@ -7,7 +7,7 @@ use lib.ListN.{length, getD}
 use Rattle.table.specs.Format.{editionOf, countOf, edition, rowOf, stationOf}
 use Rattle.table.specs.Answers.{answer}
 use Rattle.table.specs.Check.{checkFile}
-use Rattle.compare.specs.Comparing.{nonceOf, bodyOf, onlyFirst, onlySecond, differing, refusedIn, stopped, comparison}
+use Rattle.compare.specs.Comparing.{nonceBytes, bodyOf, onlyFirst, onlySecond, differing, refusedIn, stopped, comparison}
 
 -- ---- a job is in a list exactly as document 02 words it
 
@@ -22,7 +22,7 @@ pub record Same (f g : List ℕ) (i j : ℕ) : Type 0 where
   pub suite : rowOf f i .suite ≡ rowOf g j .suite
   pub key : rowOf f i .key ≡ rowOf g j .key
   pub ad : rowOf f i .ad ≡ rowOf g j .ad
-  pub nonce : nonceOf f i ≡ nonceOf g j
+  pub nonce : nonceBytes f i ≡ nonceBytes g j
   pub body : bodyOf f i ≡ bodyOf g j
   pub station : stationOf f i ≡ stationOf g j
 

@@ -8,7 +8,7 @@ use lines::text::end;
 use lines::text::hex;
 use lines::text::number;
 use lines::text::put;
-use reader::cursor::Entry;
+use reader::cursor::Given;
 use reader::cursor::Listed;
 use reader::cursor::ask;
 use reader::cursor::start;
@@ -91,22 +91,22 @@ fn row_lines(out: &mut [u8], at: usize, x: Listed, stations: bool) -> usize {
     at
 }
 
-fn is_of(e: Entry, job: u32) -> bool {
+fn is_of(e: Given, job: u32) -> bool {
     match e {
-        Entry::Row(x) => x.row.job == job,
-        Entry::Ended => false,
+        Given::Row(x) => x.row.job == job,
+        Given::Ended => false,
     }
 }
 
-fn entry_lines(out: &mut [u8], at: usize, e: Entry, stations: bool) -> usize {
+fn entry_lines(out: &mut [u8], at: usize, e: Given, stations: bool) -> usize {
     match e {
-        Entry::Row(x) => row_lines(out, at, x, stations),
-        Entry::Ended => at,
+        Given::Row(x) => row_lines(out, at, x, stations),
+        Given::Ended => at,
     }
 }
 
 // The row that has the job, of at most 512.
-fn row_of(file: &[u8], job: u32) -> Entry {
+fn row_of(file: &[u8], job: u32) -> Given {
     let mut c = start(file);
     let mut left: usize = 512;
     while 0 < left {
@@ -118,7 +118,7 @@ fn row_of(file: &[u8], job: u32) -> Entry {
         }
         left -= 1;
     }
-    Entry::Ended
+    Given::Ended
 }
 
 // The lines of an opened entry.

@@ -7,11 +7,11 @@ use Rattle.mode.proofs.Meets.{complement-bytes}
 use Rattle.mode.proofs.Slips as mode
 use Rattle.mode.proofs.Toy.{toy-holds}
 use Rattle.comet.specs.Answers.{Opened}
-use Rattle.promises.specs.Slips.{SlipsThrough, Slips}
+use Rattle.promises.specs.Slips.{SlipsPastOpener, Slips}
 use Rattle.promises.proofs.Answers.{nonce-right, opens, opened-tag}
 use Rattle.promises.proofs.Demand3.{key-block}
 
-pub slips-through : SlipsThrough
+pub slips-through : SlipsPastOpener
 slips-through suite key nonce ad ad′ c c′ t out₀ out₁ first i i′ lo lo′ lt acc ch full =
     let x = i .texts in
     let x′ = i′ .texts in

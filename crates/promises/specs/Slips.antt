@@ -13,8 +13,8 @@ use Rattle.promises.specs.Input.{Input}
 -- an accepted record (its number is 0); at least one byte is changed, all inside one block of associated data or one of ciphertext; lengths, key, nonce and tag stay, and every message block after the change is full.
 -- It is accepted exactly if at some message block after the change the cipher outputs of the two openings are complements in every bit.
 -- The request asks this of version 1, suites 1 to 4; suites 5 and 6 have it too, since equal lengths give equal keys in either version
-abbrev pub SlipsThrough : Type 0
-SlipsThrough =
+abbrev pub SlipsPastOpener : Type 0
+SlipsPastOpener =
     (suite : ℕ) (key nonce ad ad′ c c′ t out₀ out₁ : List ℕ) (first : ℕ) → Input suite key nonce ad c → Input suite key nonce ad′ c′
     → length out₀ ≡ length c → length out₁ ≡ length c′ → length t ≡ sizeOf suite
     → opening suite key nonce ad c t out₀ .number ≡ 0
@@ -26,6 +26,6 @@ pub record Slips : Type 0 where
   pub two-blocks : TwoBlocks
   -- blocks are complements exactly if each byte of one is 255 minus that of the other
   pub complement-bytes : ComplementBytes
-  pub slips-through : SlipsThrough
+  pub slips-through : SlipsPastOpener
   -- and over the identity, which is a lawful cipher, there are such records; a short block after the change catches them
   pub toy : Toy

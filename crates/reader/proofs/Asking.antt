@@ -22,12 +22,12 @@ use Rattle.table.proofs.Rows.{row-in}
 use Rattle.table.proofs.Sound.{headed}
 use Rattle.table.proofs.Passed.{passes}
 use Rattle.reader.specs.declared.cursor.Cursor.{Cursor}
-use Rattle.reader.specs.declared.cursor.Entry.{Entry}
-use Rattle.reader.specs.declared.cursor.Entry.the-variants.{Row, Ended}
-use Rattle.reader.specs.declared.cursor.Step.{Step}
+use Rattle.reader.specs.declared.cursor.Given.{Given}
+use Rattle.reader.specs.declared.cursor.Given.the-variants.{Row, Ended}
+use Rattle.reader.specs.declared.cursor.Stepped.{Stepped}
 use Rattle.reader.specs.declared.Asked.{Asked}
 use Rattle.reader.specs.declared.Reader.{Reader}
-use Rattle.reader.specs.Reading.{rowsIn, rowsLaid, listedOf, askOf, readerOf, nextOf, asks, rowsFrom}
+use Rattle.reader.specs.Reading.{rowsIn, rowsLaid, listedOf, askOf, readerOf, nextOf, asks, listedFrom}
 use Rattle.reader.specs.Promised.{RowsThenEnded, EndedAtOnce, OthersEnded, OthersRows}
 
 -- ---- how many rows there are
@@ -88,7 +88,7 @@ other c f h = simp (ne-eqb (c .end) (rowsLaid f) h)
 -- ---- all of them, one after the other
 
 -- the answer that is made of a step
-abbrev made : RefT (List ℕ) → Step → Asked
+abbrev made : RefT (List ℕ) → Stepped → Asked
 made s t = record { reader = record { src = s; place = t .next }; entry = t .entry }
 
 -- a reader that gives nothing stays where it is
@@ -97,17 +97,17 @@ unfolding asks
 stuck r e zero = refl
 stuck r e (suc m) =
     let q : nextOf r ≡ record { reader = r; entry = Ended } = ap (made (r .src)) e in
-    ap₂ (λ (a : Entry) (t : List Entry). a ∷ t) (ap (λ (x : Asked). x .entry) q) (ap (λ (x : Asked). asks m (x .reader)) q ∙ stuck r e m)
+    ap₂ (λ (a : Given) (t : List Given). a ∷ t) (ap (λ (x : Asked). x .entry) q) (ap (λ (x : Asked). asks m (x .reader)) q ∙ stuck r e m)
 
 -- k rows are left, and m asks come after
 pub others-rows : OthersRows
-unfolding asks rowsFrom
+unfolding asks listedFrom
 others-rows r zero m e q = let c : 0 + m ≡ m = omega arith in rw c (stuck r (past (r .place) (now (r .src)) (omega arith)) m)
 others-rows r (suc k) m e q =
     let c : suc k + m ≡ suc (k + m) = omega arith in
     let l : r .place .at < rowsLaid (now (r .src)) = omega arith in
     let g : nextOf r ≡ record { reader = record { src = r .src; place = moved (r .place) }; entry = Row (listedOf (now (r .src)) (r .place .at)) } = ap (made (r .src)) (going (r .place) (now (r .src)) e l) in
-    rw c (ap₂ (λ (a : Entry) (t : List Entry). a ∷ t) (ap (λ (x : Asked). x .entry) g)
+    rw c (ap₂ (λ (a : Given) (t : List Given). a ∷ t) (ap (λ (x : Asked). x .entry) g)
     (ap (λ (x : Asked). asks (k + m) (x .reader)) g ∙ rw add-one (others-rows (record { src = r .src; place = record { at = suc (r .place .at); end = r .place .end } }) k m e (omega arith))))
 
 pub others-ended : OthersEnded

@@ -11,14 +11,14 @@ use Rattle.table.specs.Check.{checkFile}
 use Rattle.words.specs.Bytes.{AllBytes}
 use Rattle.shift.specs.Opening.{jobOpening}
 use Rattle.draft.specs.Answers.{fileSealing}
-use Rattle.reader.specs.declared.cursor.Entry.the-variants.{Ended}
+use Rattle.reader.specs.declared.cursor.Given.the-variants.{Ended}
 use Rattle.reader.specs.declared.Reader.{Reader}
-use Rattle.reader.specs.Reading.{rowsLaid, readerOf, asks, rowsFrom}
+use Rattle.reader.specs.Reading.{rowsLaid, readerOf, asks, listedFrom}
 use Rattle.reader.specs.Reporting.{jobOf, tagNumber, front, entries, longest, reporting}
 
 -- on a file that passes the check: the table's rows in order, each once, and then that it has ended, as often as it is asked
 abbrev pub RowsThenEnded : Type 0
-RowsThenEnded = (s : RefT (List ℕ)) (m : ℕ) → checkFile (now s) .number ≡ 0 → asks (countOf (now s) + m) (readerOf s) ≡ rowsFrom (now s) 0 (countOf (now s)) ++ replicate m Ended
+RowsThenEnded = (s : RefT (List ℕ)) (m : ℕ) → checkFile (now s) .number ≡ 0 → asks (countOf (now s) + m) (readerOf s) ≡ listedFrom (now s) 0 (countOf (now s)) ++ replicate m Ended
 
 -- on any other it has ended at once
 abbrev pub EndedAtOnce : Type 0
@@ -30,7 +30,7 @@ OthersEnded = (r : Reader) (m : ℕ) → (rowsLaid (now (r .src)) ≤ r .place .
 
 -- and any other gives the table's rows from its place on, as they stand there, and then has ended: nothing but 20 to 24 is known of the file
 abbrev pub OthersRows : Type 0
-OthersRows = (r : Reader) (k m : ℕ) → r .place .end ≡ rowsLaid (now (r .src)) → r .place .at + k ≡ rowsLaid (now (r .src)) → asks (k + m) r ≡ rowsFrom (now (r .src)) (r .place .at) k ++ replicate m Ended
+OthersRows = (r : Reader) (k m : ℕ) → r .place .end ≡ rowsLaid (now (r .src)) → r .place .at + k ≡ rowsLaid (now (r .src)) → asks (k + m) r ≡ listedFrom (now (r .src)) (r .place .at) k ++ replicate m Ended
 
 -- an entry line's 0 or 8 is what opening its job answers, into an output of the message's length
 abbrev pub OpeningSays : Type 0

@@ -8,9 +8,9 @@ use Rattle.table.specs.Format.{countOf, edition, newest, widthOf, nonceStart, r
 use Rattle.table.specs.Check.{headNumber, checkFile}
 use Rattle.reader.specs.declared.cursor.Cursor.{Cursor}
 use Rattle.reader.specs.declared.cursor.Listed.{Listed}
-use Rattle.reader.specs.declared.cursor.Entry.{Entry}
-use Rattle.reader.specs.declared.cursor.Entry.the-variants.{Row, Ended}
-use Rattle.reader.specs.declared.cursor.Step.{Step}
+use Rattle.reader.specs.declared.cursor.Given.{Given}
+use Rattle.reader.specs.declared.cursor.Given.the-variants.{Row, Ended}
+use Rattle.reader.specs.declared.cursor.Stepped.{Stepped}
 use Rattle.reader.specs.declared.Reader.{Reader}
 use Rattle.reader.specs.declared.Asked.{Asked}
 
@@ -31,7 +31,7 @@ abbrev pub startOf : List ℕ → Cursor
 startOf f = record { at = 0; end = rowsIn f }
 
 -- the row at the cursor's place; it has ended where the table has no such row, and where the cursor is another file's
-unfoldable pub askOf : Cursor → List ℕ → Step
+unfoldable pub askOf : Cursor → List ℕ → Stepped
 askOf c f =
     cond (eqb (c .end) (rowsLaid f) && ltb (c .at) (rowsLaid f))
     (record { next = record { at = c .at + 1; end = c .end }; entry = Row (listedOf f (c .at)) })
@@ -42,7 +42,7 @@ abbrev pub readerOf : RefT (List ℕ) → Reader
 readerOf s = record { src = s; place = startOf (now s) }
 
 -- an entry, and the reader after it
-abbrev pub asked : Reader → Entry → Asked
+abbrev pub asked : Reader → Given → Asked
 asked r e = record { reader = r; entry = e }
 
 -- what a reader gives, and the reader after it: the same file, the next place
@@ -50,11 +50,11 @@ abbrev pub nextOf : Reader → Asked
 nextOf r = asked (record { src = r .src; place = askOf (r .place) (now (r .src)) .next }) (askOf (r .place) (now (r .src)) .entry)
 
 -- the reader's list: what k asks give, one after the other
-unfoldable pub asks : ℕ → Reader → List Entry
+unfoldable pub asks : ℕ → Reader → List Given
 asks zero r = []
 asks (suc k) r = nextOf r .entry ∷ asks k (nextOf r .reader)
 
 -- the table's rows, k of them from row i on
-unfoldable pub rowsFrom : List ℕ → ℕ → ℕ → List Entry
-rowsFrom f i zero = []
-rowsFrom f i (suc k) = Row (listedOf f i) ∷ rowsFrom f (suc i) k
+unfoldable pub listedFrom : List ℕ → ℕ → ℕ → List Given
+listedFrom f i zero = []
+listedFrom f i (suc k) = Row (listedOf f i) ∷ listedFrom f (suc i) k

@@ -31,15 +31,15 @@ pub struct Listed {
 }
 
 // What an ask gives: a row, or that the rows have ended.
-pub enum Entry {
+pub enum Given {
     Row(Listed),
     Ended,
 }
 
 // What an ask gives, and the cursor after it.
-pub struct Step {
+pub struct Stepped {
     pub next: Cursor,
-    pub entry: Entry,
+    pub entry: Given,
 }
 
 // A cursor at row 0. The file is checked here, once; one that does not pass has no rows.
@@ -86,30 +86,30 @@ fn listed_at(f: &[u8], i: usize) -> Listed
 
 // The next row, and the cursor past it. A cursor says nothing of the file that it comes with, so the header is looked at
 // again, which tells that the row lies in the file; the check is not run again.
-pub fn ask(c: Cursor, file: &[u8]) -> Step
+pub fn ask(c: Cursor, file: &[u8]) -> Stepped
     ensures { λ r. ⌜ r ≡ askOf c (now (file .entry)) ⌝ }
 {
     let at = c.at;
     let end = c.end;
     let n = laid(file);
     if end != n {
-        return Step {
+        return Stepped {
             next: c,
-            entry: Entry::Ended,
+            entry: Given::Ended,
         };
     }
     if n <= at {
-        return Step {
+        return Stepped {
             next: c,
-            entry: Entry::Ended,
+            entry: Given::Ended,
         };
     }
     let row = listed_at(file, at);
-    Step {
+    Stepped {
         next: Cursor {
             at: at + 1,
             end: end,
         },
-        entry: Entry::Row(row),
+        entry: Given::Row(row),
     }
 }

@@ -6,8 +6,8 @@ mod entries;
 
 use answers::Reported;
 use cursor::Cursor;
-use cursor::Entry;
-use cursor::Step;
+use cursor::Given;
+use cursor::Stepped;
 use cursor::ask;
 use cursor::start;
 use entries::list_all;
@@ -28,7 +28,7 @@ pub struct Reader<'a> {
 // What an ask gives, and the reader after it.
 pub struct Asked<'a> {
     pub reader: Reader<'a>,
-    pub entry: Entry,
+    pub entry: Given,
 }
 
 // The reader of a file, at its first entry.
@@ -58,18 +58,18 @@ impl<'a> Reader<'a> {
 }
 
 // The entry of a file at a place, and the place past it, by the reader: for callers that hold no reader.
-pub fn step_at(file: &[u8], place: Cursor) -> Step
+pub fn step_at(file: &[u8], place: Cursor) -> Stepped
     ensures { λ r. ⌜ r ≡ askOf place (now (file .entry)) ⌝ }
 {
     let a = Reader { src: file, place }.next();
-    Step {
+    Stepped {
         next: a.reader.place,
         entry: a.entry,
     }
 }
 
 // The same in place: the reader is lent, and its place moves.
-pub fn next_in<'s, 'a>(r: &'s mut Reader<'a>) -> Entry
+pub fn next_in<'s, 'a>(r: &'s mut Reader<'a>) -> Given
     ensures { λ e. ⌜ asked (now (r .exit)) e ≡ nextOf (now (r .entry)) ⌝ }
 {
     let s = ask(r.place, r.src);

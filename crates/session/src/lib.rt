@@ -38,9 +38,9 @@ impl Session {
         }
         if cipher::lends(suite) {
             let tb = cipher::tables(suite);
-            return work::opened(&tb, suite, key, nonce);
+            return work::started(&tb, suite, key, nonce);
         }
-        work::opened(&[], suite, key, nonce)
+        work::started(&[], suite, key, nonce)
     }
 
     // A part of the associated data.

@@ -2,9 +2,9 @@
 ghost use mathlib.Core.Path.{_≡_};
 ghost use Rattle.session.specs.Value.{sound, startNumber, dataNumber, textNumber, endNumber};
 
-// The number of a start, with a key of k bytes and a nonce of v.
-pub(crate) fn start_number(suite: u8, k: usize, v: usize) -> u8
-    ensures { λ r. ⌜ r ≡ startNumber suite k v ⌝ }
+// The number of a start, from the lengths of key and nonce.
+pub(crate) fn start_number(suite: u8, key: usize, nonce: usize) -> u8
+    ensures { λ r. ⌜ r ≡ startNumber suite key nonce ⌝ }
 {
     let b = cipher::is_suite(suite);
     if !b {
@@ -14,11 +14,11 @@ pub(crate) fn start_number(suite: u8, k: usize, v: usize) -> u8
     if !s {
         return 10;
     }
-    if k != 16 {
+    if key != 16 {
         return 2;
     }
-    let vn = cipher::nonce_size(suite);
-    if v != vn {
+    let n = cipher::nonce_size(suite);
+    if nonce != n {
         return 3;
     }
     0
@@ -38,9 +38,9 @@ fn goes_on(suite: u8, came: usize, text: usize) -> bool
     text <= 65536
 }
 
-// The number of a part of l bytes of associated data.
-pub(crate) fn data_number(suite: u8, came: usize, text: usize, l: usize) -> u8
-    ensures { λ r. ⌜ r ≡ dataNumber suite came text l ⌝ }
+// The number of a part of associated data, from its length.
+pub(crate) fn data_number(suite: u8, came: usize, text: usize, part: usize) -> u8
+    ensures { λ r. ⌜ r ≡ dataNumber suite came text part ⌝ }
 {
     let b = goes_on(suite, came, text);
     if !b {
@@ -49,43 +49,43 @@ pub(crate) fn data_number(suite: u8, came: usize, text: usize, l: usize) -> u8
     if text != 0 {
         return 9;
     }
-    if 65536 - came < l {
+    if 65536 - came < part {
         return 4;
     }
     0
 }
 
-// The number of a part of l bytes of message, with room for o.
-pub(crate) fn text_number(suite: u8, came: usize, text: usize, l: usize, o: usize) -> u8
-    ensures { λ r. ⌜ r ≡ textNumber suite came text l o ⌝ }
+// The number of a part of message, from the lengths of part and output.
+pub(crate) fn text_number(suite: u8, came: usize, text: usize, part: usize, out: usize) -> u8
+    ensures { λ r. ⌜ r ≡ textNumber suite came text part out ⌝ }
 {
     let b = goes_on(suite, came, text);
     if !b {
         return 9;
     }
-    if 65536 - text < l {
+    if 65536 - text < part {
         return 5;
     }
     let n = cipher::size_of(suite);
-    if o < l + (n - 1) {
+    if out < part + (n - 1) {
         return 6;
     }
     0
 }
 
-// The number of the end, with room for o bytes and a tag buffer of t.
-pub(crate) fn end_number(suite: u8, came: usize, text: usize, o: usize, t: usize) -> u8
-    ensures { λ r. ⌜ r ≡ endNumber suite came text o t ⌝ }
+// The number of the end, from the lengths of output and tag buffer.
+pub(crate) fn end_number(suite: u8, came: usize, text: usize, out: usize, tag: usize) -> u8
+    ensures { λ r. ⌜ r ≡ endNumber suite came text out tag ⌝ }
 {
     let b = goes_on(suite, came, text);
     if !b {
         return 9;
     }
     let n = cipher::size_of(suite);
-    if o < n {
+    if out < n {
         return 6;
     }
-    if t != n {
+    if tag != n {
         return 7;
     }
     0

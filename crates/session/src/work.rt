@@ -72,7 +72,7 @@ pub(crate) fn refused(k: u8) -> Step
 }
 
 // A session that key and nonce start.
-pub(crate) fn opened(tb: &[Lent], suite: u8, key: &[u8], nonce: &[u8]) -> Step
+pub(crate) fn started(tb: &[Lent], suite: u8, key: &[u8], nonce: &[u8]) -> Step
     requires { ⌜ Ready suite (now tb) × (startNumber suite (length (now key)) (length (now nonce)) ≡ 0) ⌝ }
     ensures { λ r. ⌜ gives r [] [] ≡ starting suite (now (key .entry)) (now (nonce .entry)) ⌝ }
 {

@@ -74,7 +74,7 @@ pub(crate) fn body_start(w: usize, f: &[u8], n: usize, i: usize) -> usize
 }
 
 // 28: the body does not start where it has to, or ends past the file.
-fn out_of_place(w: usize, f: &[u8], n: usize, i: usize, start: usize) -> bool
+fn misplaced(w: usize, f: &[u8], n: usize, i: usize, start: usize) -> bool
     requires { ⌜ TableIn w (now f) n × ((i < n) × (start ≡ bodyStart w (now f) n i)) ⌝ }
     ensures { λ r. ⌜ r ≡ misplaced w (now (f .entry)) n i ⌝ }
 {
@@ -171,7 +171,7 @@ fn check_body(
     requires { ⌜ TableIn w (now f) n × ((i < n) × ((row ≡ rowAt w (now f) i) × ((badLength row ≡ false) × (Spared w (now f) i × (Sieved w (now f) i marked × (start ≡ bodyStart w (now f) n i)))))) ⌝ }
     ensures { λ r. ⌜ rowNumberOf r ≡ bodyNumber w (now (f .entry)) n i ⌝ }
 {
-    if out_of_place(w, f, n, i, start) {
+    if misplaced(w, f, n, i, start) {
         return RowCheck::Bad(Fault::Place);
     }
     if unread_set(w, f, i, row) {

@@ -11,7 +11,7 @@ use lines::text::answer;
 use lines::text::end;
 use lines::text::put;
 use reader::answers::Said;
-use reader::cursor::Entry;
+use reader::cursor::Given;
 use reader::cursor::Listed;
 use reader::cursor::start;
 use reader::step_at;
@@ -42,10 +42,10 @@ fn row(x: Listed, line: &mut [u8], at: usize) -> usize {
     and_number(line, at, x.nonce as u64)
 }
 
-fn entry(e: Entry, line: &mut [u8], at: usize) -> usize {
+fn entry(e: Given, line: &mut [u8], at: usize) -> usize {
     match e {
-        Entry::Row(x) => row(x, line, at),
-        Entry::Ended => put(line, at, b" -"),
+        Given::Row(x) => row(x, line, at),
+        Given::Ended => put(line, at, b" -"),
     }
 }
 

@@ -24,7 +24,7 @@ use Rattle.writer.proofs.answers.Written.{the-type}
 pub not-done : (x : Written) → OneOf (1 ∷ 2 ∷ 3 ∷ 4 ∷ 5 ∷ 6 ∷ []) (tagOf the-type x) → writtenAnswer x .number ≡ 0 → ⊥
 not-done written.Done k q = miss (1 ∷ 2 ∷ 3 ∷ 4 ∷ 5 ∷ 6 ∷ []) 0 tt k
 not-done (written.Refused x) k q = refusal-some x q
-not-done (written.Tag i) k q = omega arith
+not-done (written.TagSet i) k q = omega arith
 not-done (written.Retired i) k q = omega arith
 not-done written.Ring k q = omega arith
 not-done written.Room k q = omega arith

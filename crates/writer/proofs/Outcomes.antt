@@ -33,7 +33,7 @@ writtenOf x =
     (cond (eqb (x .number) 6) written.Room
     (cond (eqb (x .number) 8) (written.Forged (x .row))
     (cond (eqb (x .number) 10) (written.Retired (x .row))
-    (cond (eqb (x .number) 33) (written.Tag (x .row))
+    (cond (eqb (x .number) 33) (written.TagSet (x .row))
     (written.Refused (refusalOf x)))))))
 
 written-back : (x : Written) → writtenOf (writtenAnswer x) ≡ x
@@ -41,7 +41,7 @@ written-back written.Done = refl
 written-back (written.Refused x) =
     simp (ne-eqb _ _ (refusal-some x), unlike x 2 (inl (lit< tt)), unlike x 6 (inl (lit< tt)), unlike x 8 (inl (lit< tt)), unlike x 10 (inl (lit< tt)), unlike x 33 (inr (lit< tt)))
     (ap written.Refused (refusal-back x))
-written-back (written.Tag i) = refl
+written-back (written.TagSet i) = refl
 written-back (written.Retired i) = refl
 written-back written.Ring = refl
 written-back written.Room = refl

@@ -7,7 +7,7 @@ use Rattle.writer.specs.declared.answers.Written.the-variants as written
 abbrev pub writtenAnswer : Written → Answer
 writtenAnswer written.Done = answer 0 0
 writtenAnswer (written.Refused x) = refusalAnswer x
-writtenAnswer (written.Tag i) = answer 33 i
+writtenAnswer (written.TagSet i) = answer 33 i
 writtenAnswer (written.Retired i) = answer 10 i
 writtenAnswer written.Ring = answer 2 0
 writtenAnswer written.Room = answer 6 0

@@ -8,7 +8,7 @@ ghost use Rattle.writer.specs.Answers.{writtenAnswer};
 pub enum Written {
     Done,
     Refused(Refusal),
-    Tag(usize),
+    TagSet(usize),
     Retired(usize),
     Ring,
     Room,
@@ -22,7 +22,7 @@ impl Written {
         match self {
             Written::Done => Answer { number: 0, row: 0 },
             Written::Refused(x) => x.answer(),
-            Written::Tag(i) => Answer { number: 33, row: i },
+            Written::TagSet(i) => Answer { number: 33, row: i },
             Written::Retired(i) => Answer { number: 10, row: i },
             Written::Ring => Answer { number: 2, row: 0 },
             Written::Room => Answer { number: 6, row: 0 },

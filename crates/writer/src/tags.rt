@@ -27,7 +27,7 @@ pub(crate) fn first_set(f: &[u8], n: usize) -> Written
     let mut i: usize = 0;
     while i < n {
         if !tag_zero(f, i) {
-            return Written::Tag(i);
+            return Written::TagSet(i);
         }
         i += 1;
     }

@@ -44,15 +44,15 @@ use denote.Triple.Clauses.{ensured, lasts}
 use Rattle.reader.specs.Reading.{askOf}
 use Rattle.reader.specs.declared.Asked.{Asked}
 use Rattle.reader.specs.declared.Reader.{Reader}
-use Rattle.reader.specs.declared.cursor.Step.{Step}
+use Rattle.reader.specs.declared.cursor.Stepped.{Stepped}
 use Rattle.reader.proofs.cursor.Cursor as C
 use Rattle.reader.proofs.cursor.Cursor.Laws as C′
-use Rattle.reader.proofs.cursor.Entry as E
-use Rattle.reader.proofs.cursor.Entry.Laws as E′
+use Rattle.reader.proofs.cursor.Given as E
+use Rattle.reader.proofs.cursor.Given.Laws as E′
 use Rattle.reader.proofs.Reader as T
 use Rattle.reader.proofs.Reader.Laws as T′
-use Rattle.reader.proofs.cursor.Step as S
-use Rattle.reader.proofs.cursor.Step.Laws as S′
+use Rattle.reader.proofs.cursor.Stepped as S
+use Rattle.reader.proofs.cursor.Stepped.Laws as S′
 use Rattle.reader.proofs.cursor.ask as ask
 use Rattle.reader.proofs.cursor.ask.Symbol as ask-def
 use Rattle.reader.proofs.cursor.ask.Symbol.{name as #reader·cursor·ask}
@@ -91,13 +91,13 @@ module _ {M : Type 1} (𝓤 : URA M) (H : Heap 𝓤) (A : Atoms 𝓤) (W : Given
   v = sliceVal (h .src .ptr) (length (h .src .now))
 
   -- the reader after it, and its machine value
-  abbrev moved : Step → Reader
+  abbrev moved : Stepped → Reader
   moved t = record { src = h .src; place = t .next }
 
-  abbrev made : Step → Asked
+  abbrev made : Stepped → Asked
   made t = record { reader = moved t; entry = t .entry }
 
-  abbrev out : Step → Val
+  abbrev out : Stepped → Val
   out t = LL.val (T.the-type (α κ′)) (T′.the-laws (α κ′)) (moved t)
 
   abbrev Post : Val → SProp 𝓤
@@ -124,10 +124,10 @@ module _ {M : Type 1} (𝓤 : URA M) (H : Heap 𝓤) (A : Atoms 𝓤) (W : Given
       move ! (2 ∷ 1 ∷ []) $ fjoin ! $ move ! (1 ∷ 0 ∷ []) $ fjoin ! $ move ! (2 ∷ 0 ∷ []) $
       use2 W (raw (Ask 𝓤 H A at-mem run .pre to)) (qed W ((‵ (flft κ′ q′) ⊛ ‵ ftrue) ∷ ‵ (owns (C.the-row ∷ ShrSlice (named 0) κ′ u8 ∷ []) (h .place, (h .src, tt)) passed) ∷ []) ∵ join ! $ frame ! $ done !) $ frame ! $ done !)
 
-  said : (t : Step) → ent 𝓤 (ensured 𝓤 H A ask.ended (ask.clauses 𝓤 H A at-mem run) (κ′, tt) (h .place, (h .src, tt)) tt t) (fact 𝓤 (t ≡ askOf (h .place) (now (h .src))))
+  said : (t : Stepped) → ent 𝓤 (ensured 𝓤 H A ask.ended (ask.clauses 𝓤 H A at-mem run) (κ′, tt) (h .place, (h .src, tt)) tt t) (fact 𝓤 (t ≡ askOf (h .place) (now (h .src))))
   said t = exE 𝓤 _ (λ ws. snd∗ 𝓤 (sem 𝓤 H A (lasts ask.ended (κ′, tt) (h .place, (h .src, tt)) ws)) (fact 𝓤 (t ≡ askOf (h .place) (now (h .src)))))
 
-  exits : (t : Step) (u : Val) → t ≡ askOf (h .place) (now (h .src))
+  exits : (t : Stepped) (u : Val) → t ≡ askOf (h .place) (now (h .src))
       → ent 𝓤 (⋆ 𝓤 H A (‵ (fobs γ (B κ′ .coded .code (moved t))) ∷ ‵ (fbor κ (Body (mem (B κ′)) b o γ)) ∷ ‵ (flft κ q) ∷ ‵ (fsep (E.the-row .own (t .entry) (u ∷ [])) ftrue) ∷ (‵ (flft κ′ q′) ⊛ ‵ ftrue) ∷ [])) (Post u)
   exits t u e =
       qed W (‵ (fobs γ (B κ′ .coded .code (moved t))) ∷ ‵ (fbor κ (Body (mem (B κ′)) b o γ)) ∷ ‵ (flft κ q) ∷ ‵ (fsep (E.the-row .own (t .entry) (u ∷ [])) ftrue) ∷ (‵ (flft κ′ q′) ⊛ ‵ ftrue) ∷ []) ∵
@@ -149,7 +149,7 @@ module _ {M : Type 1} (𝓤 : URA M) (H : Heap 𝓤) (A : Atoms 𝓤) (W : Given
         assigns ! (of-opd ! (load ! (from ! (hop ! (look ! 13 refl) (fld ! refl (stop !)))) (look-in ! 0 (sub ! 0 refl (whole !))))) (from ! (stop !)) (init ! 7 refl (tt, LL.lawful (T.the-type (α κ′)) (T′.the-laws (α κ′)) 𝓤 H A W .typed h _ was .0 .1 .0)) $
         move ! (1 ∷ 5 ∷ []) $ use2 W (raw (Ask 𝓤 H A at-mem run .pre to) ⊛ ‵ Own) apart $ split ! $
         calls-at ! fm (Ask 𝓤 H A at-mem run) known to (and-then ! (load ! (from ! (stop !)) (look ! 9 refl)) (and-then ! (load ! (from ! (stop !)) (look ! 7 refl)) (no-more !))) (λ u.
-        use1 W (later (some (λ (t : Step). ((‵ (flft κ′ q′) ⊛ ‵ ftrue) ⊛ ‵ (S.the-row .own t (u ∷ []))) ⊛ raw (ensured 𝓤 H A ask.ended (ask.clauses 𝓤 H A at-mem run) (κ′, tt) (h .place, (h .src, tt)) tt t)))) (id⊢ 𝓤 _) $ await ! tt $ pick ! (λ t.
+        use1 W (later (some (λ (t : Stepped). ((‵ (flft κ′ q′) ⊛ ‵ ftrue) ⊛ ‵ (S.the-row .own t (u ∷ []))) ⊛ raw (ensured 𝓤 H A ask.ended (ask.clauses 𝓤 H A at-mem run) (κ′, tt) (h .place, (h .src, tt)) tt t)))) (id⊢ 𝓤 _) $ await ! tt $ pick ! (λ t.
         split ! $ move ! (1 ∷ []) $ use1 W (raw (fact 𝓤 (t ≡ askOf (h .place) (now (h .src))))) (said t) $ heard ! (t ≡ askOf (h .place) (now (h .src))) (λ e. split ! $ move ! (1 ∷ []) $
         -- [what the result owns; 'a's token; what the Reader owns; the cell; the open borrow; obs; auth; nothing; _4; …; _3; …; room for _2; …; _1; …; room for _0; …]
         peeks ! S.the-row (Is S.the-row) (shows 𝓤 H A S.the-row) t (u ∷ []) (λ is.

@@ -43,17 +43,17 @@ use Rattle.reader.specs.Reading.{nextOf}
 use Rattle.reader.specs.declared.Asked.{Asked}
 use Rattle.reader.specs.declared.Reader.{Reader}
 use Rattle.reader.specs.declared.cursor.Cursor.{Cursor}
-use Rattle.reader.specs.declared.cursor.Step.{Step}
+use Rattle.reader.specs.declared.cursor.Stepped.{Stepped}
 use Rattle.reader.proofs.Asked as N
 use Rattle.reader.proofs.Asked.Laws as N′
 use Rattle.reader.proofs.cursor.Cursor as C
 use Rattle.reader.proofs.cursor.Cursor.Laws as C′
-use Rattle.reader.proofs.cursor.Entry as E
-use Rattle.reader.proofs.cursor.Entry.Laws as E′
+use Rattle.reader.proofs.cursor.Given as E
+use Rattle.reader.proofs.cursor.Given.Laws as E′
 use Rattle.reader.proofs.Reader as T
 use Rattle.reader.proofs.Reader.Laws as T′
-use Rattle.reader.proofs.cursor.Step as S
-use Rattle.reader.proofs.cursor.Step.Laws as S′
+use Rattle.reader.proofs.cursor.Stepped as S
+use Rattle.reader.proofs.cursor.Stepped.Laws as S′
 use Rattle.reader.proofs.Reader.next as next
 use Rattle.reader.proofs.Reader.next.Symbol as next-def
 use Rattle.reader.proofs.Reader.next.Symbol.{name as #reader·Reader·next}
@@ -123,7 +123,7 @@ module _ {M : Type 1} (𝓤 : URA M) (H : Heap 𝓤) (A : Atoms 𝓤) (W : Given
       use2 W (raw (Next 𝓤 H A mem run .pre to)) (qed W ((‵ (flft κ q) ⊛ ‵ ftrue) ∷ ‵ (owns (B (κ, tt) ∷ []) (made, tt) (T′.lowered made ∷ [], tt)) ∷ []) ∵ join ! $ frame ! $ done !) $ frame ! $ done !
 
   -- the step that is taken out of what `next` gave, and its machine value
-  abbrev taken : Asked → Step
+  abbrev taken : Asked → Stepped
   taken t = record { next = t .reader .place; entry = t .entry }
 
   abbrev out : Asked → Val

@@ -41,15 +41,15 @@ use denote.Triple.Clauses.{ensured, lasts}
 use Rattle.reader.specs.Reading.{askOf}
 use Rattle.reader.specs.declared.Asked.{Asked}
 use Rattle.reader.specs.declared.Reader.{Reader}
-use Rattle.reader.specs.declared.cursor.Step.{Step}
+use Rattle.reader.specs.declared.cursor.Stepped.{Stepped}
 use Rattle.reader.proofs.Asked as N
 use Rattle.reader.proofs.Asked.Laws as N′
 use Rattle.reader.proofs.cursor.Cursor as C
 use Rattle.reader.proofs.cursor.Cursor.Laws as C′
 use Rattle.reader.proofs.Reader as T
 use Rattle.reader.proofs.Reader.Laws as T′
-use Rattle.reader.proofs.cursor.Step as S
-use Rattle.reader.proofs.cursor.Step.Laws as S′
+use Rattle.reader.proofs.cursor.Stepped as S
+use Rattle.reader.proofs.cursor.Stepped.Laws as S′
 use Rattle.reader.proofs.cursor.ask as ask
 use Rattle.reader.proofs.cursor.ask.Symbol as ask-def
 use Rattle.reader.proofs.cursor.ask.Symbol.{name as #reader·cursor·ask}
@@ -86,13 +86,13 @@ module _ {M : Type 1} (𝓤 : URA M) (H : Heap 𝓤) (A : Atoms 𝓤) (W : Given
   v = sliceVal (d .src .ptr) (length (d .src .now))
 
   -- the reader and the answer that are made of what `ask` returned
-  abbrev moved : Step → Reader
+  abbrev moved : Stepped → Reader
   moved t = record { src = d .src; place = t .next }
 
-  abbrev made : Step → Asked
+  abbrev made : Stepped → Asked
   made t = record { reader = moved t; entry = t .entry }
 
-  abbrev out : Step → Val
+  abbrev out : Stepped → Val
   out t = LL.val (N.the-type α) (N′.the-laws α) (made t)
 
   abbrev Post : Val → SProp 𝓤
@@ -101,7 +101,7 @@ module _ {M : Type 1} (𝓤 : URA M) (H : Heap 𝓤) (A : Atoms 𝓤) (W : Given
   abbrev Own : Fml
   Own = B (κ, tt) .own d (mach ∷ [])
 
-  abbrev OwnS : Step → Fml
+  abbrev OwnS : Stepped → Fml
   OwnS t = S.the-row .own t (LL.val S.the-type S′.the-laws t ∷ [])
 
   -- what the callee is passed
@@ -121,10 +121,10 @@ module _ {M : Type 1} (𝓤 : URA M) (H : Heap 𝓤) (A : Atoms 𝓤) (W : Given
       move ! (2 ∷ 1 ∷ []) $ fjoin ! $ move ! (1 ∷ 0 ∷ []) $ fjoin ! $ move ! (2 ∷ 0 ∷ []) $
       use2 W (raw (Ask 𝓤 H A mem run .pre to)) (qed W ((‵ (flft κ q) ⊛ ‵ ftrue) ∷ ‵ (owns (C.the-row ∷ ShrSlice (named 0) κ u8 ∷ []) (d .place, (d .src, tt)) passed) ∷ []) ∵ join ! $ frame ! $ done !) $ frame ! $ done !)
 
-  said : (t : Step) → ent 𝓤 (ensured 𝓤 H A ask.ended (ask.clauses 𝓤 H A mem run) (κ, tt) (d .place, (d .src, tt)) tt t) (fact 𝓤 (t ≡ askOf (d .place) (now (d .src))))
+  said : (t : Stepped) → ent 𝓤 (ensured 𝓤 H A ask.ended (ask.clauses 𝓤 H A mem run) (κ, tt) (d .place, (d .src, tt)) tt t) (fact 𝓤 (t ≡ askOf (d .place) (now (d .src))))
   said t = exE 𝓤 _ (λ ws. snd∗ 𝓤 (sem 𝓤 H A (lasts ask.ended (κ, tt) (d .place, (d .src, tt)) ws)) (fact 𝓤 (t ≡ askOf (d .place) (now (d .src)))))
 
-  exits : (t : Step) → t ≡ askOf (d .place) (now (d .src)) → ent 𝓤 (⋆ 𝓤 H A (‵ (OwnS t) ∷ (‵ (flft κ q) ⊛ ‵ ftrue) ∷ ‵ Own ∷ [])) (Post (out t))
+  exits : (t : Stepped) → t ≡ askOf (d .place) (now (d .src)) → ent 𝓤 (⋆ 𝓤 H A (‵ (OwnS t) ∷ (‵ (flft κ q) ⊛ ‵ ftrue) ∷ ‵ Own ∷ [])) (Post (out t))
   exits t e =
       qed W (‵ (OwnS t) ∷ (‵ (flft κ q) ⊛ ‵ ftrue) ∷ ‵ Own ∷ []) ∵
       suffices ! _ (ends-at 𝓤 H A next.ended stayed (next.clauses 𝓤 H A mem run) W (((κ, tt), (q, tt), tt, (d, tt), (mach ∷ [], tt)), tt) (out t) (made t) (tt, tt) (tt, tt)) $ says ! (ap made e) $
@@ -149,7 +149,7 @@ module _ {M : Type 1} (𝓤 : URA M) (H : Heap 𝓤) (A : Atoms 𝓤) (W : Given
         assigns ! (of-opd ! (load ! (from ! (fld ! refl (stop !))) (look-in ! 10 (sub ! 0 refl (whole !))))) (from ! (stop !)) (init ! 4 refl (tt, wt .1 .0)) $
         move ! (14 ∷ []) $ use1 W (raw (Ask 𝓤 H A mem run .pre to) ⊛ ‵ Own) apart $ split ! $
         calls-at ! fm (Ask 𝓤 H A mem run) known to (and-then ! (load ! (from ! (stop !)) (look ! 8 refl)) (and-then ! (load ! (from ! (stop !)) (look ! 6 refl)) (no-more !))) (λ u.
-        use1 W (later (some (λ (t : Step). ((‵ (flft κ q) ⊛ ‵ ftrue) ⊛ ‵ (S.the-row .own t (u ∷ []))) ⊛ raw (ensured 𝓤 H A ask.ended (ask.clauses 𝓤 H A mem run) (κ, tt) (d .place, (d .src, tt)) tt t)))) (id⊢ 𝓤 _) $ await ! tt $ pick ! (λ t.
+        use1 W (later (some (λ (t : Stepped). ((‵ (flft κ q) ⊛ ‵ ftrue) ⊛ ‵ (S.the-row .own t (u ∷ []))) ⊛ raw (ensured 𝓤 H A ask.ended (ask.clauses 𝓤 H A mem run) (κ, tt) (d .place, (d .src, tt)) tt t)))) (id⊢ 𝓤 _) $ await ! tt $ pick ! (λ t.
         split ! $ move ! (1 ∷ []) $ use1 W (raw (fact 𝓤 (t ≡ askOf (d .place) (now (d .src))))) (said t) $ heard ! (t ≡ askOf (d .place) (now (d .src))) (λ e. split ! $ move ! (1 ∷ []) $
         -- [what the result owns; the token; what the struct owns; _6; …; _5; …; _4; …; _3; …; room for _2; …; _1; …; room for _0; …]
         peeks ! S.the-row (Is S.the-row) (shows 𝓤 H A S.the-row) t (u ∷ []) (λ is.

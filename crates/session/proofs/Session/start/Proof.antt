@@ -32,25 +32,25 @@ tables-requires : tie.Need-tables-requires
 tables-requires c κs =
     sym (c .before .lends .ensures) ∙ c .if2 .taken
 
-slice-aggregate-opened : tie.Need-slice-aggregate-opened
-slice-aggregate-opened c = search needs
+slice-aggregate-started : tie.Need-slice-aggregate-started
+slice-aggregate-started c = search needs
 
-opened-requires : tie.Need-opened-requires
-opened-requires c κs =
+started-requires : tie.Need-started-requires
+started-requires c κs =
     (c .before .tables .ensures, sym (c .before .before .before .before .before .start-number .ensures) ∙ c .before .before .before .before .if1 .left)
 
 returns-2 : tie.Need-returns-2
 returns-2 c = search needs
 
-slice-aggregate-opened-2 : tie.Need-slice-aggregate-opened-2
-slice-aggregate-opened-2 c = search needs
+slice-aggregate-started-2 : tie.Need-slice-aggregate-started-2
+slice-aggregate-started-2 c = search needs
 
-opened-requires-2 : tie.Need-opened-requires-2
-opened-requires-2 c κs =
+started-requires-2 : tie.Need-started-requires-2
+started-requires-2 c κs =
     (none-ready (c .before .before .before .before .before .before .before .args .suite) (sym (c .before .before .lends .ensures) ∙ c .before .if2 .left), sym (c .before .before .before .before .start-number .ensures) ∙ c .before .before .before .if1 .left)
 
 returns-3 : tie.Need-returns-3
 returns-3 c = search needs
 
 pub start-spec : {M : Type 1} → statement M
-start-spec = tie.close (tie.spec start-number-requires refused-requires returns lends-requires tables-requires slice-aggregate-opened opened-requires returns-2 slice-aggregate-opened-2 opened-requires-2 returns-3)
+start-spec = tie.close (tie.spec start-number-requires refused-requires returns lends-requires tables-requires slice-aggregate-started started-requires returns-2 slice-aggregate-started-2 started-requires-2 returns-3)

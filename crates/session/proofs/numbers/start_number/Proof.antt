@@ -21,7 +21,7 @@ is-suite-requires c κs = search needs
 returns : tie.Need-returns
 returns c =
     let x = c .before .before .args in
-    sym (start-is (x .suite) (x .k) (x .v) false _ _ _ (sym (c .before .is-suite .ensures) ∙ not-true _ (c .if1 .taken)) refl refl refl)
+    sym (start-is (x .suite) (x .key) (x .nonce) false _ _ _ (sym (c .before .is-suite .ensures) ∙ not-true _ (c .if1 .taken)) refl refl refl)
 
 seals-requires : tie.Need-seals-requires
 seals-requires c κs = search needs
@@ -29,12 +29,12 @@ seals-requires c κs = search needs
 returns-2 : tie.Need-returns-2
 returns-2 c =
     let x = c .before .before .before .before .args in
-    sym (start-is (x .suite) (x .k) (x .v) true false _ _ (had (c .before .before)) (sym (c .before .seals .ensures) ∙ not-true _ (c .if2 .taken)) refl refl)
+    sym (start-is (x .suite) (x .key) (x .nonce) true false _ _ (had (c .before .before)) (sym (c .before .seals .ensures) ∙ not-true _ (c .if2 .taken)) refl refl)
 
 returns-3 : tie.Need-returns-3
 returns-3 c =
     let x = c .before .before .before .before .before .args in
-    sym (start-is (x .suite) (x .k) (x .v) true true false _ (had (c .before .before .before)) (still (c .before)) (ne-eqb (x .k) 16 (c .if3 .taken)) refl)
+    sym (start-is (x .suite) (x .key) (x .nonce) true true false _ (had (c .before .before .before)) (still (c .before)) (ne-eqb (x .key) 16 (c .if3 .taken)) refl)
 
 nonce-size-requires : tie.Need-nonce-size-requires
 nonce-size-requires c κs = search needs
@@ -43,15 +43,15 @@ returns-4 : tie.Need-returns-4
 returns-4 c =
     let x = c .before .before .before .before .before .before .before .args in
     let n = c .before .nonce-size in
-    sym (start-is (x .suite) (x .k) (x .v) true true true false (had (c .before .before .before .before .before)) (still (c .before .before .before)) (eq-eqb (x .k) 16 (c .before .before .if3 .left))
-    (ne-eqb (x .v) (nonceOf (x .suite)) (λ e. c .if4 .taken (e ∙ sym (n .ensures)))))
+    sym (start-is (x .suite) (x .key) (x .nonce) true true true false (had (c .before .before .before .before .before)) (still (c .before .before .before)) (eq-eqb (x .key) 16 (c .before .before .if3 .left))
+    (ne-eqb (x .nonce) (nonceOf (x .suite)) (λ e. c .if4 .taken (e ∙ sym (n .ensures)))))
 
 returns-5 : tie.Need-returns-5
 returns-5 c =
     let x = c .before .before .before .before .before .before .before .args in
     let n = c .before .nonce-size in
-    sym (start-is (x .suite) (x .k) (x .v) true true true true (had (c .before .before .before .before .before)) (still (c .before .before .before)) (eq-eqb (x .k) 16 (c .before .before .if3 .left))
-    (eq-eqb (x .v) (nonceOf (x .suite)) (c .if4 .left ∙ n .ensures)))
+    sym (start-is (x .suite) (x .key) (x .nonce) true true true true (had (c .before .before .before .before .before)) (still (c .before .before .before)) (eq-eqb (x .key) 16 (c .before .before .if3 .left))
+    (eq-eqb (x .nonce) (nonceOf (x .suite)) (c .if4 .left ∙ n .ensures)))
 
 pub start-number-spec : {M : Type 1} → statement M
 start-number-spec = tie.close (tie.spec is-suite-requires returns seals-requires returns-2 returns-3 nonce-size-requires returns-4 returns-5)

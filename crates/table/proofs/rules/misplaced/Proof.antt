@@ -3,8 +3,8 @@ use borrow.Author.Tests.{eq-eqb, ne-eqb}
 use Rattle.table.specs.Check.{misplaced}
 use Rattle.table.proofs.Rows.{row-in}
 use borrow.Author.Needs.{needs}
-use Rattle.table.proofs.rules.out_of_place.Statement.{statement}
-use Rattle.table.proofs.rules.out_of_place.Tie as tie
+use Rattle.table.proofs.rules.misplaced.Statement.{statement}
+use Rattle.table.proofs.rules.misplaced.Tie as tie
 
 row-at-requires : tie.Need-row-at-requires
 row-at-requires c κs = search (needs, row-in)
@@ -23,7 +23,7 @@ returns-2 : tie.Need-returns-2
 unfolding misplaced
 returns-2 c = simp (← c .before .before .before .row-at .ensures, ← c .before .before .before .before .before .pre .1 .1, eq-eqb _ _ (c .before .if1 .left), ← c .body-end .ensures)
 
-pub out-of-place-spec : {M : Type 1} → statement M
-out-of-place-spec =
+pub misplaced-spec : {M : Type 1} → statement M
+misplaced-spec =
     tie.close
     (tie.spec row-at-requires cast-at returns body-end-requires returns-2)

@@ -1,4 +1,4 @@
--- `session::work::opened` meets its contract.
+-- `session::work::started` meets its contract.
 use borrow.Author.Needs.{needs}
 use denote.Ref.{now}
 use lib.ListN.{length, replicate}
@@ -9,8 +9,8 @@ use Rattle.cipher.proofs.Suites.{seals-has}
 use Rattle.mode.specs.Walk.{States}
 use Rattle.session.specs.Value.{Value, Given, valueOf, over, gave, fresh, startNumber, starting}
 use Rattle.session.proofs.Refuse.{start-passed, answer-done}
-use Rattle.session.proofs.work.opened.Statement.{statement}
-use Rattle.session.proofs.work.opened.Tie as tie
+use Rattle.session.proofs.work.started.Statement.{statement}
+use Rattle.session.proofs.work.started.Tie as tie
 
 start-requires : tie.Need-start-requires
 start-requires c κs =
@@ -30,5 +30,5 @@ returns c =
     ap (λ (w : Value). gave 0 0 w [] []) v
     ∙ answer-done 0 (startNumber (x .suite) (length (now (x .key))) (length (now (x .nonce)))) (gave 0 0 (fresh (x .suite) (now (x .key)) (now (x .nonce))) [] []) over [] [] refl (sym (st .pre .1))
 
-pub opened-spec : {M : Type 1} → statement M
-opened-spec = tie.close (tie.spec start-requires packed-requires returns)
+pub started-spec : {M : Type 1} → statement M
+started-spec = tie.close (tie.spec start-requires packed-requires returns)
