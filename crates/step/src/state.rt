@@ -64,9 +64,10 @@ pub(crate) fn turn(tb: &[Lent], suite: u8, s: State, m: u8, n: usize) -> State
 {
     let y = s.y;
     let z0 = s.z;
-    let k = crate::key::block_key(suite, z0, m);
+    let b = crate::key::block_key(suite, z0, m);
+    let k = b.key;
+    let z = b.z;
     let x = image(tb, suite, n, k, y);
-    let z = crate::key::kept(suite, k, m);
     State {
         y: x,
         z: z,
