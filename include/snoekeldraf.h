@@ -9,12 +9,12 @@
  *   - suite is one byte, and C cuts a larger number to its lowest eight bits before the call: 257 would be suite 1.
  * The functions keep nothing from one call to the next, need no memory but the stack, and call memcpy and memset alone.
  * Nothing is promised of the time that a call takes.
- * Stack of a call with all that it calls, in bytes, measured on the archive for x86-64 and no promise; 2 KiB of the larger
+ * Stack of a call with all that it calls, in bytes, measured on the archive for x86-64 and no promise; 4 KiB of the larger
  * ones (twice in a session's part and end) are the tables of suites 1 and 5, which the other suites leave alone:
  *   comet_seal, comet_open and those in place or counted, comet_verify,
- *   comet_session_start, comet_session_data                                                3,400
- *   comet_session_part, comet_session_end                                                  5,200
- *   shift_open_job, shift_open_amended, shift_seal_file, shift_unseal_file, shift_report    3,500
+ *   comet_session_start, comet_session_data                                                5,400
+ *   comet_session_part, comet_session_end                                                  9,300
+ *   shift_open_job, shift_open_amended, shift_seal_file, shift_unseal_file, shift_report    5,600
  *   every other shift_ function, shift_reseal among them                                   1,600
  *
  * Suite        1 AES-128   2 CHAM-128/128   3 Speck-64/128   4 CHAM-64/128
