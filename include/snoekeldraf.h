@@ -10,8 +10,10 @@
  * The functions keep nothing from one call to the next, need no memory but the stack, and call memcpy and memset alone.
  * Nothing is promised of the time that a call takes.
  * Stack of a call with all that it calls, in bytes, measured on the archive for x86-64 and no promise; 4 KiB of the larger
- * ones are the table of suites 1 and 5, which the other suites leave alone:
- *   comet_seal, comet_open and those in place or counted, comet_verify, comet_session_*     5,300
+ * ones (twice in a session's part and end) are the tables of suites 1 and 5, which the other suites leave alone:
+ *   comet_seal, comet_open and those in place or counted, comet_verify,
+ *   comet_session_start, comet_session_data                                                5,400
+ *   comet_session_part, comet_session_end                                                  9,300
  *   shift_open_job, shift_open_amended, shift_seal_file, shift_unseal_file, shift_report    5,600
  *   every other shift_ function, shift_reseal among them                                   1,600
  *

@@ -2,15 +2,17 @@
 use cipher::Lent;
 use step::block::crypt_short;
 use step::state::State;
+use walk::Behind;
 ghost use mathlib.Core.Path.{_≡_};
 ghost use mathlib.Core.Bool.{false};
 ghost use mathlib.Core.List.{_++_};
-ghost use Prim.Native.Nat.{_+_, _-_, _≤_, _<_};
+ghost use Prim.Native.Nat.{ℕ, _+_, _-_, _≤_, _<_};
 ghost use lib.ListN.{length, take};
 ghost use Rattle.cipher.specs.Cipher.{Ready, IsSuite, sizeOf, cipherOf};
 ghost use Rattle.mode.specs.Blocks.{blocks};
 ghost use Rattle.mode.specs.Walk.{whole, rest, walked, covered};
 ghost use Rattle.step.specs.Two.{twoOf};
+ghost use Rattle.walk.specs.Behind.{wholes, Passed};
 ghost use Rattle.session.specs.Value.{filled, written};
 
 // The two states, and what is held back.
@@ -46,29 +48,35 @@ fn absorb_blocks(tb: &[Lent], suite: u8, s: State, ad: &[u8]) -> Fed
     Fed { s: t, held: h }
 }
 
-// The whole blocks of h held bytes and then ad go in, the first under the mark m, and the rest is held.
-pub(crate) fn absorb_part(
-    tb: &[Lent],
-    suite: u8,
-    s: State,
-    m: u8,
-    held: [u8; 16],
-    h: usize,
-    ad: &[u8],
-) -> Fed
-    requires { ⌜ Ready suite (now tb) × IsSuite suite × (h < sizeOf suite) ⌝ }
+// The whole blocks of h held bytes and then ad, which completes one, go in, the first under the mark m, and the rest is held.
+fn absorb_past(tb: &[Lent], suite: u8, s: State, m: u8, held: [u8; 16], h: usize, ad: &[u8]) -> Fed
+    requires { ⌜ Ready suite (now tb) × IsSuite suite × (h < sizeOf suite) × (sizeOf suite ≤ h + length (now ad)) ⌝ }
     ensures states { λ r. ⌜ twoOf suite (r .s) ≡ walked (cipherOf suite) false m 0x10 (twoOf suite s) (blocks (sizeOf suite) (whole (sizeOf suite) (take h held ++ now (ad .entry)))) ⌝ }
     ensures held { λ r. ⌜ r .held ≡ filled (rest (sizeOf suite) (take h held ++ now (ad .entry))) ⌝ }
 {
     let n = cipher::size_of(suite);
     let need = n - h;
-    if ad.len() < need {
-        let g = joined(held, h, ad);
-        return Fed { s: s, held: g };
-    }
     let b = joined(held, h, &ad[0..need]);
     let t = walk::absorb(tb, false, suite, s, m, &b[0..n]);
     absorb_blocks(tb, suite, t.s, &ad[need..ad.len()])
+}
+
+// The whole blocks of h held bytes and then ad go in, the first under the mark m, and the rest is held. Tables are made only where a block is completed.
+pub(crate) fn absorb_part(suite: u8, s: State, m: u8, held: [u8; 16], h: usize, ad: &[u8]) -> Fed
+    requires { ⌜ IsSuite suite × (h < sizeOf suite) ⌝ }
+    ensures states { λ r. ⌜ twoOf suite (r .s) ≡ walked (cipherOf suite) false m 0x10 (twoOf suite s) (blocks (sizeOf suite) (whole (sizeOf suite) (take h held ++ now (ad .entry)))) ⌝ }
+    ensures held { λ r. ⌜ r .held ≡ filled (rest (sizeOf suite) (take h held ++ now (ad .entry))) ⌝ }
+{
+    let n = cipher::size_of(suite);
+    if ad.len() < n - h {
+        let g = joined(held, h, ad);
+        return Fed { s: s, held: g };
+    }
+    if cipher::lends(suite) {
+        let tb = cipher::tables(suite);
+        return absorb_past(&tb, suite, s, m, held, h, ad);
+    }
+    absorb_past(&[], suite, s, m, held, h, ad)
 }
 
 // The two states, what is held back, and how many bytes went out.
@@ -88,9 +96,21 @@ fn gather(held: [u8; 16], h: usize, p: &[u8], out: &mut [u8])
     words::runs::copy(p, &mut out[h..end]);
 }
 
-// The whole blocks of h held bytes and then part go in, the first under the mark m, and their ciphertext out; the rest is held.
+// The whole blocks of text are sealed in their place, the first under the mark m: the cipher is lent what it needs.
+fn crypt_blocks(suite: u8, s: State, m: u8, text: &mut [u8]) -> Behind
+    requires { ⌜ IsSuite suite ⌝ }
+    ensures text { λ _. ⌜ ((short : ℕ) → now (text .exit) ≡ covered (cipherOf suite) false m short (twoOf suite s) (wholes (sizeOf suite) (now (text .entry))) ++ rest (sizeOf suite) (now (text .entry))) ⌝ }
+    ensures state { λ r. ⌜ Passed suite false m s (now (text .entry)) r ⌝ }
+{
+    if cipher::lends(suite) {
+        let tb = cipher::tables(suite);
+        return walk::crypt(&tb, false, suite, s, m, text);
+    }
+    walk::crypt(&[], false, suite, s, m, text)
+}
+
+// The whole blocks of h held bytes and then part go in, the first under the mark m, and their ciphertext out; the rest is held. Tables are made only where a block is completed.
 pub(crate) fn crypt_part(
-    tb: &[Lent],
     suite: u8,
     s: State,
     m: u8,
@@ -99,7 +119,7 @@ pub(crate) fn crypt_part(
     part: &[u8],
     out: &mut [u8],
 ) -> Made
-    requires { ⌜ Ready suite (now tb) × IsSuite suite × (h < sizeOf suite) × (length (now part) + (sizeOf suite - 1) ≤ length (now out)) ⌝ }
+    requires { ⌜ IsSuite suite × (h < sizeOf suite) × (length (now part) + (sizeOf suite - 1) ≤ length (now out)) ⌝ }
     ensures text { λ _. ⌜ now (out .exit) ≡ written (covered (cipherOf suite) false m 0x40 (twoOf suite s) (blocks (sizeOf suite) (whole (sizeOf suite) (take h held ++ now (part .entry))))) (now (out .entry)) ⌝ }
     ensures count { λ r. ⌜ r .count ≡ length (covered (cipherOf suite) false m 0x40 (twoOf suite s) (blocks (sizeOf suite) (whole (sizeOf suite) (take h held ++ now (part .entry))))) ⌝ }
     ensures states { λ r. ⌜ twoOf suite (r .s) ≡ walked (cipherOf suite) false m 0x40 (twoOf suite s) (blocks (sizeOf suite) (whole (sizeOf suite) (take h held ++ now (part .entry)))) ⌝ }
@@ -118,7 +138,7 @@ pub(crate) fn crypt_part(
     let w = all - all % n;
     let e = w - h;
     gather(held, h, &part[0..e], &mut out[0..w]);
-    let t = walk::crypt(tb, false, suite, s, m, &mut out[0..w]);
+    let t = crypt_blocks(suite, s, m, &mut out[0..w]);
     let u = t.s;
     let g = words::block::filled_bytes(&part[e..part.len()]);
     Made {

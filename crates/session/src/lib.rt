@@ -28,7 +28,7 @@ pub struct Step {
 }
 
 impl Session {
-    // A session's start. Only a suite whose engine is lent tables pays for them, here and below.
+    // A session's start. Only a suite whose engine is lent tables pays for them, here and below, and a part only where a block goes in.
     pub fn start(suite: u8, key: &[u8], nonce: &[u8]) -> Step
         ensures { λ r. ⌜ gives r [] [] ≡ starting suite (now (key .entry)) (now (nonce .entry)) ⌝ }
     {
@@ -58,11 +58,7 @@ impl Session {
                 count: 0,
             };
         }
-        if cipher::lends(suite) {
-            let tb = cipher::tables(suite);
-            return work::take_in(&tb, self, part);
-        }
-        work::take_in(&[], self, part)
+        work::take_in(self, part)
     }
 
     // A part of the message.
@@ -87,11 +83,7 @@ impl Session {
                 count: 0,
             };
         }
-        if cipher::lends(suite) {
-            let tb = cipher::tables(suite);
-            return work::seal_in(&tb, self, part, out);
-        }
-        work::seal_in(&[], self, part, out)
+        work::seal_in(self, part, out)
     }
 
     // The end: the rest of the ciphertext into out, and the tag.

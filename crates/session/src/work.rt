@@ -3,15 +3,18 @@ use crate::Session;
 use crate::Step;
 use crate::blocks::Fed;
 use cipher::Lent;
+use step::block::absorb_short;
 use step::state::State;
 use words::block::Block;
 ghost use mathlib.Core.Path.{_≡_};
+ghost use mathlib.Core.Bool.{false};
 ghost use mathlib.Core.List.{[]};
 ghost use Prim.Native.Nat.{_<_};
 ghost use lib.ListN.{length, take};
 ghost use Rattle.words.specs.Blocks.{wide};
 ghost use Rattle.cipher.specs.Cipher.{Ready, IsSuite, sizeOf, cipherOf};
-ghost use Rattle.step.specs.Two.{twoOf};
+ghost use Rattle.mode.specs.Walk.{turned, messageOf};
+ghost use Rattle.step.specs.Two.{twoOf, Holds, oneMore};
 ghost use Rattle.session.specs.Value.{valueOf, filled, over, gave, firstMark, begun, startNumber, starting, dataNumber, dataPart, textNumber, textPart, endNumber, ending};
 ghost use Rattle.session.specs.Structs.{asValue, gives};
 
@@ -95,8 +98,8 @@ fn first_mark(suite: u8, m: u8, came: usize) -> u8
 }
 
 // Associated data goes in.
-pub(crate) fn take_in(tb: &[Lent], s: Session, part: &[u8]) -> Step
-    requires { ⌜ Ready (s .suite) (now tb) × (dataNumber (s .suite) (s .came) (s .text) (length (now part)) ≡ 0) ⌝ }
+pub(crate) fn take_in(s: Session, part: &[u8]) -> Step
+    requires { ⌜ dataNumber (s .suite) (s .came) (s .text) (length (now part)) ≡ 0 ⌝ }
     ensures { λ r. ⌜ gives r [] [] ≡ dataPart (asValue s) (now (part .entry)) ⌝ }
 {
     let suite = s.suite;
@@ -113,7 +116,7 @@ pub(crate) fn take_in(tb: &[Lent], s: Session, part: &[u8]) -> Step
         z: z,
         calls: 0,
     };
-    let f = crate::blocks::absorb_part(tb, suite, two, m, held, h, part);
+    let f = crate::blocks::absorb_part(suite, two, m, held, h, part);
     let next = packed(suite, f, came + part.len(), text);
     Step {
         next: next,
@@ -122,9 +125,21 @@ pub(crate) fn take_in(tb: &[Lent], s: Session, part: &[u8]) -> Step
     }
 }
 
+// Associated data's last bytes go in as a short block: the cipher is lent what it needs.
+fn absorb_last(suite: u8, s: State, m: u8, b: &[u8]) -> State
+    requires { ⌜ IsSuite suite × (length (now b) < sizeOf suite) ⌝ }
+    ensures { λ r. ⌜ Holds suite r (turned (cipherOf suite) m (twoOf suite s) (messageOf (cipherOf suite) false m (twoOf suite s) (now (b .entry)))) (oneMore (s .calls)) ⌝ }
+{
+    if cipher::lends(suite) {
+        let tb = cipher::tables(suite);
+        return absorb_short(&tb, false, suite, s, m, b);
+    }
+    absorb_short(&[], false, suite, s, m, b)
+}
+
 // The states as the message goes on: where it has not begun, the associated data's last bytes go in first.
-fn begin(tb: &[Lent], s: Session) -> State
-    requires { ⌜ Ready (s .suite) (now tb) × IsSuite (s .suite) ⌝ }
+fn begin(s: Session) -> State
+    requires { ⌜ IsSuite (s .suite) ⌝ }
     ensures { λ r. ⌜ twoOf (s .suite) r ≡ begun (cipherOf (s .suite)) (asValue s) ⌝ }
 {
     let suite = s.suite;
@@ -147,23 +162,41 @@ fn begin(tb: &[Lent], s: Session) -> State
         return two;
     }
     let m = first_mark(suite, 0x08, came);
-    step::block::absorb_short(tb, false, suite, two, m ^ 0x10, &held[0..h])
+    absorb_last(suite, two, m ^ 0x10, &held[0..h])
+}
+
+// The same, with no call where the message has begun.
+fn going(s: Session) -> State
+    requires { ⌜ IsSuite (s .suite) ⌝ }
+    ensures { λ r. ⌜ twoOf (s .suite) r ≡ begun (cipherOf (s .suite)) (asValue s) ⌝ }
+{
+    let y = s.y;
+    let z = s.z;
+    let text = s.text;
+    if text != 0 {
+        return State {
+            y: y,
+            z: z,
+            calls: 0,
+        };
+    }
+    begin(s)
 }
 
 // Message goes in, at least one byte of it, and the ciphertext of the blocks that it completes out.
-pub(crate) fn seal_in(tb: &[Lent], s: Session, part: &[u8], out: &mut [u8]) -> Step
-    requires { ⌜ Ready (s .suite) (now tb) × (textNumber (s .suite) (s .came) (s .text) (length (now part)) (length (now out)) ≡ 0) × (0 < length (now part)) ⌝ }
+pub(crate) fn seal_in(s: Session, part: &[u8], out: &mut [u8]) -> Step
+    requires { ⌜ (textNumber (s .suite) (s .came) (s .text) (length (now part)) (length (now out)) ≡ 0) × (0 < length (now part)) ⌝ }
     ensures { λ r. ⌜ gives r (now (out .exit)) [] ≡ textPart (asValue s) (now (part .entry)) (now (out .entry)) ⌝ }
 {
     let suite = s.suite;
     let came = s.came;
     let text = s.text;
     let held = s.held;
-    let two = begin(tb, s);
+    let two = going(s);
     let n = cipher::size_of(suite);
     let m = first_mark(suite, 0x20, text);
     let h = text % n;
-    let f = crate::blocks::crypt_part(tb, suite, two, m, held, h, part, out);
+    let f = crate::blocks::crypt_part(suite, two, m, held, h, part, out);
     let u = f.s;
     let g = f.held;
     let next = packed(suite, Fed { s: u, held: g }, came, text + part.len());
@@ -182,7 +215,7 @@ pub(crate) fn close(tb: &[Lent], s: Session, out: &mut [u8], tag: &mut [u8]) -> 
     let suite = s.suite;
     let text = s.text;
     let held = s.held;
-    let two = begin(tb, s);
+    let two = begin(s);
     let n = cipher::size_of(suite);
     let m = first_mark(suite, 0x20, text);
     let h = text % n;

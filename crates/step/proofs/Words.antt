@@ -3,7 +3,7 @@ use mathlib.Core.Path.{_≡_, refl, sym, ap, ap₂, _∙_}
 use Prim.Native.Nat.{ℕ, zero, suc, _+_, _-_, _*_, _/_, _%_, _^_, _≤_, _<_}
 use native.Mathlib.Nat.{le-of-suc-le-suc, not-suc-le-zero, le-of-eq, mod-lt, mod-eq-of-lt, mul-one, pow-le-pow-right}
 use native.Mathlib.Omega.{arith}
-use mathlib.Core.List.{List, [], _∷_, _++_, append-assoc, append-nil}
+use mathlib.Core.List.{List, [], _∷_, _++_, append-assoc}
 use lib.ListN.{length, take, drop, replicate, length-append, length-drop, take-append-drop, replicate-append-replicate}
 use lib.Seq.{take-at, take-all, take-append-le, take-append-add, drop-append-add, drop-at, length-take-le}
 use Rattle.words.specs.Words.{xor, rotr}
@@ -195,17 +195,7 @@ zeros-cut n b h k =
     ∙ drop-zeros j (16 - suc (length b))
     ∙ ap zeros z
 
--- ---- a full or nearly full block, and zeros behind it
-
-pub filled-full : (b r : List ℕ) → length b ≡ 16 → r ≡ b ++ replicate (16 - length b) 0 → r ≡ b
-filled-full b r e q =
-    let z : 16 - length b ≡ 0 = omega arith in
-    q ∙ ap (λ (k : ℕ). b ++ replicate k 0) z ∙ append-nil b
-
-pub filled-one : (b r : List ℕ) → length b ≡ 15 → r ≡ b ++ replicate (16 - length b) 0 → r ≡ b ++ (0 ∷ [])
-filled-one b r e q =
-    let z : 16 - length b ≡ 1 = omega arith in
-    q ∙ ap (λ (k : ℕ). b ++ replicate k 0) z
+-- ---- a nonce of fifteen bytes, and a zero behind it
 
 xors-zero : (l : List ℕ) → length l ≡ 1 → xors l (0 ∷ []) ≡ l
 xors-zero [] e = absurd (native.Mathlib.Nat.suc-ne-zero 0 (sym e))

@@ -2,7 +2,7 @@
 use words::block::Block;
 ghost use mathlib.Core.Path.{_≡_};
 ghost use Rattle.words.specs.Blocks.{wide};
-ghost use Rattle.cipher.specs.Cipher.{two, versionOf};
+ghost use Rattle.cipher.specs.Cipher.{one, two, versionOf};
 ghost use Rattle.mode.specs.Words.{double};
 ghost use Rattle.mode.specs.Keys.{marked, doubled, nextKey};
 ghost use Rattle.mode.specs.Walk.{blockKey, keptBehind};
@@ -41,36 +41,51 @@ fn mark(z: Block, m: u8) -> Block
     }
 }
 
-// The mark, then the doubling of the suite's version.
-pub(crate) fn next_key(suite: u8, z: Block, m: u8) -> Block
-    ensures { λ r. ⌜ wide r ≡ nextKey (versionOf suite) m (wide z) ⌝ }
+// The mark, then the doubling of version 1.
+fn next_key_one(z: Block, m: u8) -> Block
+    ensures { λ r. ⌜ wide r ≡ nextKey one m (wide z) ⌝ }
 {
     let r = mark(z, m);
-    if cipher::is_second(suite) {
-        return doubling120(r);
-    }
     Block {
         a: doubling(r.a),
         b: r.b,
     }
 }
 
-// The key of a block with the mark m: version 2 holds the mark back.
-pub(crate) fn block_key(suite: u8, z: Block, m: u8) -> Block
-    ensures { λ r. ⌜ wide r ≡ blockKey (versionOf suite) m (wide z) ⌝ }
+// The mark, then the doubling of version 2.
+fn next_key_two(z: Block, m: u8) -> Block
+    ensures { λ r. ⌜ wide r ≡ nextKey two m (wide z) ⌝ }
 {
-    if cipher::is_second(suite) {
-        return next_key(suite, z, 0);
-    }
-    next_key(suite, z, m)
+    let r = mark(z, m);
+    doubling120(r)
 }
 
-// The Z that is kept behind a block with the key k: the mark that was held back goes in.
-pub(crate) fn kept(suite: u8, k: Block, m: u8) -> Block
-    ensures { λ r. ⌜ wide r ≡ keptBehind (versionOf suite) m (wide k) ⌝ }
+// The mark, then the doubling of the suite's version.
+pub(crate) fn next_key(suite: u8, z: Block, m: u8) -> Block
+    ensures { λ r. ⌜ wide r ≡ nextKey (versionOf suite) m (wide z) ⌝ }
 {
     if cipher::is_second(suite) {
-        return mark(k, m);
+        return next_key_two(z, m);
     }
-    k
+    next_key_one(z, m)
+}
+
+// A block's key, and the Z that is kept behind the block.
+pub(crate) struct Keyed {
+    pub key: Block,
+    pub z: Block,
+}
+
+// The key of a block with the mark m, and the Z that is kept behind it: version 2 holds the mark back until then. The version is asked once.
+pub(crate) fn block_key(suite: u8, z: Block, m: u8) -> Keyed
+    ensures key { λ r. ⌜ wide (r .key) ≡ blockKey (versionOf suite) m (wide z) ⌝ }
+    ensures z { λ r. ⌜ wide (r .z) ≡ keptBehind (versionOf suite) m (wide (r .key)) ⌝ }
+{
+    if cipher::is_second(suite) {
+        let k = next_key_two(z, 0);
+        let behind = mark(k, m);
+        return Keyed { key: k, z: behind };
+    }
+    let k = next_key_one(z, m);
+    Keyed { key: k, z: k }
 }

@@ -21,9 +21,9 @@ pub fn start(tb: &[Lent], suite: u8, key: &[u8], nonce: &[u8]) -> State
     requires { ⌜ Ready suite (now tb) × IsSuite suite × (length (now key) ≡ 16) × (length (now nonce) ≡ nonceOf suite) ⌝ }
     ensures { λ r. ⌜ Holds suite r (origin (cipherOf suite) (now (key .entry)) (now (nonce .entry))) 1 ⌝ }
 {
-    let k = words::block::filled(key);
-    let v = words::block::filled(nonce);
+    let k = words::block::sixteen(key);
     if cipher::size_of(suite) == 16 {
+        let v = words::block::sixteen(nonce);
         let z = cipher::encipher16(tb, suite, k, v);
         return State {
             y: k,
@@ -31,17 +31,19 @@ pub fn start(tb: &[Lent], suite: u8, key: &[u8], nonce: &[u8]) -> State
             calls: 1,
         };
     }
-    let y = cipher::encipher8(suite, k.a, k.b, 0);
+    let v = words::block::fifteen(nonce);
+    let zero = Block { a: 0, b: 0 };
+    let y = cipher::encipher(tb, suite, k, zero);
     let z = words::block::xor(k, v);
     State {
-        y: Block { a: y, b: 0 },
+        y: y,
         z: z,
         calls: 1,
     }
 }
 
 // The cipher's image of a block, by its size n: a loop over blocks tests that one number, whatever else it tests of it.
-fn image(tb: &[Lent], suite: u8, n: usize, key: Block, block: Block) -> Block
+pub(crate) fn image(tb: &[Lent], suite: u8, n: usize, key: Block, block: Block) -> Block
     requires { ⌜ Ready suite (now tb) × IsSuite suite × (n ≡ sizeOf suite) ⌝ }
     ensures image { λ r. ⌜ take (sizeOf suite) (wide r) ≡ cipherOf suite .E (wide key) (take (sizeOf suite) (wide block)) ⌝ }
     ensures rest { λ r. ⌜ Clean suite r ⌝ }
@@ -62,9 +64,10 @@ pub(crate) fn turn(tb: &[Lent], suite: u8, s: State, m: u8, n: usize) -> State
 {
     let y = s.y;
     let z0 = s.z;
-    let k = crate::key::block_key(suite, z0, m);
+    let b = crate::key::block_key(suite, z0, m);
+    let k = b.key;
+    let z = b.z;
     let x = image(tb, suite, n, k, y);
-    let z = crate::key::kept(suite, k, m);
     State {
         y: x,
         z: z,

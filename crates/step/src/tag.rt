@@ -27,7 +27,8 @@ pub fn tag_of(tb: &[Lent], suite: u8, s: State) -> Last
     let y = s.y;
     let z = s.z;
     let k = crate::key::next_key(suite, z, 0x80);
-    let t = cipher::encipher(tb, suite, k, y);
+    let n = cipher::size_of(suite);
+    let t = crate::state::image(tb, suite, n, k, y);
     Last {
         tag: t,
         calls: std::num::wrapping_add_u64(s.calls, 1),

@@ -36,6 +36,10 @@ use Rattle.words.proofs.block.bytes8.Kinds as bytes8-kinds
 use Rattle.words.proofs.block.bytes8.Reads as bytes8-reads
 use Rattle.words.proofs.block.number8.Kinds as number8-kinds
 use Rattle.words.proofs.block.number8.Reads as number8-reads
+use Rattle.words.proofs.block.sixteen.Kinds as sixteen-kinds
+use Rattle.words.proofs.block.sixteen.Reads as sixteen-reads
+use Rattle.words.proofs.block.fifteen.Kinds as fifteen-kinds
+use Rattle.words.proofs.block.fifteen.Reads as fifteen-reads
 use Rattle.words.proofs.block.whole.Kinds as whole-kinds
 use Rattle.words.proofs.block.whole.Reads as whole-reads
 use Rattle.words.proofs.block.put_whole.Kinds as put-whole-kinds
@@ -97,6 +101,12 @@ bytes8 κs a h x y = (x .ensures ∙ sym (y .ensures), refl)
 
 pub number8 : OneOutcome number8-kinds.ps number8-kinds.r number8-reads.Pre number8-reads.Post
 number8 κs a h x y = (bytes-inj 8 (omega arith) (omega arith) (x .ensures ∙ sym (y .ensures)), refl)
+
+pub sixteen : OneOutcome sixteen-kinds.ps sixteen-kinds.r sixteen-reads.Pre sixteen-reads.Post
+sixteen κs a h x y = (wide-told (x .result) (y .result) (omega arith) (omega arith) (omega arith) (omega arith) (x .ensures ∙ sym (y .ensures)), refl)
+
+pub fifteen : OneOutcome fifteen-kinds.ps fifteen-kinds.r fifteen-reads.Pre fifteen-reads.Post
+fifteen κs a h x y = (wide-told (x .result) (y .result) (omega arith) (omega arith) (omega arith) (omega arith) (x .ensures ∙ sym (y .ensures)), refl)
 
 pub whole : OneOutcome whole-kinds.ps whole-kinds.r whole-reads.Pre whole-reads.Post
 whole κs a h x y = (wide-told (x .result) (y .result) (omega arith) (omega arith) (omega arith) (omega arith) (x .ensures ∙ sym (y .ensures)), refl)

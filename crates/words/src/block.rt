@@ -92,15 +92,23 @@ fn put8(x: u64, out: &mut [u8])
     out[7] = r[7];
 }
 
+// Sixteen bytes, by whole words.
+pub fn sixteen(b: &[u8]) -> Block
+    requires { ⌜ length (now b) ≡ 16 ⌝ }
+    ensures { λ r. ⌜ wide r ≡ now (b .entry) ⌝ }
+{
+    let lo = load8(&b[0..8]);
+    let hi = load8(&b[8..16]);
+    Block { a: lo, b: hi }
+}
+
 // A full block of 16 or 8 bytes, by whole words; zeros behind the eight.
 pub fn whole(b: &[u8]) -> Block
     requires { ⌜ (length (now b) ≡ 16) ⊎ (length (now b) ≡ 8) ⌝ }
     ensures { λ r. ⌜ wide r ≡ now (b .entry) ++ replicate (16 - length (now (b .entry))) 0 ⌝ }
 {
     if b.len() == 16 {
-        let lo = load8(&b[0..8]);
-        let hi = load8(&b[8..16]);
-        return Block { a: lo, b: hi };
+        return sixteen(b);
     }
     let lo = load8(b);
     Block { a: lo, b: 0 }
@@ -143,7 +151,7 @@ pub fn number8(s: [u8; 8]) -> u64
 }
 
 // Fifteen bytes and a zero: the last eight are read as one number, which loses the byte that was read before.
-fn fifteen(b: &[u8]) -> Block
+pub fn fifteen(b: &[u8]) -> Block
     requires { ⌜ length (now b) ≡ 15 ⌝ }
     ensures { λ r. ⌜ wide r ≡ now (b .entry) ++ (0 ∷ []) ⌝ }
 {

@@ -1,4 +1,4 @@
--- `session::blocks::absorb_part` meets its contract: the held bytes and the first of the associated data make a block, if they are enough.
+-- `session::blocks::absorb_part` meets its contract: less than a block is held; else the suite's cipher is lent what it asks for, or nothing.
 use borrow.Author.Needs.{needs}
 use denote.Ref.{now}
 use lib.ListN.{length, take, length-append}
@@ -7,21 +7,21 @@ use mathlib.Core.Bool.{false}
 use mathlib.Core.List.{List, _++_}
 use mathlib.Core.Path.{_≡_, sym, ap, _∙_}
 use native.Mathlib.Omega.{arith}
-use Prim.Native.Nat.{ℕ, _+_, _-_, _≤_, _<_}
+use Prim.Native.Nat.{ℕ, _<_}
 use Rattle.cipher.specs.Cipher.{sizeOf, cipherOf}
+use Rattle.cipher.proofs.Suites.{none-ready}
 use Rattle.session.specs.Value.{filled}
 use Rattle.step.specs.Two.{twoOf}
 use Rattle.mode.proofs.Cut.{rest-short}
 use Rattle.walk.proofs.Front.{short-walk}
-use Rattle.session.proofs.Hold.{more-walk, more-rest}
 use Rattle.session.proofs.blocks.absorb_part.Statement.{statement}
 use Rattle.session.proofs.blocks.absorb_part.Tie as tie
 
 size-of-requires : tie.Need-size-of-requires
 size-of-requires c κs = search needs
 
-sub-need : tie.Need-sub-need
-sub-need c = search needs
+sub-if1 : tie.Need-sub-if1
+sub-if1 c = search needs
 
 joined-requires : tie.Need-joined-requires
 joined-requires c κs = search needs
@@ -36,88 +36,51 @@ returns c =
     let x : List ℕ = take (st .args .h) (st .args .held) in
     let part = now (st .args .ad) in
     let lh : length (st .args .held) ≡ 16 = search needs in
-    let lx : length x ≡ st .args .h = length-take-le (st .args .h) (st .args .held) (omega (arith, st .pre .2, size .ensures .1 .1)) in
+    let lx : length x ≡ st .args .h = length-take-le (st .args .h) (st .args .held) (omega (arith, st .pre .1, size .ensures .1 .1)) in
     let l : length (x ++ part) < sizeOf suite = omega (arith, length-append x part, c .before .if1 .taken) in
     (sym (short-walk (cipherOf suite) pos false 0x10 (st .args .m) (twoOf suite (st .args .s)) (x ++ part) l), c .joined .ensures ∙ ap filled (sym (rest-short (sizeOf suite) pos (x ++ part) l)))
 
-sub-joined : tie.Need-sub-joined
-sub-joined c = search needs
+lends-requires : tie.Need-lends-requires
+lends-requires c κs = search needs
 
-part-joined-start : tie.Need-part-joined-start
-part-joined-start c = search needs
+tables-requires : tie.Need-tables-requires
+tables-requires c κs = sym (c .before .lends .ensures) ∙ c .if2 .taken
 
-part-joined-end : tie.Need-part-joined-end
-part-joined-end c = search needs
+slice-aggregate-absorb-past : tie.Need-slice-aggregate-absorb-past
+slice-aggregate-absorb-past c = search needs
 
-joined-requires-2 : tie.Need-joined-requires-2
-joined-requires-2 c κs = search needs
-
-sub-absorb : tie.Need-sub-absorb
-sub-absorb c = search needs
-
-part-absorb-start : tie.Need-part-absorb-start
-part-absorb-start c = search needs
-
-part-absorb-end : tie.Need-part-absorb-end
-part-absorb-end c = search needs
-
-absorb-requires : tie.Need-absorb-requires
-absorb-requires c κs = search needs
-
-sub-absorb-blocks : tie.Need-sub-absorb-blocks
-sub-absorb-blocks c = search needs
-
-part-absorb-blocks-start : tie.Need-part-absorb-blocks-start
-part-absorb-blocks-start c = search needs
-
-part-absorb-blocks-end : tie.Need-part-absorb-blocks-end
-part-absorb-blocks-end c = search needs
-
-absorb-blocks-requires : tie.Need-absorb-blocks-requires
-absorb-blocks-requires c κs = search needs
+absorb-past-requires : tie.Need-absorb-past-requires
+absorb-past-requires c κs =
+    let st = c .before .before .before .before .before .before .before in
+    (c .before .tables .ensures, st .pre .0, st .pre .1, omega (arith, c .before .before .before .before .if1 .left))
 
 returns-2 : tie.Need-returns-2
-returns-2 c =
-    let st = c .before .before .before .before .before .before .before .before .before .before in
-    let suite = st .args .suite in
-    let size = c .before .before .before .before .before .before .before .before .size-of in
-    let h = st .args .h in
-    let en : size .result ≡ sizeOf suite = size .ensures .0 in
-    let pos : 0 < sizeOf suite = omega (arith, size .ensures .1 .0) in
-    let most : sizeOf suite ≤ 16 = omega (arith, size .ensures .1 .1) in
-    let x : List ℕ = take h (st .args .held) in
-    let part = now (st .args .ad) in
-    let lh : length (st .args .held) ≡ 16 = search needs in
-    let hn : h < sizeOf suite = st .pre .2 in
-    let lx : length x ≡ h = length-take-le h (st .args .held) (omega arith) in
-    let need = size .result - h in
-    let ln : h + need ≡ sizeOf suite = omega arith in
-    let lp : need ≤ length part = omega (arith, c .before .before .before .before .before .before .before .if1 .left) in
-    let j = c .before .before .before .before .before .joined2 in
-    let k = cipherOf suite in (
-      more-walk k pos 0x10 x part (j .result) h need lx ln lp most (j .ensures) (st .args .m) (size .result) (twoOf suite (st .args .s)) (twoOf suite (c .before .before .absorb .result .s)) _ en
-          (c .before .before .absorb .ensures .two 0x10) (c .absorb-blocks .ensures .0),
-      more-rest k pos 0x10 x part (j .result) h need lx ln lp most (j .ensures) _ (c .absorb-blocks .ensures .1),
-    )
+returns-2 c = search needs
+
+slice-aggregate-absorb-past-2 : tie.Need-slice-aggregate-absorb-past-2
+slice-aggregate-absorb-past-2 c = search needs
+
+absorb-past-requires-2 : tie.Need-absorb-past-requires-2
+absorb-past-requires-2 c κs =
+    let st = c .before .before .before .before .before .before in
+    (none-ready (st .args .suite) (sym (c .before .before .lends .ensures) ∙ c .before .if2 .left), st .pre .0, st .pre .1, omega (arith, c .before .before .before .if1 .left))
+
+returns-3 : tie.Need-returns-3
+returns-3 c = search needs
 
 pub absorb-part-spec : {M : Type 1} → statement M
 absorb-part-spec =
     tie.close
     (tie.spec
     size-of-requires
-    sub-need
+    sub-if1
     joined-requires
     returns
-    sub-joined
-    part-joined-start
-    part-joined-end
-    joined-requires-2
-    sub-absorb
-    part-absorb-start
-    part-absorb-end
-    absorb-requires
-    sub-absorb-blocks
-    part-absorb-blocks-start
-    part-absorb-blocks-end
-    absorb-blocks-requires
-    returns-2)
+    lends-requires
+    tables-requires
+    slice-aggregate-absorb-past
+    absorb-past-requires
+    returns-2
+    slice-aggregate-absorb-past-2
+    absorb-past-requires-2
+    returns-3)

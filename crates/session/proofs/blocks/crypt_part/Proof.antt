@@ -58,7 +58,7 @@ module _ (d : tie.Else1) where
   pos = omega (arith, en, d .before .size-of .ensures .1 .0)
 
   lx : length x ≡ st .args .h
-  lx = length-take-le (st .args .h) (st .args .held) (omega (arith, st .pre .2, d .before .size-of .ensures .1 .1, en, held-long st))
+  lx = length-take-le (st .args .h) (st .args .held) (omega (arith, st .pre .1, d .before .size-of .ensures .1 .1, en, held-long st))
 
   mod-most : (st .args .h + length part) % k < k
   mod-most = mod-lt (st .args .h + length part) (d .before .size-of .ensures .1 .0)
@@ -76,13 +76,13 @@ module _ (d : tie.Else1) where
   w-some = blocks-some (st .args .h + length part) k (d .before .size-of .ensures .1 .0) (omega (arith, d .if1 .left))
 
   h-within : st .args .h ≤ w
-  h-within = omega (arith, w-some, st .pre .2, en)
+  h-within = omega (arith, w-some, st .pre .1, en)
 
   w-within : w ≤ st .args .h + length part
   w-within = omega arith
 
   room : w ≤ length (now (st .args .out))
-  room = omega (arith, w-within, st .pre .2, st .pre .3)
+  room = omega (arith, w-within, st .pre .1, st .pre .2)
 
 size-of-requires : tie.Need-size-of-requires
 size-of-requires c κs = search needs
@@ -103,7 +103,7 @@ returns c =
     let x : List ℕ = take (st .args .h) (st .args .held) in
     let part = now (st .args .part) in
     let lh : length (st .args .held) ≡ 16 = held-long st in
-    let lx : length x ≡ st .args .h = length-take-le (st .args .h) (st .args .held) (omega (arith, st .pre .2, size .ensures .1 .1)) in
+    let lx : length x ≡ st .args .h = length-take-le (st .args .h) (st .args .held) (omega (arith, st .pre .1, size .ensures .1 .1)) in
     let l : length (x ++ part) < sizeOf suite = omega (arith, length-append x part, c .before .if1 .taken) in
     let k = cipherOf suite in
     let ec = sym (short-cover k pos false 0x40 (st .args .m) (twoOf suite (st .args .s)) (x ++ part) l) in (
@@ -148,21 +148,21 @@ gather-requires : tie.Need-gather-requires
 gather-requires c κs =
     let d = c .before .before in
     let e = w d - st d .args .h in (
-      omega (arith, st d .pre .2, d .before .size-of .ensures .1 .1, en d),
+      omega (arith, st d .pre .1, d .before .size-of .ensures .1 .1, en d),
       length-take-le (w d - 0) (drop 0 (now (st d .args .out))) (omega (arith, room d)) ∙ omega (arith, h-within d, length-take-le (e - 0) (drop 0 (part d)) (omega (arith, w-within d))),
     )
 
-sub-crypt : tie.Need-sub-crypt
-sub-crypt c = search needs
+sub-crypt-blocks : tie.Need-sub-crypt-blocks
+sub-crypt-blocks c = search needs
 
-part-crypt-start : tie.Need-part-crypt-start
-part-crypt-start c = search needs
+part-crypt-blocks-start : tie.Need-part-crypt-blocks-start
+part-crypt-blocks-start c = search needs
 
-part-crypt-end : tie.Need-part-crypt-end
-part-crypt-end c = search needs
+part-crypt-blocks-end : tie.Need-part-crypt-blocks-end
+part-crypt-blocks-end c = search needs
 
-crypt-requires : tie.Need-crypt-requires
-crypt-requires c κs = search needs
+crypt-blocks-requires : tie.Need-crypt-blocks-requires
+crypt-blocks-requires c κs = search needs
 
 sub-filled-bytes : tie.Need-sub-filled-bytes
 sub-filled-bytes c = search needs
@@ -194,16 +194,16 @@ returns-2 c =
     let y = g .last .1 .1 .1 .0 in
     let ey : y ≡ whole n l = g .ensures ∙ whole-is n (pos d) (x d) (part d) (st d .args .h) (w d) (lx d) (w-is d) (h-within d) in
     let ly : length y ≡ w d = ap length ey ∙ length-whole n (pos d) l ∙ sym (w-is d) in
-    let call = c .before .before .before .before .before .crypt in
-    let o = call .last .1 .1 .1 .1 .1 .0 in
+    let call = c .before .before .before .before .before .crypt-blocks in
+    let o = call .last .1 .1 .1 .0 in
     let el : take (w d - 0) (drop 0 (putMid 0 (w d - 0) out y)) ≡ whole n l = lent-again out y (w d) ly (room d) ∙ ey in
     let ec : o ≡ covered κ false m 0x40 S (blocks n (whole n l)) =
     call .ensures .0 0x40
     ∙ ap (λ (b : List ℕ). covered κ false m 0x40 S (blocks n (whole n b)) ++ rest n b) el
     ∙ ap₂ (λ (a b : List ℕ). covered κ false m 0x40 S (blocks n a) ++ b) (whole-alone n (pos d) l .0) (whole-alone n (pos d) l .1)
     ∙ append-nil (covered κ false m 0x40 S (blocks n (whole n l))) in
-    let lo : length o ≡ w d = call .kept .1 .1 .1 .1 .1 .0 ∙ ap length (lent-again out y (w d) ly (room d)) ∙ ly in (
-      twice-written out y (w d) ly (room d) o _ (call .kept .1 .1 .1 .1 .1 .0) ec,
+    let lo : length o ≡ w d = call .kept .1 .1 .1 .0 ∙ ap length (lent-again out y (w d) ly (room d)) ∙ ly in (
+      twice-written out y (w d) ly (room d) o _ (call .kept .1 .1 .1 .0) ec,
       (
         sym lo ∙ ap length ec,
         (
@@ -231,10 +231,10 @@ crypt-part-spec =
     part-gather-start-2
     part-gather-end-2
     gather-requires
-    sub-crypt
-    part-crypt-start
-    part-crypt-end
-    crypt-requires
+    sub-crypt-blocks
+    part-crypt-blocks-start
+    part-crypt-blocks-end
+    crypt-blocks-requires
     sub-filled-bytes
     part-filled-bytes-start
     part-filled-bytes-end

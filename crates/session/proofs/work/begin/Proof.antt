@@ -35,28 +35,28 @@ returns-2 c =
 first-mark-requires : tie.Need-first-mark-requires
 first-mark-requires c κs = search needs
 
-sub-absorb-short : tie.Need-sub-absorb-short
-sub-absorb-short c = search needs
+sub-absorb-last : tie.Need-sub-absorb-last
+sub-absorb-last c = search needs
 
-part-absorb-short-start : tie.Need-part-absorb-short-start
-part-absorb-short-start c = search needs
+part-absorb-last-start : tie.Need-part-absorb-last-start
+part-absorb-last-start c = search needs
 
-part-absorb-short-end : tie.Need-part-absorb-short-end
-part-absorb-short-end c =
+part-absorb-last-end : tie.Need-part-absorb-last-end
+part-absorb-last-end c =
     let s = c .before .before .before .before .before .before .before .before .args .s in
     let n = c .before .before .before .size-of in
     let lh : s .came % n .result < n .result = mod-lt (s .came) (n .ensures .1 .0) in
     let l16 : length (s .held) ≡ 16 = search needs in
     omega (arith, n .ensures .1 .1)
 
-absorb-short-requires : tie.Need-absorb-short-requires
-absorb-short-requires c κs =
+absorb-last-requires : tie.Need-absorb-last-requires
+absorb-last-requires c κs =
     let st = c .before .before .before .before .before .before .before .before .before in
     let s = st .args .s in
     let n = c .before .before .before .before .size-of in
     let h = s .came % n .result in
     let lh : h < n .result = mod-lt (s .came) (n .ensures .1 .0) in
-    (st .pre .0, st .pre .1, omega (arith, n .ensures .0, lh, length-take (h - 0) (s .held)))
+    (st .pre, omega (arith, n .ensures .0, lh, length-take (h - 0) (s .held)))
 
 returns-3 : tie.Need-returns-3
 unfolding xor
@@ -64,7 +64,7 @@ returns-3 c =
     let st = c .before .before .before .before .before .before .before .before .before .before in
     let s = st .args .s in
     let n = c .before .before .before .before .before .size-of in
-    c .absorb-short .ensures .two
+    c .absorb-last .ensures .two
     ∙ begun-short (cipherOf (s .suite)) (asValue s) (n .result) (n .ensures .0) (n .ensures .1 .0) (n .ensures .1 .1) (held-long st) (c .before .before .before .before .before .before .if1 .left) (c .before .before .before .before .if2 .left)
     (c .before .before .before .first-mark .result) (c .before .before .before .first-mark .ensures)
 
@@ -77,8 +77,8 @@ begin-spec =
     rem-h
     returns-2
     first-mark-requires
-    sub-absorb-short
-    part-absorb-short-start
-    part-absorb-short-end
-    absorb-short-requires
+    sub-absorb-last
+    part-absorb-last-start
+    part-absorb-last-end
+    absorb-last-requires
     returns-3)

@@ -2,13 +2,12 @@
 use borrow.Author.Needs.{needs}
 use denote.Ref.{now}
 use lib.ListN.{length, take}
-use mathlib.Core.Path.{_≡_, refl, sym, ap, ap₂, _∙_, subst}
+use mathlib.Core.Path.{refl, sym, ap, _∙_, subst}
 use native.Mathlib.Nat.{mod-lt}
 use native.Mathlib.Omega.{arith}
-use Prim.Native.Nat.{ℕ, _%_, _≤_, _<_}
+use Prim.Native.Nat.{ℕ, _%_, _<_}
 use Rattle.words.specs.Blocks.{wide}
 use Rattle.cipher.proofs.Suites.{size-most}
-use Rattle.mode.specs.Walk.{tagged}
 use Rattle.step.specs.Two.{twoOf}
 use Rattle.session.specs.Value.{endNumber, endDone, ending}
 use Rattle.session.specs.Structs.{asValue}
@@ -21,7 +20,7 @@ begin-requires : tie.Need-begin-requires
 begin-requires c κs =
     let st = c .before .before .before in
     let s = st .args .s in
-    (st .pre .0, end-passed (s .suite) (s .came) (s .text) (length (now (st .args .out))) (length (now (st .args .tag))) (st .pre .1) .0 .known)
+    end-passed (s .suite) (s .came) (s .text) (length (now (st .args .out))) (length (now (st .args .tag))) (st .pre .1) .0 .known
 
 size-of-requires : tie.Need-size-of-requires
 size-of-requires c κs = search needs

@@ -2,24 +2,24 @@
 use borrow.Author.Needs.{needs}
 use denote.Ref.{now}
 use lib.ListN.{length}
-use mathlib.Core.List.{List, []}
-use mathlib.Core.Path.{_≡_, refl, sym, ap, ap₂, _∙_, subst}
+use mathlib.Core.List.{[]}
+use mathlib.Core.Path.{refl, sym, _∙_, subst}
 use native.Mathlib.Nat.{mod-lt}
 use native.Mathlib.Omega.{arith}
-use Prim.Native.Nat.{ℕ, _+_, _%_, _≤_, _<_}
+use Prim.Native.Nat.{ℕ, _%_, _<_}
 use Rattle.step.specs.Two.{twoOf}
-use Rattle.session.specs.Value.{Sound, textNumber, textDone, textPart}
+use Rattle.session.specs.Value.{textNumber, textDone, textPart}
 use Rattle.session.specs.Structs.{asValue}
 use Rattle.session.proofs.Refuse.{text-passed, answer-done}
 use Rattle.session.proofs.Parts.{part-given, done-more}
 use Rattle.session.proofs.work.seal_in.Statement.{statement}
 use Rattle.session.proofs.work.seal_in.Tie as tie
 
-begin-requires : tie.Need-begin-requires
-begin-requires c κs =
+going-requires : tie.Need-going-requires
+going-requires c κs =
     let st = c .before .before .before in
     let s = st .args .s in
-    (st .pre .0, text-passed (s .suite) (s .came) (s .text) (length (now (st .args .part))) (length (now (st .args .out))) (st .pre .1) .0 .known)
+    text-passed (s .suite) (s .came) (s .text) (length (now (st .args .part))) (length (now (st .args .out))) (st .pre .0) .0 .known
 
 size-of-requires : tie.Need-size-of-requires
 size-of-requires c κs = search needs
@@ -35,14 +35,14 @@ crypt-part-requires c κs =
     let st = c .before .before .before .before .before .before .before in
     let s = st .args .s in
     let n = c .before .before .size-of in
-    let p = text-passed (s .suite) (s .came) (s .text) (length (now (st .args .part))) (length (now (st .args .out))) (st .pre .1) in
-    (st .pre .0, p .0 .known, subst (λ (k : ℕ). s .text % n .result < k) (n .ensures .0) (mod-lt (s .text) (n .ensures .1 .0)), p .2)
+    let p = text-passed (s .suite) (s .came) (s .text) (length (now (st .args .part))) (length (now (st .args .out))) (st .pre .0) in
+    (p .0 .known, subst (λ (k : ℕ). s .text % n .result < k) (n .ensures .0) (mod-lt (s .text) (n .ensures .1 .0)), p .2)
 
 add-packed : tie.Need-add-packed
 add-packed c =
     let st = c .before .before .before .before .before .before .before .before .before .before .before .before in
     let s = st .args .s in
-    let p = text-passed (s .suite) (s .came) (s .text) (length (now (st .args .part))) (length (now (st .args .out))) (st .pre .1) in
+    let p = text-passed (s .suite) (s .came) (s .text) (length (now (st .args .part))) (length (now (st .args .out))) (st .pre .0) in
     omega (arith, p .0 .text-most, p .1)
 
 packed-requires : tie.Need-packed-requires
@@ -59,13 +59,13 @@ returns c =
     let v = asValue s in
     let p = now (st .args .part) in
     let o = now (st .args .out) in
-    let two = c .before .before .before .before .before .before .before .before .before .begin in
+    let two = c .before .before .before .before .before .before .before .before .before .going in
     let n = c .before .before .before .before .before .before .before .before .size-of in
     let m = c .before .before .before .before .before .before .before .first-mark in
     let f = c .before .before .before .before .before .crypt-part in
     part-given v (twoOf (s .suite) (two .result)) (n .result) (m .result) (two .ensures) (n .ensures .0) (m .ensures) p o _ (f .result .count) _ (twoOf (s .suite) (f .result .s)) (f .result .held) (f .ensures .0) (f .ensures .1 .0) (c .packed .ensures) (f .ensures .1 .1 .0) (f .ensures .1 .1 .1)
-    ∙ done-more v p o (λ e. omega (arith, st .pre .2))
-    ∙ answer-done 0 (textNumber (v .suite) (v .came) (v .text) (length p) (length o)) (textDone v p o) v o [] refl (sym (st .pre .1))
+    ∙ done-more v p o (λ e. omega (arith, st .pre .1))
+    ∙ answer-done 0 (textNumber (v .suite) (v .came) (v .text) (length p) (length o)) (textDone v p o) v o [] refl (sym (st .pre .0))
 
 pub seal-in-spec : {M : Type 1} → statement M
-seal-in-spec = tie.close (tie.spec begin-requires size-of-requires first-mark-requires rem-h crypt-part-requires add-packed packed-requires same-length returns)
+seal-in-spec = tie.close (tie.spec going-requires size-of-requires first-mark-requires rem-h crypt-part-requires add-packed packed-requires same-length returns)

@@ -4,7 +4,7 @@ use denote.Ref.{now}
 use lib.ListN.{length, take}
 use mathlib.Core.Bool.{false}
 use mathlib.Core.List.{List, [], _++_}
-use mathlib.Core.Path.{_≡_, refl, sym, ap, ap₂, _∙_, subst}
+use mathlib.Core.Path.{refl, sym, ap, ap₂, _∙_, subst}
 use native.Mathlib.Nat.{mod-lt}
 use native.Mathlib.Omega.{arith}
 use Prim.Native.Nat.{ℕ, _+_, _%_, _<_}
@@ -31,14 +31,14 @@ absorb-part-requires c κs =
     let st = c .before .before .before .before .before .before in
     let s = st .args .s in
     let n = c .before .size-of in
-    let p = data-passed (s .suite) (s .came) (s .text) (length (now (st .args .part))) (st .pre .1) in
-    (st .pre .0, p .0 .known, subst (λ (k : ℕ). s .came % n .result < k) (n .ensures .0) (mod-lt (s .came) (n .ensures .1 .0)))
+    let p = data-passed (s .suite) (s .came) (s .text) (length (now (st .args .part))) (st .pre) in
+    (p .0 .known, subst (λ (k : ℕ). s .came % n .result < k) (n .ensures .0) (mod-lt (s .came) (n .ensures .1 .0)))
 
 add-packed : tie.Need-add-packed
 add-packed c =
     let st = c .before .before .before .before .before .before .before in
     let s = st .args .s in
-    let p = data-passed (s .suite) (s .came) (s .text) (length (now (st .args .part))) (st .pre .1) in
+    let p = data-passed (s .suite) (s .came) (s .text) (length (now (st .args .part))) (st .pre) in
     omega (arith, p .0 .data-most, p .2)
 
 packed-requires : tie.Need-packed-requires
@@ -59,7 +59,7 @@ returns c =
     ∙ ap₂ (λ (m j : ℕ). walked k false m 0x10 (states k v) (blocks n (whole n (x j)))) (c .before .before .first-mark .ensures) (size .ensures .0) in
     let eh = f .ensures .1 ∙ ap (λ (j : ℕ). filled (rest n (x j))) (size .ensures .0) in
     ap (λ (w : Value). gave 0 0 w [] []) (c .packed .ensures ∙ ap₂ (λ (s : States) (h : List ℕ). valueOf (v .suite) s h (v .came + length p) (v .text)) es eh)
-    ∙ answer-done 0 (dataNumber (v .suite) (v .came) (v .text) (length p)) (gave 0 0 (dataIn k v p) [] []) v [] [] refl (sym (st .pre .1))
+    ∙ answer-done 0 (dataNumber (v .suite) (v .came) (v .text) (length p)) (gave 0 0 (dataIn k v p) [] []) v [] [] refl (sym (st .pre))
 
 pub take-in-spec : {M : Type 1} → statement M
 take-in-spec = tie.close (tie.spec size-of-requires first-mark-requires rem-h absorb-part-requires add-packed packed-requires returns)

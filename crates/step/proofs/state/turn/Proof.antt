@@ -17,25 +17,22 @@ block-key-requires c κs = search needs
 image-requires : tie.Need-image-requires
 image-requires c κs = search needs
 
-kept-requires : tie.Need-kept-requires
-kept-requires c κs = search needs
-
 wrapping-add-u64-requires : tie.Need-wrapping-add-u64-requires
 wrapping-add-u64-requires c κs = search needs
 
 returns : tie.Need-returns
 returns c =
-    let x = c .before .before .before .before .before .before .args in
+    let x = c .before .before .before .before .before .before .before .args in
     let n = sizeOf (x .suite) in
-    let ek = c .before .before .before .block-key .ensures in
+    let e = c .before .before .before .before .block-key .ensures in
     record {
       two =
           states-path
-          (c .before .before .image .ensures .0 ∙ ap (λ (k : List ℕ). cipherOf (x .suite) .E k (take n (wide (x .s .y)))) ek)
-          (c .before .kept .ensures ∙ ap (keptBehind (versionOf (x .suite)) (x .m)) ek);
-      clean = c .before .before .image .ensures .1;
+          (c .before .image .ensures .0 ∙ ap (λ (k : List ℕ). cipherOf (x .suite) .E k (take n (wide (x .s .y)))) (e .0))
+          (e .1 ∙ ap (keptBehind (versionOf (x .suite)) (x .m)) (e .0));
+      clean = c .before .image .ensures .1;
       made = c .wrapping-add-u64 .ensures;
     }
 
 pub turn-spec : {M : Type 1} → statement M
-turn-spec = tie.close (tie.spec block-key-requires image-requires kept-requires wrapping-add-u64-requires returns)
+turn-spec = tie.close (tie.spec block-key-requires image-requires wrapping-add-u64-requires returns)
