@@ -8,7 +8,7 @@ use mathlib.Core.Logic.{⊎-elim}
 use lib.Dec.{eqb}
 use borrow.Author.Tests.{eqb-true, eqb-false, eq-eqb, ne-eqb, not-true, not-false}
 use Rattle.table.specs.declared.answers.Answer.{Answer}
-use Rattle.table.specs.Format.{edition, newest}
+use Rattle.table.specs.Format.{firstEdition, newest}
 use Rattle.table.specs.Answers.{answer}
 use Rattle.table.specs.Check.{checkFile}
 use Rattle.table.proofs.Numbered.{check-numbered}
@@ -53,7 +53,7 @@ module _ (f : List ℕ) (job : ℕ) where
 
   -- the check itself never gives 32
   pub not-missing : checkFile f .number ≡ 32 → ⊥
-  not-missing q = ⊎-elim (λ z. omega arith) (λ r. ⊎-elim (λ s. omega arith) (λ s. omega arith) r) (check-numbered edition newest f .number)
+  not-missing q = ⊎-elim (λ z. omega arith) (λ r. ⊎-elim (λ s. omega arith) (λ s. omega arith) r) (check-numbered firstEdition newest f .number)
 
   -- so the lookup's number tells whether the check refuses
   pub number-tells : refusing (lookupJob f job .number) ≡ refused f

@@ -45,6 +45,10 @@ pub record Facts : Type 0 where
 abbrev pub facts : ℕ → ℕ → ℕ → Version → (List ℕ → List ℕ → List ℕ) → Facts
 facts b n t v e = record { block = b; nonce = n; tag = t; version = v; E = e }
 
+-- the most bytes of associated data, and the most of a message (document 01, numbers 4 and 5)
+abbrev pub limit : ℕ
+limit = 65536
+
 -- document 01's table, a line for each suite: AES-128 for 1, CHAM-128/128 for 2, Speck-64/128 for 3, CHAM-64/128 for 4; then version 2 over AES-128 for 5, and over Speck-64/128 for 6 (document 02, W9)
 unfoldable pub factsOf : ℕ → Facts
 factsOf s =

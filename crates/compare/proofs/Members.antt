@@ -115,7 +115,7 @@ same-says f g i j q =
     record {
       suite = eqb-true _ _ (s .0);
       key = eqb-true _ _ (k .0);
-      ad = eqb-true _ _ (k .1);
+      ad-len = eqb-true _ _ (k .1);
       nonce = same-true _ _ (b .0);
       body = same-true _ _ (b .1);
       station = eqb-true _ _ (t .0);
@@ -123,7 +123,7 @@ same-says f g i j q =
 
 pub same-tells : (f g : List ℕ) (i j : ℕ) → Same f g i j → sameEntry f g i j ≡ true
 unfolding sameEntry sameFields
-same-tells f g i j h = simp (eq-eqb _ _ (h .suite), eq-eqb _ _ (h .key), eq-eqb _ _ (h .ad), eq-eqb _ _ (h .station), h .nonce, h .body, same-refl (nonceBytes g j), same-refl (bodyOf g j))
+same-tells f g i j h = simp (eq-eqb _ _ (h .suite), eq-eqb _ _ (h .key), eq-eqb _ _ (h .ad-len), eq-eqb _ _ (h .station), h .nonce, h .body, same-refl (nonceBytes g j), same-refl (bodyOf g j))
 
 -- a test that is not true is false
 is-false : (b : Bool) → (b ≡ true → ⊥) → b ≡ false

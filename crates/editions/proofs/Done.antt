@@ -12,7 +12,7 @@ use borrow.Author.Tests.{eq-eqb, ne-eqb, le-ltb, eqb-true, ltb-false, not-false}
 use types.Run.{OneOf, miss}
 use denote.Enum.Declared.{tagOf}
 use Rattle.table.specs.declared.answers.Answer.{Answer}
-use Rattle.table.specs.Format.{countOf, edition, newest, rowSize, widthOf, rowStart, bodyEnd, stationOf}
+use Rattle.table.specs.Format.{countOf, firstEdition, newest, rowSize, rowSizeOf, rowStart, bodyEnd, stationOf}
 use Rattle.table.specs.Answers.{answer}
 use Rattle.table.specs.Check.{andThen, checkAs}
 use Rattle.table.proofs.Searches.{first-says, first-none}
@@ -84,21 +84,21 @@ pub record Goes (a b : ℕ) (f : List ℕ) (out : ℕ) (x : Answer) : Type 0 whe
   pub room : Room (length (moved b f)) out
   pub zero : x ≡ answer 0 0
 
-pub up-goes : (f : List ℕ) (out : ℕ) → upAnswer f out .number ≡ 0 → Goes edition newest f out (upAnswer f out)
+pub up-goes : (f : List ℕ) (out : ℕ) → upAnswer f out .number ≡ 0 → Goes firstEdition newest f out (upAnswer f out)
 unfolding upAnswer
 up-goes f out z =
-    let b = both-zero (checkAs edition f) (lengthAnswer (length (moved newest f)) out) z in
+    let b = both-zero (checkAs firstEdition f) (lengthAnswer (length (moved newest f)) out) z in
     let r = lengths-pass _ _ (rw (b .1) at z) in
     record { passed = b .0; room = r; zero = b .1 ∙ lengths-fit _ _ r }
 
-pub goes-up : (f : List ℕ) (out : ℕ) → checkAs edition f .number ≡ 0 → Room (length (moved newest f)) out → upAnswer f out ≡ answer 0 0
+pub goes-up : (f : List ℕ) (out : ℕ) → checkAs firstEdition f .number ≡ 0 → Room (length (moved newest f)) out → upAnswer f out ≡ answer 0 0
 unfolding upAnswer
 goes-up f out z r = simp z (lengths-fit _ _ r)
 
-pub back-goes : (f : List ℕ) (out : ℕ) → backAnswer f out .number ≡ 0 → Goes newest edition f out (backAnswer f out) × NoStation f
+pub back-goes : (f : List ℕ) (out : ℕ) → backAnswer f out .number ≡ 0 → Goes newest firstEdition f out (backAnswer f out) × NoStation f
 unfolding backAnswer
 back-goes f out z =
-    let new = lengthAnswer (length (moved edition f)) out in
+    let new = lengthAnswer (length (moved firstEdition f)) out in
     let b = both-zero (checkAs newest f) (andThen (stationsFrom f (countOf f) 0) new) z in
     let s = both-zero (stationsFrom f (countOf f) 0) new (rw (b .1) at z) in
     let r = lengths-pass _ _ (rw (b .1 ∙ s .1) at z) in
@@ -109,7 +109,7 @@ pub station-stands : (f : List ℕ) (out : ℕ) → checkAs newest f .number ≡
 unfolding backAnswer
 station-stands f out z x q n = simp (z, ← q, ne-eqb _ _ n)
 
-pub goes-back : (f : List ℕ) (out : ℕ) → checkAs newest f .number ≡ 0 → NoStation f → Room (length (moved edition f)) out → backAnswer f out ≡ answer 0 0
+pub goes-back : (f : List ℕ) (out : ℕ) → checkAs newest f .number ≡ 0 → NoStation f → Room (length (moved firstEdition f)) out → backAnswer f out ≡ answer 0 0
 unfolding backAnswer
 goes-back f out z n r = simp (z, none-stations f n) (lengths-fit _ _ r)
 
@@ -120,9 +120,9 @@ pub up-is : (f out₀ : List ℕ) → upAnswer f (length out₀) ≡ answer 0 0 
 unfolding toEdition2
 up-is f out₀ q = ap (λ (x : Answer). moves x (moved newest f) out₀) q
 
-pub back-is : (f out₀ : List ℕ) → backAnswer f (length out₀) ≡ answer 0 0 → toEdition1 f out₀ ≡ done (moved edition f)
+pub back-is : (f out₀ : List ℕ) → backAnswer f (length out₀) ≡ answer 0 0 → toEdition1 f out₀ ≡ done (moved firstEdition f)
 unfolding toEdition1
-back-is f out₀ q = ap (λ (x : Answer). moves x (moved edition f) out₀) q
+back-is f out₀ q = ap (λ (x : Answer). moves x (moved firstEdition f) out₀) q
 
 -- ---- a file that passes can be moved
 
@@ -135,7 +135,7 @@ source e f z =
       short = p .head .short;
       few = p .head .few;
       table = p .head .table;
-      behind = λ i l. omega (arith, after-table (widthOf f) f (countOf f) (p .walk) i (omega arith), p .walk .rows i l .place .starts);
+      behind = λ i l. omega (arith, after-table (rowSizeOf f) f (countOf f) (p .walk) i (omega arith), p .walk .rows i l .place .starts);
       within = λ i l. omega (arith, p .walk .rows i l .place .ends);
     }
 
@@ -144,10 +144,10 @@ unfolding rowStart
 table-small e n h = omega (arith, mul-le-mul-right n (row-narrow e))
 
 module _ (f : List ℕ) (e : ℕ) (s : Source f) where
-  pub length-is : length (moved e f) ≡ carried (widthOf f) (rowSize e) (countOf f) (length f)
-  length-is = file-long (widthOf f) (rowSize e) f (countOf f) (s .table) (row-broad e) e
+  pub length-is : length (moved e f) ≡ carried (rowSizeOf f) (rowSize e) (countOf f) (length f)
+  length-is = file-long (rowSizeOf f) (rowSize e) f (countOf f) (s .table) (row-broad e) e
 
-  pub movable : length (moved e f) ≤ 1048576 → Movable (widthOf f) (rowSize e) f (countOf f)
+  pub movable : length (moved e f) ≤ 1048576 → Movable (rowSizeOf f) (rowSize e) f (countOf f)
   movable l = record {
     table = s .table;
     broad = row-broad e;

@@ -73,14 +73,14 @@ rest-put f o p q s b d x y e g h xy =
 -- the row
 pub row-put : (f o p q : List ℕ) (w v n i : ℕ) → 32 ≤ v
     → take (restStart v i) p ≡ take (rowStart v i) o ++ (stretch f (rowStart w i) 4 ++ replicate (v - 32) 0)
-    → take (restStart v i + 28) q ≡ take (restStart v i) p ++ (stretch f (restStart w i) 4 ++ (bytes 4 (carried w v n (rowAt w f i .at)) ++ stretch f (restStart w i + 8) 20))
+    → take (restStart v i + 28) q ≡ take (restStart v i) p ++ (stretch f (restStart w i) 4 ++ (bytes 4 (carried w v n (rowAt w f i .«ad_at»)) ++ stretch f (restStart w i + 8) 20))
     → take (rowStart v (i + 1)) q ≡ take (rowStart v i) o ++ movedRow w v f n i
 unfolding movedRow restStart rowStart
 row-put f o p q w v n i h e g =
     let r : rowStart v (i + 1) ≡ restStart v i + 28 = rw add-one (omega (arith, mul-suc v i)) in
     let x = stretch f (rowStart w i) 4 in
     let z : List ℕ = replicate (v - 32) 0 in
-    let y = stretch f (restStart w i) 4 ++ (bytes 4 (carried w v n (rowAt w f i .at)) ++ stretch f (restStart w i + 8) 20) in
+    let y = stretch f (restStart w i) 4 ++ (bytes 4 (carried w v n (rowAt w f i .«ad_at»)) ++ stretch f (restStart w i + 8) 20) in
     ap (λ (k : ℕ). take k q) r
     ∙ two-parts o p q (x ++ z) y (rowStart v i) (restStart v i) (restStart v i + 28) e g
     ∙ ap (λ (l : List ℕ). take (rowStart v i) o ++ l) (append-assoc x z y)

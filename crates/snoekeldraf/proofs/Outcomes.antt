@@ -146,7 +146,7 @@ session-told : (s t : CometSession) → Words s → Words t → flat s ≡ flat 
 session-told s t p q e =
     let ey = wide-told (record { a = s .y0; b = s .y1 }) (record { a = t .y0; b = t .y1 }) (p .y0) (p .y1) (q .y0) (q .y1) (ap (λ (v : Value). v .Y) e) in
     let ez = wide-told (record { a = s .z0; b = s .z1 }) (record { a = t .z0; b = t .z1 }) (p .z0) (p .z1) (q .z0) (q .z1) (ap (λ (v : Value). v .Z) e) in
-    λ i. record { suite = e i .suite; y0 = ey i .a; y1 = ey i .b; z0 = ez i .a; z1 = ez i .b; held = e i .held; came = e i .came; text = e i .text }
+    λ i. record { suite = e i .suite; y0 = ey i .a; y1 = ey i .b; z0 = ez i .a; z1 = ez i .b; held = e i .held; «ad_total» = e i .«ad_total»; «text_total» = e i .«text_total» }
 
 step-told : (x y : CometStep) (o t o′ t′ : List ℕ) → Words (x .next) → Words (y .next) → flatGives x o t ≡ flatGives y o′ t′ → x ≡ y
 step-told x y o t o′ t′ p q e =

@@ -22,12 +22,12 @@ fn mix(suite: u8, key: u8, x: u64) -> u64
 }
 
 // What row i is marked by.
-pub(crate) fn mark(w: usize, f: &[u8], i: usize) -> u64
-    requires { ⌜ RowIn w (now f) i ⌝ }
-    ensures { λ r. ⌜ r ≡ markOf w (now (f .entry)) i ⌝ }
+pub(crate) fn mark(size: usize, file: &[u8], index: usize) -> u64
+    requires { ⌜ RowIn size (now file) index ⌝ }
+    ensures { λ r. ⌜ r ≡ markOf size (now (file .entry)) index ⌝ }
 {
-    let row = row_at(w, f, i);
-    let nonce = nonce_block(w, f, i);
+    let row = row_at(size, file, index);
+    let nonce = nonce_block(size, file, index);
     mix(row.suite, row.key, fold(nonce.a, nonce.b))
 }
 

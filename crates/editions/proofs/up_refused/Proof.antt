@@ -2,7 +2,7 @@
 use mathlib.Core.Path.{sym, ap, _∙_}
 use Prim.Native.Nat.{ℕ}
 use denote.Ref.{now}
-use Rattle.table.specs.Format.{edition}
+use Rattle.table.specs.Format.{firstEdition}
 use Rattle.table.proofs.Passed.{passed-zero, refused-stands}
 use Rattle.editions.specs.Answers.{lengthAnswer, upAnswer}
 use Rattle.editions.proofs.Done.{source}
@@ -24,7 +24,7 @@ enum-told : tie.Need-enum-told
 enum-told c = search needs
 
 moved-length-requires : tie.Need-moved-length-requires
-moved-length-requires c κs = source edition (now (c .before .before .before .before .args .f)) (passed-zero _ _ (c .enum-told .given .1) (c .before .before .check-as .ensures))
+moved-length-requires c κs = source firstEdition (now (c .before .before .before .before .args .file)) (passed-zero _ _ (c .enum-told .given .1) (c .before .before .check-as .ensures))
 
 length-refused-requires : tie.Need-length-refused-requires
 length-refused-requires c κs = search needs
