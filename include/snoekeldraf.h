@@ -140,9 +140,9 @@ uint32_t comet_open_counted(uint8_t suite,
 typedef struct {
     uint8_t suite;
     uint64_t y0, y1, z0, z1;
-    uint8_t held[16]; /* bytes that are in no whole block yet */
-    size_t came;      /* bytes of associated data so far */
-    size_t text;      /* bytes of message so far */
+    uint8_t held[16];  /* bytes that are in no whole block yet */
+    size_t ad_total;   /* bytes of associated data so far */
+    size_t text_total; /* bytes of message so far */
 } comet_session;
 
 typedef struct {

@@ -14,8 +14,8 @@ pub struct CometSession {
     z0: u64,
     z1: u64,
     held: [u8; 16],
-    came: usize,
-    text: usize,
+    ad_total: usize,
+    text_total: usize,
 }
 
 /// The struct `comet_step`.

@@ -116,7 +116,7 @@ fn round(t: &[u8; 256], s: Columns, k: Columns, mixing: bool) -> Columns
     add_round_key(u, k)
 }
 
-// The columns of the key after k, each the sum of the column in its place and the one before it; x comes before the first.
+// The columns of the next key, each the sum of the column in its place and the one before it; before the first comes the given one.
 pub fn chained(key: Columns, before: u32) -> Columns
     ensures { λ r. ⌜ (r .a ≡ xor (key .a) before) × (r .b ≡ xor (key .b) (r .a)) × (r .c ≡ xor (key .c) (r .b)) × (r .d ≡ xor (key .d) (r .c)) ⌝ }
 {
@@ -136,7 +136,7 @@ fn next_key(t: &[u8; 256], k: Columns, rc: u32) -> Columns
     chained(k, shifted(t, w, w, w, w) ^ rc)
 }
 
-// The Rcon after rc, as a number: 0x11b is 0x1b and the bit that drops out.
+// The Rcon after an Rcon, as a number: 0x11b is 0x1b and the bit that drops out.
 pub fn next_rcon(rcon: u32) -> u32
     requires { ⌜ rcon < 256 ⌝ }
     ensures { λ r. ⌜ r ≡ xtime rcon ⌝ }

@@ -36,7 +36,7 @@ fn spelled(digits: &[u8]) -> u64
     if digits.len() == 0 { 4294967296 } else { n }
 }
 
-// The job that argument i spells; 4,294,967,296 where it spells none of 32 bits.
+// The job that an argument spells; 4,294,967,296 where it spells none of 32 bits.
 pub fn job(argument: usize) -> u64 {
     let mut digits = [0u8; 16];
     let n = os::arg(argument, &mut digits);
@@ -57,7 +57,7 @@ fn same(x: &[u8], y: &[u8]) -> bool {
     true
 }
 
-// Whether argument i is this word.
+// Whether an argument is this word.
 pub fn is_word(argument: usize, word: &[u8]) -> bool {
     let mut given = [0u8; 16];
     let n = os::arg(argument, &mut given);
@@ -74,7 +74,7 @@ fn read_whole(fd: i32, buf: &mut [u8]) -> usize {
     got
 }
 
-// The file that argument i names, read into buf, which has one byte more than the program takes. A file that is longer, or
+// The file that an argument names, read into buf, which has one byte more than the program takes. A file that is longer, or
 // cannot be read to its end, counts as zero bytes.
 pub fn load(argument: usize, buf: &mut [u8]) -> &[u8] {
     let mut path = io::buffer();
@@ -88,7 +88,7 @@ pub fn load(argument: usize, buf: &mut [u8]) -> &[u8] {
     lines::read::front(&buf[..], got)
 }
 
-// What a program that writes a file says: number and row, once the file stands under the name of argument i where the number
+// What a program that writes a file says: number and row, once the file stands under the name of an argument where the number
 // is 0; or that it cannot be written.
 pub fn answered(number: u8, row: usize, file: &[u8], argument: usize) {
     if number == 0 && !save::save(argument, file) {

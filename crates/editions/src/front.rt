@@ -17,7 +17,7 @@ pub(crate) fn put(out: &mut [u8], at: usize, src: &[u8])
     copy(src, &mut out[at..end]);
 }
 
-// Writes the len bytes of f that start at `from`.
+// Writes the len bytes of a file that start at `from`.
 pub(crate) fn put_part(out: &mut [u8], at: usize, file: &[u8], from: usize, len: usize)
     requires { ⌜ (at + len ≤ length (now out)) × (from + len ≤ length (now file)) ⌝ }
     ensures { λ _. ⌜ take (at + len) (now (out .exit)) ≡ take at (now (out .entry)) ++ stretch (now (file .entry)) from len ⌝ }

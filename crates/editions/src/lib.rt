@@ -14,9 +14,9 @@ use table::row::FIRST_EDITION;
 use table::row::NEWEST;
 use table::row::count;
 use table::row::row_size;
+use table::row::row_size_of;
 use table::row::row_start;
 use table::row::station_of;
-use table::row::row_size_of;
 ghost use mathlib.Core.Path.{_≡_};
 ghost use mathlib.Core.List.{_++_};
 ghost use Prim.Native.Nat.{_≤_, _<_};
@@ -49,7 +49,7 @@ fn put_file(out: &mut [u8], edition: u16, from: usize, to: usize, file: &[u8], r
     put_part(out, row_start(to, rows), file, p, file.len() - p);
 }
 
-// Writes the file in edition e.
+// Writes the file in an edition.
 fn write(edition: u16, file: &[u8], out: &mut [u8])
     requires { ⌜ Source (now file) × Room (length (moved edition (now file))) (length (now out)) ⌝ }
     ensures { λ _. ⌜ now (out .exit) ≡ moved edition (now (file .entry)) ⌝ }
@@ -57,7 +57,7 @@ fn write(edition: u16, file: &[u8], out: &mut [u8])
     put_file(out, edition, row_size_of(file), row_size(edition), file, count(file));
 }
 
-// The length of the file in edition e.
+// The length of the file in an edition.
 fn moved_length(edition: u16, file: &[u8]) -> usize
     requires { ⌜ Source (now file) ⌝ }
     ensures { λ r. ⌜ r ≡ length (moved edition (now (file .entry))) ⌝ }
@@ -80,7 +80,7 @@ fn length_refused(moved: usize, out: usize) -> Moved
     Moved::Done
 }
 
-// 35: the first of n rows whose station is not 0.
+// 35: the first row whose station is not 0.
 fn first_station(file: &[u8], rows: usize) -> Moved
     requires { ⌜ TableIn (rowSizeOf (now file)) (now file) rows ⌝ }
     ensures { λ r. ⌜ movedAnswer r ≡ stationsFrom (now (file .entry)) rows 0 ⌝ }

@@ -1,4 +1,4 @@
-// The rows, from w bytes each to v bytes each.
+// The rows, from the bytes of a row in one edition to those in the other.
 use crate::front::put_part;
 use crate::front::put_zeros;
 use crate::front::put32;
@@ -27,7 +27,7 @@ fn offset(from: usize, to: usize, file: &[u8], rows: usize, index: usize) -> u32
     (at - old + new) as u32
 }
 
-// Writes the job number of row i, and a station of 0 where there is one.
+// Writes the job number of a row, and a station of 0 where there is one.
 fn put_job(out: &mut [u8], from: usize, to: usize, file: &[u8], rows: usize, index: usize)
     requires { ⌜ Movable from to (now file) rows × ((index < rows) × (rowStart to rows ≤ length (now out))) ⌝ }
     ensures { λ _. ⌜ take (restStart to index) (now (out .exit)) ≡ take (rowStart to index) (now (out .entry)) ++ (stretch (now (file .entry)) (rowStart from index) 4 ++ replicate (to - 32) 0) ⌝ }
@@ -38,7 +38,7 @@ fn put_job(out: &mut [u8], from: usize, to: usize, file: &[u8], rows: usize, ind
     put_zeros(out, a + 4, to - 32);
 }
 
-// Writes the rest of row i.
+// Writes the rest of a row.
 fn put_rest(out: &mut [u8], from: usize, to: usize, file: &[u8], rows: usize, index: usize)
     requires { ⌜ Movable from to (now file) rows × ((index < rows) × (rowStart to rows ≤ length (now out))) ⌝ }
     ensures { λ _. ⌜ take (restStart to index + 28) (now (out .exit)) ≡ take (restStart to index) (now (out .entry)) ++ (stretch (now (file .entry)) (restStart from index) 4 ++ (bytes 4 (carried from to rows (rowAt from (now (file .entry)) index .«ad_at»)) ++ stretch (now (file .entry)) (restStart from index + 8) 20)) ⌝ }
@@ -51,7 +51,7 @@ fn put_rest(out: &mut [u8], from: usize, to: usize, file: &[u8], rows: usize, in
     put_part(out, b + 8, file, q + 8, 20);
 }
 
-// Writes row i.
+// Writes a row.
 fn put_row(out: &mut [u8], from: usize, to: usize, file: &[u8], rows: usize, index: usize)
     requires { ⌜ Movable from to (now file) rows × ((index < rows) × (rowStart to rows ≤ length (now out))) ⌝ }
     ensures { λ _. ⌜ take (rowStart to (index + 1)) (now (out .exit)) ≡ take (rowStart to index) (now (out .entry)) ++ movedRow from to (now (file .entry)) rows index ⌝ }

@@ -10,7 +10,7 @@ pub fn file_room() -> [u8; 524289]
     [0u8; 524289]
 }
 
-// The first n bytes of buf, or all of it where it has no more.
+// The first len bytes of buf, or all of it where it has no more.
 pub fn front(buf: &[u8], len: usize) -> &[u8]
     ensures { λ r. ⌜ (now r ≡ take len (now (buf .entry))) × (r .ptr ≡ buf .entry .ptr) ⌝ }
 {
@@ -20,7 +20,7 @@ pub fn front(buf: &[u8], len: usize) -> &[u8]
     &buf[0..len]
 }
 
-// Reads n bytes of the input into buf and answers them; fewer where buf has no room or the input ends.
+// Reads len bytes of the input into buf and answers them; fewer where buf has no room or the input ends.
 pub fn field(buf: &mut [u8], len: usize) -> &[u8] {
     let mut got: usize = 0;
     if len <= buf.len() {

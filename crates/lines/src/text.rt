@@ -103,7 +103,7 @@ pub fn answer(out: &mut [u8], at: usize, answer: u8, row: usize) -> usize {
     and_number(out, to, row as u64)
 }
 
-// Writes the first n bytes of a text to the standard output.
+// Writes the first bytes of a text to the standard output.
 pub fn write(text: &[u8], len: usize) -> bool {
     io::write_all(STDOUT_FILENO, crate::read::front(text, len))
 }

@@ -16,7 +16,7 @@ pub record Texts (suite : ℕ) (key nonce ad text : List ℕ) : Type 0 where
   pub ad-bytes : AllBytes ad
   pub text-bytes : AllBytes text
 
--- the same within the limits of numbers 4 and 5
+-- the same within the limits of numbers 4 and 5: 65,536 bytes each
 pub record Input (suite : ℕ) (key nonce ad text : List ℕ) : Type 0 where
   pub texts : Texts suite key nonce ad text
   pub ad-most : length ad ≤ limit

@@ -22,7 +22,7 @@ use Rattle.promises.specs.Tables.{Line, _when_, None, Lines, Table}
 abbrev pub tagSize : ℕ → ℕ
 tagSize suite = factsOf suite .tag
 
--- `tag` is the sealer's tag buffer, and the tag that the opener was given
+-- `tag` is the sealer's tag buffer, and the tag that the opener was given; `limit` is 65,536
 abbrev pub numbers : Bool → ℕ → List ℕ → List ℕ → List ℕ → List ℕ → List ℕ → List ℕ → List Line
 numbers opens suite key nonce ad text out tag =
     (1 when (suite < 1) ⊎ (6 < suite))

@@ -8,8 +8,8 @@ use table::row::NEWEST;
 use table::row::Row;
 use table::row::count;
 use table::row::nonce_start;
-use table::row::station_of;
 use table::row::row_size_of;
+use table::row::station_of;
 ghost use mathlib.Core.Path.{_≡_};
 ghost use Rattle.table.specs.Format.{rowSizeOf};
 ghost use Rattle.table.specs.Inside.{RowIn};
@@ -71,7 +71,7 @@ fn laid(file: &[u8]) -> usize
     count(file)
 }
 
-// Row i.
+// A row, as it is listed.
 fn listed_at(file: &[u8], index: usize) -> Listed
     requires { ⌜ RowIn (rowSizeOf (now file)) (now file) index ⌝ }
     ensures { λ r. ⌜ r ≡ listedOf (now (file .entry)) index ⌝ }

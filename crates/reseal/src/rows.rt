@@ -20,7 +20,7 @@ ghost use Rattle.reseal.specs.Files.{againPiece};
 ghost use Rattle.reseal.specs.Answers.{wrongAgain, wrongAgainFrom};
 ghost use Rattle.reseal.specs.Inside.{Resealable};
 
-// Opens row i into its own place in the output, and seals it there; false where the tag is wrong. The message stands nowhere else.
+// Opens a row into its own place in the output, and seals it there; false where the tag is wrong. The message stands nowhere else.
 fn reseal_entry(file: &[u8], ring: &[u8], index: usize, row: Row, out: &mut [u8]) -> bool
     requires { ⌜ Resealable (now file) index row (now ring) (now out) ⌝ }
     ensures right { λ r. ⌜ r ≡ tagRight (now (file .entry)) (now (ring .entry)) index ⌝ }
@@ -39,7 +39,7 @@ fn reseal_entry(file: &[u8], ring: &[u8], index: usize, row: Row, out: &mut [u8]
     true
 }
 
-// Row i: only a suite 4 entry is opened, any other stays as it was copied; false where a tag is wrong.
+// A row: only a suite 4 entry is opened, any other stays as it was copied; false where a tag is wrong.
 fn reseal_row(file: &[u8], ring: &[u8], index: usize, out: &mut [u8]) -> bool
     requires { ⌜ RowWritable (now file) index (now ring) (now out) ⌝ }
     ensures right { λ r. ⌜ not r ≡ wrongAgain (now (file .entry)) (now (ring .entry)) index ⌝ }
@@ -52,7 +52,7 @@ fn reseal_row(file: &[u8], ring: &[u8], index: usize, out: &mut [u8]) -> bool
     reseal_entry(file, ring, index, row, out)
 }
 
-// The n rows; the first whose tag is wrong leaves zeros all over.
+// The rows; the first whose tag is wrong leaves zeros all over.
 pub(crate) fn reseal_rows(file: &[u8], rows: usize, ring: &[u8], out: &mut [u8]) -> Written
     requires { ⌜ Writable (now file) rows (now ring) (now out) ⌝ }
     ensures { λ r. ⌜ _≡_ {A = FileWritten} (record { answer = writtenAnswer r; out = now (out .exit) })

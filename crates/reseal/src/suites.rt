@@ -4,8 +4,8 @@ use table::answers::Fault;
 use table::answers::Refusal;
 use table::row::Row;
 use table::row::nonce_at;
-use table::row::set_suite;
 use table::row::row_size_of;
+use table::row::set_suite;
 use words::block::Block;
 use words::block::filled;
 use words::block::same;
@@ -34,7 +34,7 @@ fn new_suite(suite: u8) -> u8
     if suite == RETIRED { SUCCESSOR } else { suite }
 }
 
-// The new suites of the file's n rows, into the table of `out`.
+// The new suites of the file's rows, into the table of `out`.
 pub(crate) fn put_suites(file: &[u8], rows: usize, out: &mut [u8])
     requires { ⌜ TableIn (rowSizeOf (now file)) (now file) rows × TableIn (rowSizeOf (now file)) (now out) rows ⌝ }
     ensures { λ _. ⌜ now (out .exit) ≡ resuited (now (file .entry)) rows (now (out .entry)) ⌝ }
@@ -57,7 +57,7 @@ fn same_key(a: Row, b: Row) -> bool
     a.key == b.key
 }
 
-// The nonce of row i as a block.
+// The nonce of a row as a block.
 fn nonce_of(file: &[u8], index: usize) -> Block
     requires { ⌜ RowIn (rowSizeOf (now file)) (now file) index ⌝ }
     ensures { λ r. ⌜ wide r ≡ nonceAt (rowSizeOf (now (file .entry))) (now (file .entry)) index ⌝ }
@@ -65,7 +65,7 @@ fn nonce_of(file: &[u8], index: usize) -> Block
     filled(nonce_at(row_size_of(file), file, index))
 }
 
-// Rows i and j clash in the table as it would be. Zeros stand where a suite does not read (34), so all sixteen bytes tell what it reads.
+// Two rows clash in the table as it would be. Zeros stand where a suite does not read (34), so all sixteen bytes tell what it reads.
 fn clashes(file: &[u8], rows: usize, index: usize, other: usize) -> bool
     requires { ⌜ Passing (now file) rows × ((index < rows) × (other < rows)) ⌝ }
     ensures { λ r. ⌜ r ≡ clash (rowSizeOf (retabled (now (file .entry)))) (retabled (now (file .entry))) index other ⌝ }
@@ -76,7 +76,7 @@ fn clashes(file: &[u8], rows: usize, index: usize, other: usize) -> bool
     false
 }
 
-// Row i clashes with an earlier one in the table as it would be.
+// A row clashes with an earlier one in the table as it would be.
 fn nonce_seen(file: &[u8], rows: usize, index: usize) -> bool
     requires { ⌜ Passing (now file) rows × (index < rows) ⌝ }
     ensures { λ r. ⌜ r ≡ nonceSeen (rowSizeOf (retabled (now (file .entry)))) (retabled (now (file .entry))) index ⌝ }

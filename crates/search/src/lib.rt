@@ -19,7 +19,7 @@ pub struct Searched {
     pub looked: usize,
 }
 
-// Halves n rows until one has the job or none is left.
+// Halves the rows until one has the job or none is left.
 fn halve(size: usize, file: &[u8], rows: usize, job: u32) -> Searched
     requires { ⌜ TableIn size (now file) rows ⌝ }
     ensures { λ r. ⌜ (foundAnswer (r .found) ≡ halving (jobsOf size (now (file .entry))) job 0 rows .says) × (r .looked ≡ length (halving (jobsOf size (now (file .entry))) job 0 rows .rows)) ⌝ }

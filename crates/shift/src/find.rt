@@ -6,7 +6,7 @@ ghost use Rattle.table.specs.Inside.{TableIn};
 ghost use Rattle.shift.specs.Answers.{foundAnswer};
 ghost use Rattle.shift.specs.Lookup.{findFrom};
 
-// The row of n that has the job.
+// The row that has the job.
 pub(crate) fn find_job(size: usize, file: &[u8], rows: usize, job: u32) -> Found
     requires { ⌜ TableIn size (now file) rows ⌝ }
     ensures { λ r. ⌜ foundAnswer r ≡ findFrom size (now (file .entry)) rows job 0 ⌝ }

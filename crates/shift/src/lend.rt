@@ -6,8 +6,8 @@ use table::body::text_of;
 use table::row::Row;
 use table::row::nonce_at;
 use table::row::row_at;
-use table::row::stretch;
 use table::row::row_size_of;
+use table::row::stretch;
 ghost use mathlib.Core.Path.{_≡_};
 ghost use Prim.Native.Nat.{_+_, _*_, _≤_};
 ghost use lib.ListN.{length, take};
@@ -18,7 +18,7 @@ ghost use Rattle.table.specs.Inside.{RowIn};
 ghost use Rattle.shift.specs.Opening.{ringKey, entrySealingAs, entryOpening, entryVerifying};
 ghost use Rattle.shift.specs.Inside.{Lendable};
 
-// Row i of a shift file.
+// A row of a shift file, by its index.
 pub fn row_of(file: &[u8], index: usize) -> Row
     requires { ⌜ RowIn (rowSizeOf (now file)) (now file) index ⌝ }
     ensures { λ r. ⌜ r ≡ rowOf (now (file .entry)) index ⌝ }
@@ -35,7 +35,7 @@ fn ring_key(ring: &[u8], k: u8) -> &[u8]
     stretch(ring, 16 * k, 16)
 }
 
-// The nonce bytes of row i that its suite reads.
+// The nonce bytes of a row that its suite reads.
 fn nonce_read(file: &[u8], index: usize, suite: u8) -> &[u8]
     requires { ⌜ RowIn (rowSizeOf (now file)) (now file) index ⌝ }
     ensures { λ r. ⌜ now r ≡ take (nonceOf suite) (nonceAt (rowSizeOf (now (file .entry))) (now (file .entry)) index) ⌝ }
@@ -44,7 +44,7 @@ fn nonce_read(file: &[u8], index: usize, suite: u8) -> &[u8]
     stretch(nonce, 0, cipher::nonce_size(suite))
 }
 
-// Lends row i to the sealer, under a suite and with a text that the caller names: it is sealed in its place.
+// Lends a row to the sealer, under a suite and with a text that the caller names: it is sealed in its place.
 pub fn seal_as(
     file: &[u8],
     ring: &[u8],
@@ -63,7 +63,7 @@ pub fn seal_as(
     comet::seal_in_place(suite, key, nonce, data_of(file, row), text, tag)
 }
 
-// Lends row i to the opener.
+// Lends a row to the opener.
 pub fn open_row(file: &[u8], ring: &[u8], index: usize, row: Row, out: &mut [u8]) -> Verdict
     requires { ⌜ Lendable (now file) (now ring) index row ⌝ }
     ensures { λ r. ⌜ _≡_ {A = Opened} (record { number = numberOf r; out = now (out .exit) }) (entryOpening (now (file .entry)) (now (ring .entry)) index (now (out .entry))) ⌝ }
@@ -81,7 +81,7 @@ pub fn open_row(file: &[u8], ring: &[u8], index: usize, row: Row, out: &mut [u8]
     )
 }
 
-// Lends row i to the record's test: no text is written.
+// Lends a row to the record's test: no text is written.
 pub fn verify_row(file: &[u8], ring: &[u8], index: usize, row: Row) -> Verdict
     requires { ⌜ Lendable (now file) (now ring) index row ⌝ }
     ensures { λ r. ⌜ numberOf r ≡ entryVerifying (now (file .entry)) (now (ring .entry)) index ⌝ }

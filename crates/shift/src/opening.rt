@@ -10,7 +10,7 @@ ghost use Rattle.table.specs.Inside.{EntryIn};
 ghost use Rattle.shift.specs.Answers.{foundAnswer, openedAnswer};
 ghost use Rattle.shift.specs.Opening.{JobOpened, rowOpening};
 
-// Opens row i: 2, 6, 8.
+// Opens a row: 2, 6, 8.
 pub(crate) fn open_entry(file: &[u8], ring: &[u8], index: usize, out: &mut [u8]) -> JobAnswer
     requires { ⌜ EntryIn (rowSizeOf (now file)) (now file) index ⌝ }
     ensures { λ r. ⌜ _≡_ {A = JobOpened} (record { answer = openedAnswer r; out = now (out .exit) }) (rowOpening (now (file .entry)) (now (ring .entry)) index (now (out .entry))) ⌝ }

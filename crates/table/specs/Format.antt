@@ -1,9 +1,9 @@
 -- The shift file's format (document 01, "The shift file"; document 02, W10: edition 2): header, table of contents, bodies. Numbers are little-endian.
 use Prim.Native.Nat.{ℕ, _+_, _-_, _*_}
 use mathlib.Core.Bool.{Bool, _||_, cond}
-use mathlib.Core.List.{List, _++_}
+use mathlib.Core.List.{List}
 use lib.Dec.{eqb}
-use lib.ListN.{length, getD, take, replicate}
+use lib.ListN.{getD, take}
 use Rattle.words.specs.Bytes.{word}
 use Rattle.cipher.specs.Cipher.{sizeOf, nonceOf}
 use Rattle.table.specs.declared.row.Row.{Row}

@@ -17,8 +17,8 @@ use row::count;
 use row::get16;
 use row::get32;
 use row::row_size;
-use row::row_start;
 use row::row_size_of;
+use row::row_start;
 use rules::body_start;
 use rules::check_row;
 use rules::outside;
@@ -54,7 +54,7 @@ pub fn check_head(low: u16, high: u16, file: &[u8]) -> Checked
     Checked::Passed
 }
 
-// The n rows, each with 25 to 30 and 34, and then 31. It carries where the next body has to start, and the marks of the rows so far.
+// The rows, each with 25 to 30 and 34, and then 31. It carries where the next body has to start, and the marks of the rows so far.
 fn check_rows(size: usize, file: &[u8], rows: usize) -> Checked
     requires { ⌜ TableIn size (now file) rows ⌝ }
     ensures { λ r. ⌜ checkedAnswer r ≡ rowsFrom size (now (file .entry)) rows 0 ⌝ }
@@ -92,7 +92,7 @@ pub fn check_between(low: u16, high: u16, file: &[u8]) -> Checked
     check_rows(row_size_of(file), file, count(file))
 }
 
-// The full check of a file of edition e.
+// The full check of a file of an edition.
 pub fn check_as(edition: u16, file: &[u8]) -> Checked
     ensures { λ r. ⌜ checkedAnswer r ≡ checkAs edition (now (file .entry)) ⌝ }
 {

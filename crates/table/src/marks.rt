@@ -21,7 +21,7 @@ fn mix(suite: u8, key: u8, x: u64) -> u64
     (x % 0x1_0000_0000) * 0x71E5_4147 + (x >> 32) * 0x7764_E943 + k * 0x4045_02D3
 }
 
-// What row i is marked by.
+// What a row is marked by.
 pub(crate) fn mark(size: usize, file: &[u8], index: usize) -> u64
     requires { ⌜ RowIn size (now file) index ⌝ }
     ensures { λ r. ⌜ r ≡ markOf size (now (file .entry)) index ⌝ }

@@ -1,4 +1,4 @@
-// The table of contents: numbers, rows and nonces as they lie in the file. Rows are w bytes long.
+// The table of contents: numbers, rows and nonces as they lie in the file. A row's size is its bytes in the file's edition.
 use words::block::Block;
 ghost use mathlib.Core.Path.{_≡_};
 ghost use Prim.Native.Nat.{_+_, _≤_, _<_};
@@ -49,7 +49,7 @@ pub const FIRST_EDITION: u16 = 1;
 
 pub const NEWEST: u16 = 2;
 
-// The bytes of a row, in edition e.
+// The bytes of a row, in an edition.
 pub fn row_size(edition: u16) -> usize
     ensures { λ r. ⌜ r ≡ rowSize edition ⌝ }
 {
@@ -64,7 +64,7 @@ pub fn row_size_of(file: &[u8]) -> usize
     row_size(get16(file, 0))
 }
 
-// Where row i starts; of n rows, where the bodies do: row_start(w, n).
+// Where a row starts, by its index; where the index is their number, where the bodies do.
 pub fn row_start(size: usize, index: usize) -> usize
     requires { ⌜ rowStart size index < 0x1_0000_0000_0000_0000 ⌝ }
     ensures { λ r. ⌜ r ≡ rowStart size index ⌝ }
@@ -72,7 +72,7 @@ pub fn row_start(size: usize, index: usize) -> usize
     8 + size * index
 }
 
-// Where the rest of row i starts, after job number and station.
+// Where the rest of a row starts, after job number and station.
 pub fn rest_start(size: usize, index: usize) -> usize
     requires { ⌜ (28 ≤ size) × (rowStart size index + size < 0x1_0000_0000_0000_0000) ⌝ }
     ensures { λ r. ⌜ (r ≡ restStart size index) × (r + 28 ≡ rowStart size index + size) ⌝ }
@@ -80,7 +80,7 @@ pub fn rest_start(size: usize, index: usize) -> usize
     row_start(size, index) + (size - 28)
 }
 
-// Where the nonce of row i starts: in its last sixteen bytes.
+// Where the nonce of a row starts: in its last sixteen bytes.
 pub fn nonce_start(size: usize, index: usize) -> usize
     requires { ⌜ (28 ≤ size) × (rowStart size index + size < 0x1_0000_0000_0000_0000) ⌝ }
     ensures { λ r. ⌜ (r ≡ nonceStart size index) × (r + 16 ≡ rowStart size index + size) ⌝ }
@@ -88,7 +88,7 @@ pub fn nonce_start(size: usize, index: usize) -> usize
     rest_start(size, index) + 12
 }
 
-// Row i of the table.
+// A row of the table.
 pub fn row_at(size: usize, file: &[u8], index: usize) -> Row
     requires { ⌜ RowIn size (now file) index ⌝ }
     ensures { λ r. ⌜ r ≡ rowAt size (now (file .entry)) index ⌝ }
@@ -105,7 +105,7 @@ pub fn row_at(size: usize, file: &[u8], index: usize) -> Row
     }
 }
 
-// The station of row i of a shift file; 0 where its edition has none.
+// The station of a row of a shift file; 0 where its edition has none.
 pub fn station_of(file: &[u8], index: usize) -> u32
     requires { ⌜ RowIn (rowSizeOf (now file)) (now file) index ⌝ }
     ensures { λ r. ⌜ r ≡ stationOf (now (file .entry)) index ⌝ }
@@ -117,7 +117,7 @@ pub fn station_of(file: &[u8], index: usize) -> u32
     get32(file, row_start(size, index) + 4)
 }
 
-// Another suite for row i.
+// Another suite for a row.
 pub fn set_suite(size: usize, file: &mut [u8], index: usize, suite: u8)
     requires { ⌜ RowIn size (now file) index ⌝ }
     ensures { λ _. ⌜ now (file .exit) ≡ set (now (file .entry)) (restStart size index) suite ⌝ }
@@ -133,7 +133,7 @@ pub fn stretch(file: &[u8], at: usize, len: usize) -> &[u8]
     &file[at..at + len]
 }
 
-// The nonce of row i, as a part of the file.
+// The nonce of a row, as a part of the file.
 pub fn nonce_at(size: usize, file: &[u8], index: usize) -> &[u8]
     requires { ⌜ RowIn size (now file) index ⌝ }
     ensures { λ r. ⌜ PartOf (file .entry) r (nonceStart size index) 16 × (length (now r) ≡ 16) ⌝ }
@@ -141,7 +141,7 @@ pub fn nonce_at(size: usize, file: &[u8], index: usize) -> &[u8]
     stretch(file, nonce_start(size, index), 16)
 }
 
-// The nonce of row i as a block.
+// The nonce of a row as a block.
 pub(crate) fn nonce_block(size: usize, file: &[u8], index: usize) -> Block
     requires { ⌜ RowIn size (now file) index ⌝ }
     ensures { λ r. ⌜ wide r ≡ nonceAt size (now (file .entry)) index ⌝ }
@@ -149,7 +149,7 @@ pub(crate) fn nonce_block(size: usize, file: &[u8], index: usize) -> Block
     words::block::filled(nonce_at(size, file, index))
 }
 
-// The nonce bytes of row i that its suite reads as a block, zeros behind them.
+// The nonce bytes of a row that its suite reads as a block, zeros behind them.
 pub(crate) fn read_block(size: usize, file: &[u8], index: usize, suite: u8) -> Block
     requires { ⌜ RowIn size (now file) index ⌝ }
     ensures { λ r. ⌜ wide r ≡ filled (take (nonceOf suite) (nonceAt size (now (file .entry)) index)) ⌝ }

@@ -1,4 +1,5 @@
 // The rules of one row: numbers 25 to 30, and 34.
+use cipher::LIMIT;
 use crate::answers::Fault;
 use crate::answers::RowCheck;
 use crate::row::Row;
@@ -8,7 +9,6 @@ use crate::row::nonce_block;
 use crate::row::read_block;
 use crate::row::row_at;
 use crate::row::row_start;
-use cipher::LIMIT;
 ghost use mathlib.Core.Path.{_≡_};
 ghost use mathlib.Core.Bool.{false, _&&_};
 ghost use lib.Dec.{eqb};
@@ -64,7 +64,7 @@ fn bad_length(row: Row) -> bool
     LIMIT < len
 }
 
-// Where the body of row i of n has to start; at i = n, where the last body ends.
+// Where the body of a row has to start; where the index is the number of rows, where the last body ends.
 pub(crate) fn body_start(size: usize, file: &[u8], rows: usize, index: usize) -> usize
     requires { ⌜ TableIn size (now file) rows × (index ≤ rows) ⌝ }
     ensures { λ r. ⌜ r ≡ bodyStart size (now (file .entry)) rows index ⌝ }
@@ -106,7 +106,7 @@ fn same_key(a: Row, b: Row) -> bool
     a.key == b.key
 }
 
-// Rows i and j clash. Zeros stand where a suite does not read (34), so all sixteen bytes tell what it reads.
+// Two rows clash. Zeros stand where a suite does not read (34), so all sixteen bytes tell what it reads.
 fn clashes(size: usize, file: &[u8], rows: usize, index: usize, other: usize) -> bool
     requires { ⌜ TableIn size (now file) rows × ((index < rows) × ((other < rows) × ((unreadSet size (now file) index ≡ false) × (unreadSet size (now file) other ≡ false)))) ⌝ }
     ensures { λ r. ⌜ r ≡ clash size (now (file .entry)) index other ⌝ }
@@ -160,7 +160,7 @@ fn bad_data(file: &[u8], row: Row) -> bool
     unit != 2
 }
 
-// 28, 34, 29 and 30, of row i of n.
+// 28, 34, 29 and 30, of a row.
 fn check_body(
     size: usize,
     file: &[u8],
@@ -188,7 +188,7 @@ fn check_body(
     RowCheck::Sound
 }
 
-// 25 to 28, 34, 29 and 30, of row i of n.
+// 25 to 28, 34, 29 and 30, of a row.
 pub(crate) fn check_row(
     size: usize,
     file: &[u8],

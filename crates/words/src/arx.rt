@@ -18,7 +18,7 @@ pub fn le32(byte0: u8, byte1: u8, byte2: u8, byte3: u8) -> u32
     byte0 as u32 + ((byte1 as u32) << 8) + ((byte2 as u32) << 16) + ((byte3 as u32) << 24)
 }
 
-// x in the low half, y in the high half.
+// One number in the low half, the other in the high half.
 fn join16(low: u16, high: u16) -> u32
     ensures { λ r. ⌜ r ≡ low + 256 ^ 2 * high ⌝ }
 {

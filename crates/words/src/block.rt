@@ -114,7 +114,7 @@ pub fn whole(block: &[u8]) -> Block
     Block { a: lo, b: 0 }
 }
 
-// Writes the first 16 or 8 bytes of x, by whole words.
+// Writes the first 16 or 8 bytes of a block, by whole words.
 pub fn put_whole(block: Block, out: &mut [u8])
     requires { ⌜ (length (now out) ≡ 16) ⊎ (length (now out) ≡ 8) ⌝ }
     ensures { λ _. ⌜ now (out .exit) ≡ take (length (now (out .entry))) (wide block) ⌝ }
@@ -191,7 +191,7 @@ pub fn filled(front: &[u8]) -> Block
     block_of(filled_bytes(front))
 }
 
-// Writes the first bytes of t, one by one.
+// Writes the first bytes of sixteen, one by one.
 fn put_bytes(sixteen: [u8; 16], out: &mut [u8])
     requires { ⌜ length (now out) ≤ 16 ⌝ }
     ensures { λ _. ⌜ now (out .exit) ≡ take (length (now (out .entry))) sixteen ⌝ }
@@ -203,7 +203,7 @@ fn put_bytes(sixteen: [u8; 16], out: &mut [u8])
     }
 }
 
-// Writes the first bytes of x.
+// Writes the first bytes of a block.
 pub fn put(block: Block, out: &mut [u8])
     requires { ⌜ length (now out) ≤ 16 ⌝ }
     ensures { λ _. ⌜ now (out .exit) ≡ take (length (now (out .entry))) (wide block) ⌝ }
