@@ -10,14 +10,14 @@ use borrow.Author.Tests.{eqb-true, eqb-false, eq-eqb, ne-eqb, not-true, not-fals
 use Rattle.table.specs.declared.answers.Answer.{Answer}
 use Rattle.table.specs.Format.{firstEdition, newest}
 use Rattle.table.specs.Answers.{answer}
-use Rattle.table.specs.Check.{checkFile}
+use Rattle.table.specs.Check.{checkFile, refused}
 use Rattle.table.proofs.Numbered.{check-numbered}
 use Rattle.shift.specs.declared.answers.Entry.{Entry}
 use Rattle.shift.specs.Lookup.{lookupJob}
 use Rattle.shift.specs.Entry.{dataStart, dataLength, textStart, textLength, entryOf}
 use Rattle.shift.proofs.Finding.{finds}
 use Rattle.amend.specs.declared.Amended.{Amended}
-use Rattle.amend.specs.Amending.{noEntry, inFile, refused, amendedEntry}
+use Rattle.amend.specs.Amending.{noEntry, inFile, amendedEntry}
 use Rattle.amend.specs.Inside.{refusing, Tells}
 
 -- a number is 0 or not

@@ -87,6 +87,15 @@ sizeOf s = factsOf s .block
 unfoldable pub nonceOf : ℕ → ℕ
 nonceOf s = factsOf s .nonce
 
+-- numbers 1, 10, 2 and 3 of every call under a key (10 where the call does not take the suite), from the suite and the lengths of key and nonce: the first that applies, and where none does the call's own
+abbrev pub underKey : Bool → ℕ → ℕ → ℕ → ℕ → ℕ
+underKey taken suite key nonce own =
+    cond (not (isSuite suite)) 1
+    (cond (not taken) 10
+    (cond (not (eqb key 16)) 2
+    (cond (not (eqb nonce (nonceOf suite))) 3
+    own)))
+
 unfoldable pub engineOf : ℕ → List ℕ → List ℕ → List ℕ
 engineOf s = factsOf s .E
 

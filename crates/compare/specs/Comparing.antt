@@ -10,7 +10,7 @@ use Rattle.table.specs.declared.answers.Answer.{Answer}
 use Rattle.table.specs.Search.{anyBelow}
 use Rattle.table.specs.Format.{countOf, rowSizeOf, rowOf, stationOf, nonceAt}
 use Rattle.table.specs.Answers.{answer, refusalAnswer}
-use Rattle.table.specs.Check.{checkFile}
+use Rattle.table.specs.Check.{checkFile, refused}
 use Rattle.table.specs.Laid.{bodyAt}
 use Rattle.compare.specs.declared.Finding.{Finding}
 use Rattle.compare.specs.declared.Compared.{Compared}
@@ -98,9 +98,6 @@ pub record Comparison : Type 0 where
 -- a refusal leaves the lists unchanged
 abbrev pub stopped : Finding → List ℕ → List ℕ → List ℕ → Comparison
 stopped t x y z = record { finding = t; first = x; second = y; differ = z }
-
-abbrev pub refused : List ℕ → Bool
-refused f = not (eqb (checkFile f .number) 0)
 
 -- a list is longer than its buffer
 abbrev pub tooLong : List ℕ → List ℕ → List ℕ → List ℕ → List ℕ → Bool

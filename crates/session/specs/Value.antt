@@ -5,7 +5,7 @@ use mathlib.Core.List.{List, [], _∷_, _++_}
 use lib.ListN.{length, take, drop, replicate}
 use lib.Dec.{leb, ltb, eqb}
 use Rattle.words.specs.Blocks.{filled}
-use Rattle.cipher.specs.Cipher.{Cipher, isSuite, IsSuite, seals, cipherOf, sizeOf, nonceOf, limit}
+use Rattle.cipher.specs.Cipher.{Cipher, IsSuite, seals, cipherOf, sizeOf, limit, underKey}
 use Rattle.mode.specs.Blocks.{blocks}
 use Rattle.mode.specs.Walk.{States, whole, rest, walked, covered, tagged, origin}
 
@@ -105,12 +105,7 @@ written new out = new ++ drop (length new) out
 -- ---- start
 
 unfoldable pub startNumber : ℕ → ℕ → ℕ → ℕ
-startNumber suite key nonce =
-    cond (not (isSuite suite)) 1
-    (cond (not (seals suite)) 10
-    (cond (not (eqb key 16)) 2
-    (cond (not (eqb nonce (nonceOf suite))) 3
-    0)))
+startNumber suite key nonce = underKey (seals suite) suite key nonce 0
 
 abbrev pub fresh : ℕ → List ℕ → List ℕ → Value
 fresh suite key nonce = valueOf suite (origin (cipherOf suite) key nonce) (replicate 16 0) 0 0

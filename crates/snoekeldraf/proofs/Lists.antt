@@ -7,9 +7,9 @@ use lib.Dec.{lit≤}
 use borrow.Author.Tests.{eqb-true, not-false}
 use Rattle.table.specs.Format.{firstEdition, newest}
 use Rattle.table.specs.Answers.{answer}
-use Rattle.table.specs.Check.{checkFile}
+use Rattle.table.specs.Check.{checkFile, refused}
 use Rattle.compare.specs.declared.Finding.{Finding}
-use Rattle.compare.specs.Comparing.{refusedIn, Comparison, stopped, refused, tooLong, listed, comparison}
+use Rattle.compare.specs.Comparing.{refusedIn, Comparison, stopped, tooLong, listed, comparison}
 use Rattle.compare.proofs.Passing.{only-few, differ-few}
 use Rattle.snoekeldraf.proofs.Rows.{check-row}
 

@@ -106,3 +106,7 @@ checkAs e f = checkBetween e e f
 -- the full check of a shift file, whichever its edition
 abbrev pub checkFile : List ℕ → Answer
 checkFile f = checkBetween firstEdition newest f
+
+-- it gives a number but 0
+abbrev pub refused : List ℕ → Bool
+refused f = not (eqb (checkFile f .number) 0)
