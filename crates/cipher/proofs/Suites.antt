@@ -1,32 +1,21 @@
 -- The facts of a suite: what every line of the table has, and the line that a test leads to.
 use mathlib.Core.Path.{_≡_, refl, sym, ap, _∙_, subst}
-use mathlib.Core.Bool.{Bool, true, false, cond, _||_, not}
+use mathlib.Core.Bool.{Bool, true, false, cond, not, true≢false, false≢true}
 use mathlib.Core.List.{List, []}
 use mathlib.Core.Logic.{_⊎_, inl, inr}
 use Prim.Native.Nat.{ℕ, _≤_, _<_}
 use native.Mathlib.Omega.{arith}
 use native.Mathlib.Decide.{decLe}
-use lib.Dec.{T, leb, eqb}
+use lib.Dec.{leb, eqb}
 use borrow.Author.Tests.{leb-true, leb-false, le-leb, lt-leb, eqb-true, eqb-false, not-false}
+use Rattle.words.proofs.Tests.{both-true, either-true, both-false}
 use Rattle.fips197.specs.Cipher.{cipher}
 use Rattle.cham.specs.Cham.{cham}
 use Rattle.speck.specs.Speck.{speck}
 use Rattle.cipher.specs.Cipher.{Version, one, two, isTwo, Facts, facts, factsOf, sizeOf, nonceOf, engineOf, versionOf, lends, Ready, isSuite, IsSuite, retired, seals, Seals}
-use Rattle.words.proofs.Same.{and-true}
 
 abbrev pub Engine : Type 0
 Engine = List ℕ → List ℕ → List ℕ
-
-true-not-false : true ≡ false → ⊥
-true-not-false e = subst T e tt
-
-or-true : (a b : Bool) → (a || b) ≡ true → (a ≡ true) ⊎ (b ≡ true)
-or-true true b e = inl refl
-or-true false b e = inr e
-
-or-false : (a b : Bool) → (a || b) ≡ false → (a ≡ false) × (b ≡ false)
-or-false true b e = absurd (true-not-false e)
-or-false false b e = (refl, e)
 
 -- ---- what each line has, every suite has
 
@@ -61,7 +50,7 @@ shaped =
 
 pub seals-has : (s : ℕ) → Seals s → IsSuite s
 unfolding seals
-seals-has s h = and-true (isSuite s) (not (retired s)) h .0
+seals-has s h = both-true (isSuite s) (not (retired s)) h .0
 
 -- of the suites that we have, the fourth alone does not seal
 pub only-four : (s : ℕ) → IsSuite s → seals s ≡ false → s ≡ 4
@@ -211,16 +200,16 @@ version-two s h =
 -- the version, from what its test gave
 pub is-one : (v : Version) → isTwo v ≡ false → v ≡ one
 is-one one e = refl
-is-one two e = absurd (true-not-false e)
+is-one two e = absurd (true≢false e)
 
 pub is-two : (v : Version) → isTwo v ≡ true → v ≡ two
-is-two one e = absurd (true-not-false (sym e))
+is-two one e = absurd (false≢true e)
 is-two two e = refl
 
 -- engines
 pub engine-1 : (s : ℕ) → lends s ≡ true → engineOf s ≡ cipher
 unfolding lends engineOf
-engine-1 s h = one-or-five (or-true (leb s 1) (eqb s 5) h)
+engine-1 s h = one-or-five (either-true (leb s 1) (eqb s 5) h)
   where
     one-or-five : (leb s 1 ≡ true) ⊎ (eqb s 5 ≡ true) → factsOf s .E ≡ cipher
     one-or-five (inl a) = ap (λ (f : Facts). f .E) (line-1 s (leb-true s 1 a))
@@ -229,7 +218,7 @@ engine-1 s h = one-or-five (or-true (leb s 1) (eqb s 5) h)
 pub engine-2 : (s : ℕ) → lends s ≡ false → sizeOf s ≡ 16 → engineOf s ≡ cham 32
 unfolding lends engineOf
 engine-2 s g e =
-    let n = or-false (leb s 1) (eqb s 5) g in
+    let n = both-false (leb s 1) (eqb s 5) g in
     elim (decLe s 2) [
       | yes h ↦ ap (λ (f : Facts). f .E) (line-2 s (leb-false s 1 (n .0)) h)
       | no h ↦ absurd (omega (arith, size-8 s (omega arith) (eqb-false s 5 (n .1))))
@@ -257,4 +246,4 @@ engine-4 s e = ap (λ (f : Facts). f .E) (line-4 s e)
 
 -- where a suite's engine is lent nothing, nothing is ready for it
 pub none-ready : (s : ℕ) → lends s ≡ false → Ready s []
-none-ready s h = record { full = λ e. absurd (true-not-false (sym e ∙ h)) }
+none-ready s h = record { full = λ e. absurd (true≢false (sym e ∙ h)) }

@@ -12,10 +12,10 @@ use Rattle.table.specs.Format.{countOf, firstEdition, newest, rowSize, rowOf, b
 use Rattle.table.specs.Check.{checkFile}
 use Rattle.table.proofs.Rows.{stretch-length, station-none}
 use Rattle.table.proofs.Passed.{passes, entry-in}
-use Rattle.table.proofs.Searches.{any-hit}
+use Rattle.table.proofs.Searches.{any-hit, any-only}
 use Rattle.compare.specs.Comparing.{bodyOf, sameEntry, jobAt, has, hasJob, differs, onlyIn, differing}
 use Rattle.compare.specs.Promised.{Same, Different, ExactlyListed, ListsRise, EqualRows, WithItself, FilesExchanged, OtherLength, OtherStation, NoStation}
-use Rattle.compare.proofs.Keeping.{any-only, kept-none}
+use Rattle.compare.proofs.Keeping.{kept-none}
 use Rattle.compare.proofs.Turns.{jobs-rise, others}
 use Rattle.compare.proofs.Members.{same-tells, only-has, only-gets, differ-has, differ-gets}
 use Rattle.compare.proofs.Rising.{Climbs, kept-climbs, climbs-rise, climbs-same}

@@ -10,11 +10,12 @@ use mathlib.Core.Logic.{⊎-elim}
 use borrow.Author.Tests.{eq-eqb, ne-eqb}
 use Rattle.table.specs.Format.{countOf, firstEdition, newest, rowSizeOf}
 use Rattle.table.specs.Check.{checkFile}
+use Rattle.table.proofs.Searches.{any-none, any-only}
 use Rattle.table.proofs.Passed.{passes}
 use Rattle.table.proofs.Rising.{rising}
 use Rattle.compare.specs.Comparing.{sameEntry, jobAt, has, hasJob, differs}
 use Rattle.compare.specs.Inside.{At, firstTurn, secondTurn, Turned, onlyFrom, differFrom}
-use Rattle.compare.proofs.Keeping.{any-none, any-only, kept-step}
+use Rattle.compare.proofs.Keeping.{kept-step}
 
 -- 25 says that the jobs rise
 pub jobs-rise : (f : List ℕ) → checkFile f .number ≡ 0 → (i k : ℕ) → i < k → k < countOf f → jobAt f i < jobAt f k

@@ -9,8 +9,9 @@ use lib.ListN.{length, replicate}
 use lib.Dec.{eqb, lit<}
 use borrow.Author.Tests.{eq-eqb, ne-eqb, eqb-true, eqb-false, not-false}
 use Rattle.words.specs.Bytes.{sameBytes}
+use Rattle.words.proofs.Tests.{is-false}
 use Rattle.words.proofs.Same.{same-true, same-refl}
-use Rattle.cipher.specs.Cipher.{seals, Seals, sizeOf}
+use Rattle.cipher.specs.Cipher.{Seals, sizeOf}
 use Rattle.table.specs.declared.answers.Answer.{Answer}
 use Rattle.table.specs.Search.{firstOf}
 use Rattle.table.specs.Format.{countOf, firstEdition, rowOf, tagOf}
@@ -25,10 +26,6 @@ use Rattle.draft.specs.Promised.{ZeroTag, RightTag, Valid, AllSeal, Genu
 
 -- ---- a tag's two tests
 
-told-true : (b : Bool) (x y : List ℕ) → sameBytes x y ≡ b → (x ≡ y → ⊥) → b ≡ false
-told-true true x y e n = absurd (n (same-true x y e))
-told-true false x y e n = refl
-
 module _ (f : List ℕ) (i : ℕ) where
   pub zero-told : tagSet f i ≡ false → ZeroTag f i
   unfolding tagSet
@@ -42,7 +39,7 @@ module _ (f : List ℕ) (i : ℕ) where
 
   set-test : (ZeroTag f i → ⊥) → tagSet f i ≡ true
   unfolding tagSet
-  set-test n = ap not (told-true _ _ _ refl n)
+  set-test n = ap not (is-false _ (λ e. n (same-true _ _ e)))
 
   module _ (ring : List ℕ) where
     pub right-told : tagRight f ring i ≡ true → RightTag f ring i
@@ -55,13 +52,7 @@ module _ (f : List ℕ) (i : ℕ) where
 
     pub wrong-test : (RightTag f ring i → ⊥) → tagRight f ring i ≡ false
     unfolding tagRight
-    wrong-test n = told-true _ _ _ refl n
-
--- ---- a suite's test
-
-told-seals : (b : Bool) (s : ℕ) → seals s ≡ b → (Seals s → ⊥) → b ≡ false
-told-seals true s e n = absurd (n e)
-told-seals false s e n = refl
+    wrong-test n = is-false _ (λ e. n (same-true _ _ e))
 
 -- ---- a search that gives number m or 0
 
@@ -115,7 +106,7 @@ module _ (f : List ℕ) where
 
   retired-first : (i : ℕ) → i < countOf f → (Seals (rowOf f i .suite) → ⊥) → ((k : ℕ) → k < i → Seals (rowOf f k .suite)) → retiredFrom f (countOf f) 0 ≡ answer 10 i
   unfolding retiredFrom rowRetired
-  retired-first i l n a = first-at _ _ _ (countOf f) i l (ap not (told-seals _ _ refl n)) (λ k b. ap not (a k b))
+  retired-first i l n a = first-at _ _ _ (countOf f) i l (ap not (is-false _ n)) (λ k b. ap not (a k b))
 
   none-retired : retiredFrom f (countOf f) 0 .number ≡ 0 → AllSeal f
   unfolding retiredFrom rowRetired

@@ -1,6 +1,6 @@
 -- An output that is written from the front: what stands there so far, and one part more.
-use Prim.Native.Nat.{ℕ, zero, suc, _+_, _-_, _*_, _^_, _≤_, _<_}
-use native.Mathlib.Nat.{mul-suc, mul-zero, not-suc-le-zero, le-of-suc-le-suc}
+use Prim.Native.Nat.{ℕ, _+_, _-_, _*_, _^_, _≤_, _<_}
+use native.Mathlib.Nat.{mul-suc, mul-zero}
 use native.Mathlib.Numerals.{add-one}
 use native.Mathlib.Omega.{arith}
 use mathlib.Core.Path.{_≡_, refl, sym, ap, ap₂, _∙_}
@@ -36,11 +36,6 @@ mid-front o x y at m h q =
 -- the part by another name
 pub front-is : (o p x y : List ℕ) (at m : ℕ) → take (at + length x) p ≡ take at o ++ x → x ≡ y → length x ≡ m → take (at + m) p ≡ take at o ++ y
 front-is o p x y at m e q l = ap (λ (k : ℕ). take (at + k) p) (sym l) ∙ e ∙ ap (λ (z : List ℕ). take at o ++ z) q
-
-pub take-zeros : (k m : ℕ) → k ≤ m → take k (replicate {A = ℕ} m 0) ≡ replicate k 0
-take-zeros zero m h = refl
-take-zeros (suc k) zero h = absurd (not-suc-le-zero h)
-take-zeros (suc k) (suc m) h = ap (λ (l : List ℕ). 0 ∷ l) (take-zeros k m (le-of-suc-le-suc h))
 
 pub take-bytes : (x y : ℕ) → take 4 (bytes 4 x ++ bytes 4 y) ≡ bytes 4 x
 take-bytes x y = take-at (bytes 4 x) (bytes 4 y) 4 (length-bytes 4 x)

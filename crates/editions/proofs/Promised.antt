@@ -3,11 +3,11 @@ use Prim.Native.Nat.{ℕ, zero, suc, _+_, _-_, _*_, _^_, _≤_, _<_}
 use native.Mathlib.Nat.{mul-le-mul-right}
 use native.Mathlib.Omega.{arith}
 use mathlib.Core.Path.{_≡_, refl, sym, ap, ap₂, _∙_}
-use mathlib.Core.List.{List, _∷_}
+use mathlib.Core.List.{List}
 use lib.ListN.{length, drop, replicate}
 use lib.Dec.{lit<}
 use Rattle.words.specs.Bytes.{AllBytes, bytes, value}
-use Rattle.words.proofs.Bytes.{unpack}
+use Rattle.words.proofs.Bytes.{unpack, bytes-zeros}
 use Rattle.table.specs.declared.answers.Answer.{Answer}
 use Rattle.table.specs.declared.row.Row.{Row}
 use Rattle.table.specs.Part.{stretch}
@@ -27,12 +27,7 @@ use Rattle.editions.proofs.Back.{Whole, file-back}
 use Rattle.editions.proofs.Passing.{low, row, file-passes}
 use Rattle.editions.proofs.Done.{NoStation, up-goes, goes-up, back-goes, goes-back, up-is, back-is}
 
--- a station of 0, as bytes, and read again
-zero-bytes : (m : ℕ) → bytes m 0 ≡ replicate m 0
-unfolding bytes
-zero-bytes zero = refl
-zero-bytes (suc m) = ap (λ (l : List ℕ). 0 ∷ l) (zero-bytes m)
-
+-- a station of 0, read again
 zeros-value : (m : ℕ) → value (replicate m 0) ≡ 0
 unfolding value
 zeros-value zero = refl
@@ -110,7 +105,7 @@ module _ (a b : ℕ) (ha : a < 256 ^ 2) (hb : b < 256 ^ 2) (f : List ℕ) (z : c
       unfolding stationAt
       station i l =
           let fits = row-in w f n i (ok .head .table) l .fits in
-          sym (unpack (w - 32) f (rowStart w i + 4) all (omega (arith, row-broad (editionOf f)))) ∙ ap (bytes (w - 32)) (none i l) ∙ zero-bytes (w - 32)
+          sym (unpack (w - 32) f (rowStart w i + 4) all (omega (arith, row-broad (editionOf f)))) ∙ ap (bytes (w - 32)) (none i l) ∙ bytes-zeros (w - 32)
 
       whole : Whole w v f n
       unfolding carried bodyEnd

@@ -1,8 +1,8 @@
 -- The shift file's check: one of three things happened, and each number is of one of them alone.
 use mathlib.Core.Path.{_≡_, refl, sym, ap, _∙_, subst}
 use mathlib.Core.Logic.{_⊎_, _↔_, ⊎-elim}
-use mathlib.Core.Bool.{Bool, true, false, cond, not, _||_, true≢false}
-use Prim.Native.Nat.{ℕ, zero, suc, _+_, _-_, _≤_, _<_}
+use mathlib.Core.Bool.{Bool, true, false, cond, not, _||_}
+use Prim.Native.Nat.{ℕ, _+_, _-_, _≤_, _<_}
 use native.Mathlib.Omega.{arith}
 use mathlib.Core.List.{List}
 use lib.ListN.{length}
@@ -17,7 +17,7 @@ use Rattle.table.specs.Search.{anyBelow}
 use Rattle.table.specs.Format.{editionOf, countOf, totalOf, rowSizeOf, rowStart, rowOf, nonceAt, nonceReadAt, bodyEnd, dataJob, unitOf}
 use Rattle.table.specs.Answers.{answer}
 use Rattle.table.specs.Check.{notAbove, badSuite, badLength, bodyStart, misplaced, unreadSet, clash, nonceSeen, badData, bodyNumber, rowNumber, endAnswer, rowsFrom, headNumber, checkBetween}
-use Rattle.table.proofs.Searches.{any-hit, first-at, first-none}
+use Rattle.table.proofs.Searches.{any-some, any-hit, first-at, first-none}
 use Rattle.shift.specs.Nonces.{SameNonce}
 use Rattle.promises.specs.Tables.{None}
 use Rattle.promises.specs.Numbers.{tagSize, headTable, rowTable, endTable, SoundTo, CheckNumbers, Numbers}
@@ -27,17 +27,8 @@ use Rattle.promises.proofs.Numbers.{tells-suite, seal-numbers, open-num
 -- ---- the tests
 
 -- some number below n
-any-some : {p : ℕ → Bool} {P : ℕ → Type 0} → ((j : ℕ) → Tells (p j) (P j)) → (n : ℕ) → anyBelow p n ≡ true → (j : ℕ) × (j < n) × P j
-unfolding anyBelow
-any-some {p} {P} t zero e = absurd (true≢false (sym e))
-any-some {p} {P} t (suc n) e = here (p n) refl e (any-some t n)
-  where
-    here : (b : Bool) → p n ≡ b → b || anyBelow p n ≡ true → (anyBelow p n ≡ true → (j : ℕ) × (j < n) × P j) → (j : ℕ) × (j < suc n) × P j
-    here true q e later = (n, omega arith, t n .0 q)
-    here false q e later = let r = later e in (r .0, omega (arith, r .1), r .2)
-
 tells-any : {p : ℕ → Bool} {P : ℕ → Type 0} → ((j : ℕ) → Tells (p j) (P j)) → (n : ℕ) → Tells (anyBelow p n) ((j : ℕ) × (j < n) × P j)
-tells-any {p} {P} t n = (any-some t n, λ h. any-hit p (h .0) n (h .1) (t (h .0) .1 (h .2)))
+tells-any {p} {P} t n = (λ e. let r = any-some p n e in (r .0, r .1 .0, t (r .0) .0 (r .1 .1)), λ h. any-hit p (h .0) n (h .1) (t (h .0) .1 (h .2)))
 
 tells-clash : (f : List ℕ) (i j : ℕ) → Tells (clash (rowSizeOf f) f i j) (SameNonce f i j)
 unfolding clash

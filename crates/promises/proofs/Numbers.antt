@@ -13,7 +13,8 @@ use Rattle.cipher.specs.Cipher.{isSuite, retired, seals, cipherOf, sizeOf, nonc
 use Rattle.cipher.proofs.Suites.{tag-size, only-four}
 use Rattle.mode.specs.Mode.{textOut, tagOut}
 use Rattle.comet.specs.Answers.{takes, refusal, sealedAs, sealing, openedAs, opening}
-use Rattle.session.specs.Value.{Value, Given, sound, answered, startNumber, starting, dataNumber, dataPart, textNumber, textDone, textPart, endNumber, ending}
+use Rattle.session.specs.Value.{Value, Given, sound, answered, startNumber, starting, dataNumber, dataPart, textNumber, textPart, endNumber, ending}
+use Rattle.session.proofs.Parts.{done-number}
 use Rattle.promises.specs.Numbers.{tagSize, numbers, SealNumbers, OpenNumbers, StartNumbers, Going, DataNumbers, PartNumbers, EndNumbers}
 use Rattle.promises.proofs.Tables.{Tells, tells-eq, tells-lt, tells-le, tells-same, tells-not, tells-and, tells-as, tells-true, stable, Rungs, table}
 
@@ -191,10 +192,6 @@ data-numbers v part =
   where
     goes : Tells (sound (v .suite) (v .«ad_total») (v .«text_total») && eqb (v .«text_total») 0) (Going v × (v .«text_total» ≡ 0))
     goes = tells-and (tells-going v) (tells-eq (v .«text_total») 0)
-
-pub done-number : (v : Value) (p out : List ℕ) → textDone v p out .number ≡ 0
-done-number v [] out = refl
-done-number v (x ∷ p) out = refl
 
 pub part-numbers : PartNumbers
 unfolding textPart textNumber

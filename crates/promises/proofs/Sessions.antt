@@ -12,11 +12,12 @@ use Rattle.cipher.proofs.Suites.{seals-has}
 use Rattle.comet.specs.Answers.{opening}
 use Rattle.session.specs.Value.{Value, Given, sound, answered, gave, starting, dataNumber, dataIn, dataPart, textNumber, textDone, textPart, endNumber, endDone, ending}
 use Rattle.session.specs.Calls.{SessionCall, AllInBytes, Run, runOf, Next}
+use Rattle.session.proofs.Parts.{done-number}
 use Rattle.session.proofs.Whatever.{starts, refused-shut, goes, finished, whatever, facts}
 use Rattle.promises.specs.Input.{Input}
 use Rattle.promises.specs.Sessions.{AsOneCall, OpensWhole, NextNumbers, RunNumbers, Keeps, Sessions}
 use Rattle.promises.proofs.Tables.{tells-eq, tells-lt, tells-not, table}
-use Rattle.promises.proofs.Numbers.{tells-tag-size, answered-number, tells-over, done-number}
+use Rattle.promises.proofs.Numbers.{tells-tag-size, answered-number, tells-over}
 use Rattle.promises.proofs.Demand2.{sealing-is, round-trip}
 
 -- the joined texts are an input of the sealer

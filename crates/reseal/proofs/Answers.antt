@@ -8,6 +8,7 @@ use mathlib.Core.Logic.{_⊎_, inl, inr, ⊎-elim}
 use lib.ListN.{length}
 use lib.Dec.{eqb, lit<}
 use borrow.Author.Tests.{eq-eqb, ne-eqb, eqb-true, eqb-false, not-false}
+use Rattle.words.proofs.Tests.{is-false}
 use Rattle.cipher.specs.Cipher.{retiredSuite}
 use Rattle.table.specs.declared.answers.Answer.{Answer}
 use Rattle.table.specs.Format.{countOf, firstEdition, rowSizeOf, rowOf}
@@ -22,10 +23,6 @@ use Rattle.reseal.specs.Files.{retabled, resealedFile}
 use Rattle.reseal.specs.Answers.{seenFrom, wrongAgain, wrongAgainFrom, takeAnswer, resealAnswer, fileResealing}
 use Rattle.reseal.specs.Promised.{HasFour, Calm, ResealCases, Resealing, ResealNumbers}
 
-not-true-false : (b : Bool) → (b ≡ true → ⊥) → b ≡ false
-not-true-false true n = absurd (n refl)
-not-true-false false n = refl
-
 abbrev number : Answer → ℕ
 number x = x .number
 
@@ -34,11 +31,11 @@ number x = x .number
 module _ (f : List ℕ) (n : ℕ) where
   pub seen-none : ((i : ℕ) → i < n → nonceSeen (rowSizeOf f) f i ≡ true → ⊥) → seenFrom f n 0 ≡ answer 0 0
   unfolding seenFrom
-  seen-none h = first-none _ _ _ n (λ i l. not-true-false _ (h i l))
+  seen-none h = first-none _ _ _ n (λ i l. is-false _ (h i l))
 
   seen-first : (i : ℕ) → i < n → nonceSeen (rowSizeOf f) f i ≡ true → ((k : ℕ) → k < i → nonceSeen (rowSizeOf f) f k ≡ true → ⊥) → seenFrom f n 0 ≡ answer 29 i
   unfolding seenFrom
-  seen-first i l h z = first-at _ _ _ n i l h (λ k b. not-true-false _ (z k b))
+  seen-first i l h z = first-at _ _ _ n i l h (λ k b. is-false _ (z k b))
 
   none-seen : seenFrom f n 0 .number ≡ 0 → (i : ℕ) → i < n → nonceSeen (rowSizeOf f) f i ≡ true → ⊥
   unfolding seenFrom

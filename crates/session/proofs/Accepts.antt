@@ -20,6 +20,7 @@ use Rattle.session.specs.Value.{Value, Given, answered, gave, dataIn, da
 use Rattle.session.specs.Calls.{Run, Next}
 use Rattle.session.proofs.Joined.{heldSoFar, soFar}
 use Rattle.session.proofs.Refuse.{text-is, end-is, data-begun, data-limit}
+use Rattle.session.proofs.Parts.{done-number}
 use Rattle.session.proofs.Count.{part-count, end-count}
 
 filled-long : (l : List ℕ) → length l ≤ 16 → length (filled l) ≡ 16
@@ -54,10 +55,6 @@ module _ (suite : ℕ) (key nonce : List ℕ) (still : Seals suite) (a m : List 
       (data-begun suite (length a) (length m) (length p) goes-on (ne-eqb (length m) 0 (λ e. h (nil-of m e))))
 
   -- ---- message
-
-  done-number : (v : Value) (p out : List ℕ) → textDone v p out .number ≡ 0
-  done-number v [] out = refl
-  done-number v (x ∷ p) out = refl
 
   takes-text : (p out : List ℕ) → length m + length p ≤ limit → length p + (n - 1) ≤ length out → textPart at p out .number ≡ 0
   unfolding textPart soFar

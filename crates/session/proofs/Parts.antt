@@ -72,3 +72,8 @@ done-empty v (x ∷ p) out e = absurd (suc-ne-zero (length p) e)
 pub done-more : (v : Value) (p out : List ℕ) → (length p ≡ 0 → ⊥) → textGiven v p out ≡ textDone v p out
 done-more v [] out h = absurd (h refl)
 done-more v (x ∷ p) out h = refl
+
+-- the number is 0 for both
+pub done-number : (v : Value) (p out : List ℕ) → textDone v p out .number ≡ 0
+done-number v [] out = refl
+done-number v (x ∷ p) out = refl

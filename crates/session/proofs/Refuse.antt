@@ -6,22 +6,22 @@ use mathlib.Core.List.{List, []}
 use lib.Dec.{leb, ltb, eqb, lit<}
 use borrow.Author.Tests.{leb-true, ltb-false, eqb-true, not-false}
 use Rattle.words.proofs.Ladder.{not-taken}
-use Rattle.words.proofs.Same.{and-true}
+use Rattle.words.proofs.Tests.{both-true}
 use Rattle.cipher.proofs.Suites.{seals-has}
 use Rattle.cipher.specs.Cipher.{isSuite, seals, Seals, sizeOf, nonceOf, limit}
 use Rattle.session.specs.Value.{Value, Given, sound, Sound, answered, gave, dataNumber, textNumber, endNumber, startNumber}
 
 pub sound-told : (s c t : ℕ) → sound s c t ≡ true → Sound s c t
 sound-told s c t e =
-    let p = and-true (seals s) (leb c limit && leb t limit) e in
-    let r = and-true (leb c limit) (leb t limit) (p .1) in
+    let p = both-true (seals s) (leb c limit && leb t limit) e in
+    let r = both-true (leb c limit) (leb t limit) (p .1) in
     record { known = seals-has s (p .0); data-most = leb-true c limit (r .0); text-most = leb-true t limit (r .1) }
 
 pub data-passed : (s c t l : ℕ) → dataNumber s c t l ≡ 0 → Sound s c t × (t ≡ 0) × (l ≤ limit - c)
 unfolding dataNumber
 data-passed s c t l e =
     let p = not-taken (not (sound s c t && eqb t 0)) 9 (cond (ltb (limit - c) l) 4 0) (lit< tt) e in
-    let q = and-true (sound s c t) (eqb t 0) (not-false (sound s c t && eqb t 0) (p .0)) in
+    let q = both-true (sound s c t) (eqb t 0) (not-false (sound s c t && eqb t 0) (p .0)) in
     (sound-told s c t (q .0), eqb-true t 0 (q .1), ltb-false (limit - c) l (not-taken (ltb (limit - c) l) 4 0 (lit< tt) (p .1) .0))
 
 -- k is the number

@@ -9,10 +9,10 @@ use lib.ListN.{length, getD, set, length-set}
 use lib.Seq.{getD-set-same, getD-set-other}
 use lib.Dec.{eqb}
 use borrow.Author.Tests.{not-false}
+use Rattle.words.proofs.Tests.{both-false}
 use Rattle.table.specs.Format.{countOf, rowSizeOf, rowAt, bodyEnd, dataJob, unitOf, isUnit}
 use Rattle.table.specs.Answers.{answer}
 use Rattle.table.specs.Check.{badData, checkBetween}
-use Rattle.table.proofs.Searches.{or-false}
 use Rattle.table.proofs.Passed.{Passes}
 use Rattle.table.proofs.Alike.{word-same}
 use Rattle.table.proofs.Kept.{body-check}
@@ -42,7 +42,7 @@ module _ (low high : ℕ) (f : List ℕ) (p : Passes low high f) (i v : ℕ) (wi
   data-unit =
       let r = rowAt (rowSizeOf f) f i in
       let s = p .walk .rows i within in
-      let job = or-false (not (eqb (dataJob f r) (r .job))) (not (isUnit (unitOf f r))) (s .held) .0 in
+      let job = both-false (not (eqb (dataJob f r) (r .job))) (not (isUnit (unitOf f r))) (s .held) .0 in
       let unit : getD altered (r .«ad_at» + 4) 0 ≡ v = getD-set-same f (r .«ad_at» + 4) v 0 (omega (arith, unit-in, s .place .ends)) in
       simp (word-same altered f 4 (r .«ad_at») (λ k a b. byte-other k (λ q. omega arith)), not-false (eqb (dataJob f r) (r .job)) job, unit)
 
