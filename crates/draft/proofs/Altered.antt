@@ -61,17 +61,17 @@ module _ (f g ring : List ℕ) (lent : WithRing f ring) (hg : AllBytes g) (genui
   table : AgreeTable g f long (rowSizeOf f) (countOf f)
   table = body-table f g long firstEdition firstEdition P i l outside
 
-  g-width : rowSizeOf g ≡ rowSizeOf f
-  g-width = ap rowSize (body-edition f g long firstEdition firstEdition P i l outside)
+  g-row-size : rowSizeOf g ≡ rowSizeOf f
+  g-row-size = ap rowSize (body-edition f g long firstEdition firstEdition P i l outside)
 
   g-count : countOf g ≡ countOf f
   g-count = count-same g f long (rowSizeOf f) (countOf f) (row-broad (editionOf f)) table
 
   g-row : (k : ℕ) → k < countOf f → rowOf g k ≡ rowOf f k
-  g-row k m = ap (λ (w : ℕ). rowAt w g k) g-width ∙ row-same g f long (rowSizeOf f) (countOf f) (row-broad (editionOf f)) table k m
+  g-row k m = ap (λ (w : ℕ). rowAt w g k) g-row-size ∙ row-same g f long (rowSizeOf f) (countOf f) (row-broad (editionOf f)) table k m
 
   g-nonce : (k : ℕ) → k < countOf f → nonceAt (rowSizeOf g) g k ≡ nonceAt (rowSizeOf f) f k
-  g-nonce k m = ap (λ (w : ℕ). nonceAt w g k) g-width ∙ nonce-same g f long (rowSizeOf f) (countOf f) (row-broad (editionOf f)) table k m
+  g-nonce k m = ap (λ (w : ℕ). nonceAt w g k) g-row-size ∙ nonce-same g f long (rowSizeOf f) (countOf f) (row-broad (editionOf f)) table k m
 
   g-tag : tagOf g (rowOf f i) ≡ tagOf f (rowOf f i)
   g-tag = let r = rowOf f i in stretch-same g f long (r .«ad_at» + r .«ad_len» + r .«text_len») (sizeOf (r .suite)) (λ k a b. same k (inr a))

@@ -165,14 +165,14 @@ module _ (e₀ : ℕ) (f : List ℕ) (p₀ : Plain e₀) (z : checkAs e₀ f .nu
         pair-is g e (p .1) (o 0 (omega arith) ∙ edition-low e f (head .long)) (o 1 (omega arith) ∙ edition-high e f (head .long))
 
     -- rows are as long as they were
-    same-width : rowSizeOf g ≡ rowSizeOf f
-    same-width = ap rowSize new-edition ∙ p .0 ∙ sym (ap rowSize edition-own ∙ p₀ .0)
+    same-row-size : rowSizeOf g ≡ rowSizeOf f
+    same-row-size = ap rowSize new-edition ∙ p .0 ∙ sym (ap rowSize edition-own ∙ p₀ .0)
 
     pub same-row : (i : ℕ) → i < countOf f → rowOf g i ≡ rowOf f i
-    same-row i l = ap (λ (w : ℕ). rowAt w g i) same-width ∙ row-same g f same-length (rowSizeOf f) (countOf f) (row-broad (editionOf f)) same-table i l
+    same-row i l = ap (λ (w : ℕ). rowAt w g i) same-row-size ∙ row-same g f same-length (rowSizeOf f) (countOf f) (row-broad (editionOf f)) same-table i l
 
     pub same-nonce : (i : ℕ) → i < countOf f → nonceAt (rowSizeOf g) g i ≡ nonceAt (rowSizeOf f) f i
-    same-nonce i l = ap (λ (w : ℕ). nonceAt w g i) same-width ∙ nonce-same g f same-length (rowSizeOf f) (countOf f) (row-broad (editionOf f)) same-table i l
+    same-nonce i l = ap (λ (w : ℕ). nonceAt w g i) same-row-size ∙ nonce-same g f same-length (rowSizeOf f) (countOf f) (row-broad (editionOf f)) same-table i l
 
     pub same-count : countOf g ≡ countOf f
     same-count = count-same g f same-length (rowSizeOf f) (countOf f) (row-broad (editionOf f)) same-table
@@ -199,7 +199,7 @@ module _ (e₀ : ℕ) (f : List ℕ) (p₀ : Plain e₀) (z : checkAs e₀ f .nu
 
     pub passes-again : checkAs e g ≡ answer 0 0
     passes-again =
-        check-kept f g same-length e e e₀ e₀ (passes e₀ e₀ f z) (ap (outside e e) new-edition ∙ taken e e e (omega arith) (omega arith)) same-width same-table
+        check-kept f g same-length e e e₀ e₀ (passes e₀ e₀ f z) (ap (outside e e) new-edition ∙ taken e e e (omega arith) (omega arith)) same-row-size same-table
         ∙ first-none _ _ _ (countOf f)
         (λ j m.
         let s = row-sound j m in

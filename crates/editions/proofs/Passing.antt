@@ -145,12 +145,12 @@ module _ (e w v : ℕ) (f : List ℕ) (n : ℕ) (t : TableIn w f n) (broad : 32 
     head-zero q =
         let a : 8 ≤ length file = eight e w v f n t broad in
         let c : countOf file ≤ 512 = omega (arith, count, few) in
-        let width : rowSizeOf file ≡ v = ap rowSize edition ∙ q in
-        let d : rowStart (rowSizeOf file) (countOf file) ≤ length file = rw (width, count) (table-in e w v f n t broad .fits) in
+        let row-size : rowSizeOf file ≡ v = ap rowSize edition ∙ q in
+        let d : rowStart (rowSizeOf file) (countOf file) ≤ length file = rw (row-size, count) (table-in e w v f n t broad .fits) in
         simp (le-ltb _ _ a, le-ltb _ _ long, own-taken, le-ltb _ _ c, eq-eqb _ _ total, le-ltb _ _ d)
 
     pub file-passes : rowSize e ≡ v → checkAs e file ≡ answer 0 0
     unfolding checkBetween
     file-passes q =
-        let width : rowSizeOf file ≡ v = ap rowSize edition ∙ q in
-        simp (head-zero q, width, count) rows-zero
+        let row-size : rowSizeOf file ≡ v = ap rowSize edition ∙ q in
+        simp (head-zero q, row-size, count) rows-zero

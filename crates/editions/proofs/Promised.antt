@@ -56,8 +56,8 @@ module _ (a b : ℕ) (ha : a < 256 ^ 2) (hb : b < 256 ^ 2) (f : List ℕ) (z : c
   small-count : n < 256 ^ 2
   small-count = omega (arith, ok .head .few)
 
-  pub new-width : rowSizeOf g ≡ v
-  new-width = ap rowSize (edition-is b w v f n (ok .head .table) (row-broad b) hb)
+  pub new-row-size : rowSizeOf g ≡ v
+  new-row-size = ap rowSize (edition-is b w v f n (ok .head .table) (row-broad b) hb)
 
   pub new-count : countOf g ≡ n
   new-count = count-is b w v f n (ok .head .table) (row-broad b) small-count
@@ -69,7 +69,7 @@ module _ (a b : ℕ) (ha : a < 256 ^ 2) (hb : b < 256 ^ 2) (f : List ℕ) (z : c
       let t = ok .head .table in
       let m : i < n = rw (sym new-count) l in
       let fits = row-in v g n i (table-in b w v f n t (row-broad b)) m .fits in
-      ap (λ (x : ℕ). stationAt x g i) new-width
+      ap (λ (x : ℕ). stationAt x g i) new-row-size
       ∙ word-stretch (v - 32) g (rowStart v i + 4) (omega (arith, fits, row-broad b))
       ∙ ap value (station-part b w v f n t (row-broad b) i m)
       ∙ zeros-value (v - 32)
@@ -87,7 +87,7 @@ module _ (a b : ℕ) (ha : a < 256 ^ 2) (hb : b < 256 ^ 2) (f : List ℕ) (z : c
 
     new-offset : (i : ℕ) → i < n → rowOf g i .«ad_at» ≡ carried w v n (rowOf f i .«ad_at»)
     new-offset i l =
-        ap (λ (k : ℕ). rowAt k g i .«ad_at») new-width ∙ ap (λ (r : Row). r .«ad_at») (row b w v f n (ok .head .table) (row-broad b) (ok .walk) small i l)
+        ap (λ (k : ℕ). rowAt k g i .«ad_at») new-row-size ∙ ap (λ (r : Row). r .«ad_at») (row b w v f n (ok .head .table) (row-broad b) (ok .walk) small i l)
 
     old-offset : (i : ℕ) → i < n → rowStart w n ≤ rowOf f i .«ad_at»
     old-offset = low b w v f n (ok .head .table) (row-broad b) (ok .walk) small
@@ -96,7 +96,7 @@ module _ (a b : ℕ) (ha : a < 256 ^ 2) (hb : b < 256 ^ 2) (f : List ℕ) (z : c
     unfolding carried
     new-bodies =
         let q : carried w v n (rowStart w n) ≡ rowStart v n = omega arith in
-        ap₂ (λ (x y : ℕ). drop (rowStart x y) g) new-width new-count
+        ap₂ (λ (x y : ℕ). drop (rowStart x y) g) new-row-size new-count
         ∙ ap (λ (x : ℕ). drop x g) (sym q)
         ∙ body-from b w v f n (ok .head .table) (row-broad b) (rowStart w n) (omega arith)
 
@@ -122,7 +122,7 @@ module _ (a b : ℕ) (ha : a < 256 ^ 2) (hb : b < 256 ^ 2) (f : List ℕ) (z : c
       back-again : moved a g ≡ f
       back-again =
           let old : rowSize a ≡ w = ap rowSize (sym own) in
-          ap (λ (x : ℕ). movedFrom a x (rowSize a) g (countOf g)) new-width
+          ap (λ (x : ℕ). movedFrom a x (rowSize a) g (countOf g)) new-row-size
           ∙ ap (λ (x : ℕ). movedFrom a v x g (countOf g)) old
           ∙ ap (movedFrom a v w g) new-count
           ∙ ap (λ (x : ℕ). movedFrom x v w g n) (sym own)

@@ -33,7 +33,7 @@ use Rattle.editions.proofs.Laid.{file-long}
 use Rattle.editions.proofs.Kept.{body-from}
 use Rattle.editions.proofs.Passing.{low, row, nonce, reads}
 use Rattle.editions.proofs.Done.{Goes, NoStation, up-goes, back-goes, up-is, back-is}
-use Rattle.editions.proofs.Promised.{new-width, new-count, new-none, new-passes, one, two, one-none, outOf}
+use Rattle.editions.proofs.Promised.{new-row-size, new-count, new-none, new-passes, one, two, one-none, outOf}
 
 -- a row, its body carried
 abbrev carriedRow : ℕ → ℕ → ℕ → Row → Row
@@ -161,7 +161,7 @@ module _ (a b : ℕ) (la : firstEdition ≤ a) (ma : a ≤ newest) (lb : firstEd
       let t = p .head .table in
       let broad = row-broad b in
       let small = small-is in
-      let wide = new-width a b wa wb f (d .passed) in
+      let wide = new-row-size a b wa wb f (d .passed) in
       let is : (i : ℕ) → i < n → rowOf g i ≡ rowAt v g i = λ i l. ap (λ (k : ℕ). rowAt k g i) wide in
       let carries : (i : ℕ) → i < n → rowOf g i ≡ carriedRow w v n (rowOf f i) = λ i l. is i l ∙ row b w v f n t broad (p .walk) small i l in
       record {
@@ -193,7 +193,7 @@ module _ (a b : ℕ) (la : firstEdition ≤ a) (ma : a ≤ newest) (lb : firstEd
         key = h .key i l;
         ad-len = h .extra i l;
         text-len = h .len i l;
-        nonce = ap (λ (k : ℕ). nonceAt k g i) (new-width a b wa wb f (d .passed)) ∙ nonce b w v f n (p .head .table) (row-broad b) (p .walk) small i l;
+        nonce = ap (λ (k : ℕ). nonceAt k g i) (new-row-size a b wa wb f (d .passed)) ∙ nonce b w v f n (p .head .table) (row-broad b) (p .walk) small i l;
         station = none′ i (omega (arith, l, h .count)) ∙ sym (none i l);
         body = ap₂ take long (h .body i l);
       }

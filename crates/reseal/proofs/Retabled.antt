@@ -131,8 +131,8 @@ module _ (f l : List ℕ) (n : ℕ) (tf : TableIn (rowSizeOf f) f n) (tl : Table
   pub new-edition : editionOf g ≡ editionOf f
   new-edition = word-same g f 2 0 (λ k b c. head-kept k (omega arith) ∙ agree k (omega (arith, row-late w n)))
 
-  new-width : rowSizeOf g ≡ w
-  new-width = ap rowSize new-edition
+  new-row-size : rowSizeOf g ≡ w
+  new-row-size = ap rowSize new-edition
 
   -- a row's bytes but for the suite
   row-kept : (i : ℕ) → i < n → (k : ℕ) → rowStart w i ≤ k → k < rowStart w i + w → (k ≡ restStart w i → ⊥) → getD g k 0 ≡ getD f k 0
@@ -167,13 +167,13 @@ module _ (f l : List ℕ) (n : ℕ) (tf : TableIn (rowSizeOf f) f n) (tl : Table
       λ t. record { job = job t; suite = suite t; key = key t; «ad_len» = ad t; «ad_at» = at t; «text_len» = len t }
 
   pub row-new : (i : ℕ) → i < n → rowOf g i ≡ withSuite (rowOf f i)
-  row-new i b = ap (λ (v : ℕ). rowAt v g i) new-width ∙ row-at i b
+  row-new i b = ap (λ (v : ℕ). rowAt v g i) new-row-size ∙ row-at i b
 
   table-at : TableIn w g n
   table-at = record { broad = tl .broad; fits = omega (arith, tl .fits, new-length) }
 
   pub new-table : TableIn (rowSizeOf g) g n
-  new-table = rw new-width table-at
+  new-table = rw new-row-size table-at
 
   nonce-at : (i : ℕ) → i < n → nonceAt w g i ≡ nonceAt w f i
   unfolding nonceAt nonceStart
@@ -187,7 +187,7 @@ module _ (f l : List ℕ) (n : ℕ) (tf : TableIn (rowSizeOf f) f n) (tl : Table
       ∙ sym (stretch-at f (nonceStart w i) 16 k m))
 
   pub nonce-kept : (i : ℕ) → i < n → nonceAt (rowSizeOf g) g i ≡ nonceAt w f i
-  nonce-kept i b = ap (λ (v : ℕ). nonceAt v g i) new-width ∙ nonce-at i b
+  nonce-kept i b = ap (λ (v : ℕ). nonceAt v g i) new-row-size ∙ nonce-at i b
 
   read-at : (i : ℕ) → i < n → nonceReadAt w g i ≡ nonceReadAt w f i
   read-at i b =
@@ -200,7 +200,7 @@ module _ (f l : List ℕ) (n : ℕ) (tf : TableIn (rowSizeOf f) f n) (tl : Table
   unread-at i b = ap₂ (λ (s t : List ℕ). not (sameBytes s (filled t))) (nonce-at i b) (read-at i b)
 
   pub unread-kept : (i : ℕ) → i < n → unreadSet (rowSizeOf g) g i ≡ unreadSet w f i
-  unread-kept i b = ap (λ (v : ℕ). unreadSet v g i) new-width ∙ unread-at i b
+  unread-kept i b = ap (λ (v : ℕ). unreadSet v g i) new-row-size ∙ unread-at i b
 
 -- ---- a file that passes, with the new suites
 
@@ -263,9 +263,9 @@ module _ (f : List ℕ) (z : checkAs firstEdition f .number ≡ 0) where
   t-edition : editionOf T ≡ editionOf f
   t-edition = new-edition f f n tab tab (λ k b. refl)
 
-  -- the check reads the rows of the new table by the old one's width
-  t-width : rowSizeOf T ≡ v
-  t-width = ap rowSize t-edition
+  -- the check reads the rows of the new table at the old one's row size
+  t-row-size : rowSizeOf T ≡ v
+  t-row-size = ap rowSize t-edition
 
   t-at : (i : ℕ) → i < n → rowAt v T i ≡ withSuite (rowOf f i)
   t-at = row-at f f n tab tab (λ k b. refl)
@@ -321,7 +321,7 @@ module _ (f : List ℕ) (z : checkAs firstEdition f .number ≡ 0) where
   unfolding rowsFrom seenFrom
   t-rows =
       first-same _ _ _ _ _ _ (n - 0) 0
-      (λ j l. ap (λ (m : ℕ). not (eqb m 0)) (number-new j (omega arith)) ∙ some (nonceSeen v T j) ∙ ap (λ (u : ℕ). nonceSeen u T j) (sym t-width))
+      (λ j l. ap (λ (m : ℕ). not (eqb m 0)) (number-new j (omega arith)) ∙ some (nonceSeen v T j) ∙ ap (λ (u : ℕ). nonceSeen u T j) (sym t-row-size))
       (λ j l e. ap (λ (m : ℕ). answer m j) (seen (nonceSeen v T j) (rowNumber v T n j) (number-new j (omega arith)) e))
       t-end
     where
@@ -336,7 +336,7 @@ module _ (f : List ℕ) (z : checkAs firstEdition f .number ≡ 0) where
   -- the theorem: the check of the file with the new suites is the search for a clash
   pub clash-of-check : checkAs firstEdition T ≡ seenFrom T n 0
   unfolding checkBetween
-  clash-of-check = simp (t-zero, t-count, t-width) t-rows
+  clash-of-check = simp (t-zero, t-count, t-row-size) t-rows
 
   -- no suite 4 row: nothing changes
   pub t-same : ((i : ℕ) → i < n → rowOf f i .suite ≡ retiredSuite → ⊥) → T ≡ f

@@ -52,14 +52,14 @@ module _ (f ring : List ℕ) (job i v : ℕ) (found : lookupJob f job ≡ answer
   same-table : AgreeTable otherUnit f same-long (rowSizeOf f) (countOf f)
   same-table = body-table f otherUnit same-long firstEdition newest passed i within (unit-outside firstEdition newest f passed i v within)
 
-  same-width : rowSizeOf otherUnit ≡ rowSizeOf f
-  same-width = ap rowSize (body-edition f otherUnit same-long firstEdition newest passed i within (unit-outside firstEdition newest f passed i v within))
+  same-row-size : rowSizeOf otherUnit ≡ rowSizeOf f
+  same-row-size = ap rowSize (body-edition f otherUnit same-long firstEdition newest passed i within (unit-outside firstEdition newest f passed i v within))
 
   row-is : rowOf otherUnit i ≡ rowOf f i
-  row-is = ap (λ (w : ℕ). rowAt w otherUnit i) same-width ∙ row-same otherUnit f same-long (rowSizeOf f) (countOf f) (row-broad (editionOf f)) same-table i within
+  row-is = ap (λ (w : ℕ). rowAt w otherUnit i) same-row-size ∙ row-same otherUnit f same-long (rowSizeOf f) (countOf f) (row-broad (editionOf f)) same-table i within
 
   nonce-is : nonceAt (rowSizeOf otherUnit) otherUnit i ≡ nonceAt (rowSizeOf f) f i
-  nonce-is = ap (λ (w : ℕ). nonceAt w otherUnit i) same-width ∙ nonce-same otherUnit f same-long (rowSizeOf f) (countOf f) (row-broad (editionOf f)) same-table i within
+  nonce-is = ap (λ (w : ℕ). nonceAt w otherUnit i) same-row-size ∙ nonce-same otherUnit f same-long (rowSizeOf f) (countOf f) (row-broad (editionOf f)) same-table i within
 
   -- the check passes where the new byte is a unit, and else refuses the row with 30
   check-is : (b : Bool) → isUnit v ≡ b → checkFile otherUnit ≡ cond (not b) (answer 30 i) (answer 0 0)
