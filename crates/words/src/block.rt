@@ -2,11 +2,11 @@
 ghost use mathlib.Core.Path.{_≡_};
 ghost use mathlib.Core.List.{[], _∷_, _++_};
 ghost use mathlib.Core.Logic.{_⊎_};
-ghost use Prim.Native.Nat.{_-_, _≤_};
-ghost use lib.ListN.{length, take, replicate};
+ghost use Prim.Native.Nat.{_≤_};
+ghost use lib.ListN.{length, take};
 ghost use Rattle.words.specs.Bytes.{value, bytes, sameBytes};
 ghost use Rattle.words.specs.Xors.{xors};
-ghost use Rattle.words.specs.Blocks.{wide};
+ghost use Rattle.words.specs.Blocks.{wide, filled};
 
 // Bytes 0 to 7 and 8 to 15, the least first.
 pub struct Block {
@@ -105,7 +105,7 @@ pub fn sixteen(b: &[u8]) -> Block
 // A full block of 16 or 8 bytes, by whole words; zeros behind the eight.
 pub fn whole(block: &[u8]) -> Block
     requires { ⌜ (length (now block) ≡ 16) ⊎ (length (now block) ≡ 8) ⌝ }
-    ensures { λ r. ⌜ wide r ≡ now (block .entry) ++ replicate (16 - length (now (block .entry))) 0 ⌝ }
+    ensures { λ r. ⌜ wide r ≡ filled (now (block .entry)) ⌝ }
 {
     if block.len() == 16 {
         return sixteen(block);
@@ -163,7 +163,7 @@ pub fn fifteen(front: &[u8]) -> Block
 // At most sixteen bytes, and zeros behind them, one by one.
 pub fn filled_bytes(front: &[u8]) -> [u8; 16]
     requires { ⌜ length (now front) ≤ 16 ⌝ }
-    ensures { λ r. ⌜ r ≡ now (front .entry) ++ replicate (16 - length (now (front .entry))) 0 ⌝ }
+    ensures { λ r. ⌜ r ≡ filled (now (front .entry)) ⌝ }
 {
     let mut r = [0u8; 16];
     let mut i: usize = 0;
@@ -177,7 +177,7 @@ pub fn filled_bytes(front: &[u8]) -> [u8; 16]
 // At most sixteen bytes, and zeros behind them.
 pub fn filled(front: &[u8]) -> Block
     requires { ⌜ length (now front) ≤ 16 ⌝ }
-    ensures { λ r. ⌜ wide r ≡ now (front .entry) ++ replicate (16 - length (now (front .entry))) 0 ⌝ }
+    ensures { λ r. ⌜ wide r ≡ filled (now (front .entry)) ⌝ }
 {
     if front.len() == 16 {
         return whole(front);
