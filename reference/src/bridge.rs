@@ -217,6 +217,10 @@ fn compare(first: &[u8], second: &[u8], lists: [&mut [u32]; 3]) -> Compared {
     Compared { number, file, row, counts: [a, b, c] }
 }
 
+fn moved_length(file: &[u8]) -> usize {
+    ask::<0>(26, vec![Given(file)]).0 as usize
+}
+
 fn to_edition2(file: &[u8], out: &mut [u8]) -> Answer {
     let (number, [row]) = ask(16, vec![Given(file), Lent(out)]);
     (number, row)
@@ -308,6 +312,7 @@ pub const PROVED: Library = Library {
     search,
     reseal,
     compare,
+    moved_length,
     to_edition2,
     to_edition1,
     amended,

@@ -5,7 +5,7 @@ use native.Mathlib.Omega.{arith}
 use mathlib.Core.Path.{_≡_, refl, sym, ap, ap₂, _∙_}
 use mathlib.Core.List.{List}
 use lib.ListN.{length, drop, replicate}
-use lib.Dec.{lit<}
+use lib.Dec.{lit<, lit≤}
 use Rattle.words.specs.Bytes.{AllBytes, bytes, value}
 use Rattle.words.proofs.Bytes.{unpack, bytes-zeros}
 use Rattle.table.specs.declared.answers.Answer.{Answer}
@@ -13,19 +13,20 @@ use Rattle.table.specs.declared.row.Row.{Row}
 use Rattle.table.specs.Part.{stretch}
 use Rattle.table.specs.Format.{editionOf, countOf, totalOf, firstEdition, newest, rowSize, rowSizeOf, rowStart, rowAt, rowOf, bodyEnd, stationAt}
 use Rattle.table.specs.Answers.{answer}
-use Rattle.table.specs.Check.{checkAs}
+use Rattle.table.specs.Check.{headNumber, checkAs}
 use Rattle.table.proofs.Rows.{row-broad, row-in, station-none}
 use Rattle.table.proofs.Passed.{Passes, passes, own-edition}
 use Rattle.table.proofs.Bodies.{after-table}
+use Rattle.table.proofs.Kept.{wider}
 use Rattle.editions.specs.Files.{carried, movedFrom, moved}
 use Rattle.editions.specs.Answers.{FileMoved, toEdition2, toEdition1}
-use Rattle.editions.specs.Promised.{done, ThereAndBack, BackAndThere, UpPasses, BackPasses, BackShort, UpRises, BackFalls}
+use Rattle.editions.specs.Promised.{done, ThereAndBack, BackAndThere, UpPasses, BackPasses, BackShort, LengthTold, UpRises, BackFalls}
 use Rattle.editions.proofs.Segments.{word-stretch}
 use Rattle.editions.proofs.Laid.{file-long}
 use Rattle.editions.proofs.Kept.{edition-is, count-is, total-is, station-part, table-in, body-from}
 use Rattle.editions.proofs.Back.{Whole, file-back}
 use Rattle.editions.proofs.Passing.{low, row, file-passes}
-use Rattle.editions.proofs.Done.{NoStation, up-goes, goes-up, back-goes, goes-back, up-is, back-is}
+use Rattle.editions.proofs.Done.{NoStation, up-goes, goes-up, back-goes, goes-back, up-is, back-is, length-back, length-up}
 
 -- a station of 0, read again
 zeros-value : (m : ℕ) → value (replicate m 0) ≡ 0
@@ -245,3 +246,15 @@ back-falls f out₀ z =
           down (rowOf f i .«ad_at») (old-offset newest firstEdition two one f p short i m) ∙ ap₂ (λ (x y : ℕ). x + 4 * y) (sym (new-offset newest firstEdition two one f p short i m)) (sym many);
       bodies = sym (new-bodies newest firstEdition two one f p short);
     })
+
+-- a file that passes has its header in order, and the size of its rows is that of its edition
+head-zero : (e : ℕ) (f : List ℕ) → firstEdition ≤ e → e ≤ newest → checkAs e f .number ≡ 0 → headNumber firstEdition newest f ≡ 0
+head-zero e f low high z = passes firstEdition newest f (wider e f low high z) .zero
+
+pub length-told : LengthTold
+length-told = record {
+  up = λ f z.
+      length-up f (head-zero firstEdition f (lit≤ tt) (lit≤ tt) z)
+      (λ q. let s : _≡_ {A = ℕ} 32 36 = sym (ap rowSize (own firstEdition newest one two f z) ∙ one-size) ∙ q ∙ two-size in omega arith);
+  back = λ f z. length-back f (head-zero newest f (lit≤ tt) (lit≤ tt) z) (ap rowSize (own newest firstEdition two one f z));
+}

@@ -6,9 +6,9 @@ use lib.ListN.{length}
 use lib.Dec.{eqb, ltb}
 use Rattle.table.specs.declared.answers.Answer.{Answer}
 use Rattle.table.specs.Search.{firstOf}
-use Rattle.table.specs.Format.{countOf, firstEdition, newest, stationOf}
+use Rattle.table.specs.Format.{editionOf, countOf, firstEdition, newest, stationOf}
 use Rattle.table.specs.Answers.{answer, refusalAnswer}
-use Rattle.table.specs.Check.{andThen, checkAs}
+use Rattle.table.specs.Check.{headNumber, andThen, checkAs}
 use Rattle.editions.specs.declared.answers.Moved.{Moved}
 use Rattle.editions.specs.declared.answers.Moved.the-variants.{Done, Refused, Station, Room}
 use Rattle.editions.specs.Files.{moved}
@@ -27,6 +27,14 @@ stationsFrom f n i = firstOf (λ j. not (eqb (stationOf f j) 0)) (answer 35) (an
 -- 20 (the moved file would pass 1,048,576 bytes), 6 (the output is not as long as it), from the two lengths
 unfoldable pub lengthAnswer : ℕ → ℕ → Answer
 lengthAnswer new out = cond (ltb 1048576 new) (answer 20 0) (cond (not (eqb out new)) (answer 6 0) (answer 0 0))
+
+-- the edition that a file is moved to: the other of the two
+abbrev pub other : List ℕ → ℕ
+other f = cond (eqb (editionOf f) newest) firstEdition newest
+
+-- how long it is there; 0 where one of 20 to 24 applies
+unfoldable pub movedLength : List ℕ → ℕ
+movedLength f = cond (eqb (headNumber firstEdition newest f) 0) (length (moved (other f) f)) 0
 
 -- to edition 2: the checks of edition 1, then 20, 6
 unfoldable pub upAnswer : List ℕ → ℕ → Answer

@@ -17,12 +17,16 @@ pub record Movable (w v : ℕ) (f : List ℕ) (n : ℕ) : Type 0 where
   pub behind : (i : ℕ) → i < n → rowStart w n ≤ rowAt w f i .«ad_at»
   pub within : (i : ℕ) → i < n → rowAt w f i .«ad_at» ≤ length f
 
--- the file passes, as far as a move goes by that
-pub record Source (f : List ℕ) : Type 0 where
+-- 20 to 24 do not apply, as far as a length goes by that
+pub record Tabled (f : List ℕ) : Type 0 where
   pub long : 8 ≤ length f
   pub short : length f ≤ 1048576
   pub few : countOf f ≤ 512
   pub table : TableIn (rowSizeOf f) f (countOf f)
+
+-- the file passes, as far as a move goes by that
+pub record Source (f : List ℕ) : Type 0 where
+  pub tabled : Tabled f
   pub behind : (i : ℕ) → i < countOf f → rowStart (rowSizeOf f) (countOf f) ≤ rowAt (rowSizeOf f) f i .«ad_at»
   pub within : (i : ℕ) → i < countOf f → rowAt (rowSizeOf f) f i .«ad_at» ≤ length f
 

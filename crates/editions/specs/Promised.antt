@@ -14,7 +14,7 @@ use Rattle.shift.specs.Entry.{dataStart, dataLength}
 use Rattle.shift.specs.Opening.{jobOpening}
 use Rattle.search.specs.Halving.{searching}
 use Rattle.editions.specs.Files.{moved}
-use Rattle.editions.specs.Answers.{FileMoved, toEdition2, toEdition1}
+use Rattle.editions.specs.Answers.{movedLength, FileMoved, toEdition2, toEdition1}
 
 -- a move done: number 0, row 0, and the output is the file g
 abbrev pub done : List ℕ → FileMoved
@@ -42,6 +42,11 @@ BackPasses = (f out₀ : List ℕ) → toEdition1 f out₀ .answer .number ≡ 0
 -- going back, no file gets too long: 20 is the check's alone
 abbrev pub BackShort : Type 0
 BackShort = (f : List ℕ) → checkAs newest f .number ≡ 0 → length (moved firstEdition f) ≤ 1048576
+
+-- the length that is told of a file that passes is that of the moved file, which 6 asks of the output
+pub record LengthTold : Type 0 where
+  pub up : (f : List ℕ) → checkAs firstEdition f .number ≡ 0 → movedLength f ≡ length (moved newest f)
+  pub back : (f : List ℕ) → checkAs newest f .number ≡ 0 → movedLength f ≡ length (moved firstEdition f)
 
 -- g is f with rows of four bytes more: row count, jobs and bodies are kept, and the total length and every row's offset rise by 4n
 pub record Risen (f g : List ℕ) : Type 0 where

@@ -10,6 +10,7 @@ use rows::put_rows;
 use table::answers::Checked;
 use table::answers::Refusal;
 use table::check_as;
+use table::check_head;
 use table::row::FIRST_EDITION;
 use table::row::NEWEST;
 use table::row::count;
@@ -25,8 +26,8 @@ ghost use Rattle.words.specs.Bytes.{bytes};
 ghost use Rattle.table.specs.Format.{rowSizeOf};
 ghost use Rattle.table.specs.Inside.{TableIn};
 ghost use Rattle.editions.specs.Files.{carried, movedFrom, moved};
-ghost use Rattle.editions.specs.Answers.{movedAnswer, stationsFrom, lengthAnswer, upAnswer, backAnswer, FileMoved, toEdition2, toEdition1};
-ghost use Rattle.editions.specs.Inside.{Movable, Source, Room};
+ghost use Rattle.editions.specs.Answers.{movedAnswer, stationsFrom, lengthAnswer, movedLength, upAnswer, backAnswer, FileMoved, toEdition2, toEdition1};
+ghost use Rattle.editions.specs.Inside.{Movable, Tabled, Source, Room};
 
 // Writes the header: edition, row count, and the output's own length.
 fn put_header(out: &mut [u8], edition: u16, rows: usize)
@@ -58,13 +59,30 @@ fn write(edition: u16, file: &[u8], out: &mut [u8])
 }
 
 // The length of the file in an edition.
-fn moved_length(edition: u16, file: &[u8]) -> usize
-    requires { ⌜ Source (now file) ⌝ }
+fn length_in(edition: u16, file: &[u8]) -> usize
+    requires { ⌜ Tabled (now file) ⌝ }
     ensures { λ r. ⌜ r ≡ length (moved edition (now (file .entry))) ⌝ }
 {
     let n = count(file);
     let old = row_start(row_size_of(file), n);
     file.len() - old + row_start(row_size(edition), n)
+}
+
+// How long the file is once it is moved, from edition 1 to 2 or from 2 to 1: as long as the output of its move has to be.
+// 0 where one of 20 to 24 applies: its move is refused then, whatever the output.
+pub fn moved_length(file: &[u8]) -> usize
+    ensures { λ r. ⌜ r ≡ movedLength (now (file .entry)) ⌝ }
+{
+    match check_head(FIRST_EDITION, NEWEST, file) {
+        Checked::Refused(_) => {
+            return 0;
+        }
+        Checked::Passed => {}
+    }
+    if row_size_of(file) == row_size(NEWEST) {
+        return length_in(FIRST_EDITION, file);
+    }
+    length_in(NEWEST, file)
 }
 
 // 20 and 6, from the lengths of the moved file and the output.
@@ -105,7 +123,7 @@ fn up_refused(file: &[u8], out: usize) -> Moved
         }
         Checked::Passed => {}
     }
-    length_refused(moved_length(NEWEST, file), out)
+    length_refused(length_in(NEWEST, file), out)
 }
 
 // The refusals of the move back: the checks, 35, 6.
@@ -122,7 +140,7 @@ fn back_refused(file: &[u8], out: usize) -> Moved
     let Moved::Done = station else {
         return station;
     };
-    length_refused(moved_length(FIRST_EDITION, file), out)
+    length_refused(length_in(FIRST_EDITION, file), out)
 }
 
 // Writes a file of edition 1 in edition 2, station 0 everywhere: the checks, 20, 6.

@@ -51,6 +51,7 @@ entry-points =
       locate = record { asks-nothing = λ κs a. tt; one-outcome = amend.locate };
       current = record { asks-nothing = λ κs a. tt; one-outcome = amend.current };
       open-current = record { asks-nothing = λ κs a. tt; one-outcome = amend.open-current };
+      moved-length = record { asks-nothing = λ κs a. tt; one-outcome = editions.moved-length };
       to-edition2 = record { asks-nothing = λ κs a. tt; one-outcome = editions.to-edition2 };
       to-edition1 = record { asks-nothing = λ κs a. tt; one-outcome = editions.to-edition1 };
       compare = record { asks-nothing = λ κs a. tt; one-outcome = comparing.compare };

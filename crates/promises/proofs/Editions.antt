@@ -11,7 +11,7 @@ use Rattle.compare.proofs.Promised.{equal-rows}
 use Rattle.editions.specs.Answers.{toEdition2, toEdition1}
 use Rattle.editions.specs.Promised.{RowKept}
 use Rattle.editions.proofs.Done.{up-goes, back-goes}
-use Rattle.editions.proofs.Promised.{there-and-back, back-and-there, up-passes, back-passes, back-short, up-rises, back-falls}
+use Rattle.editions.proofs.Promised.{there-and-back, back-and-there, up-passes, back-passes, back-short, length-told, up-rises, back-falls}
 use Rattle.editions.proofs.Reading.{up-keeps, back-keeps, up-reads, back-reads}
 use Rattle.promises.specs.Editions.{Equal, UpEqual, BackEqual, Editions}
 
@@ -45,6 +45,7 @@ editions = record {
   up-keeps = up-keeps;
   back-keeps = back-keeps;
   back-short = back-short;
+  length-told = length-told;
   up-reads = up-reads;
   back-reads = back-reads;
   up-equal = up-equal;

@@ -23,8 +23,8 @@ returns c = sym (refused-stands _ _ _ _ (c .before .x .given .1) (c .before .bef
 enum-told : tie.Need-enum-told
 enum-told c = search needs
 
-moved-length-requires : tie.Need-moved-length-requires
-moved-length-requires c κs = source firstEdition (now (c .before .before .before .before .args .file)) (passed-zero _ _ (c .enum-told .given .1) (c .before .before .check-as .ensures))
+length-in-requires : tie.Need-length-in-requires
+length-in-requires c κs = source firstEdition (now (c .before .before .before .before .args .file)) (passed-zero _ _ (c .enum-told .given .1) (c .before .before .check-as .ensures)) .tabled
 
 length-refused-requires : tie.Need-length-refused-requires
 length-refused-requires c κs = search needs
@@ -34,7 +34,7 @@ unfolding upAnswer
 returns-2 c =
     let h = c .before .before .before .before in
     let z = passed-zero _ _ (c .before .before .enum-told .given .1) (h .check-as .ensures) in
-    simp z (c .length-refused .ensures ∙ ap (λ (k : ℕ). lengthAnswer k (h .before .before .args .out)) (c .before .moved-length .ensures))
+    simp z (c .length-refused .ensures ∙ ap (λ (k : ℕ). lengthAnswer k (h .before .before .args .out)) (c .before .length-in .ensures))
 
 pub up-refused-spec : {M : Type 1} → statement M
 up-refused-spec =
@@ -44,6 +44,6 @@ up-refused-spec =
     enum-known-x
     returns
     enum-told
-    moved-length-requires
+    length-in-requires
     length-refused-requires
     returns-2)

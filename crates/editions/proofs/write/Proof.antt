@@ -23,7 +23,7 @@ put-file-requires c κs =
     let f = now (s .args .file) in
     let e = s .args .edition in
     rw (c .before .before .row-size-of .ensures, c .before .row-size .ensures, c .count .ensures)
-    (movable f e (s .pre .0) (s .pre .1 .short), (omega (arith, s .pre .0 .few), s .pre .1 .fits ∙ length-is f e (s .pre .0)))
+    (movable f e (s .pre .0) (s .pre .1 .short), (omega (arith, s .pre .0 .tabled .few), s .pre .1 .fits ∙ length-is f e (s .pre .0 .tabled)))
 
 same-length : tie.Need-same-length
 same-length c = search needs
