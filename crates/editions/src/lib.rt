@@ -55,7 +55,14 @@ fn write(edition: u16, file: &[u8], out: &mut [u8])
     requires { ⌜ Source (now file) × Room (length (moved edition (now file))) (length (now out)) ⌝ }
     ensures { λ _. ⌜ now (out .exit) ≡ moved edition (now (file .entry)) ⌝ }
 {
-    put_file(out, edition, row_size_of(file), row_size(edition), file, count(file));
+    put_file(
+        out,
+        edition,
+        row_size_of(file),
+        row_size(edition),
+        file,
+        count(file),
+    );
 }
 
 // The length of the file in an edition.

@@ -50,7 +50,15 @@ fn absorb_blocks(lent: &[Lent], suite: u8, s: State, ad: &[u8]) -> Fed
 }
 
 // The whole blocks of h held bytes and then ad, which completes one, go in, the first under the mark m, and the rest is held.
-fn absorb_past(lent: &[Lent], suite: u8, s: State, m: u8, held: [u8; 16], h: usize, ad: &[u8]) -> Fed
+fn absorb_past(
+    lent: &[Lent],
+    suite: u8,
+    s: State,
+    m: u8,
+    held: [u8; 16],
+    h: usize,
+    ad: &[u8],
+) -> Fed
     requires { ⌜ Ready suite (now lent) × IsSuite suite × (h < sizeOf suite) × (sizeOf suite ≤ h + length (now ad)) ⌝ }
     ensures states { λ r. ⌜ twoOf suite (r .s) ≡ walked (cipherOf suite) false m 0x10 (twoOf suite s) (blocks (sizeOf suite) (whole (sizeOf suite) (take h held ++ now (ad .entry)))) ⌝ }
     ensures held { λ r. ⌜ r .held ≡ filled (rest (sizeOf suite) (take h held ++ now (ad .entry))) ⌝ }

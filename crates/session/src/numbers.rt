@@ -57,7 +57,13 @@ pub(crate) fn data_number(suite: u8, ad_total: usize, text_total: usize, part: u
 }
 
 // The number of a part of message, from the lengths of part and output.
-pub(crate) fn text_number(suite: u8, ad_total: usize, text_total: usize, part: usize, out: usize) -> u8
+pub(crate) fn text_number(
+    suite: u8,
+    ad_total: usize,
+    text_total: usize,
+    part: usize,
+    out: usize,
+) -> u8
     ensures { λ r. ⌜ r ≡ textNumber suite «ad_total» «text_total» part out ⌝ }
 {
     let b = goes_on(suite, ad_total, text_total);
@@ -75,7 +81,13 @@ pub(crate) fn text_number(suite: u8, ad_total: usize, text_total: usize, part: u
 }
 
 // The number of the end, from the lengths of output and tag buffer.
-pub(crate) fn end_number(suite: u8, ad_total: usize, text_total: usize, out: usize, tag: usize) -> u8
+pub(crate) fn end_number(
+    suite: u8,
+    ad_total: usize,
+    text_total: usize,
+    out: usize,
+    tag: usize,
+) -> u8
     ensures { λ r. ⌜ r ≡ endNumber suite «ad_total» «text_total» out tag ⌝ }
 {
     let b = goes_on(suite, ad_total, text_total);

@@ -199,7 +199,12 @@ pub(crate) fn seal_in(s: Session, part: &[u8], out: &mut [u8]) -> Step
     let f = crate::blocks::crypt_part(suite, two, m, held, h, part, out);
     let u = f.s;
     let g = f.held;
-    let next = packed(suite, Fed { s: u, held: g }, ad_total, text_total + part.len());
+    let next = packed(
+        suite,
+        Fed { s: u, held: g },
+        ad_total,
+        text_total + part.len(),
+    );
     Step {
         next: next,
         number: 0,

@@ -107,7 +107,11 @@ pub extern "C" fn comet_session_part(session: CometSession, msg: &[u8], out: &mu
 
 // The end: the rest of the ciphertext into out, and the tag.
 #[no_mangle]
-pub extern "C" fn comet_session_end(session: CometSession, out: &mut [u8], tag: &mut [u8]) -> CometStep
+pub extern "C" fn comet_session_end(
+    session: CometSession,
+    out: &mut [u8],
+    tag: &mut [u8],
+) -> CometStep
     ensures { λ r. ⌜ flatGives r (now (out .exit)) (now (tag .exit)) ≡ ending (flat session) (now (out .entry)) (now (tag .entry)) ⌝ }
 {
     let r = raised(session).finish(out, tag);

@@ -63,7 +63,14 @@ pub fn open_full(lent: &[Lent], suite: u8, state: State, mark: u8, block: &mut [
 }
 
 // A short block of associated data, or of ciphertext whose message's block goes in and is written nowhere.
-pub fn absorb_short(lent: &[Lent], opening: bool, suite: u8, state: State, mark: u8, block: &[u8]) -> State
+pub fn absorb_short(
+    lent: &[Lent],
+    opening: bool,
+    suite: u8,
+    state: State,
+    mark: u8,
+    block: &[u8],
+) -> State
     requires { ⌜ Ready suite (now lent) × IsSuite suite × (length (now block) < sizeOf suite) ⌝ }
     ensures { λ r. ⌜ Holds suite r (turned (cipherOf suite) mark (twoOf suite state) (messageOf (cipherOf suite) opening mark (twoOf suite state) (now (block .entry)))) (oneMore (state .calls)) ⌝ }
 {
@@ -80,7 +87,14 @@ pub fn absorb_short(lent: &[Lent], opening: bool, suite: u8, state: State, mark:
 }
 
 // A short block of text: what goes out takes its place, and the message's block goes in.
-pub fn crypt_short(lent: &[Lent], opening: bool, suite: u8, state: State, mark: u8, block: &mut [u8]) -> State
+pub fn crypt_short(
+    lent: &[Lent],
+    opening: bool,
+    suite: u8,
+    state: State,
+    mark: u8,
+    block: &mut [u8],
+) -> State
     requires { ⌜ Ready suite (now lent) × IsSuite suite × (length (now block) < sizeOf suite) ⌝ }
     ensures text { λ _. ⌜ now (block .exit) ≡ hidden (cipherOf suite) mark (twoOf suite state) (now (block .entry)) ⌝ }
     ensures state { λ r. ⌜ Holds suite r (turned (cipherOf suite) mark (twoOf suite state) (messageOf (cipherOf suite) opening mark (twoOf suite state) (now (block .entry)))) (oneMore (state .calls)) ⌝ }

@@ -1,5 +1,4 @@
 // The rules of one row: numbers 25 to 30, and 34.
-use cipher::LIMIT;
 use crate::answers::Fault;
 use crate::answers::RowCheck;
 use crate::row::Row;
@@ -9,6 +8,7 @@ use crate::row::nonce_block;
 use crate::row::read_block;
 use crate::row::row_at;
 use crate::row::row_start;
+use cipher::LIMIT;
 ghost use mathlib.Core.Path.{_≡_};
 ghost use mathlib.Core.Bool.{false, _&&_};
 ghost use lib.Dec.{eqb};
@@ -93,7 +93,10 @@ fn unread_set(size: usize, file: &[u8], index: usize, row: Row) -> bool
     requires { ⌜ RowIn size (now file) index × (row ≡ rowAt size (now file) index) ⌝ }
     ensures { λ r. ⌜ r ≡ unreadSet size (now (file .entry)) index ⌝ }
 {
-    !words::block::same(nonce_block(size, file, index), read_block(size, file, index, row.suite))
+    !words::block::same(
+        nonce_block(size, file, index),
+        read_block(size, file, index, row.suite),
+    )
 }
 
 // Two rows have the same suite and the same key number.
@@ -111,7 +114,10 @@ fn clashes(size: usize, file: &[u8], rows: usize, index: usize, other: usize) ->
     requires { ⌜ TableIn size (now file) rows × ((index < rows) × ((other < rows) × ((unreadSet size (now file) index ≡ false) × (unreadSet size (now file) other ≡ false)))) ⌝ }
     ensures { λ r. ⌜ r ≡ clash size (now (file .entry)) index other ⌝ }
 {
-    if words::block::same(nonce_block(size, file, index), nonce_block(size, file, other)) {
+    if words::block::same(
+        nonce_block(size, file, index),
+        nonce_block(size, file, other),
+    ) {
         return same_key(row_at(size, file, index), row_at(size, file, other));
     }
     false

@@ -82,7 +82,14 @@ fn verify_blocks(lent: &[Lent], suite: u8, s: State, m: u8, b: &[u8]) -> Behind
 }
 
 // The whole blocks go in, the first under the mark, and nothing is written: of associated data as they are, of ciphertext that is opened the message's.
-pub fn absorb(lent: &[Lent], opening: bool, suite: u8, state: State, mark: u8, bytes: &[u8]) -> Behind
+pub fn absorb(
+    lent: &[Lent],
+    opening: bool,
+    suite: u8,
+    state: State,
+    mark: u8,
+    bytes: &[u8],
+) -> Behind
     requires { ⌜ Ready suite (now lent) × IsSuite suite ⌝ }
     ensures { λ r. ⌜ Passed suite opening mark state (now (bytes .entry)) r ⌝ }
 {
@@ -155,7 +162,14 @@ fn open_blocks(lent: &[Lent], suite: u8, s: State, m: u8, text: &mut [u8]) -> Be
 }
 
 // The whole blocks of a text go in, the first under the mark, and what goes out for them takes their place; what lies behind them stays.
-pub fn crypt(lent: &[Lent], opening: bool, suite: u8, state: State, mark: u8, text: &mut [u8]) -> Behind
+pub fn crypt(
+    lent: &[Lent],
+    opening: bool,
+    suite: u8,
+    state: State,
+    mark: u8,
+    text: &mut [u8],
+) -> Behind
     requires { ⌜ Ready suite (now lent) × IsSuite suite ⌝ }
     ensures text { λ _. ⌜ ((short : ℕ) → now (text .exit) ≡ covered (cipherOf suite) opening mark short (twoOf suite state) (wholes (sizeOf suite) (now (text .entry))) ++ rest (sizeOf suite) (now (text .entry))) ⌝ }
     ensures state { λ r. ⌜ Passed suite opening mark state (now (text .entry)) r ⌝ }

@@ -32,7 +32,16 @@ pub fn same(left: Block, right: Block) -> bool
 }
 
 // Eight bytes as a number.
-fn le64(byte0: u8, byte1: u8, byte2: u8, byte3: u8, byte4: u8, byte5: u8, byte6: u8, byte7: u8) -> u64
+fn le64(
+    byte0: u8,
+    byte1: u8,
+    byte2: u8,
+    byte3: u8,
+    byte4: u8,
+    byte5: u8,
+    byte6: u8,
+    byte7: u8,
+) -> u64
     ensures { λ r. ⌜ r ≡ value (byte0 ∷ byte1 ∷ byte2 ∷ byte3 ∷ byte4 ∷ byte5 ∷ byte6 ∷ byte7 ∷ []) ⌝ }
 {
     byte0 as u64
@@ -50,7 +59,16 @@ fn load8(eight: &[u8]) -> u64
     requires { ⌜ length (now eight) ≡ 8 ⌝ }
     ensures { λ r. ⌜ bytes 8 r ≡ now (eight .entry) ⌝ }
 {
-    le64(eight[0], eight[1], eight[2], eight[3], eight[4], eight[5], eight[6], eight[7])
+    le64(
+        eight[0],
+        eight[1],
+        eight[2],
+        eight[3],
+        eight[4],
+        eight[5],
+        eight[6],
+        eight[7],
+    )
 }
 
 // The eight bytes of a number.
@@ -93,12 +111,12 @@ fn put8(number: u64, out: &mut [u8])
 }
 
 // Sixteen bytes, by whole words.
-pub fn sixteen(b: &[u8]) -> Block
-    requires { ⌜ length (now b) ≡ 16 ⌝ }
-    ensures { λ r. ⌜ wide r ≡ now (b .entry) ⌝ }
+pub fn sixteen(block: &[u8]) -> Block
+    requires { ⌜ length (now block) ≡ 16 ⌝ }
+    ensures { λ r. ⌜ wide r ≡ now (block .entry) ⌝ }
 {
-    let lo = load8(&b[0..8]);
-    let hi = load8(&b[8..16]);
+    let lo = load8(&block[0..8]);
+    let hi = load8(&block[8..16]);
     Block { a: lo, b: hi }
 }
 

@@ -16,6 +16,14 @@ pub fn seal_into(file: &[u8], ring: &[u8], index: usize, row: Row, suite: u8, ou
     let n = cipher::size_of(suite);
     let e = len + n;
     let mut tag = [0u8; 16];
-    seal_as(file, ring, index, row, suite, &mut out[0..len], &mut tag[0..n]);
+    seal_as(
+        file,
+        ring,
+        index,
+        row,
+        suite,
+        &mut out[0..len],
+        &mut tag[0..n],
+    );
     copy(&tag[0..n], &mut out[len..e]);
 }
