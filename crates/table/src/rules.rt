@@ -93,10 +93,9 @@ fn unread_set(size: usize, file: &[u8], index: usize, row: Row) -> bool
     requires { ⌜ RowIn size (now file) index × (row ≡ rowAt size (now file) index) ⌝ }
     ensures { λ r. ⌜ r ≡ unreadSet size (now (file .entry)) index ⌝ }
 {
-    !words::block::same(
-        nonce_block(size, file, index),
-        read_block(size, file, index, row.suite),
-    )
+    let stored = nonce_block(size, file, index);
+    let read = read_block(size, file, index, row.suite);
+    !words::block::same(stored, read)
 }
 
 // Two rows have the same suite and the same key number.
@@ -114,10 +113,9 @@ fn clashes(size: usize, file: &[u8], rows: usize, index: usize, other: usize) ->
     requires { ⌜ TableIn size (now file) rows × ((index < rows) × ((other < rows) × ((unreadSet size (now file) index ≡ false) × (unreadSet size (now file) other ≡ false)))) ⌝ }
     ensures { λ r. ⌜ r ≡ clash size (now (file .entry)) index other ⌝ }
 {
-    if words::block::same(
-        nonce_block(size, file, index),
-        nonce_block(size, file, other),
-    ) {
+    let this = nonce_block(size, file, index);
+    let earlier = nonce_block(size, file, other);
+    if words::block::same(this, earlier) {
         return same_key(row_at(size, file, index), row_at(size, file, other));
     }
     false
