@@ -16,7 +16,7 @@ cast-len c = search needs
 
 returns-2 : tie.Need-returns-2
 unfolding badLength
-returns-2 c = simp (← c .before .before .before .outside .ensures, c .before .before .if1 .left)
+returns-2 c = simp (← c .before .before .outside .ensures, c .before .if1 .left)
 
 pub bad-length-spec : {M : Type 1} → statement M
 bad-length-spec = tie.close (tie.spec outside-requires returns cast-len returns-2)
