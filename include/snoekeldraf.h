@@ -140,9 +140,9 @@ uint32_t comet_open_counted(uint8_t suite,
 typedef struct {
     uint8_t suite;
     uint64_t y0, y1, z0, z1;
-    uint8_t held[16]; /* bytes that are in no whole block yet */
-    size_t came;      /* bytes of associated data so far */
-    size_t text;      /* bytes of message so far */
+    uint8_t held[16];  /* bytes that are in no whole block yet */
+    size_t ad_total;   /* bytes of associated data so far */
+    size_t text_total; /* bytes of message so far */
 } comet_session;
 
 typedef struct {
@@ -336,9 +336,14 @@ uint32_t shift_open_amended(const uint8_t *amendment, size_t amendment_len,
  *  35   shift_to_edition1 alone: the row's station is not 0; the first such row
  *  20   shift_to_edition2: the moved file would be longer than 1,048,576 bytes
  *   6   out_len is not the moved file's length: file_len and 4 bytes more (shift_to_edition2) or less (shift_to_edition1)
- *       for each row, whose count is the number in the file's bytes 2 and 3
+ *       for each row; shift_moved_length tells it
  *   0   done: out is written whole
  */
+
+/* How long the file is once it is moved, from edition 1 to 2 or from 2 to 1: the out_len of its move. 0 where one of 20 to
+ * 24 applies to it: its move is refused then, whatever out_len is. The rows are not looked at.
+ */
+size_t shift_moved_length(const uint8_t *file, size_t file_len);
 
 /* From edition 1 to 2, station 0 in every row. The bodies are kept byte for byte; check, lookup, search and opening give
  * of out what they give of the file.

@@ -241,6 +241,11 @@ static uint32_t verify(void) {
     return comet_verify(suite, SLICE(key), SLICE(nonce), SLICE(ad), SLICE(text), SLICE(tag));
 }
 
+static uint32_t moved_length(void) {
+    bytes file = given();
+    return (uint32_t)shift_moved_length(SLICE(file));
+}
+
 static uint32_t (*const functions[])(void) = {
     seal, open_record, check, lookup, associated, open_job, entry,
     session_start, session_data, session_part, session_end,
@@ -253,6 +258,7 @@ static uint32_t (*const functions[])(void) = {
     seal_counted, open_counted,
     report,
     seal_in_place, open_in_place, verify,
+    moved_length,
 };
 
 int main(void) {

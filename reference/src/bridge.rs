@@ -142,14 +142,14 @@ fn entry(file: &[u8], job: u32) -> (Answer, Places) {
 
 /// A session as the struct comet_session lies in memory: suite and seven bytes of nothing, Y, Z, held bytes, totals.
 fn flat(s: &Session) -> Vec<u8> {
-    let (suite, data, text) = ((s.suite as u64).to_le_bytes(), s.data.to_le_bytes(), s.text.to_le_bytes());
-    [&suite[..], &s.y, &s.z, &s.held, &data, &text].concat()
+    let suite = (s.suite as u64).to_le_bytes();
+    [&suite[..], &s.y, &s.z, &s.held, &s.ad_total.to_le_bytes(), &s.text_total.to_le_bytes()].concat()
 }
 
 fn raised(flat: &[u8; 72]) -> Session {
     let block = |at: usize| flat[at..at + 16].try_into().unwrap();
     let total = |at: usize| usize::from_le_bytes(flat[at..at + 8].try_into().unwrap());
-    Session { suite: flat[0], y: block(8), z: block(24), held: block(40), data: total(56), text: total(64) }
+    Session { suite: flat[0], y: block(8), z: block(24), held: block(40), ad_total: total(56), text_total: total(64) }
 }
 
 fn step(function: u8, given: Vec<Argument>) -> Step {
@@ -215,6 +215,10 @@ fn compare(first: &[u8], second: &[u8], lists: [&mut [u32]; 3]) -> Compared {
         list.copy_from_slice(&numbers_of(bytes));
     }
     Compared { number, file, row, counts: [a, b, c] }
+}
+
+fn moved_length(file: &[u8]) -> usize {
+    ask::<0>(26, vec![Given(file)]).0 as usize
 }
 
 fn to_edition2(file: &[u8], out: &mut [u8]) -> Answer {
@@ -308,6 +312,7 @@ pub const PROVED: Library = Library {
     search,
     reseal,
     compare,
+    moved_length,
     to_edition2,
     to_edition1,
     amended,

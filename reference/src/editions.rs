@@ -1,10 +1,19 @@
 //! Moving a shift file from one edition to the other (document 02, W10).
 
-use crate::shift::{check_as, count, fields_at, row_at, rows, Answer, LONGEST};
+use crate::shift::{check_as, check_header, count, edition, fields_at, row_at, rows, Answer, EDITIONS, LONGEST};
 
 /// How much longer a file is in edition 2.
 fn growth(file: &[u8]) -> usize {
     4 * count(file)
+}
+
+/// How long the file is once it is moved, from edition 1 to 2 or from 2 to 1; 0 where one of 20 to 24 applies.
+pub fn moved_length(file: &[u8]) -> usize {
+    match check_header(file, &EDITIONS) {
+        0 if edition(file) == 1 => file.len() + growth(file),
+        0 => file.len() - growth(file),
+        _ => 0,
+    }
 }
 
 /// The file in another edition, with no station: each row's own bytes, with its offset as it becomes, and the bodies.

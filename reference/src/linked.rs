@@ -72,8 +72,8 @@ mod proved {
         y: [u8; 16],
         z: [u8; 16],
         held: [u8; 16],
-        data: usize,
-        text: usize,
+        ad_total: usize,
+        text_total: usize,
     }
 
     #[repr(C)]
@@ -98,11 +98,12 @@ mod proved {
     }
 
     fn given(s: Session) -> CSession {
-        CSession { suite: s.suite as u64, y: s.y, z: s.z, held: s.held, data: s.data, text: s.text }
+        CSession { suite: s.suite as u64, y: s.y, z: s.z, held: s.held, ad_total: s.ad_total, text_total: s.text_total }
     }
 
     fn stepped(CStep { next: s, number, count }: CStep) -> Step {
-        let next = Session { suite: s.suite as u8, y: s.y, z: s.z, held: s.held, data: s.data, text: s.text };
+        let (ad_total, text_total) = (s.ad_total, s.text_total);
+        let next = Session { suite: s.suite as u8, y: s.y, z: s.z, held: s.held, ad_total, text_total };
         Step { next, number, count }
     }
 

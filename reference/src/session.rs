@@ -12,12 +12,12 @@ pub struct Session {
     pub y: [u8; 16],
     pub z: [u8; 16],
     pub held: [u8; 16],
-    pub data: usize,
-    pub text: usize,
+    pub ad_total: usize,
+    pub text_total: usize,
 }
 
 /// A session that was refused or has ended: it answers 9 to every call.
-pub const OVER: Session = Session { suite: 0, y: [0; 16], z: [0; 16], held: [0; 16], data: 0, text: 0 };
+pub const OVER: Session = Session { suite: 0, y: [0; 16], z: [0; 16], held: [0; 16], ad_total: 0, text_total: 0 };
 
 /// What a call gives: the next session, the number, and how many bytes stand at the output's start.
 #[derive(Clone, Copy)]
@@ -38,12 +38,12 @@ impl Session {
     /// Any value may arrive. One that names no suite that can be started, or totals over the limits, is over; any other
     /// is taken at its word.
     fn is_over(&self) -> bool {
-        !SEALED.contains(&self.suite) || self.data > LIMIT || self.text > LIMIT
+        !SEALED.contains(&self.suite) || self.ad_total > LIMIT || self.text_total > LIMIT
     }
 
     /// The bytes held back: of the associated data until the message begins, then of the message.
     pub fn held(&self) -> &[u8] {
-        let total = if self.text == 0 { self.data } else { self.text };
+        let total = if self.text_total == 0 { self.ad_total } else { self.text_total };
         &self.held[..total % block_size(self.suite)]
     }
 
@@ -73,17 +73,17 @@ fn take_data<const N: usize>(encrypt: impl Cipher<N>, session: Session, ad: &[u8
     let mut state = session.state(encrypt);
     let bytes = [session.held(), ad].concat();
     let (blocks, rest) = bytes.split_at(whole::<N>(&bytes));
-    state.absorb(session.data < N, blocks);
-    Session { data: session.data + ad.len(), ..session.with(state, rest) }
+    state.absorb(session.ad_total < N, blocks);
+    Session { ad_total: session.ad_total + ad.len(), ..session.with(state, rest) }
 }
 
 /// The state with all associated data in, its short last block too, and the bytes held back of the message.
 fn begun<const N: usize, E: Cipher<N>>(encrypt: E, session: &Session) -> (State<N, E>, &[u8]) {
     let mut state = session.state(encrypt);
-    if session.text > 0 {
+    if session.text_total > 0 {
         return (state, session.held());
     }
-    state.absorb(session.data < N, session.held());
+    state.absorb(session.ad_total < N, session.held());
     (state, &[])
 }
 
@@ -97,14 +97,14 @@ fn take_text<const N: usize>(
     let (mut state, held) = begun(encrypt, &session);
     let bytes = [held, msg].concat();
     let (blocks, rest) = bytes.split_at(whole::<N>(&bytes));
-    state.crypt(Text::Message, session.text < N, blocks, &mut out[..blocks.len()]);
-    (Session { text: session.text + msg.len(), ..session.with(state, rest) }, blocks.len())
+    state.crypt(Text::Message, session.text_total < N, blocks, &mut out[..blocks.len()]);
+    (Session { text_total: session.text_total + msg.len(), ..session.with(state, rest) }, blocks.len())
 }
 
 /// The rest of the ciphertext and the tag; gives how many bytes went out.
 fn finish<const N: usize>(encrypt: impl Cipher<N>, session: Session, out: &mut [u8], tag: &mut [u8]) -> usize {
     let (mut state, held) = begun(encrypt, &session);
-    state.crypt(Text::Message, session.text < N, held, &mut out[..held.len()]);
+    state.crypt(Text::Message, session.text_total < N, held, &mut out[..held.len()]);
     tag.copy_from_slice(&state.tag());
     held.len()
 }
@@ -120,8 +120,8 @@ pub fn start(suite: u8, key: &[u8], nonce: &[u8]) -> Step {
 
 /// A part of the associated data. 9 also where the message has begun, even for an empty part.
 pub fn data(session: Session, ad: &[u8]) -> Step {
-    let room = LIMIT.saturating_sub(session.data);
-    let number = first(&[(9, session.is_over() || session.text > 0), (4, ad.len() > room)]);
+    let room = LIMIT.saturating_sub(session.ad_total);
+    let number = first(&[(9, session.is_over() || session.text_total > 0), (4, ad.len() > room)]);
     if number != 0 {
         return session.refused(number);
     }
@@ -131,7 +131,7 @@ pub fn data(session: Session, ad: &[u8]) -> Step {
 /// A part of the message. The ciphertext of the blocks that it completes goes to the output's start; an empty part
 /// changes nothing.
 pub fn part(session: Session, msg: &[u8], out: &mut [u8]) -> Step {
-    let room = LIMIT.saturating_sub(session.text);
+    let room = LIMIT.saturating_sub(session.text_total);
     let is_narrow = out.len() + 1 < msg.len() + block_size(session.suite);
     let number = first(&[(9, session.is_over()), (5, msg.len() > room), (6, is_narrow)]);
     if number != 0 || msg.is_empty() {

@@ -4,7 +4,7 @@ use reference::amendment::{amended, current, open_current};
 use reference::comet::{double_120, encipher, open, open_counted, pad, seal, seal_counted, shuffle, specified, LIMIT};
 use reference::data::{files, samples};
 use reference::difference::{compare, printed, PROGRAM_LONGEST};
-use reference::editions::{to_edition1, to_edition2};
+use reference::editions::{moved_length, to_edition1, to_edition2};
 use reference::plan::{Entry, Plan};
 use reference::report::{self, report, Reader};
 use reference::reseal::reseal;
@@ -462,6 +462,7 @@ mod w10 {
         assert_eq!((check(&out), open_job(&out, &samples::ring(), 7, &mut [])), ((0, 0), (0, 0)));
         let mut back = [7; 53];
         assert_eq!((to_edition1(&out, &mut back), &back[..]), ((0, 0), &file[..]));
+        assert_eq!([&file[..], &out, &out[..8]].map(moved_length), [57, 53, 0]);
         out[12] = 1;
         assert_eq!((check(&out), to_edition1(&out, &mut []), to_edition1(&file, &mut [])), ((0, 0), (35, 0), (21, 0)));
         assert_eq!((to_edition2(&out, &mut back), to_edition2(&file, &mut back)), ((21, 0), (6, 0)));

@@ -5,45 +5,29 @@ use crate::{raw, Refused};
 #[cfg(feature = "alloc")]
 use alloc::{vec, vec::Vec};
 
-/// Four bytes for each row that the header counts.
-fn stations(file: &[u8]) -> usize {
-    match file {
-        [_, _, low, high, ..] => 4 * usize::from(u16::from_le_bytes([*low, *high])),
-        _ => 0,
-    }
-}
-
-/// How long a file of edition 1 is in edition 2: four bytes more for each row.
-///
-/// ```
-/// assert_eq!(snoekeldraf::len_in_edition2(&[1, 0, 0, 0, 8, 0, 0, 0]), 8);
-/// ```
-pub fn len_in_edition2(file: &[u8]) -> usize {
-    file.len() + stations(file)
-}
-
-/// How long a file of edition 2 is in edition 1: four bytes less for each row.
+/// How long a file is once it is moved, from edition 1 to 2 or from 2 to 1: four bytes more or less for each row. 0 where one
+/// of 20 to 24 applies to it: its move is refused then, whatever `out` is. The rows are not looked at.
 ///
 /// ```
 /// let file = std::fs::read("../../samples/stations.shift").unwrap();
-/// assert_eq!(snoekeldraf::len_in_edition1(&file), file.len() - 4 * 8);
+/// assert_eq!(snoekeldraf::moved_len(&file), file.len() - 4 * 8);
 /// ```
-pub fn len_in_edition1(file: &[u8]) -> usize {
-    file.len().saturating_sub(stations(file))
+pub fn moved_len(file: &[u8]) -> usize {
+    raw::moved_length(file)
 }
 
 /// Moves a file of edition 1 to edition 2, where every row has a station number, 0 everywhere. The total length and every
-/// offset rise by four bytes a row, and the bodies are kept byte for byte. `out` is [`len_in_edition2`] bytes long.
+/// offset rise by four bytes a row, and the bodies are kept byte for byte. `out` is [`moved_len`] bytes long.
 ///
 /// Numbers, in this order: 20 to 31 and 34 as [`ShiftFile::check`](crate::ShiftFile::check), but that 21 says that the
 /// edition is not 1; 20 where the moved file would be over 1,048,576 bytes long; 6 where `out` has another length. A
 /// refusal leaves `out` as it was.
 ///
 /// ```
-/// use snoekeldraf::{len_in_edition2, to_edition1, to_edition2, ShiftFile};
+/// use snoekeldraf::{moved_len, to_edition1, to_edition2, ShiftFile};
 ///
 /// let file = std::fs::read("../../samples/day.shift")?;
-/// let mut moved = vec![0; len_in_edition2(&file)];
+/// let mut moved = vec![0; moved_len(&file)];
 /// to_edition2(&file, &mut moved)?;
 /// assert!(ShiftFile::check(&moved)?.entries().all(|entry| entry.station == 0));
 ///
@@ -56,17 +40,17 @@ pub fn to_edition2(file: &[u8], out: &mut [u8]) -> Result<(), Refused> {
     checked(raw::to_edition2(file, out))
 }
 
-/// Moves a file of edition 2 to edition 1, which has no stations. `out` is [`len_in_edition1`] bytes long.
+/// Moves a file of edition 2 to edition 1, which has no stations. `out` is [`moved_len`] bytes long.
 ///
 /// Numbers, in this order: 20 to 31 and 34 as [`ShiftFile::check`](crate::ShiftFile::check), but that 21 says that the
 /// edition is not 2; 35 with the first row whose station is not 0; 6 where `out` has another length. A refusal leaves
 /// `out` as it was.
 ///
 /// ```
-/// use snoekeldraf::{len_in_edition1, to_edition1, Refused};
+/// use snoekeldraf::{moved_len, to_edition1, Refused};
 ///
 /// let file = std::fs::read("../../samples/stations.shift").unwrap();
-/// let mut moved = vec![0; len_in_edition1(&file)];
+/// let mut moved = vec![0; moved_len(&file)];
 /// assert_eq!(to_edition1(&file, &mut moved), Err(Refused { number: 35, row: Some(0), file: None }));
 /// ```
 pub fn to_edition1(file: &[u8], out: &mut [u8]) -> Result<(), Refused> {
@@ -84,7 +68,7 @@ pub fn to_edition1(file: &[u8], out: &mut [u8]) -> Result<(), Refused> {
 /// ```
 #[cfg(feature = "alloc")]
 pub fn to_edition2_vec(file: &[u8]) -> Result<Vec<u8>, Refused> {
-    let mut out = vec![0; len_in_edition2(file)];
+    let mut out = vec![0; moved_len(file)];
     to_edition2(file, &mut out)?;
     Ok(out)
 }
@@ -97,7 +81,7 @@ pub fn to_edition2_vec(file: &[u8]) -> Result<Vec<u8>, Refused> {
 /// ```
 #[cfg(feature = "alloc")]
 pub fn to_edition1_vec(file: &[u8]) -> Result<Vec<u8>, Refused> {
-    let mut out = vec![0; len_in_edition1(file)];
+    let mut out = vec![0; moved_len(file)];
     to_edition1(file, &mut out)?;
     Ok(out)
 }

@@ -62,7 +62,7 @@ mod writer;
 
 pub use amendment::{amend, open_amended, Current, Holder};
 pub use difference::{compare, Difference};
-pub use editions::{len_in_edition1, len_in_edition2, to_edition1, to_edition2};
+pub use editions::{moved_len, to_edition1, to_edition2};
 pub use file::{search, Entries, Searched, ShiftFile};
 pub use keys::{Key, Ring, Tag};
 pub use record::{open, open_counted, open_in_place, seal, seal_counted, seal_in_place, verify, Counted};

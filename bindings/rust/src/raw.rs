@@ -14,8 +14,8 @@ pub struct CometSession {
     z0: u64,
     z1: u64,
     held: [u8; 16],
-    came: usize,
-    text: usize,
+    ad_total: usize,
+    text_total: usize,
 }
 
 /// The struct `comet_step`.
@@ -98,6 +98,7 @@ extern "C" {
         amendment: *const u8, amendment_len: usize, day: *const u8, day_len: usize, ring: *const u8, ring_len: usize,
         job: u32, out: *mut u8, out_len: usize, file: *mut u32, row: *mut u32,
     ) -> u32;
+    fn shift_moved_length(file: *const u8, file_len: usize) -> usize;
     fn shift_to_edition2(file: *const u8, file_len: usize, out: *mut u8, out_len: usize, row: *mut u32) -> u32;
     fn shift_to_edition1(file: *const u8, file_len: usize, out: *mut u8, out_len: usize, row: *mut u32) -> u32;
     fn shift_compare(
@@ -289,6 +290,10 @@ pub fn open_amended(amendment: &[u8], day: &[u8], ring: &[u8], job: u32, out: &m
             out.as_mut_ptr(), out.len(), &mut file, &mut row)
     };
     (number, [file, row])
+}
+
+pub fn moved_length(file: &[u8]) -> usize {
+    unsafe { shift_moved_length(file.as_ptr(), file.len()) }
 }
 
 pub fn to_edition2(file: &[u8], out: &mut [u8]) -> Answer {

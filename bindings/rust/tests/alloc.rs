@@ -80,8 +80,8 @@ fn tools() {
         assert_eq!(unseal_vec(file, &ring()), lent(file.len(), |out| unseal(file, &ring(), out)));
         assert_eq!(reseal_vec(file, &ring()), lent(file.len(), |out| reseal(file, &ring(), out)));
         let (wide, narrow) = (to_edition2_vec(file), to_edition1_vec(file));
-        assert_eq!(wide, lent(len_in_edition2(file), |out| to_edition2(file, out)));
-        assert_eq!(narrow, lent(len_in_edition1(file), |out| to_edition1(file, out)));
+        assert_eq!(wide, lent(moved_len(file), |out| to_edition2(file, out)));
+        assert_eq!(narrow, lent(moved_len(file), |out| to_edition1(file, out)));
         // the length that is asked for is the right one
         assert!([&wide, &narrow]
             .iter()

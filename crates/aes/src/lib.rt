@@ -65,10 +65,10 @@ fn double(x: u32) -> u32
 }
 
 // The rows move up by one, row 0 to the end.
-pub fn rot_word(x: u32) -> u32
-    ensures { λ r. ⌜ bytes 4 r ≡ rotWord (bytes 4 x) ⌝ }
+pub fn rot_word(column: u32) -> u32
+    ensures { λ r. ⌜ bytes 4 r ≡ rotWord (bytes 4 column) ⌝ }
 {
-    (x >> 8) + (x << 24)
+    (column >> 8) + (column << 24)
 }
 
 // MixColumns of one column: 02 a + 03 b + c + d is 02 (a + b) + b + (c + d), and c + d is two rows on from a + b.
@@ -93,14 +93,14 @@ fn mix_columns(s: Columns) -> Columns
 }
 
 // AddRoundKey.
-pub fn add_round_key(s: Columns, k: Columns) -> Columns
-    ensures { λ r. ⌜ bytesOf r ≡ addRoundKey (bytesOf s) (bytesOf k) ⌝ }
+pub fn add_round_key(state: Columns, key: Columns) -> Columns
+    ensures { λ r. ⌜ bytesOf r ≡ addRoundKey (bytesOf state) (bytesOf key) ⌝ }
 {
     Columns {
-        a: s.a ^ k.a,
-        b: s.b ^ k.b,
-        c: s.c ^ k.c,
-        d: s.d ^ k.d,
+        a: state.a ^ key.a,
+        b: state.b ^ key.b,
+        c: state.c ^ key.c,
+        d: state.d ^ key.d,
     }
 }
 
@@ -116,14 +116,14 @@ fn round(t: &[u8; 256], s: Columns, k: Columns, mixing: bool) -> Columns
     add_round_key(u, k)
 }
 
-// The columns of the key after k, each the sum of the column in its place and the one before it; x comes before the first.
-pub fn chained(k: Columns, x: u32) -> Columns
-    ensures { λ r. ⌜ (r .a ≡ xor (k .a) x) × (r .b ≡ xor (k .b) (r .a)) × (r .c ≡ xor (k .c) (r .b)) × (r .d ≡ xor (k .d) (r .c)) ⌝ }
+// The columns of the next key, each the sum of the column in its place and the one before it; before the first comes the given one.
+pub fn chained(key: Columns, before: u32) -> Columns
+    ensures { λ r. ⌜ (r .a ≡ xor (key .a) before) × (r .b ≡ xor (key .b) (r .a)) × (r .c ≡ xor (key .c) (r .b)) × (r .d ≡ xor (key .d) (r .c)) ⌝ }
 {
-    let a = k.a ^ x;
-    let b = k.b ^ a;
-    let c = k.c ^ b;
-    let d = k.d ^ c;
+    let a = key.a ^ before;
+    let b = key.b ^ a;
+    let c = key.c ^ b;
+    let d = key.d ^ c;
     Columns { a, b, c, d }
 }
 
@@ -136,19 +136,19 @@ fn next_key(t: &[u8; 256], k: Columns, rc: u32) -> Columns
     chained(k, shifted(t, w, w, w, w) ^ rc)
 }
 
-// The Rcon after rc, as a number: 0x11b is 0x1b and the bit that drops out.
-pub fn next_rcon(rc: u32) -> u32
-    requires { ⌜ rc < 256 ⌝ }
-    ensures { λ r. ⌜ r ≡ xtime rc ⌝ }
+// The Rcon after an Rcon, as a number: 0x11b is 0x1b and the bit that drops out.
+pub fn next_rcon(rcon: u32) -> u32
+    requires { ⌜ rcon < 256 ⌝ }
+    ensures { λ r. ⌜ r ≡ xtime rcon ⌝ }
 {
-    (rc << 1) ^ ((rc >> 7) * 0x11b)
+    (rcon << 1) ^ ((rcon >> 7) * 0x11b)
 }
 
 // Sixteen bytes as four columns.
-pub fn load(b: [u8; 16]) -> Columns
-    ensures { λ r. ⌜ bytesOf r ≡ b ⌝ }
+pub fn load(block: [u8; 16]) -> Columns
+    ensures { λ r. ⌜ bytesOf r ≡ block ⌝ }
 {
-    let x = block_of(b);
+    let x = block_of(block);
     Columns {
         a: (x.a % 0x100000000) as u32,
         b: (x.a >> 32) as u32,
@@ -165,8 +165,8 @@ pub fn sbox_table() -> [u8; 256]
 }
 
 // The image of a block: ten rounds, each with the next round key.
-pub fn encrypt_with(t: &[u8; 256], key: [u8; 16], block: [u8; 16]) -> [u8; 16]
-    requires { ⌜ IsSbox (now t) ⌝ }
+pub fn encrypt_with(table: &[u8; 256], key: [u8; 16], block: [u8; 16]) -> [u8; 16]
+    requires { ⌜ IsSbox (now table) ⌝ }
     ensures { λ r. ⌜ r ≡ cipher key block ⌝ }
 {
     let mut k = load(key);
@@ -174,8 +174,8 @@ pub fn encrypt_with(t: &[u8; 256], key: [u8; 16], block: [u8; 16]) -> [u8; 16]
     let mut rc: u32 = 1;
     let mut i: usize = 0;
     while i < 10 {
-        k = next_key(t, k, rc);
-        s = round(t, s, k, i < 9);
+        k = next_key(table, k, rc);
+        s = round(table, s, k, i < 9);
         rc = next_rcon(rc);
         i += 1;
     }

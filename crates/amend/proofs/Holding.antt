@@ -1,24 +1,28 @@
--- The number of a lookup tells which case of the current entry applies: neither 0 nor 32 is a refusal of the file, which then has no entry; 32 is a file that passes and lacks the job.
+-- What a lookup found tells which case of the current entry applies: a refusal is that of the file, which then has no entry; a job that is missing is lacked by a file that passes.
 use Prim.Native.Nat.{ℕ}
 use native.Mathlib.Omega.{arith}
 use mathlib.Core.Path.{_≡_, refl, sym, ap, subst, _∙_}
-use mathlib.Core.Bool.{Bool, true, false, not, _&&_}
+use mathlib.Core.Bool.{Bool, true, false, true≢false}
 use mathlib.Core.List.{List}
 use mathlib.Core.Logic.{⊎-elim}
 use lib.Dec.{eqb}
-use borrow.Author.Tests.{eqb-true, eqb-false, eq-eqb, ne-eqb, not-true, not-false}
+use borrow.Author.Tests.{eqb-true, eqb-false, eq-eqb, ne-eqb}
 use Rattle.table.specs.declared.answers.Answer.{Answer}
-use Rattle.table.specs.Format.{edition, newest}
+use Rattle.table.specs.Format.{firstEdition, newest}
 use Rattle.table.specs.Answers.{answer}
 use Rattle.table.specs.Check.{checkFile}
+use Rattle.table.proofs.Numbers.{refusal-range, refusal-some}
 use Rattle.table.proofs.Numbered.{check-numbered}
+use Rattle.shift.specs.declared.answers.Found.{Found}
+use Rattle.shift.specs.declared.answers.Found.the-variants.{At, Missing, Refused}
 use Rattle.shift.specs.declared.answers.Entry.{Entry}
+use Rattle.shift.specs.Answers.{foundAnswer}
 use Rattle.shift.specs.Lookup.{lookupJob}
 use Rattle.shift.specs.Entry.{dataStart, dataLength, textStart, textLength, entryOf}
 use Rattle.shift.proofs.Finding.{finds}
 use Rattle.amend.specs.declared.Amended.{Amended}
-use Rattle.amend.specs.Amending.{noEntry, inFile, refused, amendedEntry}
-use Rattle.amend.specs.Inside.{refusing, Tells}
+use Rattle.amend.specs.Amending.{noEntry, inFile, amendedEntry}
+use Rattle.amend.specs.Inside.{refusing, finding, Tells}
 
 -- a number is 0 or not
 pub zero-or-not : {A : Type 0} (m : ℕ) → (m ≡ 0 → A) → ((m ≡ 0 → ⊥) → A) → A
@@ -27,6 +31,9 @@ zero-or-not {A} m zero some = go (eqb m 0) refl
     go : (b : Bool) → eqb m 0 ≡ b → A
     go true e = zero (eqb-true m 0 e)
     go false e = some (eqb-false m 0 e)
+
+abbrev number : Answer → ℕ
+number x = x .number
 
 -- ---- one file
 
@@ -53,33 +60,45 @@ module _ (f : List ℕ) (job : ℕ) where
 
   -- the check itself never gives 32
   pub not-missing : checkFile f .number ≡ 32 → ⊥
-  not-missing q = ⊎-elim (λ z. omega arith) (λ r. ⊎-elim (λ s. omega arith) (λ s. omega arith) r) (check-numbered edition newest f .number)
+  not-missing q = ⊎-elim (λ z. omega arith) (λ r. ⊎-elim (λ s. omega arith) (λ s. omega arith) r) (check-numbered firstEdition newest f .number)
 
-  -- so the lookup's number tells whether the check refuses
-  pub number-tells : refusing (lookupJob f job .number) ≡ refused f
-  unfolding refusing
-  number-tells = check-case (eqb (checkFile f .number) 0) refl
-    where
-      check-case : (b : Bool) → eqb (checkFile f .number) 0 ≡ b → not (eqb (lookupJob f job .number) 0) && not (eqb (lookupJob f job .number) 32) ≡ not b
-      check-case false e =
-          let none = eqb-false (checkFile f .number) 0 e in
-          simp (stands none, e, ne-eqb _ _ not-missing)
-      check-case true e = found-case (eqb (lookupJob f job .number) 0) refl
-        where
-          found-case : (b : Bool) → eqb (lookupJob f job .number) 0 ≡ b → not b && not (eqb (lookupJob f job .number) 32) ≡ false
-          found-case true g = refl
-          found-case false g = simp (missing (eqb-true (checkFile f .number) 0 e) (eqb-false (lookupJob f job .number) 0 g))
+  -- so what the lookup found tells whether the check refuses
+  module _ (x : Found) (q : foundAnswer x ≡ lookupJob f job) where
+    pub refuses-file : refusing x ≡ true → checkFile f .number ≡ 0 → ⊥
+    refuses-file e z = by x e (ap number q)
+      where
+        by : (y : Found) → refusing y ≡ true → foundAnswer y .number ≡ lookupJob f job .number → ⊥
+        by (At i) g h = true≢false (sym g)
+        by Missing g h = true≢false (sym g)
+        by (Refused y) g h =
+            zero-or-not (lookupJob f job .number)
+            (λ m. refusal-some y (h ∙ m))
+            (λ n. let m : lookupJob f job .number ≡ 32 = ap number (missing z n) in ⊎-elim (λ r. omega arith) (λ r. omega arith) (refusal-range y))
 
-  -- and which
-  pub refuses-file : refusing (lookupJob f job .number) ≡ true → checkFile f .number ≡ 0 → ⊥
-  refuses-file e = eqb-false _ _ (not-true _ (sym number-tells ∙ e))
+    pub passes-file : refusing x ≡ false → checkFile f .number ≡ 0
+    passes-file e = zero-or-not (checkFile f .number) (λ z. z) (λ n. absurd (by x e (ap number q ∙ ap number (stands n)) n))
+      where
+        by : (y : Found) → refusing y ≡ false → foundAnswer y .number ≡ checkFile f .number → (checkFile f .number ≡ 0 → ⊥) → ⊥
+        by (At i) g h n = n (sym h)
+        by Missing g h n = not-missing (sym h)
+        by (Refused y) g h n = true≢false g
 
-  pub passes-file : refusing (lookupJob f job .number) ≡ false → checkFile f .number ≡ 0
-  passes-file e = eqb-true _ _ (not-false _ (sym number-tells ∙ e))
+    -- and whether it has the job
+    pub finds-job : finding x ≡ true → lookupJob f job .number ≡ 0
+    finds-job e = sym (ap number q) ∙ by x e
+      where
+        by : (y : Found) → finding y ≡ true → foundAnswer y .number ≡ 0
+        by (At i) g = refl
+        by Missing g = absurd (true≢false (sym g))
+        by (Refused y) g = absurd (true≢false (sym g))
 
-  -- as the code asks it, of a number that it was given
-  pub flag : (m : ℕ) (r b : Bool) → m ≡ lookupJob f job .number → r ≡ refusing m → r ≡ b → refusing (lookupJob f job .number) ≡ b
-  flag m r b q p e = sym (ap refusing q) ∙ sym p ∙ e
+    pub lacks-job : finding x ≡ false → lookupJob f job .number ≡ 0 → ⊥
+    lacks-job e z = by x e (ap number q ∙ z)
+      where
+        by : (y : Found) → finding y ≡ false → foundAnswer y .number ≡ 0 → ⊥
+        by (At i) g h = true≢false g
+        by Missing g h = omega arith
+        by (Refused y) g h = refusal-some y h
 
 -- ---- the five cases
 
@@ -125,22 +144,22 @@ module _ (a d : List ℕ) (job : ℕ) where
       (λ p. subst P (sym (amendment-refused p)) (one p))
 
   -- and so the two lookups' entries tell it
-  pub told-first : refusing (lookupJob a job .number) ≡ true → inFile 1 (entryOf a job) ≡ amendedEntry a d job
-  told-first e = let p = refuses-file a job e in ap (inFile 1) (entry-refused a job p) ∙ sym (amendment-refused p)
+  pub told-first : (checkFile a .number ≡ 0 → ⊥) → inFile 1 (entryOf a job) ≡ amendedEntry a d job
+  told-first p = ap (inFile 1) (entry-refused a job p) ∙ sym (amendment-refused p)
 
-  module _ (e : refusing (lookupJob a job .number) ≡ false) where
-    pub told-second : refusing (lookupJob d job .number) ≡ true → inFile 2 (entryOf d job) ≡ amendedEntry a d job
-    told-second g = let q = refuses-file d job g in ap (inFile 2) (entry-refused d job q) ∙ sym (day-refused (passes-file a job e) q)
+  module _ (p : checkFile a .number ≡ 0) where
+    pub told-second : (checkFile d .number ≡ 0 → ⊥) → inFile 2 (entryOf d job) ≡ amendedEntry a d job
+    told-second q = ap (inFile 2) (entry-refused d job q) ∙ sym (day-refused p q)
 
-    module _ (g : refusing (lookupJob d job .number) ≡ false) where
+    module _ (q : checkFile d .number ≡ 0) where
       pub told-amendment : lookupJob a job .number ≡ 0 → inFile 1 (entryOf a job) ≡ amendedEntry a d job
-      told-amendment h = sym (in-amendment (passes-file a job e) (passes-file d job g) h)
+      told-amendment h = sym (in-amendment p q h)
 
       pub told-day : (lookupJob a job .number ≡ 0 → ⊥) → lookupJob d job .number ≡ 0 → inFile 2 (entryOf d job) ≡ amendedEntry a d job
-      told-day n h = sym (in-day (passes-file a job e) (passes-file d job g) n h)
+      told-day n h = sym (in-day p q n h)
 
       pub told-neither : (lookupJob a job .number ≡ 0 → ⊥) → (lookupJob d job .number ≡ 0 → ⊥) → inFile 0 (entryOf d job) ≡ amendedEntry a d job
-      told-neither n m = ap (inFile 0) (entry-missing d job (passes-file d job g) m) ∙ sym (in-neither (passes-file a job e) (passes-file d job g) n m)
+      told-neither n m = ap (inFile 0) (entry-missing d job q m) ∙ sym (in-neither p q n m)
 
   -- ---- what the code looks up: a file, and a lookup
 

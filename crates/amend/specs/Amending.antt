@@ -1,13 +1,13 @@
 -- Amendments (document 02, W11): a small file replaces some jobs of the day's. The current entry of a job is the amendment's if it has the job, else the day's.
 use Prim.Native.Nat.{ℕ}
-use mathlib.Core.Bool.{Bool, _&&_, not, cond}
+use mathlib.Core.Bool.{Bool, _&&_, cond}
 use mathlib.Core.List.{List}
 use lib.Dec.{eqb}
 use denote.Ref.{RefT, now}
 use Rattle.table.specs.declared.answers.Answer.{Answer}
 use Rattle.table.specs.Part.{PartOf}
 use Rattle.table.specs.Answers.{answer}
-use Rattle.table.specs.Check.{checkFile}
+use Rattle.table.specs.Check.{checkFile, refused}
 use Rattle.shift.specs.declared.answers.Entry.{Entry}
 use Rattle.shift.specs.Lookup.{lookupJob}
 use Rattle.shift.specs.Entry.{entryOf}
@@ -21,10 +21,6 @@ noEntry x = record { number = x .number; row = x .row; «ad_at» = 0; «ad_len»
 -- an entry, and the file that its number speaks of
 abbrev pub inFile : ℕ → Entry → Amended
 inFile k x = record { file = k; entry = x }
-
--- the full check of a file gives a number but 0
-abbrev pub refused : List ℕ → Bool
-refused f = not (eqb (checkFile f .number) 0)
 
 -- a file that passes has the job
 abbrev pub holds : List ℕ → ℕ → Bool

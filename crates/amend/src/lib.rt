@@ -8,7 +8,7 @@ use table::row::stretch;
 ghost use mathlib.Core.Path.{_≡_};
 ghost use Rattle.shift.specs.Answers.{foundAnswer, openedAnswer};
 ghost use Rattle.amend.specs.Amending.{amendedEntry, CurrentPart, AmendedOpening, amendedOpening};
-ghost use Rattle.amend.specs.Inside.{refusing, Tells};
+ghost use Rattle.amend.specs.Inside.{refusing, finding, Tells};
 
 // The current entry of a job: the file that its number speaks of (1 the amendment, 2 the day's, 0 where neither has the
 // job), and the entry.
@@ -29,14 +29,26 @@ struct Looked {
     found: Found,
 }
 
-// A lookup's number that refuses the file: neither a row nor 32.
-fn refuses(number: u8) -> bool
-    ensures { λ r. ⌜ r ≡ refusing number ⌝ }
+// The lookup refuses the file.
+fn refuses(found: Found) -> bool
+    ensures { λ r. ⌜ r ≡ refusing found ⌝ }
 {
-    if number == 0 {
-        return false;
+    match found {
+        Found::At(_) => false,
+        Found::Missing => false,
+        Found::Refused(_) => true,
     }
-    number != 32
+}
+
+// The lookup finds the job.
+fn finds(found: Found) -> bool
+    ensures { λ r. ⌜ r ≡ finding found ⌝ }
+{
+    match found {
+        Found::At(_) => true,
+        Found::Missing => false,
+        Found::Refused(_) => false,
+    }
 }
 
 // The full check of the amendment, then of the day's file; then the amendment's lookup if it has the job, else the day's.
@@ -44,28 +56,26 @@ fn look_up(amendment: &[u8], day: &[u8], job: u32) -> Looked
     ensures { λ r. ⌜ Tells (now (amendment .entry)) (now (day .entry)) job (r .file) (foundAnswer (r .found)) ⌝ }
 {
     let one = shift::lookup(amendment, job);
-    let first = one.answer();
-    if refuses(first.number) {
+    if refuses(one) {
         return Looked {
             file: 1,
             found: one,
         };
     }
     let two = shift::lookup(day, job);
-    let second = two.answer();
-    if refuses(second.number) {
+    if refuses(two) {
         return Looked {
             file: 2,
             found: two,
         };
     }
-    if first.number == 0 {
+    if finds(one) {
         return Looked {
             file: 1,
             found: one,
         };
     }
-    if second.number == 0 {
+    if finds(two) {
         return Looked {
             file: 2,
             found: two,

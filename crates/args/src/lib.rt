@@ -36,10 +36,10 @@ fn spelled(digits: &[u8]) -> u64
     if digits.len() == 0 { 4294967296 } else { n }
 }
 
-// The job that argument i spells; 4,294,967,296 where it spells none of 32 bits.
-pub fn job(i: usize) -> u64 {
+// The job that an argument spells; 4,294,967,296 where it spells none of 32 bits.
+pub fn job(argument: usize) -> u64 {
     let mut digits = [0u8; 16];
-    let n = os::arg(i, &mut digits);
+    let n = os::arg(argument, &mut digits);
     spelled(&digits[..n])
 }
 
@@ -57,10 +57,10 @@ fn same(x: &[u8], y: &[u8]) -> bool {
     true
 }
 
-// Whether argument i is this word.
-pub fn is_word(i: usize, word: &[u8]) -> bool {
+// Whether an argument is this word.
+pub fn is_word(argument: usize, word: &[u8]) -> bool {
     let mut given = [0u8; 16];
-    let n = os::arg(i, &mut given);
+    let n = os::arg(argument, &mut given);
     same(&given[..n], word)
 }
 
@@ -74,11 +74,11 @@ fn read_whole(fd: i32, buf: &mut [u8]) -> usize {
     got
 }
 
-// The file that argument i names, read into buf, which has one byte more than the program takes. A file that is longer, or
+// The file that an argument names, read into buf, which has one byte more than the program takes. A file that is longer, or
 // cannot be read to its end, counts as zero bytes.
-pub fn load(i: usize, buf: &mut [u8]) -> &[u8] {
+pub fn load(argument: usize, buf: &mut [u8]) -> &[u8] {
     let mut path = io::buffer();
-    let n = os::arg(i, &mut path);
+    let n = os::arg(argument, &mut path);
     let fd = os::open_read(&path[..n]);
     let mut got: usize = 0;
     if 0 <= fd {
@@ -88,10 +88,10 @@ pub fn load(i: usize, buf: &mut [u8]) -> &[u8] {
     lines::read::front(&buf[..], got)
 }
 
-// What a program that writes a file says: number and row, once the file stands under the name of argument i where the number
+// What a program that writes a file says: number and row, once the file stands under the name of an argument where the number
 // is 0; or that it cannot be written.
-pub fn answered(number: u8, row: usize, file: &[u8], i: usize) {
-    if number == 0 && !save::save(i, file) {
+pub fn answered(number: u8, row: usize, file: &[u8], argument: usize) {
+    if number == 0 && !save::save(argument, file) {
         io::write_all(STDOUT_FILENO, b"OUT cannot be written\n");
         return;
     }

@@ -9,7 +9,7 @@ use Rattle.cham.specs.Cham.{cham}
 use Rattle.cham.proofs.Injective as cham-laws
 use Rattle.speck.specs.Speck.{speck}
 use Rattle.speck.proofs.Injective as speck-laws
-use Rattle.cipher.specs.Cipher.{Block, Lawful, Facts, sizeOf, engineOf, cipherOf}
+use Rattle.cipher.specs.Cipher.{Block, Lawful, imageOf, Facts, sizeOf, engineOf, cipherOf}
 use Rattle.cipher.proofs.Suites.{Engine, each, sizes-two}
 
 -- what the promise says of an engine on blocks of n bytes
@@ -43,7 +43,7 @@ cham-good w wide even = record {
 }
 
 abbrev Keeps : Facts → Type 0
-Keeps f = Good (f .block) (f .E)
+Keeps f = Good (f .block) (imageOf (f .engine))
 
 good : (s : ℕ) → Good (sizeOf s) (engineOf s)
 unfolding sizeOf engineOf

@@ -1,32 +1,21 @@
 -- The facts of a suite: what every line of the table has, and the line that a test leads to.
 use mathlib.Core.Path.{_≡_, refl, sym, ap, _∙_, subst}
-use mathlib.Core.Bool.{Bool, true, false, cond, _||_, not}
+use mathlib.Core.Bool.{Bool, true, false, cond, not, true≢false, false≢true}
 use mathlib.Core.List.{List, []}
 use mathlib.Core.Logic.{_⊎_, inl, inr}
 use Prim.Native.Nat.{ℕ, _≤_, _<_}
 use native.Mathlib.Omega.{arith}
 use native.Mathlib.Decide.{decLe}
-use lib.Dec.{T, leb, eqb}
-use borrow.Author.Tests.{leb-true, leb-false, le-leb, lt-leb, eqb-true, eqb-false, not-false}
+use lib.Dec.{leb, eqb}
+use borrow.Author.Tests.{le-leb, lt-leb, eqb-true, eq-eqb, ne-eqb, not-false}
+use Rattle.words.proofs.Tests.{both-true}
 use Rattle.fips197.specs.Cipher.{cipher}
 use Rattle.cham.specs.Cham.{cham}
 use Rattle.speck.specs.Speck.{speck}
-use Rattle.cipher.specs.Cipher.{Version, one, two, isTwo, Facts, facts, factsOf, sizeOf, nonceOf, engineOf, versionOf, lends, Ready, isSuite, IsSuite, retired, seals, Seals}
-use Rattle.words.proofs.Same.{and-true}
+use Rattle.cipher.specs.Cipher.{Version, one, two, isTwo, BlockCipher, aes128, cham128, speck64, cham64, imageOf, isLent, Facts, facts, factsOf, sizeOf, nonceOf, engineOf, versionOf, lends, Ready, isSuite, IsSuite, retired, seals, Seals}
 
 abbrev pub Engine : Type 0
 Engine = List ℕ → List ℕ → List ℕ
-
-true-not-false : true ≡ false → ⊥
-true-not-false e = subst T e tt
-
-or-true : (a b : Bool) → (a || b) ≡ true → (a ≡ true) ⊎ (b ≡ true)
-or-true true b e = inl refl
-or-true false b e = inr e
-
-or-false : (a b : Bool) → (a || b) ≡ false → (a ≡ false) × (b ≡ false)
-or-false true b e = absurd (true-not-false e)
-or-false false b e = (refl, e)
 
 -- ---- what each line has, every suite has
 
@@ -35,8 +24,8 @@ module _ (P : Facts → Type 0) where
   either true x y p q = p
   either false x y p q = q
 
-  pub each : P (facts 16 16 16 one cipher) → P (facts 16 16 16 one (cham 32)) → P (facts 8 15 8 one speck) → P (facts 8 15 8 one (cham 16))
-      → P (facts 16 16 16 two cipher) → P (facts 8 15 8 two speck) → (s : ℕ) → P (factsOf s)
+  pub each : P (facts 16 16 16 one aes128) → P (facts 16 16 16 one cham128) → P (facts 8 15 8 one speck64) → P (facts 8 15 8 one cham64)
+      → P (facts 16 16 16 two aes128) → P (facts 8 15 8 two speck64) → (s : ℕ) → P (factsOf s)
   unfolding factsOf
   each p q r t u w s =
       either (leb s 1) _ _ p (either (leb s 2) _ _ q (either (leb s 3) _ _ r (either (leb s 4) _ _ t (either (leb s 5) _ _ u w))))
@@ -61,7 +50,7 @@ shaped =
 
 pub seals-has : (s : ℕ) → Seals s → IsSuite s
 unfolding seals
-seals-has s h = and-true (isSuite s) (not (retired s)) h .0
+seals-has s h = both-true (isSuite s) (not (retired s)) h .0
 
 -- of the suites that we have, the fourth alone does not seal
 pub only-four : (s : ℕ) → IsSuite s → seals s ≡ false → s ≡ 4
@@ -132,27 +121,27 @@ nonce-most s = most (sizes-two s)
 
 -- ---- the line that a test leads to
 
-line-1 : (s : ℕ) → s ≤ 1 → factsOf s ≡ facts 16 16 16 one cipher
+line-1 : (s : ℕ) → s ≤ 1 → factsOf s ≡ facts 16 16 16 one aes128
 unfolding factsOf
 line-1 s h = simp (le-leb s 1 h)
 
-line-2 : (s : ℕ) → 1 < s → s ≤ 2 → factsOf s ≡ facts 16 16 16 one (cham 32)
+line-2 : (s : ℕ) → 1 < s → s ≤ 2 → factsOf s ≡ facts 16 16 16 one cham128
 unfolding factsOf
 line-2 s g h = simp (lt-leb s 1 g, le-leb s 2 h)
 
-line-3 : (s : ℕ) → s ≡ 3 → factsOf s ≡ facts 8 15 8 one speck
+line-3 : (s : ℕ) → s ≡ 3 → factsOf s ≡ facts 8 15 8 one speck64
 unfolding factsOf
 line-3 s e = ap factsOf e
 
-line-4 : (s : ℕ) → s ≡ 4 → factsOf s ≡ facts 8 15 8 one (cham 16)
+line-4 : (s : ℕ) → s ≡ 4 → factsOf s ≡ facts 8 15 8 one cham64
 unfolding factsOf
 line-4 s e = ap factsOf e
 
-line-5 : (s : ℕ) → s ≡ 5 → factsOf s ≡ facts 16 16 16 two cipher
+line-5 : (s : ℕ) → s ≡ 5 → factsOf s ≡ facts 16 16 16 two aes128
 unfolding factsOf
 line-5 s e = ap factsOf e
 
-line-6 : (s : ℕ) → 5 < s → factsOf s ≡ facts 8 15 8 two speck
+line-6 : (s : ℕ) → 5 < s → factsOf s ≡ facts 8 15 8 two speck64
 unfolding factsOf
 line-6 s h =
     let a : 1 < s = omega arith in
@@ -211,29 +200,32 @@ version-two s h =
 -- the version, from what its test gave
 pub is-one : (v : Version) → isTwo v ≡ false → v ≡ one
 is-one one e = refl
-is-one two e = absurd (true-not-false e)
+is-one two e = absurd (true≢false e)
 
 pub is-two : (v : Version) → isTwo v ≡ true → v ≡ two
-is-two one e = absurd (true-not-false (sym e))
+is-two one e = absurd (false≢true e)
 is-two two e = refl
 
 -- engines
 pub engine-1 : (s : ℕ) → lends s ≡ true → engineOf s ≡ cipher
 unfolding lends engineOf
-engine-1 s h = one-or-five (or-true (leb s 1) (eqb s 5) h)
+engine-1 s = lent (factsOf s .engine)
   where
-    one-or-five : (leb s 1 ≡ true) ⊎ (eqb s 5 ≡ true) → factsOf s .E ≡ cipher
-    one-or-five (inl a) = ap (λ (f : Facts). f .E) (line-1 s (leb-true s 1 a))
-    one-or-five (inr b) = ap (λ (f : Facts). f .E) (line-5 s (eqb-true s 5 b))
+    lent : (c : BlockCipher) → isLent c ≡ true → imageOf c ≡ cipher
+    lent aes128 e = refl
+    lent cham128 e = absurd (false≢true e)
+    lent speck64 e = absurd (false≢true e)
+    lent cham64 e = absurd (false≢true e)
+
+abbrev Wide : Facts → Type 0
+Wide f = isLent (f .engine) ≡ false → f .block ≡ 16 → imageOf (f .engine) ≡ cham 32
 
 pub engine-2 : (s : ℕ) → lends s ≡ false → sizeOf s ≡ 16 → engineOf s ≡ cham 32
-unfolding lends engineOf
-engine-2 s g e =
-    let n = or-false (leb s 1) (eqb s 5) g in
-    elim (decLe s 2) [
-      | yes h ↦ ap (λ (f : Facts). f .E) (line-2 s (leb-false s 1 (n .0)) h)
-      | no h ↦ absurd (omega (arith, size-8 s (omega arith) (eqb-false s 5 (n .1))))
-    ]
+unfolding lends engineOf sizeOf
+engine-2 = each Wide (λ g e. absurd (true≢false g)) (λ g e. refl) narrow narrow (λ g e. absurd (true≢false g)) narrow
+  where
+    narrow : {P Q : Type 0} → Q → _≡_ {A = ℕ} 8 16 → P
+    narrow g e = absurd (omega arith)
 
 pub engine-3 : (s : ℕ) → sizeOf s ≡ 8 → (s ≡ 4 → ⊥) → engineOf s ≡ speck
 unfolding engineOf
@@ -241,20 +233,44 @@ engine-3 s e n =
     elim (decLe s 2) [
       | yes g ↦ absurd (omega (arith, size-16 s g))
       | no g ↦ elim (decLe s 3) [
-        | yes h ↦ ap (λ (f : Facts). f .E) (line-3 s (omega arith))
+        | yes h ↦ ap (λ (f : Facts). imageOf (f .engine)) (line-3 s (omega arith))
         | no h ↦ elim (decLe s 5) [
           | yes i ↦ absurd (omega (arith, size-five s (omega (arith, n))))
-          | no i ↦ ap (λ (f : Facts). f .E) (line-6 s (omega arith))
+          | no i ↦ ap (λ (f : Facts). imageOf (f .engine)) (line-6 s (omega arith))
         ]
       ]
     ]
 
 pub engine-4 : (s : ℕ) → s ≡ 4 → engineOf s ≡ cham 16
 unfolding engineOf
-engine-4 s e = ap (λ (f : Facts). f .E) (line-4 s e)
+engine-4 s e = ap (λ (f : Facts). imageOf (f .engine)) (line-4 s e)
 
 -- ---- what they are lent
 
+abbrev lentBy : Facts → Bool
+lentBy f = isLent (f .engine)
+
+pub lends-early : (s : ℕ) → s ≤ 1 → lends s ≡ true
+unfolding lends
+lends-early s h = ap lentBy (line-1 s h)
+
+pub lends-late : (s : ℕ) → 1 < s → lends s ≡ eqb s 5
+unfolding lends
+lends-late s h =
+    elim (decLe s 2) [
+      | yes a ↦ ap lentBy (line-2 s h a) ∙ sym (ne-eqb s 5 (λ e. omega arith))
+      | no a ↦ elim (decLe s 3) [
+        | yes b ↦ ap lentBy (line-3 s (omega arith)) ∙ sym (ne-eqb s 5 (λ e. omega arith))
+        | no b ↦ elim (decLe s 4) [
+          | yes c ↦ ap lentBy (line-4 s (omega arith)) ∙ sym (ne-eqb s 5 (λ e. omega arith))
+          | no c ↦ elim (decLe s 5) [
+            | yes d ↦ ap lentBy (line-5 s (omega arith)) ∙ sym (eq-eqb s 5 (omega arith))
+            | no d ↦ ap lentBy (line-6 s (omega arith)) ∙ sym (ne-eqb s 5 (λ e. omega arith))
+          ]
+        ]
+      ]
+    ]
+
 -- where a suite's engine is lent nothing, nothing is ready for it
 pub none-ready : (s : ℕ) → lends s ≡ false → Ready s []
-none-ready s h = record { full = λ e. absurd (true-not-false (sym e ∙ h)) }
+none-ready s h = record { full = λ e. absurd (true≢false (sym e ∙ h)) }

@@ -6,7 +6,7 @@ use Prim.Native.Nat.{ℕ}
 use lib.Dec.{leb, eqb}
 use lib.ListN.{length, getD}
 use Rattle.words.specs.Bytes.{AllBytes}
-use mathlib.Core.Bool.{Bool, true, false, cond, _&&_, _||_, not}
+use mathlib.Core.Bool.{Bool, true, false, cond, _&&_, not}
 use Rattle.fips197.specs.Cipher.{cipher}
 use Rattle.columns.specs.Tables.{IsTables}
 use Rattle.cham.specs.Cham.{cham}
@@ -34,26 +34,51 @@ pub record Lawful (κ : Cipher) : Type 0 where
   pub image : (k b : List ℕ) → Block 16 k → Block (κ .size) b → Block (κ .size) (κ .E k b)
   pub one-to-one : (k b b′ : List ℕ) → Block 16 k → Block (κ .size) b → Block (κ .size) b′ → κ .E k b ≡ κ .E k b′ → b ≡ b′
 
+-- the four block ciphers
+pub data BlockCipher : Type 0 where
+  aes128 : BlockCipher
+  cham128 : BlockCipher
+  speck64 : BlockCipher
+  cham64 : BlockCipher
+
+-- the image of a block under a key
+abbrev pub imageOf : BlockCipher → List ℕ → List ℕ → List ℕ
+imageOf aes128 = cipher
+imageOf cham128 = cham 32
+imageOf speck64 = speck
+imageOf cham64 = cham 16
+
+-- the engine of AES is lent the tables of its columns, the others nothing
+abbrev pub isLent : BlockCipher → Bool
+isLent aes128 = true
+isLent cham128 = false
+isLent speck64 = false
+isLent cham64 = false
+
 -- what a suite has: block, nonce and tag in bytes, its version of COMET, and its cipher
 pub record Facts : Type 0 where
   pub block : ℕ
   pub nonce : ℕ
   pub tag : ℕ
   pub version : Version
-  pub E : List ℕ → List ℕ → List ℕ
+  pub engine : BlockCipher
 
-abbrev pub facts : ℕ → ℕ → ℕ → Version → (List ℕ → List ℕ → List ℕ) → Facts
-facts b n t v e = record { block = b; nonce = n; tag = t; version = v; E = e }
+abbrev pub facts : ℕ → ℕ → ℕ → Version → BlockCipher → Facts
+facts b n t v e = record { block = b; nonce = n; tag = t; version = v; engine = e }
+
+-- the most bytes of associated data, and the most of a message (document 01, numbers 4 and 5)
+abbrev pub limit : ℕ
+limit = 65536
 
 -- document 01's table, a line for each suite: AES-128 for 1, CHAM-128/128 for 2, Speck-64/128 for 3, CHAM-64/128 for 4; then version 2 over AES-128 for 5, and over Speck-64/128 for 6 (document 02, W9)
 unfoldable pub factsOf : ℕ → Facts
 factsOf s =
-    cond (leb s 1) (facts 16 16 16 one cipher)
-    (cond (leb s 2) (facts 16 16 16 one (cham 32))
-    (cond (leb s 3) (facts 8 15 8 one speck)
-    (cond (leb s 4) (facts 8 15 8 one (cham 16))
-    (cond (leb s 5) (facts 16 16 16 two cipher)
-    (facts 8 15 8 two speck)))))
+    cond (leb s 1) (facts 16 16 16 one aes128)
+    (cond (leb s 2) (facts 16 16 16 one cham128)
+    (cond (leb s 3) (facts 8 15 8 one speck64)
+    (cond (leb s 4) (facts 8 15 8 one cham64)
+    (cond (leb s 5) (facts 16 16 16 two aes128)
+    (facts 8 15 8 two speck64)))))
 
 -- a suite that we have; of any other number the table's facts are asked nowhere
 unfoldable pub isSuite : ℕ → Bool
@@ -83,8 +108,17 @@ sizeOf s = factsOf s .block
 unfoldable pub nonceOf : ℕ → ℕ
 nonceOf s = factsOf s .nonce
 
+-- numbers 1, 10, 2 and 3 of every call under a key (10 where the call does not take the suite), from the suite and the lengths of key and nonce: the first that applies, and where none does the call's own
+abbrev pub underKey : Bool → ℕ → ℕ → ℕ → ℕ → ℕ
+underKey taken suite key nonce own =
+    cond (not (isSuite suite)) 1
+    (cond (not taken) 10
+    (cond (not (eqb key 16)) 2
+    (cond (not (eqb nonce (nonceOf suite))) 3
+    own)))
+
 unfoldable pub engineOf : ℕ → List ℕ → List ℕ → List ℕ
-engineOf s = factsOf s .E
+engineOf s = imageOf (factsOf s .engine)
 
 unfoldable pub versionOf : ℕ → Version
 versionOf s = factsOf s .version
@@ -97,9 +131,9 @@ abbrev pub isTwo : Version → Bool
 isTwo one = false
 isTwo two = true
 
--- the engine of AES, for suites 1 and 5, is lent the tables of its columns, the others nothing
+-- whether the suite's engine is lent anything
 unfoldable pub lends : ℕ → Bool
-lends s = leb s 1 || eqb s 5
+lends s = isLent (factsOf s .engine)
 
 abbrev pub Full : List (List (List ℕ)) → Type 0
 Full t = (length t ≡ 1) × IsTables (getD t 0 [])

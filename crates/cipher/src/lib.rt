@@ -12,6 +12,9 @@ ghost use Rattle.cham.specs.Cham.{cham};
 ghost use Rattle.speck.specs.Speck.{speck};
 ghost use Rattle.cipher.specs.Cipher.{lends, Full, Ready, isSuite, IsSuite, isTwo, sizeOf, nonceOf, versionOf, cipherOf, seals};
 
+// The most bytes of associated data, and the most of a message.
+pub const LIMIT: usize = 65536;
+
 // Whether we have the suite.
 pub fn is_suite(suite: u8) -> bool
     ensures { λ r. ⌜ r ≡ isSuite suite ⌝ }
@@ -77,13 +80,13 @@ pub fn tables(suite: u8) -> [Lent; 1]
     [columns::tables()]
 }
 
-fn by_aes(t: &[Lent], key: Block, block: Block) -> Block
-    requires { ⌜ Full (now t) ⌝ }
+fn by_aes(lent: &[Lent], key: Block, block: Block) -> Block
+    requires { ⌜ Full (now lent) ⌝ }
     ensures { λ r. ⌜ wide r ≡ cipher (wide key) (wide block) ⌝ }
 {
     let k = words::block::bytes_of(key);
     let b = words::block::bytes_of(block);
-    words::block::block_of(columns::encrypt_with(&t[0], k, b))
+    words::block::block_of(columns::encrypt_with(&lent[0], k, b))
 }
 
 fn by_cham128(key: Block, block: Block) -> Block
@@ -94,53 +97,53 @@ fn by_cham128(key: Block, block: Block) -> Block
     words::block::block_of(cham::c128::encrypt(k, b))
 }
 
-fn by_speck(ka: u64, kb: u64, x: u64) -> u64
-    ensures { λ r. ⌜ bytes 8 r ≡ speck (bytes 8 ka ++ bytes 8 kb) (bytes 8 x) ⌝ }
+fn by_speck(key0: u64, key1: u64, block: u64) -> u64
+    ensures { λ r. ⌜ bytes 8 r ≡ speck (bytes 8 key0 ++ bytes 8 key1) (bytes 8 block) ⌝ }
 {
-    let k = words::block::bytes_of(Block { a: ka, b: kb });
-    let b = words::block::bytes8(x);
+    let k = words::block::bytes_of(Block { a: key0, b: key1 });
+    let b = words::block::bytes8(block);
     words::block::number8(speck::encrypt(k, b))
 }
 
-fn by_cham64(ka: u64, kb: u64, x: u64) -> u64
-    ensures { λ r. ⌜ bytes 8 r ≡ cham 16 (bytes 8 ka ++ bytes 8 kb) (bytes 8 x) ⌝ }
+fn by_cham64(key0: u64, key1: u64, block: u64) -> u64
+    ensures { λ r. ⌜ bytes 8 r ≡ cham 16 (bytes 8 key0 ++ bytes 8 key1) (bytes 8 block) ⌝ }
 {
-    let k = words::block::bytes_of(Block { a: ka, b: kb });
-    let b = words::block::bytes8(x);
+    let k = words::block::bytes_of(Block { a: key0, b: key1 });
+    let b = words::block::bytes8(block);
     words::block::number8(cham::c64::encrypt(k, b))
 }
 
 // The image of a block of 16 bytes.
-pub fn encipher16(t: &[Lent], suite: u8, key: Block, block: Block) -> Block
-    requires { ⌜ Ready suite (now t) × IsSuite suite × (sizeOf suite ≡ 16) ⌝ }
+pub fn encipher16(lent: &[Lent], suite: u8, key: Block, block: Block) -> Block
+    requires { ⌜ Ready suite (now lent) × IsSuite suite × (sizeOf suite ≡ 16) ⌝ }
     ensures { λ r. ⌜ wide r ≡ cipherOf suite .E (wide key) (wide block) ⌝ }
 {
     if lends(suite) {
-        return by_aes(t, key, block);
+        return by_aes(lent, key, block);
     }
     by_cham128(key, block)
 }
 
-// The image of a block of 8 bytes: as numbers, which pass in registers.
-pub fn encipher8(suite: u8, ka: u64, kb: u64, x: u64) -> u64
+// The image of a block of 8 bytes: as numbers, which pass in registers; the key's are its halves.
+pub fn encipher8(suite: u8, key0: u64, key1: u64, block: u64) -> u64
     requires { ⌜ IsSuite suite × (sizeOf suite ≡ 8) ⌝ }
-    ensures { λ r. ⌜ bytes 8 r ≡ cipherOf suite .E (bytes 8 ka ++ bytes 8 kb) (bytes 8 x) ⌝ }
+    ensures { λ r. ⌜ bytes 8 r ≡ cipherOf suite .E (bytes 8 key0 ++ bytes 8 key1) (bytes 8 block) ⌝ }
 {
     if suite == 4 {
-        return by_cham64(ka, kb, x);
+        return by_cham64(key0, key1, block);
     }
-    by_speck(ka, kb, x)
+    by_speck(key0, key1, block)
 }
 
 // The image of the block's first bytes, as many as the suite's block has, and zeros behind it. It calls the engine of suite 4
 // itself: one that has two callers stays a function of its own, and `encipher8` saves no registers for it where it runs Speck.
-pub fn encipher(t: &[Lent], suite: u8, key: Block, block: Block) -> Block
-    requires { ⌜ Ready suite (now t) × IsSuite suite ⌝ }
+pub fn encipher(lent: &[Lent], suite: u8, key: Block, block: Block) -> Block
+    requires { ⌜ Ready suite (now lent) × IsSuite suite ⌝ }
     ensures image { λ r. ⌜ take (sizeOf suite) (wide r) ≡ cipherOf suite .E (wide key) (take (sizeOf suite) (wide block)) ⌝ }
     ensures rest { λ r. ⌜ drop (sizeOf suite) (wide r) ≡ replicate (16 - sizeOf suite) 0 ⌝ }
 {
     if size_of(suite) == 16 {
-        return encipher16(t, suite, key, block);
+        return encipher16(lent, suite, key, block);
     }
     if suite != 4 {
         return Block {

@@ -96,8 +96,8 @@ pub fn tables() -> Tables
 }
 
 // The image of a block: nine rounds that mix columns, each with the next round key, and the last.
-pub fn encrypt_with(t: &Tables, key: [u8; 16], block: [u8; 16]) -> [u8; 16]
-    requires { ⌜ IsTables (now t) ⌝ }
+pub fn encrypt_with(tables: &Tables, key: [u8; 16], block: [u8; 16]) -> [u8; 16]
+    requires { ⌜ IsTables (now tables) ⌝ }
     ensures { λ r. ⌜ r ≡ cipher key block ⌝ }
 {
     let mut k = aes::load(key);
@@ -105,12 +105,12 @@ pub fn encrypt_with(t: &Tables, key: [u8; 16], block: [u8; 16]) -> [u8; 16]
     let mut rc: u32 = 1;
     let mut i: usize = 0;
     while i < 9 {
-        k = next_key(t, k, rc);
-        s = aes::add_round_key(mix_columns(t, s), k);
+        k = next_key(tables, k, rc);
+        s = aes::add_round_key(mix_columns(tables, s), k);
         rc = aes::next_rcon(rc);
         i += 1;
     }
-    s = aes::add_round_key(shift_rows(t, s), next_key(t, k, rc));
+    s = aes::add_round_key(shift_rows(tables, s), next_key(tables, k, rc));
     store4_32(s.a, s.b, s.c, s.d)
 }
 

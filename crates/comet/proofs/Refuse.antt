@@ -13,7 +13,7 @@ use denote.Enum.Declared
 use types.Run.{OneOf, miss}
 use Rattle.words.proofs.Ladder.{not-taken, rung}
 use Rattle.words.specs.Bytes.{sameBytes}
-use Rattle.cipher.specs.Cipher.{isSuite, IsSuite, sizeOf, nonceOf, cipherOf}
+use Rattle.cipher.specs.Cipher.{isSuite, IsSuite, sizeOf, nonceOf, cipherOf, limit}
 use Rattle.mode.specs.Mode.{ciphertext, tag, textOut, tagOut}
 use Rattle.comet.specs.Answers.{numberOf, takes, refusal, Sealed, sealedAs, sealing, Opened, openedAs, opening}
 use Rattle.comet.specs.declared.Verdict.{Verdict}
@@ -25,8 +25,8 @@ pub record Passed (s k v a t o g : ℕ) : Type 0 where
   pub suite : IsSuite s
   pub key : k ≡ 16
   pub nonce : v ≡ nonceOf s
-  pub extra : a ≤ 65536
-  pub text : t ≤ 65536
+  pub extra : a ≤ limit
+  pub text : t ≤ limit
   pub room : o ≡ t
   pub tag : g ≡ sizeOf s
 
@@ -37,16 +37,16 @@ passed d s k v a t o g e =
     let p10 = not-taken (not (takes d s)) 10 _ (lit< tt) (p1 .1) in
     let p2 = not-taken (not (eqb k 16)) 2 _ (lit< tt) (p10 .1) in
     let p3 = not-taken (not (eqb v (nonceOf s))) 3 _ (lit< tt) (p2 .1) in
-    let p4 = not-taken (ltb 65536 a) 4 _ (lit< tt) (p3 .1) in
-    let p5 = not-taken (ltb 65536 t) 5 _ (lit< tt) (p4 .1) in
+    let p4 = not-taken (ltb limit a) 4 _ (lit< tt) (p3 .1) in
+    let p5 = not-taken (ltb limit t) 5 _ (lit< tt) (p4 .1) in
     let p6 = not-taken (not (eqb o t)) 6 _ (lit< tt) (p5 .1) in
     let p7 = not-taken (not (eqb g (sizeOf s))) 7 _ (lit< tt) (p6 .1) in
     record {
       suite = not-false (isSuite s) (p1 .0);
       key = eqb-true k 16 (not-false (eqb k 16) (p2 .0));
       nonce = eqb-true v (nonceOf s) (not-false (eqb v (nonceOf s)) (p3 .0));
-      extra = ltb-false 65536 a (p4 .0);
-      text = ltb-false 65536 t (p5 .0);
+      extra = ltb-false limit a (p4 .0);
+      text = ltb-false limit t (p5 .0);
       room = eqb-true o t (not-false (eqb o t) (p6 .0));
       tag = eqb-true g (sizeOf s) (not-false (eqb g (sizeOf s)) (p7 .0));
     }
@@ -59,8 +59,8 @@ none-bad d s k v a t o g h p =
       h,
       eq-eqb k 16 (p .key),
       eq-eqb v (nonceOf s) (p .nonce),
-      le-ltb 65536 a (p .extra),
-      le-ltb 65536 t (p .text),
+      le-ltb limit a (p .extra),
+      le-ltb limit t (p .text),
       eq-eqb o t (p .room),
       eq-eqb g (sizeOf s) (p .tag),
     )
@@ -75,8 +75,8 @@ refusal-most d s k v a t o g =
     rungs (isSuite s) (takes d s) refl refl _
     (rung (λ j. j ≤ 7) (not (eqb k 16)) 2 _ (omega arith)
     (rung (λ j. j ≤ 7) (not (eqb v (nonceOf s))) 3 _ (omega arith)
-    (rung (λ j. j ≤ 7) (ltb 65536 a) 4 _ (omega arith)
-    (rung (λ j. j ≤ 7) (ltb 65536 t) 5 _ (omega arith)
+    (rung (λ j. j ≤ 7) (ltb limit a) 4 _ (omega arith)
+    (rung (λ j. j ≤ 7) (ltb limit t) 5 _ (omega arith)
     (rung (λ j. j ≤ 7) (not (eqb o t)) 6 _ (omega arith)
     (rung (λ j. j ≤ 7) (not (eqb g (sizeOf s))) 7 _ (omega arith) (omega arith)))))))
   where

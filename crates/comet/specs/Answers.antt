@@ -5,7 +5,7 @@ use mathlib.Core.List.{List}
 use lib.ListN.{length, replicate}
 use lib.Dec.{ltb, eqb}
 use Rattle.words.specs.Bytes.{sameBytes}
-use Rattle.cipher.specs.Cipher.{isSuite, seals, sizeOf, nonceOf, cipherOf}
+use Rattle.cipher.specs.Cipher.{seals, sizeOf, cipherOf, limit, underKey}
 use Rattle.mode.specs.Mode.{ciphertext, tag, textOut, tagOut}
 use Rattle.comet.specs.declared.Verdict.{Verdict}
 use Rattle.comet.specs.declared.Verdict.the-variants.{Done, Suite, Key, Nonce, Data, Text, Room, Tag, Forged, Retired}
@@ -27,18 +27,18 @@ numberOf Retired = 10
 abbrev pub takes : Bool → ℕ → Bool
 takes opening suite = opening || seals suite
 
--- numbers 1, 10 and 2 to 7, from the suite and the lengths of key, nonce, associated data, text, output and tag: the first that applies, 0 where none does
-unfoldable pub refusal : Bool → ℕ → ℕ → ℕ → ℕ → ℕ → ℕ → ℕ → ℕ
-refusal opening suite key nonce ad text out tag =
-    cond (not (isSuite suite)) 1
-    (cond (not (takes opening suite)) 10
-    (cond (not (eqb key 16)) 2
-    (cond (not (eqb nonce (nonceOf suite))) 3
-    (cond (ltb 65536 ad) 4
-    (cond (ltb 65536 text) 5
+-- numbers 4 to 7, from the suite and the lengths of associated data, text, output and tag: the first that applies, 0 where none does
+abbrev pub textsNumber : ℕ → ℕ → ℕ → ℕ → ℕ → ℕ
+textsNumber suite ad text out tag =
+    cond (ltb limit ad) 4
+    (cond (ltb limit text) 5
     (cond (not (eqb out text)) 6
     (cond (not (eqb tag (sizeOf suite))) 7
-    0)))))))
+    0)))
+
+-- numbers 1, 10 and 2 to 7, from the suite and the lengths of key, nonce, associated data, text, output and tag: the first that applies, 0 where none does
+unfoldable pub refusal : Bool → ℕ → ℕ → ℕ → ℕ → ℕ → ℕ → ℕ → ℕ
+refusal opening suite key nonce ad text out tag = underKey (takes opening suite) suite key nonce (textsNumber suite ad text out tag)
 
 -- what a call of the sealer gives and leaves
 pub record Sealed : Type 0 where

@@ -1,4 +1,5 @@
 // The sealer and the opener: COMET under every suite.
+use cipher::LIMIT;
 use cipher::Lent;
 use step::tag::Last;
 use words::block::Block;
@@ -6,15 +7,14 @@ use words::block::Block;
 mod text;
 
 ghost use mathlib.Core.Path.{_≡_};
-ghost use mathlib.Core.Bool.{true, false, cond, not};
+ghost use mathlib.Core.Bool.{true, false};
 ghost use Prim.Native.Nat.{_≤_};
-ghost use lib.Dec.{ltb, eqb};
 ghost use lib.ListN.{length, take};
 ghost use Rattle.words.specs.Blocks.{wide};
-ghost use Rattle.cipher.specs.Cipher.{Ready, IsSuite, sizeOf, nonceOf, cipherOf};
+ghost use Rattle.cipher.specs.Cipher.{Ready, IsSuite, sizeOf, nonceOf, cipherOf, limit};
 ghost use Rattle.mode.specs.Mode.{textOut, tagOut, calls};
 ghost use Rattle.step.specs.Two.{Clean};
-ghost use Rattle.comet.specs.Answers.{numberOf, takes, refusal, Sealed, sealing, Opened, opening, verifying};
+ghost use Rattle.comet.specs.Answers.{numberOf, takes, textsNumber, refusal, Sealed, sealing, Opened, opening, verifying};
 ghost use Rattle.comet.specs.Counted.{Counting, sealingCounted, openingCounted};
 
 // What a call answers: Done, or why it refused.
@@ -69,12 +69,12 @@ fn takes(opening: bool, suite: u8) -> bool
 
 // Numbers 4 to 7 in the order of the table: the ladder's lower half.
 fn texts_refused(suite: u8, ad: usize, text: usize, out: usize, tag: usize) -> Verdict
-    ensures { λ r. ⌜ numberOf r ≡ cond (ltb 65536 ad) 4 (cond (ltb 65536 text) 5 (cond (not (eqb out text)) 6 (cond (not (eqb tag (sizeOf suite))) 7 0))) ⌝ }
+    ensures { λ r. ⌜ numberOf r ≡ textsNumber suite ad text out tag ⌝ }
 {
-    if 65536 < ad {
+    if LIMIT < ad {
         return Verdict::Data;
     }
-    if 65536 < text {
+    if LIMIT < text {
         return Verdict::Text;
     }
     if out != text {
@@ -120,7 +120,7 @@ fn refused(
 
 // What goes out in the text's place, the tag and the count of the calls, once every length is right: the cipher is lent what it needs.
 fn crypt(
-    tb: &[Lent],
+    lent: &[Lent],
     opening: bool,
     suite: u8,
     key: &[u8],
@@ -128,21 +128,21 @@ fn crypt(
     ad: &[u8],
     text: &mut [u8],
 ) -> Last
-    requires { ⌜ Ready suite (now tb) × IsSuite suite × (length (now key) ≡ 16) × (length (now nonce) ≡ nonceOf suite) × (length (now ad) ≤ 65536) × (length (now text) ≤ 65536) ⌝ }
+    requires { ⌜ Ready suite (now lent) × IsSuite suite × (length (now key) ≡ 16) × (length (now nonce) ≡ nonceOf suite) × (length (now ad) ≤ limit) × (length (now text) ≤ limit) ⌝ }
     ensures text { λ _. ⌜ now (text .exit) ≡ textOut (cipherOf suite) opening (now (key .entry)) (now (nonce .entry)) (now (ad .entry)) (now (text .entry)) ⌝ }
     ensures tag { λ r. ⌜ take (sizeOf suite) (wide (r .tag)) ≡ tagOut (cipherOf suite) opening (now (key .entry)) (now (nonce .entry)) (now (ad .entry)) (now (text .entry)) ⌝ }
     ensures rest { λ r. ⌜ Clean suite (r .tag)
         × (r .calls ≡ length (calls (cipherOf suite) opening (now (key .entry)) (now (nonce .entry)) (now (ad .entry)) (now (text .entry)))) ⌝ }
 {
-    let s = step::state::start(tb, suite, key, nonce);
-    let d = text::absorb_all(tb, false, suite, s, 0x08, 0x10, ad);
-    let t = text::crypt_all(tb, opening, suite, d, text);
-    step::tag::tag_of(tb, suite, t)
+    let s = step::state::start(lent, suite, key, nonce);
+    let d = text::absorb_all(lent, false, suite, s, 0x08, 0x10, ad);
+    let t = text::crypt_all(lent, opening, suite, d, text);
+    step::tag::tag_of(lent, suite, t)
 }
 
 // Seals text in its place, once every length is right: the cipher is lent what it needs.
 fn seal_with(
-    tb: &[Lent],
+    lent: &[Lent],
     suite: u8,
     key: &[u8],
     nonce: &[u8],
@@ -150,11 +150,11 @@ fn seal_with(
     text: &mut [u8],
     tag: &mut [u8],
 ) -> Counted
-    requires { ⌜ Ready suite (now tb) × (refusal false suite (length (now key)) (length (now nonce)) (length (now ad)) (length (now text)) (length (now text)) (length (now tag)) ≡ 0) ⌝ }
+    requires { ⌜ Ready suite (now lent) × (refusal false suite (length (now key)) (length (now nonce)) (length (now ad)) (length (now text)) (length (now text)) (length (now tag)) ≡ 0) ⌝ }
     ensures { λ r. ⌜ _≡_ {A = Counting Sealed} (record { leaves = record { number = numberOf (r .verdict); out = now (text .exit); tag = now (tag .exit) }; calls = r .calls })
         (sealingCounted suite (now (key .entry)) (now (nonce .entry)) (now (ad .entry)) (now (text .entry)) (now (text .entry)) (now (tag .entry))) ⌝ }
 {
-    let t = crypt(tb, false, suite, key, nonce, ad, text);
+    let t = crypt(lent, false, suite, key, nonce, ad, text);
     let g = t.tag;
     words::block::put(g, tag);
     Counted {
@@ -177,8 +177,8 @@ fn seal_taken(
         (sealingCounted suite (now (key .entry)) (now (nonce .entry)) (now (ad .entry)) (now (text .entry)) (now (text .entry)) (now (tag .entry))) ⌝ }
 {
     if cipher::lends(suite) {
-        let tb = cipher::tables(suite);
-        return seal_with(&tb, suite, key, nonce, ad, text, tag);
+        let lent = cipher::tables(suite);
+        return seal_with(&lent, suite, key, nonce, ad, text, tag);
     }
     seal_with(&[], suite, key, nonce, ad, text, tag)
 }
@@ -262,7 +262,7 @@ pub fn seal_in_place(
 
 // Opens text in its place, once every length is right: the cipher is lent what it needs.
 fn unseal_with(
-    tb: &[Lent],
+    lent: &[Lent],
     suite: u8,
     key: &[u8],
     nonce: &[u8],
@@ -270,11 +270,11 @@ fn unseal_with(
     text: &mut [u8],
     tag: &[u8],
 ) -> Counted
-    requires { ⌜ Ready suite (now tb) × (refusal true suite (length (now key)) (length (now nonce)) (length (now ad)) (length (now text)) (length (now text)) (length (now tag)) ≡ 0) ⌝ }
+    requires { ⌜ Ready suite (now lent) × (refusal true suite (length (now key)) (length (now nonce)) (length (now ad)) (length (now text)) (length (now text)) (length (now tag)) ≡ 0) ⌝ }
     ensures { λ r. ⌜ _≡_ {A = Counting Opened} (record { leaves = record { number = numberOf (r .verdict); out = now (text .exit) }; calls = r .calls })
         (openingCounted suite (now (key .entry)) (now (nonce .entry)) (now (ad .entry)) (now (text .entry)) (now (tag .entry)) (now (text .entry))) ⌝ }
 {
-    let t = crypt(tb, true, suite, key, nonce, ad, text);
+    let t = crypt(lent, true, suite, key, nonce, ad, text);
     let g = t.tag;
     let right = step::tag::same(g, tag);
     if !right {
@@ -304,8 +304,8 @@ fn unseal_taken(
         (openingCounted suite (now (key .entry)) (now (nonce .entry)) (now (ad .entry)) (now (text .entry)) (now (tag .entry)) (now (text .entry))) ⌝ }
 {
     if cipher::lends(suite) {
-        let tb = cipher::tables(suite);
-        return unseal_with(&tb, suite, key, nonce, ad, text, tag);
+        let lent = cipher::tables(suite);
+        return unseal_with(&lent, suite, key, nonce, ad, text, tag);
     }
     unseal_with(&[], suite, key, nonce, ad, text, tag)
 }
@@ -388,21 +388,21 @@ pub fn unseal_in_place(
 }
 
 // The tag of the message under text, once every length is right: nothing is written.
-fn tag_under(tb: &[Lent], suite: u8, key: &[u8], nonce: &[u8], ad: &[u8], text: &[u8]) -> Block
-    requires { ⌜ Ready suite (now tb) × IsSuite suite × (length (now key) ≡ 16) × (length (now nonce) ≡ nonceOf suite) ⌝ }
+fn tag_under(lent: &[Lent], suite: u8, key: &[u8], nonce: &[u8], ad: &[u8], text: &[u8]) -> Block
+    requires { ⌜ Ready suite (now lent) × IsSuite suite × (length (now key) ≡ 16) × (length (now nonce) ≡ nonceOf suite) ⌝ }
     ensures tag { λ r. ⌜ take (sizeOf suite) (wide r) ≡ tagOut (cipherOf suite) true (now (key .entry)) (now (nonce .entry)) (now (ad .entry)) (now (text .entry)) ⌝ }
     ensures rest { λ r. ⌜ Clean suite r ⌝ }
 {
-    let s = step::state::start(tb, suite, key, nonce);
-    let d = text::absorb_all(tb, false, suite, s, 0x08, 0x10, ad);
-    let t = text::absorb_all(tb, true, suite, d, 0x20, 0x40, text);
-    let l = step::tag::tag_of(tb, suite, t);
+    let s = step::state::start(lent, suite, key, nonce);
+    let d = text::absorb_all(lent, false, suite, s, 0x08, 0x10, ad);
+    let t = text::absorb_all(lent, true, suite, d, 0x20, 0x40, text);
+    let l = step::tag::tag_of(lent, suite, t);
     l.tag
 }
 
 // Whether the tag is right, once every length is: the cipher is lent what it needs.
 fn verify_with(
-    tb: &[Lent],
+    lent: &[Lent],
     suite: u8,
     key: &[u8],
     nonce: &[u8],
@@ -410,10 +410,10 @@ fn verify_with(
     text: &[u8],
     tag: &[u8],
 ) -> Verdict
-    requires { ⌜ Ready suite (now tb) × (refusal true suite (length (now key)) (length (now nonce)) (length (now ad)) (length (now text)) (length (now text)) (length (now tag)) ≡ 0) ⌝ }
+    requires { ⌜ Ready suite (now lent) × (refusal true suite (length (now key)) (length (now nonce)) (length (now ad)) (length (now text)) (length (now text)) (length (now tag)) ≡ 0) ⌝ }
     ensures { λ r. ⌜ numberOf r ≡ verifying suite (now (key .entry)) (now (nonce .entry)) (now (ad .entry)) (now (text .entry)) (now (tag .entry)) ⌝ }
 {
-    let g = tag_under(tb, suite, key, nonce, ad, text);
+    let g = tag_under(lent, suite, key, nonce, ad, text);
     let genuine = step::tag::same(g, tag);
     if !genuine {
         return Verdict::Forged;
@@ -439,8 +439,8 @@ pub fn verify(suite: u8, key: &[u8], nonce: &[u8], ad: &[u8], text: &[u8], tag: 
         return a;
     };
     if cipher::lends(suite) {
-        let tb = cipher::tables(suite);
-        return verify_with(&tb, suite, key, nonce, ad, text, tag);
+        let lent = cipher::tables(suite);
+        return verify_with(&lent, suite, key, nonce, ad, text, tag);
     }
     verify_with(&[], suite, key, nonce, ad, text, tag)
 }

@@ -13,7 +13,7 @@ ghost use Rattle.step.specs.Two.{twoOf};
 
 // All blocks of b go in, a call each, the first under the mark first and a short one under the mark short too; nothing is written.
 pub(crate) fn absorb_all(
-    tb: &[Lent],
+    lent: &[Lent],
     opening: bool,
     suite: u8,
     s: State,
@@ -21,26 +21,26 @@ pub(crate) fn absorb_all(
     short: u8,
     b: &[u8],
 ) -> State
-    requires { ⌜ Ready suite (now tb) × IsSuite suite ⌝ }
+    requires { ⌜ Ready suite (now lent) × IsSuite suite ⌝ }
     ensures state { λ r. ⌜ twoOf suite r ≡ walked (cipherOf suite) opening first short (twoOf suite s) (blocks (sizeOf suite) (now (b .entry))) ⌝ }
     ensures calls { λ r. ⌜ r .calls ≡ add 64 (s .calls) (length (blocks (sizeOf suite) (now (b .entry)))) ⌝ }
 {
     if b.len() == 0 {
         return s;
     }
-    let w = walk::absorb(tb, opening, suite, s, first, b);
+    let w = walk::absorb(lent, opening, suite, s, first, b);
     let t = w.s;
     let m = w.mark;
     let i = w.at;
     if i < b.len() {
-        return absorb_short(tb, opening, suite, t, m ^ short, &b[i..b.len()]);
+        return absorb_short(lent, opening, suite, t, m ^ short, &b[i..b.len()]);
     }
     t
 }
 
 // All blocks of a text, a call each: what goes out takes its place.
-pub(crate) fn crypt_all(tb: &[Lent], opening: bool, suite: u8, s: State, text: &mut [u8]) -> State
-    requires { ⌜ Ready suite (now tb) × IsSuite suite ⌝ }
+pub(crate) fn crypt_all(lent: &[Lent], opening: bool, suite: u8, s: State, text: &mut [u8]) -> State
+    requires { ⌜ Ready suite (now lent) × IsSuite suite ⌝ }
     ensures text { λ _. ⌜ now (text .exit) ≡ covered (cipherOf suite) opening 0x20 0x40 (twoOf suite s) (blocks (sizeOf suite) (now (text .entry))) ⌝ }
     ensures state { λ r. ⌜ (twoOf suite r ≡ walked (cipherOf suite) opening 0x20 0x40 (twoOf suite s) (blocks (sizeOf suite) (now (text .entry))))
         × (r .calls ≡ add 64 (s .calls) (length (blocks (sizeOf suite) (now (text .entry))))) ⌝ }
@@ -50,14 +50,14 @@ pub(crate) fn crypt_all(tb: &[Lent], opening: bool, suite: u8, s: State, text: &
         return s;
     }
     if end < cipher::size_of(suite) {
-        return crypt_short(tb, opening, suite, s, 0x20 ^ 0x40, text);
+        return crypt_short(lent, opening, suite, s, 0x20 ^ 0x40, text);
     }
-    let w = walk::crypt(tb, opening, suite, s, 0x20, text);
+    let w = walk::crypt(lent, opening, suite, s, 0x20, text);
     let t = w.s;
     let m = w.mark;
     let i = w.at;
     if i < end {
-        return crypt_short(tb, opening, suite, t, m ^ 0x40, &mut text[i..end]);
+        return crypt_short(lent, opening, suite, t, m ^ 0x40, &mut text[i..end]);
     }
     t
 }

@@ -6,12 +6,12 @@ use mathlib.Core.List.{List}
 use lib.ListN.{length}
 use borrow.Author.Tests.{ltb-false, le-ltb, ne-eqb}
 use native.Mathlib.Omega.{arith}
+use Rattle.words.proofs.Tests.{both-false}
 use Rattle.table.specs.Format.{countOf}
 use Rattle.table.specs.declared.answers.Refusal.{Refusal}
 use Rattle.table.specs.Answers.{answer, refusalAnswer}
 use Rattle.table.specs.Check.{checkFile}
 use Rattle.table.proofs.Numbers.{refusal-some}
-use Rattle.table.proofs.Searches.{or-false}
 use Rattle.compare.specs.declared.merge.Counts.{Counts}
 use Rattle.compare.specs.Comparing.{onlyFirst, onlySecond, differing, refusedIn, Comparison, stopped, tooLong, listed, comparison}
 use Rattle.compare.specs.Inside.{Sound, Passable, Passed, longer}
@@ -41,8 +41,8 @@ module _ (f g x y z : List ℕ) where
 
     pub writing : tooLong f g x y z ≡ false → Passable f g true x y z
     writing t =
-        let a = or-false _ _ t in
-        let b = or-false _ _ (a .1) in
+        let a = both-false _ _ t in
+        let b = both-false _ _ (a .1) in
         record { sound = s; first = λ w. ltb-false _ _ (a .0); second = λ w. ltb-false _ _ (b .0); differ = λ w. ltb-false _ _ (b .1) }
 
     pub all-listed : tooLong f g x y z ≡ false → (n : Counts) (x′ y′ z′ : List ℕ) → Passed f g true x y z n x′ y′ z′
@@ -58,8 +58,8 @@ module _ (f g x₀ y₀ z₀ : List ℕ) (n : Counts) (x y z : List ℕ) (h : Pa
 pub roomy : (f g x y z : List ℕ) (n : Counts) → (n .first ≡ countOf f) × (n .second ≡ countOf g) × (n .differ ≡ countOf f)
     → longer n (length x) (length y) (length z) ≡ false → tooLong f g x y z ≡ false
 roomy f g x y z n m t =
-    let a = or-false _ _ t in
-    let b = or-false _ _ (a .1) in
+    let a = both-false _ _ t in
+    let b = both-false _ _ (a .1) in
     let i : n .first ≤ length x = ltb-false _ _ (a .0) in
     let j : n .second ≤ length y = ltb-false _ _ (b .0) in
     let k : n .differ ≤ length z = ltb-false _ _ (b .1) in

@@ -1,31 +1,12 @@
--- Searches below a number that one number alone can end, and lists of what passes a test, one number more.
+-- Lists of what passes a test, one number more.
 use Prim.Native.Nat.{ℕ, zero, suc, _+_, _-_, _≤_, _<_}
 use native.Mathlib.Omega.{arith}
-use native.Mathlib.Nat.{eq-or-lt-of-le}
 use native.Mathlib.Numerals.{add-one}
-use mathlib.Core.Path.{_≡_, refl, sym, ap, _∙_}
-use mathlib.Core.Bool.{Bool, true, false, cond, or-false}
+use mathlib.Core.Path.{_≡_, refl}
+use mathlib.Core.Bool.{Bool, true, false, cond}
 use mathlib.Core.List.{List, [], _∷_}
-use mathlib.Core.Logic.{⊎-elim}
 use lib.ListN.{length}
-use Rattle.table.specs.Search.{anyBelow}
 use Rattle.compare.specs.Kept.{kept}
-
--- none passes
-pub any-none : (p : ℕ → Bool) (n : ℕ) → ((k : ℕ) → k < n → p k ≡ false) → anyBelow p n ≡ false
-unfolding anyBelow
-any-none p zero h = refl
-any-none p (suc n) h = simp (h n (omega arith)) (any-none p n (λ k l. h k (omega arith)))
-
--- no other than j does
-pub any-only : (p : ℕ → Bool) (n j : ℕ) → j < n → ((k : ℕ) → k < n → (k ≡ j → ⊥) → p k ≡ false) → anyBelow p n ≡ p j
-unfolding anyBelow
-any-only p zero j l h = absurd (omega arith)
-any-only p (suc n) j l h =
-    ⊎-elim
-    (λ (e : j ≡ n). simp (any-none p n (λ k m. h k (omega arith) (λ q. omega arith)), or-false) (ap p (sym e)))
-    (λ (m : j < n). simp (h n (omega arith) (λ q. omega arith)) (any-only p n j m (λ k z. h k (omega arith))))
-    (eq-or-lt-of-le (omega arith))
 
 shorter : (l : List ℕ) (x k : ℕ) (b : Bool) → length l ≤ k → length (cond b (x ∷ l) l) ≤ suc k
 shorter l x k true h = omega arith

@@ -1,34 +1,21 @@
 -- The three lists hold exactly the jobs that they should: what a filter keeps is what some row that passes stands for.
 use Prim.Native.Nat.{ℕ, zero, suc, _+_, _≤_, _<_}
 use native.Mathlib.Omega.{arith}
-use native.Mathlib.Nat.{eq-or-lt-of-le, not-suc-le-zero}
-use mathlib.Core.Path.{_≡_, refl, sym, ap, subst, _∙_}
-use mathlib.Core.Bool.{Bool, true, false, not, _&&_, _||_, cond, true≢false}
+use native.Mathlib.Nat.{eq-or-lt-of-le}
+use mathlib.Core.Path.{_≡_, refl, sym, ap, _∙_}
+use mathlib.Core.Bool.{Bool, true, false, not, _&&_, cond, true≢false}
 use mathlib.Core.List.{List, [], _∷_, List·Memᴰ, List·Memᴰ·head, List·Memᴰ·tail, List·Memᴰ·not-nil, List·Memᴰ·cases-cons}
 use mathlib.Core.Logic.{_⊎_, inl, inr, ⊎-elim}
 use lib.ListN.{length, getD}
 use borrow.Author.Tests.{eq-eqb, ne-eqb, eqb-true, eqb-false, not-true}
 use Rattle.words.specs.Bytes.{sameBytes}
-use Rattle.words.proofs.Same.{and-true, same-refl, same-true}
-use Rattle.table.specs.Search.{anyBelow}
+use Rattle.words.proofs.Tests.{both-true, is-false}
+use Rattle.words.proofs.Same.{same-refl, same-true}
 use Rattle.table.specs.Format.{countOf, rowOf}
-use Rattle.table.proofs.Searches.{any-hit}
+use Rattle.table.proofs.Searches.{any-none, any-some, any-hit}
 use Rattle.compare.specs.Kept.{kept}
 use Rattle.compare.specs.Comparing.{sameFields, nonceBytes, bodyOf, sameEntry, jobAt, has, hasJob, differs, onlyIn, differing}
 use Rattle.compare.specs.Promised.{InFile, Same, Different}
-use Rattle.compare.proofs.Keeping.{any-none}
-
--- ---- what a search finds
-
-or-true : (a b : Bool) → a || b ≡ true → (a ≡ true) ⊎ (b ≡ true)
-or-true true b q = inl refl
-or-true false b q = inr q
-
-any-some : (p : ℕ → Bool) (n : ℕ) → anyBelow p n ≡ true → (k : ℕ) × ((k < n) × (p k ≡ true))
-unfolding anyBelow
-any-some p zero q = absurd (true≢false (sym q))
-any-some p (suc n) q =
-    ⊎-elim (λ (h : p n ≡ true). (n, (omega arith, h))) (λ h. let r = any-some p n h in (r .0, (omega arith, r .1 .1))) (or-true (p n) (anyBelow p n) q)
 
 -- ---- what a filter keeps
 
@@ -107,15 +94,15 @@ only-gets f g job h =
 pub same-says : (f g : List ℕ) (i j : ℕ) → sameEntry f g i j ≡ true → Same f g i j
 unfolding sameEntry sameFields
 same-says f g i j q =
-    let a = and-true _ _ q in
-    let s = and-true _ _ (a .0) in
-    let k = and-true _ _ (s .1) in
-    let t = and-true _ _ (a .1) in
-    let b = and-true _ _ (t .1) in
+    let a = both-true _ _ q in
+    let s = both-true _ _ (a .0) in
+    let k = both-true _ _ (s .1) in
+    let t = both-true _ _ (a .1) in
+    let b = both-true _ _ (t .1) in
     record {
       suite = eqb-true _ _ (s .0);
       key = eqb-true _ _ (k .0);
-      ad = eqb-true _ _ (k .1);
+      ad-len = eqb-true _ _ (k .1);
       nonce = same-true _ _ (b .0);
       body = same-true _ _ (b .1);
       station = eqb-true _ _ (t .0);
@@ -123,19 +110,14 @@ same-says f g i j q =
 
 pub same-tells : (f g : List ℕ) (i j : ℕ) → Same f g i j → sameEntry f g i j ≡ true
 unfolding sameEntry sameFields
-same-tells f g i j h = simp (eq-eqb _ _ (h .suite), eq-eqb _ _ (h .key), eq-eqb _ _ (h .ad), eq-eqb _ _ (h .station), h .nonce, h .body, same-refl (nonceBytes g j), same-refl (bodyOf g j))
-
--- a test that is not true is false
-is-false : (b : Bool) → (b ≡ true → ⊥) → b ≡ false
-is-false true h = absurd (h refl)
-is-false false h = refl
+same-tells f g i j h = simp (eq-eqb _ _ (h .suite), eq-eqb _ _ (h .key), eq-eqb _ _ (h .ad-len), eq-eqb _ _ (h .station), h .nonce, h .body, same-refl (nonceBytes g j), same-refl (bodyOf g j))
 
 pub differ-has : (f g : List ℕ) (job : ℕ) → List·Memᴰ job (differing f g) → Different f g job
 unfolding differing jobAt
 differ-has f g job m =
     let r = kept-has (differs f g) (jobAt f) 0 (countOf f) job m in
     let s = any-some (λ j. has g (jobAt f (r .at)) j && not (sameEntry f g (r .at) j)) (countOf g) (r .hit) in
-    let t = and-true (has g (jobAt f (r .at)) (s .0)) (not (sameEntry f g (r .at) (s .0))) (s .1 .1) in
+    let t = both-true (has g (jobAt f (r .at)) (s .0)) (not (sameEntry f g (r .at) (s .0))) (s .1 .1) in
     record {
       first = record { row = r .at; within = omega (arith, r .high); has = r .is };
       second = record { row = s .0; within = s .1 .0; has = eqb-true _ _ (t .0) ∙ r .is };

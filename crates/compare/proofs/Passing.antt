@@ -6,7 +6,7 @@ use mathlib.Core.Path.{_≡_, refl, sym, ap, subst, _∙_}
 use mathlib.Core.Bool.{Bool, true, false, not, _&&_, cond}
 use mathlib.Core.List.{List, [], _∷_}
 use lib.ListN.{length, set}
-use Rattle.table.specs.Format.{countOf, edition, newest}
+use Rattle.table.specs.Format.{countOf, firstEdition, newest}
 use Rattle.table.specs.Check.{checkFile}
 use Rattle.table.proofs.Passed.{passes}
 use Rattle.compare.specs.Comparing.{jobAt, hasJob, differs, onlyIn, onlyFirst, onlySecond, differing}
@@ -16,7 +16,7 @@ use Rattle.compare.proofs.Filling.{Filled, filled-start, filled-step, f
 
 -- 22 says that there are at most 512 rows
 pub few-rows : (f : List ℕ) → checkFile f .number ≡ 0 → countOf f ≤ 512
-few-rows f z = passes edition newest f z .head .few
+few-rows f z = passes firstEdition newest f z .head .few
 
 -- row i of f and row j of g are next; a, b and c numbers are counted, in the lists x, y and z
 pub record Going (f g : List ℕ) (write : Bool) (x₀ y₀ z₀ : List ℕ) (total i j a b c : ℕ) (x y z : List ℕ) : Type 0 where

@@ -8,14 +8,14 @@ use lib.ListN.{length}
 use lib.Dec.{ltb}
 use borrow.Author.Tests.{eq-eqb, le-ltb}
 use Rattle.cipher.specs.Cipher.{sizeOf}
-use Rattle.table.specs.Format.{countOf, edition, newest, rowSize, rowOf, bodyEnd}
+use Rattle.table.specs.Format.{countOf, firstEdition, newest, rowSize, rowOf, bodyEnd}
 use Rattle.table.specs.Check.{checkFile}
 use Rattle.table.proofs.Rows.{stretch-length, station-none}
 use Rattle.table.proofs.Passed.{passes, entry-in}
-use Rattle.table.proofs.Searches.{any-hit}
+use Rattle.table.proofs.Searches.{any-hit, any-only}
 use Rattle.compare.specs.Comparing.{bodyOf, sameEntry, jobAt, has, hasJob, differs, onlyIn, differing}
 use Rattle.compare.specs.Promised.{Same, Different, ExactlyListed, ListsRise, EqualRows, WithItself, FilesExchanged, OtherLength, OtherStation, NoStation}
-use Rattle.compare.proofs.Keeping.{any-only, kept-none}
+use Rattle.compare.proofs.Keeping.{kept-none}
 use Rattle.compare.proofs.Turns.{jobs-rise, others}
 use Rattle.compare.proofs.Members.{same-tells, only-has, only-gets, differ-has, differ-gets}
 use Rattle.compare.proofs.Rising.{Climbs, kept-climbs, climbs-rise, climbs-same}
@@ -78,7 +78,7 @@ equal-rows f g x y z p q c same =
 
 pub with-itself : WithItself
 with-itself f x y z p =
-    equal-rows f f x y z p p refl (λ i l. (refl, record { suite = refl; key = refl; ad = refl; nonce = refl; body = refl; station = refl }))
+    equal-rows f f x y z p p refl (λ i l. (refl, record { suite = refl; key = refl; ad-len = refl; nonce = refl; body = refl; station = refl }))
 
 -- ---- the files exchanged
 
@@ -86,7 +86,7 @@ other-way : (f g : List ℕ) (job : ℕ) → Different f g job → Different g f
 other-way f g job h = record {
   first = h .second;
   second = h .first;
-  other = λ s. h .other (record { suite = sym (s .suite); key = sym (s .key); ad = sym (s .ad); nonce = sym (s .nonce); body = sym (s .body); station = sym (s .station) });
+  other = λ s. h .other (record { suite = sym (s .suite); key = sym (s .key); ad-len = sym (s .ad-len); nonce = sym (s .nonce); body = sym (s .body); station = sym (s .station) });
 }
 
 pub files-exchanged : FilesExchanged
@@ -100,16 +100,16 @@ files-exchanged f g p q = record {
 
 -- ---- lengths
 
-body-length : (f : List ℕ) (i : ℕ) → checkFile f .number ≡ 0 → i < countOf f → length (bodyOf f i) ≡ rowOf f i .ad + rowOf f i .len + sizeOf (rowOf f i .suite)
+body-length : (f : List ℕ) (i : ℕ) → checkFile f .number ≡ 0 → i < countOf f → length (bodyOf f i) ≡ rowOf f i .«ad_len» + rowOf f i .«text_len» + sizeOf (rowOf f i .suite)
 unfolding bodyEnd
 body-length f i z l =
-    let b = entry-in edition newest f (passes edition newest f z) i l .body-in in
-    stretch-length f (rowOf f i .at) (bodyEnd (rowOf f i) - rowOf f i .at) (omega arith) ∙ omega arith
+    let b = entry-in firstEdition newest f (passes firstEdition newest f z) i l .body-in in
+    stretch-length f (rowOf f i .«ad_at») (bodyEnd (rowOf f i) - rowOf f i .«ad_at») (omega arith) ∙ omega arith
 
 pub other-length : OtherLength
 other-length f g i j p q m n h =
     let s : sizeOf (rowOf f i .suite) ≡ sizeOf (rowOf g j .suite) = ap sizeOf (h .suite) in
-    omega (arith, body-length f i p m, body-length g j q n, ap length (h .body), h .ad)
+    omega (arith, body-length f i p m, body-length g j q n, ap length (h .body), h .ad-len)
 
 -- ---- stations
 

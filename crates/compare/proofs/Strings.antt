@@ -8,6 +8,7 @@ use lib.ListN.{length, take, drop, replicate, length-drop, drop-of-length-le}
 use lib.Seq.{drop-drop, length-take-le}
 use lib.Dec.{eqb}
 use Rattle.words.specs.Bytes.{sameBytes}
+use Rattle.words.specs.Blocks.{filled}
 use Rattle.words.proofs.Same.{same-true, same-behind}
 use Rattle.table.specs.Part.{stretch}
 
@@ -33,8 +34,8 @@ module _ (x y : List ℕ) (i e : ℕ) (q : length x ≡ length y) (h : i ≤ e) 
       ∙ sym (length-take-le (e - i) (drop i y) (omega (arith, length-drop i y)))
 
   -- with zeros behind both
-  pub same-filled : (p r : List ℕ) → p ≡ stretch x i (e - i) ++ replicate (16 - length (stretch x i (e - i))) 0
-      → r ≡ stretch y i (e - i) ++ replicate (16 - length (stretch y i (e - i))) 0 → sameBytes p r ≡ sameBytes (stretch x i (e - i)) (stretch y i (e - i))
+  pub same-filled : (p r : List ℕ) → p ≡ filled (stretch x i (e - i)) → r ≡ filled (stretch y i (e - i))
+      → sameBytes p r ≡ sameBytes (stretch x i (e - i)) (stretch y i (e - i))
   same-filled p r hp hr =
       ap₂ sameBytes (hp ∙ ap (λ (n : ℕ). stretch x i (e - i) ++ replicate (16 - n) 0) same-length) hr
       ∙ same-behind (stretch x i (e - i)) (stretch y i (e - i)) _ same-length

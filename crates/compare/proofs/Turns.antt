@@ -8,18 +8,19 @@ use mathlib.Core.Bool.{Bool, true, false, not, _&&_, cond}
 use mathlib.Core.List.{List}
 use mathlib.Core.Logic.{⊎-elim}
 use borrow.Author.Tests.{eq-eqb, ne-eqb}
-use Rattle.table.specs.Format.{countOf, edition, newest, widthOf}
+use Rattle.table.specs.Format.{countOf, firstEdition, newest, rowSizeOf}
 use Rattle.table.specs.Check.{checkFile}
+use Rattle.table.proofs.Searches.{any-none, any-only}
 use Rattle.table.proofs.Passed.{passes}
 use Rattle.table.proofs.Rising.{rising}
 use Rattle.compare.specs.Comparing.{sameEntry, jobAt, has, hasJob, differs}
 use Rattle.compare.specs.Inside.{At, firstTurn, secondTurn, Turned, onlyFrom, differFrom}
-use Rattle.compare.proofs.Keeping.{any-none, any-only, kept-step}
+use Rattle.compare.proofs.Keeping.{kept-step}
 
 -- 25 says that the jobs rise
 pub jobs-rise : (f : List ℕ) → checkFile f .number ≡ 0 → (i k : ℕ) → i < k → k < countOf f → jobAt f i < jobAt f k
 unfolding jobAt
-jobs-rise f z = rising (widthOf f) f (countOf f) (passes edition newest f z .walk)
+jobs-rise f z = rising (rowSizeOf f) f (countOf f) (passes firstEdition newest f z .walk)
 
 module _ (f : List ℕ) (z : checkFile f .number ≡ 0) where
   level : (i k : ℕ) → i ≤ k → k < countOf f → jobAt f i ≤ jobAt f k

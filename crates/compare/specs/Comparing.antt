@@ -8,9 +8,9 @@ use Rattle.words.specs.Bytes.{sameBytes}
 use Rattle.table.specs.declared.row.Row.{Row}
 use Rattle.table.specs.declared.answers.Answer.{Answer}
 use Rattle.table.specs.Search.{anyBelow}
-use Rattle.table.specs.Format.{countOf, widthOf, rowOf, stationOf, nonceAt}
+use Rattle.table.specs.Format.{countOf, rowSizeOf, rowOf, stationOf, nonceAt}
 use Rattle.table.specs.Answers.{answer, refusalAnswer}
-use Rattle.table.specs.Check.{checkFile}
+use Rattle.table.specs.Check.{checkFile, refused}
 use Rattle.table.specs.Laid.{bodyAt}
 use Rattle.compare.specs.declared.Finding.{Finding}
 use Rattle.compare.specs.declared.Compared.{Compared}
@@ -21,7 +21,7 @@ use Rattle.compare.specs.Kept.{kept, onList}
 
 -- equal in suite, key number and associated data length; offsets do not count
 unfoldable pub sameFields : Row → Row → Bool
-sameFields x y = eqb (x .suite) (y .suite) && (eqb (x .key) (y .key) && eqb (x .ad) (y .ad))
+sameFields x y = eqb (x .suite) (y .suite) && (eqb (x .key) (y .key) && eqb (x .«ad_len») (y .«ad_len»))
 
 -- equal stations; in edition 1 a row's is 0
 abbrev pub sameStation : List ℕ → List ℕ → ℕ → ℕ → Bool
@@ -29,11 +29,11 @@ sameStation f g i j = eqb (stationOf f i) (stationOf g j)
 
 -- the nonce of row i, all sixteen bytes
 abbrev pub nonceBytes : List ℕ → ℕ → List ℕ
-nonceBytes f i = nonceAt (widthOf f) f i
+nonceBytes f i = nonceAt (rowSizeOf f) f i
 
 -- its body: associated data, ciphertext and tag
 abbrev pub bodyOf : List ℕ → ℕ → List ℕ
-bodyOf f i = bodyAt (widthOf f) f i
+bodyOf f i = bodyAt (rowSizeOf f) f i
 
 -- rows i of f and j of g are equal in these, in station, in nonce and in body; each file has its own edition
 unfoldable pub sameEntry : List ℕ → List ℕ → ℕ → ℕ → Bool
@@ -98,9 +98,6 @@ pub record Comparison : Type 0 where
 -- a refusal leaves the lists unchanged
 abbrev pub stopped : Finding → List ℕ → List ℕ → List ℕ → Comparison
 stopped t x y z = record { finding = t; first = x; second = y; differ = z }
-
-abbrev pub refused : List ℕ → Bool
-refused f = not (eqb (checkFile f .number) 0)
 
 -- a list is longer than its buffer
 abbrev pub tooLong : List ℕ → List ℕ → List ℕ → List ℕ → List ℕ → Bool

@@ -4,7 +4,7 @@ use mathlib.Core.Path.{_≡_}
 use mathlib.Core.List.{List, [], List·Memᴰ}
 use mathlib.Core.Logic.{_↔_}
 use lib.ListN.{length, getD}
-use Rattle.table.specs.Format.{editionOf, countOf, edition, rowOf, stationOf}
+use Rattle.table.specs.Format.{editionOf, countOf, firstEdition, rowOf, stationOf}
 use Rattle.table.specs.Answers.{answer}
 use Rattle.table.specs.Check.{checkFile}
 use Rattle.compare.specs.Comparing.{nonceBytes, bodyOf, onlyFirst, onlySecond, differing, refusedIn, stopped, comparison}
@@ -21,7 +21,7 @@ pub record InFile (f : List ℕ) (job : ℕ) : Type 0 where
 pub record Same (f g : List ℕ) (i j : ℕ) : Type 0 where
   pub suite : rowOf f i .suite ≡ rowOf g j .suite
   pub key : rowOf f i .key ≡ rowOf g j .key
-  pub ad : rowOf f i .ad ≡ rowOf g j .ad
+  pub ad-len : rowOf f i .«ad_len» ≡ rowOf g j .«ad_len»
   pub nonce : nonceBytes f i ≡ nonceBytes g j
   pub body : bodyOf f i ≡ bodyOf g j
   pub station : stationOf f i ≡ stationOf g j
@@ -88,7 +88,7 @@ FilesExchanged = (f g : List ℕ) → checkFile f .number ≡ 0 → checkFile g 
 abbrev pub OtherLength : Type 0
 OtherLength =
     (f g : List ℕ) (i j : ℕ) → checkFile f .number ≡ 0 → checkFile g .number ≡ 0 → i < countOf f → j < countOf g
-    → Same f g i j → rowOf f i .len ≡ rowOf g j .len
+    → Same f g i j → rowOf f i .«text_len» ≡ rowOf g j .«text_len»
 
 -- ---- stations
 
@@ -100,4 +100,4 @@ OtherStation =
 
 -- in edition 1 it is 0
 abbrev pub NoStation : Type 0
-NoStation = (f : List ℕ) (i : ℕ) → editionOf f ≡ edition → stationOf f i ≡ 0
+NoStation = (f : List ℕ) (i : ℕ) → editionOf f ≡ firstEdition → stationOf f i ≡ 0

@@ -3,9 +3,9 @@ use table::row::Row;
 use table::row::body_end;
 use table::row::nonce_at;
 use table::row::row_at;
+use table::row::row_size_of;
 use table::row::station_of;
 use table::row::stretch;
-use table::row::width;
 use words::block::filled;
 use words::block::same;
 ghost use mathlib.Core.Path.{_≡_};
@@ -13,7 +13,7 @@ ghost use Prim.Native.Nat.{_-_, _≤_};
 ghost use lib.ListN.{length};
 ghost use Rattle.words.specs.Bytes.{sameBytes};
 ghost use Rattle.table.specs.Part.{stretch};
-ghost use Rattle.table.specs.Format.{widthOf, bodyEnd};
+ghost use Rattle.table.specs.Format.{rowSizeOf, bodyEnd};
 ghost use Rattle.table.specs.Inside.{EntryIn};
 ghost use Rattle.compare.specs.Comparing.{sameFields, sameEntry};
 
@@ -45,9 +45,9 @@ fn same_bytes(x: &[u8], y: &[u8]) -> bool
 // A row's body, as a part of the file.
 fn body_of(f: &[u8], row: Row) -> &[u8]
     requires { ⌜ bodyEnd row ≤ length (now f) ⌝ }
-    ensures { λ r. ⌜ now r ≡ stretch (now (f .entry)) (row .at) (bodyEnd row - row .at) ⌝ }
+    ensures { λ r. ⌜ now r ≡ stretch (now (f .entry)) (row .«ad_at») (bodyEnd row - row .«ad_at») ⌝ }
 {
-    let at = row.at as usize;
+    let at = row.ad_at as usize;
     stretch(f, at, body_end(row) - at)
 }
 
@@ -61,16 +61,16 @@ fn same_fields(x: Row, y: Row) -> bool
     if x.key != y.key {
         return false;
     }
-    x.ad == y.ad
+    x.ad_len == y.ad_len
 }
 
 // Rows i of f and j of g are the same entry.
 pub(crate) fn same_entry(f: &[u8], g: &[u8], i: usize, j: usize) -> bool
-    requires { ⌜ EntryIn (widthOf (now f)) (now f) i × EntryIn (widthOf (now g)) (now g) j ⌝ }
+    requires { ⌜ EntryIn (rowSizeOf (now f)) (now f) i × EntryIn (rowSizeOf (now g)) (now g) j ⌝ }
     ensures { λ r. ⌜ r ≡ sameEntry (now (f .entry)) (now (g .entry)) i j ⌝ }
 {
-    let v = width(f);
-    let w = width(g);
+    let v = row_size_of(f);
+    let w = row_size_of(g);
     let x = row_at(v, f, i);
     let y = row_at(w, g, j);
     if !same_fields(x, y) {

@@ -2,7 +2,7 @@
 use crate::entry::same_entry;
 use table::row::count;
 use table::row::row_at;
-use table::row::width;
+use table::row::row_size_of;
 ghost use mathlib.Core.Path.{_≡_};
 ghost use mathlib.Core.Bool.{true, cond, _&&_};
 ghost use Prim.Native.Nat.{_+_, _<_, _≤_};
@@ -55,7 +55,7 @@ fn job_of(f: &[u8], i: usize) -> u32
     requires { ⌜ (checkFile (now f) .number ≡ 0) × (i < countOf (now f)) ⌝ }
     ensures { λ r. ⌜ r ≡ jobAt (now (f .entry)) i ⌝ }
 {
-    let row = row_at(width(f), f, i);
+    let row = row_at(row_size_of(f), f, i);
     row.job
 }
 

@@ -4,7 +4,6 @@
 // be read counts as zero bytes. The program takes files up to 524,288 bytes, half the format's limit (longer: 20): the
 // prover can carry no array of twice that.
 use table::answers::Answer;
-use table::row::count;
 ghost use Prim.Native.Nat.{_≤_};
 
 // Argument i names the output.
@@ -20,30 +19,9 @@ fn run(back: bool, file: &[u8], i: usize, out: &mut [u8]) {
     }
 }
 
-// How long the moved file is. Of a file whose header is refused any length will do: the output's does not count then.
-fn new_length(back: bool, file: &[u8]) -> usize {
-    if file.len() < 8 {
-        return 0;
-    }
-    if 524288 < file.len() {
-        return 0;
-    }
-    let n = count(file);
-    if 512 < n {
-        return 0;
-    }
-    if !back {
-        return file.len() + 4 * n;
-    }
-    if file.len() < 4 * n {
-        return 0;
-    }
-    file.len() - 4 * n
-}
-
 // An output of the moved file's length; the buffer has room for 512 stations more than the file, so the test always holds.
 fn run_in(back: bool, file: &[u8], i: usize, out: &mut [u8]) {
-    let n = new_length(back, file);
+    let n = editions::moved_length(file);
     if n <= out.len() {
         run(back, file, i, &mut out[0..n]);
     }

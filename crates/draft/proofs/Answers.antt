@@ -9,11 +9,12 @@ use lib.ListN.{length, replicate}
 use lib.Dec.{eqb, lit<}
 use borrow.Author.Tests.{eq-eqb, ne-eqb, eqb-true, eqb-false, not-false}
 use Rattle.words.specs.Bytes.{sameBytes}
+use Rattle.words.proofs.Tests.{is-false}
 use Rattle.words.proofs.Same.{same-true, same-refl}
-use Rattle.cipher.specs.Cipher.{seals, Seals, sizeOf}
+use Rattle.cipher.specs.Cipher.{Seals, sizeOf}
 use Rattle.table.specs.declared.answers.Answer.{Answer}
 use Rattle.table.specs.Search.{firstOf}
-use Rattle.table.specs.Format.{countOf, edition, rowOf, tagOf}
+use Rattle.table.specs.Format.{countOf, firstEdition, rowOf, tagOf}
 use Rattle.table.specs.Answers.{answer}
 use Rattle.table.specs.Check.{andThen, checkAs}
 use Rattle.table.proofs.Searches.{first-says, first-none, first-at}
@@ -24,10 +25,6 @@ use Rattle.draft.specs.Answers.{tagSet, rowRetired, tagRight, setFrom, r
 use Rattle.draft.specs.Promised.{ZeroTag, RightTag, Valid, AllSeal, Genuine, SealCases, UnsealCases, Sealing, Unsealing, SealNumbers, UnsealNumbers}
 
 -- ---- a tag's two tests
-
-told-true : (b : Bool) (x y : List ℕ) → sameBytes x y ≡ b → (x ≡ y → ⊥) → b ≡ false
-told-true true x y e n = absurd (n (same-true x y e))
-told-true false x y e n = refl
 
 module _ (f : List ℕ) (i : ℕ) where
   pub zero-told : tagSet f i ≡ false → ZeroTag f i
@@ -42,7 +39,7 @@ module _ (f : List ℕ) (i : ℕ) where
 
   set-test : (ZeroTag f i → ⊥) → tagSet f i ≡ true
   unfolding tagSet
-  set-test n = ap not (told-true _ _ _ refl n)
+  set-test n = ap not (is-false _ (λ e. n (same-true _ _ e)))
 
   module _ (ring : List ℕ) where
     pub right-told : tagRight f ring i ≡ true → RightTag f ring i
@@ -55,13 +52,7 @@ module _ (f : List ℕ) (i : ℕ) where
 
     pub wrong-test : (RightTag f ring i → ⊥) → tagRight f ring i ≡ false
     unfolding tagRight
-    wrong-test n = told-true _ _ _ refl n
-
--- ---- a suite's test
-
-told-seals : (b : Bool) (s : ℕ) → seals s ≡ b → (Seals s → ⊥) → b ≡ false
-told-seals true s e n = absurd (n e)
-told-seals false s e n = refl
+    wrong-test n = is-false _ (λ e. n (same-true _ _ e))
 
 -- ---- a search that gives number m or 0
 
@@ -115,7 +106,7 @@ module _ (f : List ℕ) where
 
   retired-first : (i : ℕ) → i < countOf f → (Seals (rowOf f i .suite) → ⊥) → ((k : ℕ) → k < i → Seals (rowOf f k .suite)) → retiredFrom f (countOf f) 0 ≡ answer 10 i
   unfolding retiredFrom rowRetired
-  retired-first i l n a = first-at _ _ _ (countOf f) i l (ap not (told-seals _ _ refl n)) (λ k b. ap not (a k b))
+  retired-first i l n a = first-at _ _ _ (countOf f) i l (ap not (is-false _ n)) (λ k b. ap not (a k b))
 
   none-retired : retiredFrom f (countOf f) 0 .number ≡ 0 → AllSeal f
   unfolding retiredFrom rowRetired
@@ -272,19 +263,19 @@ module _ (draft : List ℕ) (ring out : ℕ) where
       record { passed = a .0; zeros = none-set draft (b .0); all-seal = none-retired draft (d .0); room = room-told (length draft) ring out (rw (d .1) at x) }
 
 module _ (file : List ℕ) (ring out : ℕ) where
-  open-checked : (checkAs edition file .number ≡ 0 → ⊥) → openAnswer file ring out ≡ checkAs edition file
+  open-checked : (checkAs firstEdition file .number ≡ 0 → ⊥) → openAnswer file ring out ≡ checkAs firstEdition file
   unfolding openAnswer
   open-checked n = simp (ne-eqb _ _ n)
 
-  pub open-lent : checkAs edition file .number ≡ 0 → lentAnswer (length file) ring out ≡ openAnswer file ring out
+  pub open-lent : checkAs firstEdition file .number ≡ 0 → lentAnswer (length file) ring out ≡ openAnswer file ring out
   unfolding openAnswer
   open-lent z = simp (eq-eqb _ _ z)
 
-  open-numbers : let n : ℕ = openAnswer file ring out .number in (openAnswer file ring out ≡ answer 0 0) ⊎ (n ≡ 2) ⊎ (n ≡ 6) ⊎ (openAnswer file ring out ≡ checkAs edition file)
-  open-numbers = check-case (eqb (checkAs edition file .number) 0) refl
+  open-numbers : let n : ℕ = openAnswer file ring out .number in (openAnswer file ring out ≡ answer 0 0) ⊎ (n ≡ 2) ⊎ (n ≡ 6) ⊎ (openAnswer file ring out ≡ checkAs firstEdition file)
+  open-numbers = check-case (eqb (checkAs firstEdition file .number) 0) refl
     where
-      check-case : (b : Bool) → eqb (checkAs edition file .number) 0 ≡ b
-          → let n : ℕ = openAnswer file ring out .number in (openAnswer file ring out ≡ answer 0 0) ⊎ (n ≡ 2) ⊎ (n ≡ 6) ⊎ (openAnswer file ring out ≡ checkAs edition file)
+      check-case : (b : Bool) → eqb (checkAs firstEdition file .number) 0 ≡ b
+          → let n : ℕ = openAnswer file ring out .number in (openAnswer file ring out ≡ answer 0 0) ⊎ (n ≡ 2) ⊎ (n ≡ 6) ⊎ (openAnswer file ring out ≡ checkAs firstEdition file)
       check-case false e = inr (inr (inr (open-checked (eqb-false _ _ e))))
       check-case true e =
           let q = sym (open-lent (eqb-true _ _ e)) in
@@ -298,20 +289,20 @@ module _ (file : List ℕ) (ring out : ℕ) where
       ⊎-elim (λ h. let z : 0 ≡ 8 = sym (ap (λ (x : Answer). x .number) h) ∙ q in omega arith)
       (⊎-elim (λ h. omega arith)
       (⊎-elim (λ h. omega arith)
-      (λ h. not-eight edition file (sym (ap (λ (x : Answer). x .number) h) ∙ q)))) open-numbers
+      (λ h. not-eight firstEdition file (sym (ap (λ (x : Answer). x .number) h) ∙ q)))) open-numbers
 
   -- what 0 says
   pub record Openable : Type 0 where
-    pub passed : checkAs edition file .number ≡ 0
+    pub passed : checkAs firstEdition file .number ≡ 0
     pub room : Room (length file) ring out
 
   pub openable : openAnswer file ring out .number ≡ 0 → Openable
   unfolding openAnswer
   openable z =
-      let a = both-zero (checkAs edition file) (lentAnswer (length file) ring out) z in
+      let a = both-zero (checkAs firstEdition file) (lentAnswer (length file) ring out) z in
       record { passed = a .0; room = room-told (length file) ring out (rw (a .1) at z) }
 
-  pub open-right : checkAs edition file .number ≡ 0 → ring ≡ 256 → out ≡ length file → openAnswer file ring out ≡ answer 0 0
+  pub open-right : checkAs firstEdition file .number ≡ 0 → ring ≡ 256 → out ≡ length file → openAnswer file ring out ≡ answer 0 0
   open-right z r o = sym (open-lent z) ∙ room-right (length file) ring out r o
 
 module _ (file ring : List ℕ) (out : ℕ) where
@@ -382,7 +373,7 @@ module _ (file ring out₀ : List ℕ) where
     done = λ g r o. tags-are (ap (λ (x : Answer). x .number) (g .checked)) r o (answer 0 0) (wrong-none file ring (g .right));
   }
     where
-      tags-are : checkAs edition file .number ≡ 0 → length ring ≡ 256 → length out₀ ≡ length file → (x : Answer) → wrongFrom file ring (countOf file) 0 ≡ x
+      tags-are : checkAs firstEdition file .number ≡ 0 → length ring ≡ 256 → length out₀ ≡ length file → (x : Answer) → wrongFrom file ring (countOf file) 0 ≡ x
           → fileUnsealing file ring out₀ ≡ leaves x (draftFile file ring) out₀
       tags-are z r o x q =
           unsealing-tags (ap (λ (y : Answer). y .number) (open-right file (length ring) (length out₀) z r o))
@@ -405,7 +396,7 @@ unseal-number file ring out₀ =
     number-case (eqb (openAnswer file (length ring) (length out₀) .number) 0) refl
   where
     number-case : (b : Bool) → eqb (openAnswer file (length ring) (length out₀) .number) 0 ≡ b
-        → let x : Answer = unsealAnswer file ring (length out₀) in (x .number ≡ 0) ⊎ (x .number ≡ 2) ⊎ (x .number ≡ 6) ⊎ (x .number ≡ 8) ⊎ (x ≡ checkAs edition file)
+        → let x : Answer = unsealAnswer file ring (length out₀) in (x .number ≡ 0) ⊎ (x .number ≡ 2) ⊎ (x .number ≡ 6) ⊎ (x .number ≡ 8) ⊎ (x ≡ checkAs firstEdition file)
     number-case true e =
         let q = unseal-tags file ring (length out₀) (eqb-true _ _ e) in
         ⊎-elim

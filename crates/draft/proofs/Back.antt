@@ -8,13 +8,13 @@ use lib.Dec.{lit<}
 use Rattle.cipher.specs.Cipher.{sizeOf}
 use Rattle.table.specs.declared.row.Row.{Row}
 use Rattle.table.specs.declared.answers.Answer.{Answer}
-use Rattle.table.specs.Format.{countOf, edition, rowSize, widthOf, nonceAt, rowOf, dataOf, textOf, tagOf}
+use Rattle.table.specs.Format.{countOf, firstEdition, rowSize, rowSizeOf, nonceAt, rowOf, dataOf, textOf, tagOf}
 use Rattle.table.specs.Answers.{answer}
 use Rattle.table.specs.Check.{checkAs}
 use Rattle.table.specs.Inside.{EntryIn}
 use Rattle.draft.specs.Files.{draftEdition, pieceSize, entryOut, entryTag, sealedPiece, draftPiece, rewritten, sealedFile, draftFile}
 use Rattle.draft.specs.Answers.{FileWritten, writes, fileSealing, fileUnsealing}
-use Rattle.draft.specs.Promised.{Valid, AllSeal, Genuine, Lent, SealedBack, UnsealedBack}
+use Rattle.draft.specs.Promised.{Valid, AllSeal, Genuine, WithRing, SealedBack, UnsealedBack}
 use Rattle.draft.proofs.Rewritten.{Plain, same-length, same-row, same-nonce, same-data, same-count, parts-are, passes-again, put-back}
 use Rattle.draft.proofs.Pieces.{entry-at, out-long, tag-size, own-piece, out-back, mark-back}
 use Rattle.draft.proofs.Answers.{sealing, unsealing}
@@ -23,12 +23,12 @@ pub plain-draft : Plain draftEdition
 unfolding rowSize
 plain-draft = (refl, lit< tt)
 
-pub plain-file : Plain edition
+pub plain-file : Plain firstEdition
 plain-file = (refl, lit< tt)
 
 -- ---- a file that passes, rewritten: its text is what direction d makes of it, and `tag` stands behind it
 
-module _ (e₀ e : ℕ) (p₀ : Plain e₀) (p : Plain e) (d : Bool) (f ring : List ℕ) (lent : Lent f ring) (z : checkAs e₀ f .number ≡ 0)
+module _ (e₀ e : ℕ) (p₀ : Plain e₀) (p : Plain e) (d : Bool) (f ring : List ℕ) (lent : WithRing f ring) (z : checkAs e₀ f .number ≡ 0)
     (tag : ℕ → List ℕ) (tag-long : (i : ℕ) → i < countOf f → length (tag i) ≡ sizeOf (rowOf f i .suite)) where
   abbrev piece : ℕ → List ℕ
   piece i = entryOut d f ring i ++ tag i
@@ -36,7 +36,7 @@ module _ (e₀ e : ℕ) (p₀ : Plain e₀) (p : Plain e) (d : Bool) (f ring : L
   abbrev new : List ℕ
   new = rewritten e piece f
 
-  taken : (i : ℕ) → i < countOf f → EntryIn (widthOf f) f i
+  taken : (i : ℕ) → i < countOf f → EntryIn (rowSizeOf f) f i
   taken = entry-at e₀ f p₀ z
 
   piece-long : (i : ℕ) → i < countOf f → length (piece i) ≡ pieceSize f i
@@ -57,7 +57,7 @@ module _ (e₀ e : ℕ) (p₀ : Plain e₀) (p : Plain e) (d : Bool) (f ring : L
     new-row : rowOf new i ≡ rowOf f i
     new-row = same-row e₀ f p₀ z e p piece piece-long i l
 
-    new-nonce : nonceAt (widthOf new) new i ≡ nonceAt (widthOf f) f i
+    new-nonce : nonceAt (rowSizeOf new) new i ≡ nonceAt (rowSizeOf f) f i
     new-nonce = same-nonce e₀ f p₀ z e p piece piece-long i l
 
     new-data : dataOf new (rowOf f i) ≡ dataOf f (rowOf f i)
@@ -88,41 +88,41 @@ module _ (e₀ e : ℕ) (p₀ : Plain e₀) (p : Plain e) (d : Bool) (f ring : L
 
 -- ---- sealing: the tag is the one that goes with the text
 
-module _ (draft ring : List ℕ) (lent : Lent draft ring) (z : checkAs draftEdition draft .number ≡ 0) where
+module _ (draft ring : List ℕ) (lent : WithRing draft ring) (z : checkAs draftEdition draft .number ≡ 0) where
   right-long : (i : ℕ) → i < countOf draft → length (entryTag false draft ring i) ≡ sizeOf (rowOf draft i .suite)
   right-long i l = tag-size draft ring i (entry-at draftEdition draft plain-draft z i l) (lent .ring-long) (lent .file-bytes) (lent .ring-bytes) false
 
   abbrev sealed : List ℕ
-  sealed = new draftEdition edition plain-draft plain-file false draft ring lent z (entryTag false draft ring) right-long
+  sealed = new draftEdition firstEdition plain-draft plain-file false draft ring lent z (entryTag false draft ring) right-long
 
   sealed-is : sealedFile draft ring ≡ sealed
   unfolding sealedFile sealedPiece
   sealed-is = refl
 
   sealed-length : length sealed ≡ length draft
-  sealed-length = new-length draftEdition edition plain-draft plain-file false draft ring lent z (entryTag false draft ring) right-long
+  sealed-length = new-length draftEdition firstEdition plain-draft plain-file false draft ring lent z (entryTag false draft ring) right-long
 
   sealed-genuine : Genuine sealed ring
   sealed-genuine = record {
-    checked = new-passes draftEdition edition plain-draft plain-file false draft ring lent z (entryTag false draft ring) right-long;
+    checked = new-passes draftEdition firstEdition plain-draft plain-file false draft ring lent z (entryTag false draft ring) right-long;
     right = λ i l.
-        let m : i < countOf draft = rw (sym (new-count draftEdition edition plain-draft plain-file false draft ring lent z (entryTag false draft ring) right-long)) l in
-        other-tag draftEdition edition plain-draft plain-file false draft ring lent z (entryTag false draft ring) right-long i m
-        ∙ sym (new-tag draftEdition edition plain-draft plain-file false draft ring lent z (entryTag false draft ring) right-long i m);
+        let m : i < countOf draft = rw (sym (new-count draftEdition firstEdition plain-draft plain-file false draft ring lent z (entryTag false draft ring) right-long)) l in
+        other-tag draftEdition firstEdition plain-draft plain-file false draft ring lent z (entryTag false draft ring) right-long i m
+        ∙ sym (new-tag draftEdition firstEdition plain-draft plain-file false draft ring lent z (entryTag false draft ring) right-long i m);
   }
 
   sealed-back : Valid draft → draftFile sealed ring ≡ draft
   unfolding draftFile draftPiece
   sealed-back v =
-      there-again draftEdition edition plain-draft plain-file false draft ring lent z (entryTag false draft ring) right-long
+      there-again draftEdition firstEdition plain-draft plain-file false draft ring lent z (entryTag false draft ring) right-long
       (λ i. replicate (sizeOf (rowOf sealed i .suite)) 0)
       (λ i l.
-      ap (λ (r : Row). replicate (sizeOf (r .suite)) 0) (new-row draftEdition edition plain-draft plain-file false draft ring lent z (entryTag false draft ring) right-long i l)
+      ap (λ (r : Row). replicate (sizeOf (r .suite)) 0) (new-row draftEdition firstEdition plain-draft plain-file false draft ring lent z (entryTag false draft ring) right-long i l)
       ∙ sym (v .zeros i l))
 
 -- ---- unsealing: the tag is zeros
 
-module _ (file ring : List ℕ) (lent : Lent file ring) (z : checkAs edition file .number ≡ 0) where
+module _ (file ring : List ℕ) (lent : WithRing file ring) (z : checkAs firstEdition file .number ≡ 0) where
   abbrev zeros : ℕ → List ℕ
   zeros i = replicate (sizeOf (rowOf file i .suite)) 0
 
@@ -130,35 +130,35 @@ module _ (file ring : List ℕ) (lent : Lent file ring) (z : checkAs edition fil
   zeros-long i l = length-replicate (sizeOf (rowOf file i .suite)) 0
 
   abbrev opened : List ℕ
-  opened = new edition draftEdition plain-file plain-draft true file ring lent z zeros zeros-long
+  opened = new firstEdition draftEdition plain-file plain-draft true file ring lent z zeros zeros-long
 
   opened-is : draftFile file ring ≡ opened
   unfolding draftFile draftPiece
   opened-is = refl
 
   opened-length : length opened ≡ length file
-  opened-length = new-length edition draftEdition plain-file plain-draft true file ring lent z zeros zeros-long
+  opened-length = new-length firstEdition draftEdition plain-file plain-draft true file ring lent z zeros zeros-long
 
   opened-valid : Valid opened
   opened-valid = record {
-    checked = new-passes edition draftEdition plain-file plain-draft true file ring lent z zeros zeros-long;
+    checked = new-passes firstEdition draftEdition plain-file plain-draft true file ring lent z zeros zeros-long;
     zeros = λ i l.
-        let m : i < countOf file = rw (sym (new-count edition draftEdition plain-file plain-draft true file ring lent z zeros zeros-long)) l in
-        new-tag edition draftEdition plain-file plain-draft true file ring lent z zeros zeros-long i m
-        ∙ ap (λ (r : Row). replicate (sizeOf (r .suite)) 0) (sym (new-row edition draftEdition plain-file plain-draft true file ring lent z zeros zeros-long i m));
+        let m : i < countOf file = rw (sym (new-count firstEdition draftEdition plain-file plain-draft true file ring lent z zeros zeros-long)) l in
+        new-tag firstEdition draftEdition plain-file plain-draft true file ring lent z zeros zeros-long i m
+        ∙ ap (λ (r : Row). replicate (sizeOf (r .suite)) 0) (sym (new-row firstEdition draftEdition plain-file plain-draft true file ring lent z zeros zeros-long i m));
   }
 
   opened-seals : AllSeal file → AllSeal opened
   opened-seals a i l =
-      let m : i < countOf file = rw (sym (new-count edition draftEdition plain-file plain-draft true file ring lent z zeros zeros-long)) l in
-      rw (new-row edition draftEdition plain-file plain-draft true file ring lent z zeros zeros-long i m) (a i m)
+      let m : i < countOf file = rw (sym (new-count firstEdition draftEdition plain-file plain-draft true file ring lent z zeros zeros-long)) l in
+      rw (new-row firstEdition draftEdition plain-file plain-draft true file ring lent z zeros zeros-long i m) (a i m)
 
   opened-back : Genuine file ring → sealedFile opened ring ≡ file
   unfolding sealedFile sealedPiece
   opened-back g =
-      there-again edition draftEdition plain-file plain-draft true file ring lent z zeros zeros-long
+      there-again firstEdition draftEdition plain-file plain-draft true file ring lent z zeros zeros-long
       (entryTag false opened ring)
-      (λ i l. other-tag edition draftEdition plain-file plain-draft true file ring lent z zeros zeros-long i l ∙ g .right i l)
+      (λ i l. other-tag firstEdition draftEdition plain-file plain-draft true file ring lent z zeros zeros-long i l ∙ g .right i l)
 
 -- ---- the theorems
 

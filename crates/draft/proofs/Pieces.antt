@@ -12,7 +12,7 @@ use Rattle.mode.specs.Mode.{textOut, tagOut}
 use Rattle.mode.proofs.Demand2.{text-length, text-back, tag-back, tag-block}
 use Rattle.table.specs.declared.row.Row.{Row}
 use Rattle.table.specs.Part.{stretch}
-use Rattle.table.specs.Format.{countOf, widthOf, nonceAt, rowOf, dataOf, textOf, tagOf}
+use Rattle.table.specs.Format.{countOf, rowSizeOf, nonceAt, rowOf, dataOf, textOf, tagOf}
 use Rattle.table.specs.Check.{checkAs}
 use Rattle.table.specs.Inside.{EntryIn}
 use Rattle.table.proofs.Passed.{passes, entry-in}
@@ -23,7 +23,7 @@ use Rattle.draft.specs.Files.{pieceStart, pieceSize, entryOut, entryTag,
 use Rattle.draft.proofs.Rewritten.{Plain, two-parts}
 
 -- two files with the same row, nonce and associated data make the same of a text
-module _ (f g ring : List ℕ) (i : ℕ) (d : Bool) (t : List ℕ) (rq : rowOf g i ≡ rowOf f i) (nq : nonceAt (widthOf g) g i ≡ nonceAt (widthOf f) f i)
+module _ (f g ring : List ℕ) (i : ℕ) (d : Bool) (t : List ℕ) (rq : rowOf g i ≡ rowOf f i) (nq : nonceAt (rowSizeOf g) g i ≡ nonceAt (rowSizeOf f) f i)
     (dq : dataOf g (rowOf f i) ≡ dataOf f (rowOf f i)) (tq : textOf g (rowOf f i) ≡ t) where
   out-same : entryOut d g ring i ≡ textOut (cipherOf (rowOf f i .suite)) d (ringKey ring (rowOf f i .key)) (nonceRead f i) (dataOf f (rowOf f i)) t
   unfolding entryOut
@@ -38,15 +38,15 @@ module _ (f g ring : List ℕ) (i : ℕ) (d : Bool) (t : List ℕ) (rq : rowOf g
       ∙ ap₂ (λ (a b : List ℕ). tagOut (cipherOf (rowOf f i .suite)) d (ringKey ring (rowOf f i .key)) (nonceRead f i) a b) dq tq
 
 -- a row of a file that passes is one that sealer and opener take
-pub entry-at : (e : ℕ) (f : List ℕ) → Plain e → checkAs e f .number ≡ 0 → (i : ℕ) → i < countOf f → EntryIn (widthOf f) f i
+pub entry-at : (e : ℕ) (f : List ℕ) → Plain e → checkAs e f .number ≡ 0 → (i : ℕ) → i < countOf f → EntryIn (rowSizeOf f) f i
 entry-at e f p z i l = entry-in e e f (passes e e f z) i l
 
 -- a row of a file of bytes, under a ring of 16 keys
-module _ (f ring : List ℕ) (i : ℕ) (h : EntryIn (widthOf f) f i) (g : length ring ≡ 256) (hf : AllBytes f) (hr : AllBytes ring) where
+module _ (f ring : List ℕ) (i : ℕ) (h : EntryIn (rowSizeOf f) f i) (g : length ring ≡ 256) (hf : AllBytes f) (hr : AllBytes ring) where
   pub text-all : AllBytes (textOf f (rowOf f i))
-  text-all = all-stretch f (rowOf f i .at + rowOf f i .ad) (rowOf f i .len) hf
+  text-all = all-stretch f (rowOf f i .«ad_at» + rowOf f i .«ad_len») (rowOf f i .«text_len») hf
 
-  pub out-long : (d : Bool) → length (entryOut d f ring i) ≡ rowOf f i .len
+  pub out-long : (d : Bool) → length (entryOut d f ring i) ≡ rowOf f i .«text_len»
   unfolding entryOut
   out-long d =
       let r = rowOf f i in
@@ -57,15 +57,15 @@ module _ (f ring : List ℕ) (i : ℕ) (h : EntryIn (widthOf f) f i) (g : length
   tag-size d =
       let r = rowOf f i in
       tag-block (cipherOf (r .suite)) (lawful (r .suite)) (ringKey ring (r .key)) (nonceRead f i) (dataOf f r) d (textOf f r)
-      (key-block f ring i h g hr) (nonce-bytes f i hf) (nonce-full f ring i h g) (all-stretch f (r .at) (r .ad) hf) text-all .long
+      (key-block f ring i h g hr) (nonce-bytes f i hf) (nonce-full f ring i h g) (all-stretch f (r .«ad_at») (r .«ad_len») hf) text-all .long
 
   -- text and tag as they stand
   pub own-piece : textOf f (rowOf f i) ++ tagOf f (rowOf f i) ≡ stretch f (pieceStart f i) (pieceSize f i)
   unfolding pieceStart
-  own-piece = sym (two-parts f (pieceStart f i) (rowOf f i .len) (sizeOf (rowOf f i .suite)))
+  own-piece = sym (two-parts f (pieceStart f i) (rowOf f i .«text_len») (sizeOf (rowOf f i .suite)))
 
   -- a file alike but for the text, which is what direction d made
-  module _ (d : Bool) (x : List ℕ) (rq : rowOf x i ≡ rowOf f i) (nq : nonceAt (widthOf x) x i ≡ nonceAt (widthOf f) f i)
+  module _ (d : Bool) (x : List ℕ) (rq : rowOf x i ≡ rowOf f i) (nq : nonceAt (rowSizeOf x) x i ≡ nonceAt (rowSizeOf f) f i)
       (dq : dataOf x (rowOf f i) ≡ dataOf f (rowOf f i)) (tq : textOf x (rowOf f i) ≡ entryOut d f ring i) where
     pub out-back : entryOut (not d) x ring i ≡ textOf f (rowOf f i)
     unfolding entryOut

@@ -16,7 +16,7 @@ use Rattle.cipher.specs.Cipher.{sizeOf}
 use Rattle.table.specs.declared.row.Row.{Row}
 use Rattle.table.specs.declared.answers.Answer.{Answer}
 use Rattle.table.specs.Part.{stretch}
-use Rattle.table.specs.Format.{editionOf, countOf, edition, rowSize, widthOf, rowStart, rowAt, nonceAt, rowOf, dataOf, textOf, tagOf, bodyEnd}
+use Rattle.table.specs.Format.{editionOf, countOf, firstEdition, rowSize, rowSizeOf, rowStart, rowAt, nonceAt, rowOf, dataOf, textOf, tagOf, bodyEnd}
 use Rattle.table.specs.Answers.{answer}
 use Rattle.table.specs.Check.{outside, checkAs}
 use Rattle.table.proofs.Parts.{join}
@@ -82,7 +82,7 @@ two-parts g s n m = sym (join g s n m)
 
 -- rows of edition e are as long as those of edition 1
 abbrev pub Plain : ℕ → Type 0
-Plain e = (rowSize e ≡ rowSize edition) × (e < 256)
+Plain e = (rowSize e ≡ rowSize firstEdition) × (e < 256)
 
 module _ (e₀ : ℕ) (f : List ℕ) (p₀ : Plain e₀) (z : checkAs e₀ f .number ≡ 0) where
   pub head : Headed e₀ e₀ f
@@ -91,27 +91,27 @@ module _ (e₀ : ℕ) (f : List ℕ) (p₀ : Plain e₀) (z : checkAs e₀ f .nu
   pub edition-own : editionOf f ≡ e₀
   edition-own = own-edition e₀ f (passes e₀ e₀ f z)
 
-  pub walk : Walked (widthOf f) f (countOf f)
+  pub walk : Walked (rowSizeOf f) f (countOf f)
   walk = passes e₀ e₀ f z .walk
 
-  pub row-sound : (i : ℕ) → i < countOf f → Sound (widthOf f) f (countOf f) i
+  pub row-sound : (i : ℕ) → i < countOf f → Sound (rowSizeOf f) f (countOf f) i
   row-sound i l = walk .rows i l
 
   -- the body starts behind the table
-  pub body-late : (i : ℕ) → i < countOf f → rowStart (widthOf f) (countOf f) ≤ rowOf f i .at
-  body-late i l = omega (arith, after-table (widthOf f) f (countOf f) walk i (omega arith), row-sound i l .place .starts)
+  pub body-late : (i : ℕ) → i < countOf f → rowStart (rowSizeOf f) (countOf f) ≤ rowOf f i .«ad_at»
+  body-late i l = omega (arith, after-table (rowSizeOf f) f (countOf f) walk i (omega arith), row-sound i l .place .starts)
 
   -- text and tag end where the body does
   pub piece-end : (i : ℕ) → pieceStart f i + pieceSize f i ≡ bodyEnd (rowOf f i)
   unfolding pieceStart bodyEnd
   piece-end i = omega arith
 
-  pub start-is : (i : ℕ) → pieceStart f i ≡ rowOf f i .at + rowOf f i .ad
+  pub start-is : (i : ℕ) → pieceStart f i ≡ rowOf f i .«ad_at» + rowOf f i .«ad_len»
   unfolding pieceStart
   start-is i = refl
 
-  pub bodies-apart : (i j : ℕ) → i < j → j < countOf f → bodyEnd (rowOf f i) ≤ rowOf f j .at
-  bodies-apart = apart (widthOf f) f (countOf f) walk
+  pub bodies-apart : (i j : ℕ) → i < j → j < countOf f → bodyEnd (rowOf f i) ≤ rowOf f j .«ad_at»
+  bodies-apart = apart (rowSizeOf f) f (countOf f) walk
 
   pub piece-in : (i : ℕ) → i < countOf f → pieceStart f i + pieceSize f i ≤ length f
   piece-in i l = omega (arith, piece-end i, row-sound i l .place .ends)
@@ -136,13 +136,13 @@ module _ (e₀ : ℕ) (f : List ℕ) (p₀ : Plain e₀) (z : checkAs e₀ f .nu
     kept : (k : ℕ) → 2 ≤ k → Outside (pieceStart f) piece (countOf f) k → getD g k 0 ≡ getD f k 0
     kept k b o = all-outside (pieceStart f) piece (countOf f) (inEdition e f) pieces-apart (countOf f) (omega arith) k o ∙ edition-other e f (head .long) k b
 
-    head-outside : (k : ℕ) → k < rowStart (widthOf f) (countOf f) → Outside (pieceStart f) piece (countOf f) k
+    head-outside : (k : ℕ) → k < rowStart (rowSizeOf f) (countOf f) → Outside (pieceStart f) piece (countOf f) k
     head-outside k b i l = inl (omega (arith, body-late i l, start-is i))
 
-    pub same-table : AgreeTable g f same-length (widthOf f) (countOf f)
+    pub same-table : AgreeTable g f same-length (rowSizeOf f) (countOf f)
     same-table k a b = kept k a (head-outside k b)
 
-    data-outside : (j : ℕ) → j < countOf f → (k : ℕ) → rowOf f j .at ≤ k → k < pieceStart f j → Outside (pieceStart f) piece (countOf f) k
+    data-outside : (j : ℕ) → j < countOf f → (k : ℕ) → rowOf f j .«ad_at» ≤ k → k < pieceStart f j → Outside (pieceStart f) piece (countOf f) k
     data-outside j m k a b i l =
         elim (decLt i j) [
           | yes c ↦ inr (omega (arith, long i l, piece-end i, bodies-apart i j c m))
@@ -153,57 +153,57 @@ module _ (e₀ : ℕ) (f : List ℕ) (p₀ : Plain e₀) (z : checkAs e₀ f .nu
         ]
 
     -- associated data is kept
-    data-kept : (j : ℕ) → j < countOf f → (k : ℕ) → rowOf f j .at ≤ k → k < pieceStart f j → getD g k 0 ≡ getD f k 0
-    data-kept j m k a b = kept k (omega (arith, body-late j m, row-late (widthOf f) (countOf f))) (data-outside j m k a b)
+    data-kept : (j : ℕ) → j < countOf f → (k : ℕ) → rowOf f j .«ad_at» ≤ k → k < pieceStart f j → getD g k 0 ≡ getD f k 0
+    data-kept j m k a b = kept k (omega (arith, body-late j m, row-late (rowSizeOf f) (countOf f))) (data-outside j m k a b)
 
     pub same-data : (j : ℕ) → j < countOf f → dataOf g (rowOf f j) ≡ dataOf f (rowOf f j)
-    same-data j m = stretch-same g f same-length (rowOf f j .at) (rowOf f j .ad) (λ k a b. data-kept j m k a (omega (arith, start-is j)))
+    same-data j m = stretch-same g f same-length (rowOf f j .«ad_at») (rowOf f j .«ad_len») (λ k a b. data-kept j m k a (omega (arith, start-is j)))
 
     new-edition : editionOf g ≡ e
     new-edition =
-        let o : (k : ℕ) → k < 2 → getD g k 0 ≡ getD (inEdition e f) k 0 = λ k b. all-outside (pieceStart f) piece (countOf f) (inEdition e f) pieces-apart (countOf f) (omega arith) k (head-outside k (omega (arith, row-late (widthOf f) (countOf f)))) in
+        let o : (k : ℕ) → k < 2 → getD g k 0 ≡ getD (inEdition e f) k 0 = λ k b. all-outside (pieceStart f) piece (countOf f) (inEdition e f) pieces-apart (countOf f) (omega arith) k (head-outside k (omega (arith, row-late (rowSizeOf f) (countOf f)))) in
         pair-is g e (p .1) (o 0 (omega arith) ∙ edition-low e f (head .long)) (o 1 (omega arith) ∙ edition-high e f (head .long))
 
     -- rows are as long as they were
-    same-width : widthOf g ≡ widthOf f
-    same-width = ap rowSize new-edition ∙ p .0 ∙ sym (ap rowSize edition-own ∙ p₀ .0)
+    same-row-size : rowSizeOf g ≡ rowSizeOf f
+    same-row-size = ap rowSize new-edition ∙ p .0 ∙ sym (ap rowSize edition-own ∙ p₀ .0)
 
     pub same-row : (i : ℕ) → i < countOf f → rowOf g i ≡ rowOf f i
-    same-row i l = ap (λ (w : ℕ). rowAt w g i) same-width ∙ row-same g f same-length (widthOf f) (countOf f) (row-broad (editionOf f)) same-table i l
+    same-row i l = ap (λ (w : ℕ). rowAt w g i) same-row-size ∙ row-same g f same-length (rowSizeOf f) (countOf f) (row-broad (editionOf f)) same-table i l
 
-    pub same-nonce : (i : ℕ) → i < countOf f → nonceAt (widthOf g) g i ≡ nonceAt (widthOf f) f i
-    same-nonce i l = ap (λ (w : ℕ). nonceAt w g i) same-width ∙ nonce-same g f same-length (widthOf f) (countOf f) (row-broad (editionOf f)) same-table i l
+    pub same-nonce : (i : ℕ) → i < countOf f → nonceAt (rowSizeOf g) g i ≡ nonceAt (rowSizeOf f) f i
+    same-nonce i l = ap (λ (w : ℕ). nonceAt w g i) same-row-size ∙ nonce-same g f same-length (rowSizeOf f) (countOf f) (row-broad (editionOf f)) same-table i l
 
     pub same-count : countOf g ≡ countOf f
-    same-count = count-same g f same-length (widthOf f) (countOf f) (row-broad (editionOf f)) same-table
+    same-count = count-same g f same-length (rowSizeOf f) (countOf f) (row-broad (editionOf f)) same-table
 
     pub same-start : (i : ℕ) → i < countOf f → pieceStart g i ≡ pieceStart f i
     unfolding pieceStart
-    same-start i l = ap (λ (r : Row). r .at + r .ad) (same-row i l)
+    same-start i l = ap (λ (r : Row). r .«ad_at» + r .«ad_len») (same-row i l)
 
     pub same-size : (i : ℕ) → i < countOf f → pieceSize g i ≡ pieceSize f i
-    same-size i l = ap (λ (r : Row). r .len + sizeOf (r .suite)) (same-row i l)
+    same-size i l = ap (λ (r : Row). r .«text_len» + sizeOf (r .suite)) (same-row i l)
 
     -- text and tag are what was put
     pub piece-is : (i : ℕ) → i < countOf f → stretch g (pieceStart f i) (pieceSize f i) ≡ piece i
     piece-is i l = ap (stretch g (pieceStart f i)) (sym (long i l)) ∙ piece-stretch (pieceStart f) piece (countOf f) (inEdition e f) pieces-apart i l
 
-    pub parts-are : (i : ℕ) → i < countOf f → (x y : List ℕ) → piece i ≡ x ++ y → length x ≡ rowOf f i .len → (textOf g (rowOf f i) ≡ x) × (tagOf g (rowOf f i) ≡ y)
+    pub parts-are : (i : ℕ) → i < countOf f → (x y : List ℕ) → piece i ≡ x ++ y → length x ≡ rowOf f i .«text_len» → (textOf g (rowOf f i) ≡ x) × (tagOf g (rowOf f i) ≡ y)
     unfolding pieceStart
     parts-are i l x y q s =
         let r = rowOf f i in
-        let t : stretch g (pieceStart f i) (r .len) ++ stretch g (pieceStart f i + r .len) (sizeOf (r .suite)) ≡ x ++ y = sym (two-parts g (pieceStart f i) (r .len) (sizeOf (r .suite))) ∙ piece-is i l ∙ q in
-        append-inj _ _ x y (stretch-length g (pieceStart f i) (r .len) (omega (arith, same-length, piece-in i l)) ∙ sym s) t
+        let t : stretch g (pieceStart f i) (r .«text_len») ++ stretch g (pieceStart f i + r .«text_len») (sizeOf (r .suite)) ≡ x ++ y = sym (two-parts g (pieceStart f i) (r .«text_len») (sizeOf (r .suite))) ∙ piece-is i l ∙ q in
+        append-inj _ _ x y (stretch-length g (pieceStart f i) (r .«text_len») (omega (arith, same-length, piece-in i l)) ∙ sym s) t
 
     -- ---- the check
 
     pub passes-again : checkAs e g ≡ answer 0 0
     passes-again =
-        check-kept f g same-length e e e₀ e₀ (passes e₀ e₀ f z) (ap (outside e e) new-edition ∙ taken e e e (omega arith) (omega arith)) same-width same-table
+        check-kept f g same-length e e e₀ e₀ (passes e₀ e₀ f z) (ap (outside e e) new-edition ∙ taken e e e (omega arith) (omega arith)) same-row-size same-table
         ∙ first-none _ _ _ (countOf f)
         (λ j m.
         let s = row-sound j m in
-        data-held f g (widthOf f) j (s .held) (λ k a b. data-kept j m k a (omega (arith, s .size .ad-low, start-is j))))
+        data-held f g (rowSizeOf f) j (s .held) (λ k a b. data-kept j m k a (omega (arith, s .size .ad-low, start-is j))))
 
 -- ---- and back: with the old edition, and the old bytes for text and tag of each row, it is the old file
 

@@ -7,11 +7,11 @@ use mathlib.Core.List.{List}
 use mathlib.Core.Logic.{_⊎_, inl, inr}
 use lib.ListN.{length, length-take}
 use borrow.Author.Tests.{eq-eqb}
-use Rattle.cipher.specs.Cipher.{Seals, sizeOf, nonceOf}
+use Rattle.cipher.specs.Cipher.{Seals, sizeOf, nonceOf, limit}
 use Rattle.cipher.proofs.Suites.{nonce-most, seals-has}
 use Rattle.comet.specs.Answers.{Sealed, sealedAs, sealing, Opened, openedAs}
 use Rattle.comet.proofs.Refuse.{none-bad}
-use Rattle.table.specs.Format.{widthOf, nonceAt, rowOf, textOf}
+use Rattle.table.specs.Format.{rowSizeOf, nonceAt, rowOf, textOf}
 use Rattle.table.specs.Inside.{EntryIn}
 use Rattle.table.proofs.Rows.{nonce-length}
 use Rattle.shift.specs.Opening.{entrySealingAs, entrySealing, entryOpening}
@@ -22,9 +22,9 @@ use Rattle.draft.specs.Promised.{SealerTakes, OpenerTakes}
 use Rattle.draft.proofs.Pieces.{entry-at}
 use Rattle.draft.proofs.Back.{plain-draft, plain-file}
 
-module _ (f ring : List ℕ) (i : ℕ) (h : EntryIn (widthOf f) f i) (g : length ring ≡ 256) where
+module _ (f ring : List ℕ) (i : ℕ) (h : EntryIn (rowSizeOf f) f i) (g : length ring ≡ 256) where
   -- the sealer gives text and tag, of any text under any suite that seals
-  pub as-done : (suite : ℕ) (text out tag : List ℕ) → Seals suite → length text ≤ 65536 → length out ≡ length text → length tag ≡ sizeOf suite
+  pub as-done : (suite : ℕ) (text out tag : List ℕ) → Seals suite → length text ≤ limit → length out ≡ length text → length tag ≡ sizeOf suite
       → entrySealingAs f ring i suite text out tag ≡ record { number = 0; out = textAs false f ring i suite text; tag = tagAs false f ring i suite text }
   unfolding sealing
   as-done suite text out tag s m lo lt =
@@ -32,7 +32,7 @@ module _ (f ring : List ℕ) (i : ℕ) (h : EntryIn (widthOf f) f i) (g : length
       (none-bad false _ _ _ _ _ _ _ s (record {
         suite = seals-has suite s;
         key = key-long f ring i h g;
-        nonce = length-take (nonceOf suite) (nonceAt (widthOf f) f i) ∙ omega (arith, nonce-length (widthOf f) f i (h .row-in), nonce-most suite);
+        nonce = length-take (nonceOf suite) (nonceAt (rowSizeOf f) f i) ∙ omega (arith, nonce-length (rowSizeOf f) f i (h .row-in), nonce-most suite);
         extra = omega (arith, data-long f ring i h g, h .data-high);
         text = m;
         room = lo;
@@ -40,7 +40,7 @@ module _ (f ring : List ℕ) (i : ℕ) (h : EntryIn (widthOf f) f i) (g : length
       }))
 
   -- of the entry's own text, under its own suite
-  seal-done : (out tag : List ℕ) → Seals (rowOf f i .suite) → length out ≡ rowOf f i .len → length tag ≡ sizeOf (rowOf f i .suite)
+  seal-done : (out tag : List ℕ) → Seals (rowOf f i .suite) → length out ≡ rowOf f i .«text_len» → length tag ≡ sizeOf (rowOf f i .suite)
       → entrySealing f ring i out tag ≡ record { number = 0; out = entryOut false f ring i; tag = entryTag false f ring i }
   unfolding entrySealing entryOut entryTag
   seal-done out tag s lo lt =
@@ -48,7 +48,7 @@ module _ (f ring : List ℕ) (i : ℕ) (h : EntryIn (widthOf f) f i) (g : length
       as-done (rowOf f i .suite) (textOf f (rowOf f i)) out tag s (omega (arith, l, h .text-high)) (lo ∙ sym l) lt
 
   -- the opener goes by the tag
-  pub open-done : (out : List ℕ) → length out ≡ rowOf f i .len → entryOpening f ring i out ≡ openedAs 0 (tagRight f ring i) (entryOut true f ring i) out
+  pub open-done : (out : List ℕ) → length out ≡ rowOf f i .«text_len» → entryOpening f ring i out ≡ openedAs 0 (tagRight f ring i) (entryOut true f ring i) out
   unfolding tagRight entryTag entryOut
   open-done out l = rw (eq-eqb _ _ l) at (entry-opened f ring i h g out)
 

@@ -8,7 +8,7 @@ use Rattle.words.specs.Bytes.{sameBytes}
 use Rattle.cipher.specs.Cipher.{seals, sizeOf}
 use Rattle.table.specs.declared.answers.Answer.{Answer}
 use Rattle.table.specs.Search.{firstOf}
-use Rattle.table.specs.Format.{countOf, edition, rowOf, tagOf}
+use Rattle.table.specs.Format.{countOf, firstEdition, rowOf, tagOf}
 use Rattle.table.specs.Answers.{answer}
 use Rattle.table.specs.Check.{andThen, checkAs}
 use Rattle.draft.specs.Files.{draftEdition, entryTag, sealedFile, draftFile}
@@ -51,7 +51,7 @@ sealAnswer draft ring out =
 
 -- unsealing a file: the checks, 2, 6
 unfoldable pub openAnswer : List ℕ → ℕ → ℕ → Answer
-openAnswer file ring out = andThen (checkAs edition file) (lentAnswer (length file) ring out)
+openAnswer file ring out = andThen (checkAs firstEdition file) (lentAnswer (length file) ring out)
 
 -- and then 8
 unfoldable pub unsealAnswer : List ℕ → List ℕ → ℕ → Answer

@@ -6,7 +6,7 @@ use lib.ListN.{take, replicate}
 use Rattle.words.specs.Bytes.{bytes}
 use Rattle.cipher.specs.Cipher.{sizeOf, nonceOf, cipherOf}
 use Rattle.mode.specs.Mode.{textOut, tagOut}
-use Rattle.table.specs.Format.{countOf, edition, widthOf, nonceAt, rowOf, dataOf, textOf}
+use Rattle.table.specs.Format.{countOf, firstEdition, rowSizeOf, nonceAt, rowOf, dataOf, textOf}
 use Rattle.shift.specs.Opening.{ringKey}
 use Rattle.draft.specs.Put.{put, putAll}
 
@@ -20,21 +20,21 @@ inEdition e f = put f 0 (bytes 2 e)
 
 -- text and tag of row i are one piece, behind the associated data: where it starts, and how long it is
 unfoldable pub pieceStart : List ℕ → ℕ → ℕ
-pieceStart f i = rowOf f i .at + rowOf f i .ad
+pieceStart f i = rowOf f i .«ad_at» + rowOf f i .«ad_len»
 
 abbrev pub pieceSize : List ℕ → ℕ → ℕ
-pieceSize f i = rowOf f i .len + sizeOf (rowOf f i .suite)
+pieceSize f i = rowOf f i .«text_len» + sizeOf (rowOf f i .suite)
 
 -- a text sealed, or opened, under a suite with key, nonce and associated data of row i: what goes out, and the tag that goes with it
 abbrev pub textAs : Bool → List ℕ → List ℕ → ℕ → ℕ → List ℕ → List ℕ
 textAs opening f ring i suite text =
     let r = rowOf f i in
-    textOut (cipherOf suite) opening (ringKey ring (r .key)) (take (nonceOf suite) (nonceAt (widthOf f) f i)) (dataOf f r) text
+    textOut (cipherOf suite) opening (ringKey ring (r .key)) (take (nonceOf suite) (nonceAt (rowSizeOf f) f i)) (dataOf f r) text
 
 abbrev pub tagAs : Bool → List ℕ → List ℕ → ℕ → ℕ → List ℕ → List ℕ
 tagAs opening f ring i suite text =
     let r = rowOf f i in
-    tagOut (cipherOf suite) opening (ringKey ring (r .key)) (take (nonceOf suite) (nonceAt (widthOf f) f i)) (dataOf f r) text
+    tagOut (cipherOf suite) opening (ringKey ring (r .key)) (take (nonceOf suite) (nonceAt (rowSizeOf f) f i)) (dataOf f r) text
 
 -- ciphertext and tag of a message
 abbrev pub pieceAs : List ℕ → List ℕ → ℕ → ℕ → List ℕ → List ℕ
@@ -61,7 +61,7 @@ rewritten e piece f = putAll (pieceStart f) piece (countOf f) (inEdition e f)
 
 -- the sealed file of a draft
 unfoldable pub sealedFile : List ℕ → List ℕ → List ℕ
-sealedFile draft ring = rewritten edition (sealedPiece draft ring) draft
+sealedFile draft ring = rewritten firstEdition (sealedPiece draft ring) draft
 
 -- the draft of a sealed file
 unfoldable pub draftFile : List ℕ → List ℕ → List ℕ

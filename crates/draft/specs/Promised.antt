@@ -7,7 +7,7 @@ use mathlib.Core.Logic.{_⊎_}
 use lib.ListN.{length, getD, replicate}
 use Rattle.words.specs.Bytes.{AllBytes}
 use Rattle.cipher.specs.Cipher.{Seals, sizeOf}
-use Rattle.table.specs.Format.{countOf, edition, rowOf, tagOf}
+use Rattle.table.specs.Format.{countOf, firstEdition, rowOf, tagOf}
 use Rattle.table.specs.Answers.{answer}
 use Rattle.table.specs.Check.{badData, checkAs}
 use Rattle.shift.specs.Opening.{entrySealing, entryOpening}
@@ -33,11 +33,11 @@ AllSeal f = (i : ℕ) → i < countOf f → Seals (rowOf f i .suite)
 
 -- a genuine file passes the checks, and every tag of it is right under the ring
 pub record Genuine (file ring : List ℕ) : Type 0 where
-  pub checked : checkAs edition file ≡ answer 0 0
+  pub checked : checkAs firstEdition file ≡ answer 0 0
   pub right : (i : ℕ) → i < countOf file → RightTag file ring i
 
 -- bytes, with a ring of 16 keys
-pub record Lent (file ring : List ℕ) : Type 0 where
+pub record WithRing (file ring : List ℕ) : Type 0 where
   pub file-bytes : AllBytes file
   pub ring-bytes : AllBytes ring
   pub ring-long : length ring ≡ 256
@@ -47,14 +47,14 @@ pub record Lent (file ring : List ℕ) : Type 0 where
 -- a valid draft without an entry of suite 4 is sealed, the sealed file is genuine, and unsealing it gives the draft
 abbrev pub SealedBack : Type 0
 SealedBack =
-    (draft ring out₀ out₁ : List ℕ) → Lent draft ring → length out₀ ≡ length draft → length out₁ ≡ length draft → Valid draft → AllSeal draft →
+    (draft ring out₀ out₁ : List ℕ) → WithRing draft ring → length out₀ ≡ length draft → length out₁ ≡ length draft → Valid draft → AllSeal draft →
     let sealed : FileWritten = fileSealing draft ring out₀ in
     (sealed .answer ≡ answer 0 0) × Genuine (sealed .out) ring × (fileUnsealing (sealed .out) ring out₁ ≡ writes (answer 0 0) draft)
 
 -- a genuine file is unsealed, what comes out is a valid draft, and sealing it gives the file, where no entry has suite 4
 abbrev pub UnsealedBack : Type 0
 UnsealedBack =
-    (file ring out₀ out₁ : List ℕ) → Lent file ring → length out₀ ≡ length file → length out₁ ≡ length file → Genuine file ring →
+    (file ring out₀ out₁ : List ℕ) → WithRing file ring → length out₀ ≡ length file → length out₁ ≡ length file → Genuine file ring →
     let unsealed : FileWritten = fileUnsealing file ring out₀ in
     (unsealed .answer ≡ answer 0 0) × Valid (unsealed .out) × (AllSeal file → fileSealing (unsealed .out) ring out₁ ≡ writes (answer 0 0) file)
 
@@ -73,10 +73,10 @@ pub record SealCases (draft ring out₀ : List ℕ) : Type 0 where
 
 -- what unsealing gives: the check's refusal; 2; 6; 8 with the first row whose tag is wrong, and zeros all over; 0
 pub record UnsealCases (file ring out₀ : List ℕ) : Type 0 where
-  pub checked : (checkAs edition file .number ≡ 0 → ⊥) → fileUnsealing file ring out₀ ≡ writes (checkAs edition file) out₀
-  pub ring-wrong : checkAs edition file .number ≡ 0 → (length ring ≡ 256 → ⊥) → fileUnsealing file ring out₀ ≡ writes (answer 2 0) out₀
-  pub room-wrong : checkAs edition file .number ≡ 0 → length ring ≡ 256 → (length out₀ ≡ length file → ⊥) → fileUnsealing file ring out₀ ≡ writes (answer 6 0) out₀
-  pub tags : checkAs edition file .number ≡ 0 → length ring ≡ 256 → length out₀ ≡ length file
+  pub checked : (checkAs firstEdition file .number ≡ 0 → ⊥) → fileUnsealing file ring out₀ ≡ writes (checkAs firstEdition file) out₀
+  pub ring-wrong : checkAs firstEdition file .number ≡ 0 → (length ring ≡ 256 → ⊥) → fileUnsealing file ring out₀ ≡ writes (answer 2 0) out₀
+  pub room-wrong : checkAs firstEdition file .number ≡ 0 → length ring ≡ 256 → (length out₀ ≡ length file → ⊥) → fileUnsealing file ring out₀ ≡ writes (answer 6 0) out₀
+  pub tags : checkAs firstEdition file .number ≡ 0 → length ring ≡ 256 → length out₀ ≡ length file
       → (i : ℕ) → i < countOf file → (RightTag file ring i → ⊥) → ((k : ℕ) → k < i → RightTag file ring k)
       → fileUnsealing file ring out₀ ≡ writes (answer 8 i) (replicate (length out₀) 0)
   pub done : Genuine file ring → length ring ≡ 256 → length out₀ ≡ length file → fileUnsealing file ring out₀ ≡ writes (answer 0 0) (draftFile file ring)
@@ -93,13 +93,13 @@ Unsealing = (file ring out₀ : List ℕ) → UnsealCases file ring out₀
 abbrev pub SealerTakes : Type 0
 SealerTakes =
     (draft ring out tag : List ℕ) (i : ℕ) → checkAs draftEdition draft .number ≡ 0 → length ring ≡ 256 → i < countOf draft
-    → Seals (rowOf draft i .suite) → length out ≡ rowOf draft i .len → length tag ≡ sizeOf (rowOf draft i .suite)
+    → Seals (rowOf draft i .suite) → length out ≡ rowOf draft i .«text_len» → length tag ≡ sizeOf (rowOf draft i .suite)
     → entrySealing draft ring i out tag .number ≡ 0
 
 -- of a file that passes, the opener takes every row: it answers 0 or 8
 abbrev pub OpenerTakes : Type 0
 OpenerTakes =
-    (file ring out : List ℕ) (i : ℕ) → checkAs edition file .number ≡ 0 → length ring ≡ 256 → i < countOf file → length out ≡ rowOf file i .len
+    (file ring out : List ℕ) (i : ℕ) → checkAs firstEdition file .number ≡ 0 → length ring ≡ 256 → i < countOf file → length out ≡ rowOf file i .«text_len»
     → (entryOpening file ring i out .number ≡ 0) ⊎ (entryOpening file ring i out .number ≡ 8)
 
 -- so sealing gives the check's numbers, 33, 10, 2, 6 and 0, and unsealing the check's, 2, 6, 8 and 0
@@ -113,7 +113,7 @@ abbrev pub UnsealNumbers : Type 0
 UnsealNumbers =
     (file ring out₀ : List ℕ) →
     let n : ℕ = fileUnsealing file ring out₀ .answer .number in
-    (n ≡ 0) ⊎ (n ≡ 2) ⊎ (n ≡ 6) ⊎ (n ≡ 8) ⊎ (fileUnsealing file ring out₀ .answer ≡ checkAs edition file)
+    (n ≡ 0) ⊎ (n ≡ 2) ⊎ (n ≡ 6) ⊎ (n ≡ 8) ⊎ (fileUnsealing file ring out₀ .answer ≡ checkAs firstEdition file)
 
 -- ---- a file that was altered
 
@@ -126,16 +126,16 @@ pub record Altered (f g : List ℕ) (from to : ℕ) : Type 0 where
 -- inside the last ciphertext block of row i, block j, alone: 8 with that row, and zeros all over
 abbrev pub TextAltered : Type 0
 TextAltered =
-    (file other ring out : List ℕ) (i j : ℕ) → Lent file ring → AllBytes other → length out ≡ length file → Genuine file ring → i < countOf file →
+    (file other ring out : List ℕ) (i j : ℕ) → WithRing file ring → AllBytes other → length out ≡ length file → Genuine file ring → i < countOf file →
     let n : ℕ = sizeOf (rowOf file i .suite) in
-    j * n < rowOf file i .len → rowOf file i .len ≤ j * n + n → Altered file other (pieceStart file i + j * n) (pieceStart file i + rowOf file i .len)
+    j * n < rowOf file i .«text_len» → rowOf file i .«text_len» ≤ j * n + n → Altered file other (pieceStart file i + j * n) (pieceStart file i + rowOf file i .«text_len»)
     → fileUnsealing other ring out ≡ writes (answer 8 i) (replicate (length out) 0)
 
 -- inside block j of the associated data of row i, whose message is empty: the same, where job number and unit still pass; else it is the check's 30
 abbrev pub DataAltered : Type 0
 DataAltered =
-    (file other ring out : List ℕ) (i j to : ℕ) → Lent file ring → AllBytes other → length out ≡ length file → Genuine file ring → i < countOf file →
+    (file other ring out : List ℕ) (i j to : ℕ) → WithRing file ring → AllBytes other → length out ≡ length file → Genuine file ring → i < countOf file →
     let n : ℕ = sizeOf (rowOf file i .suite) in
-    rowOf file i .len ≡ 0 → to ≤ rowOf file i .at + (j * n + n) → to ≤ rowOf file i .at + rowOf file i .ad → Altered file other (rowOf file i .at + j * n) to
+    rowOf file i .«text_len» ≡ 0 → to ≤ rowOf file i .«ad_at» + (j * n + n) → to ≤ rowOf file i .«ad_at» + rowOf file i .«ad_len» → Altered file other (rowOf file i .«ad_at» + j * n) to
     → (badData other (rowOf file i) ≡ false → fileUnsealing other ring out ≡ writes (answer 8 i) (replicate (length out) 0))
     × (badData other (rowOf file i) ≡ true → fileUnsealing other ring out ≡ writes (answer 30 i) out)

@@ -24,8 +24,8 @@ pub record Whole (w v : ℕ) (f : List ℕ) (n : ℕ) : Type 0 where
   pub table : TableIn w f n
   pub count : countOf f ≡ n
   pub total : totalOf f ≡ length f
-  pub behind : (i : ℕ) → i < n → rowStart w n ≤ rowAt w f i .at
-  pub small : (i : ℕ) → i < n → carried w v n (rowAt w f i .at) < 256 ^ 4
+  pub behind : (i : ℕ) → i < n → rowStart w n ≤ rowAt w f i .«ad_at»
+  pub small : (i : ℕ) → i < n → carried w v n (rowAt w f i .«ad_at») < 256 ^ 4
   pub station : (i : ℕ) → i < n → stretch f (rowStart w i + 4) (w - 32) ≡ replicate (w - 32) 0
 
 module _ (e w v : ℕ) (f : List ℕ) (n : ℕ) (h : Whole w v f n) (broad : 32 ≤ v) where
@@ -43,7 +43,7 @@ module _ (e w v : ℕ) (f : List ℕ) (n : ℕ) (h : Whole w v f n) (broad : 32 
       (ap₂ (λ (x y : List ℕ). x ++ y) (ap (bytes 2) (sym (h .count)) ∙ unpack 2 f 2 a (omega arith)) (ap (bytes 4) total ∙ unpack 4 f 4 a (omega arith)) ∙ join f 2 2 4)
       ∙ join f 0 2 6
 
-  offset-is : (i : ℕ) → i < n → bytes 4 (rowAt w f i .at) ≡ stretch f (restStart w i + 4) 4
+  offset-is : (i : ℕ) → i < n → bytes 4 (rowAt w f i .«ad_at») ≡ stretch f (restStart w i + 4) 4
   unfolding rowAt restStart
   offset-is i l = unpack 4 f (restStart w i + 4) (h .bytes) (omega (arith, row-in w f n i (h .table) l .fits, h .table .broad))
 
@@ -55,9 +55,9 @@ module _ (e w v : ℕ) (f : List ℕ) (n : ℕ) (h : Whole w v f n) (broad : 32 
       let p = rowStart w i in
       let q = p + (w - 28) in
       let fits = row-in w f n i t l .fits in
-      let at : carried v w n (rowAt v there i .at) ≡ rowAt w f i .at =
-      ap (λ (r : Row). carried v w n (r .at)) (row-is e w v f n t broad i l (h .small i l)) ∙ carried-back w v n (rowAt w f i .at) (h .behind i l) in
-      let offset : bytes 4 (carried v w n (rowAt v there i .at)) ≡ stretch f (q + 4) 4 = ap (bytes 4) at ∙ offset-is i l in
+      let at : carried v w n (rowAt v there i .«ad_at») ≡ rowAt w f i .«ad_at» =
+      ap (λ (r : Row). carried v w n (r .«ad_at»)) (row-is e w v f n t broad i l (h .small i l)) ∙ carried-back w v n (rowAt w f i .«ad_at») (h .behind i l) in
+      let offset : bytes 4 (carried v w n (rowAt v there i .«ad_at»)) ≡ stretch f (q + 4) 4 = ap (bytes 4) at ∙ offset-is i l in
       let r4 : p + 4 + (w - 32) ≡ q = omega (arith, t .broad) in
       let w4 : 4 + (w - 32 + 28) ≡ w = omega (arith, t .broad) in
       ap₂ (λ (x y : List ℕ). x ++ y) (job-part e w v f n t broad i l)

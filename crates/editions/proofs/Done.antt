@@ -11,21 +11,24 @@ use lib.Dec.{eqb, ltb}
 use borrow.Author.Tests.{eq-eqb, ne-eqb, le-ltb, eqb-true, ltb-false, not-false}
 use types.Run.{OneOf, miss}
 use denote.Enum.Declared.{tagOf}
+use Rattle.words.proofs.Tests.{is-false}
 use Rattle.table.specs.declared.answers.Answer.{Answer}
-use Rattle.table.specs.Format.{countOf, edition, newest, rowSize, widthOf, rowStart, bodyEnd, stationOf}
-use Rattle.table.specs.Answers.{answer}
-use Rattle.table.specs.Check.{andThen, checkAs}
+use Rattle.table.specs.declared.answers.Refusal.{Refusal}
+use Rattle.table.specs.Format.{editionOf, countOf, firstEdition, newest, rowSize, rowSizeOf, rowStart, bodyEnd, stationOf}
+use Rattle.table.specs.Answers.{answer, refusalAnswer}
+use Rattle.table.specs.Check.{headNumber, andThen, checkAs}
 use Rattle.table.proofs.Searches.{first-says, first-none}
 use Rattle.table.proofs.Numbers.{refusal-some}
 use Rattle.table.proofs.Rows.{row-broad, row-narrow}
+use Rattle.table.proofs.Sound.{headed}
 use Rattle.table.proofs.Passed.{passes, both-zero}
 use Rattle.table.proofs.Bodies.{after-table}
 use Rattle.editions.specs.declared.answers.Moved.{Moved}
 use Rattle.editions.specs.declared.answers.Moved.the-variants as moved-case
 use Rattle.editions.specs.Files.{carried, moved}
-use Rattle.editions.specs.Answers.{movedAnswer, stationsFrom, lengthAnswer, upAnswer, backAnswer, FileMoved, moves, toEdition2, toEdition1}
+use Rattle.editions.specs.Answers.{movedAnswer, stationsFrom, lengthAnswer, movedLength, upAnswer, backAnswer, FileMoved, moves, toEdition2, toEdition1}
 use Rattle.editions.specs.Promised.{done}
-use Rattle.editions.specs.Inside.{Movable, Source, Room}
+use Rattle.editions.specs.Inside.{Movable, Tabled, Source, Room}
 use Rattle.editions.proofs.Laid.{file-long}
 use Rattle.editions.proofs.answers.Moved.{the-type}
 
@@ -84,21 +87,21 @@ pub record Goes (a b : ℕ) (f : List ℕ) (out : ℕ) (x : Answer) : Type 0 whe
   pub room : Room (length (moved b f)) out
   pub zero : x ≡ answer 0 0
 
-pub up-goes : (f : List ℕ) (out : ℕ) → upAnswer f out .number ≡ 0 → Goes edition newest f out (upAnswer f out)
+pub up-goes : (f : List ℕ) (out : ℕ) → upAnswer f out .number ≡ 0 → Goes firstEdition newest f out (upAnswer f out)
 unfolding upAnswer
 up-goes f out z =
-    let b = both-zero (checkAs edition f) (lengthAnswer (length (moved newest f)) out) z in
+    let b = both-zero (checkAs firstEdition f) (lengthAnswer (length (moved newest f)) out) z in
     let r = lengths-pass _ _ (rw (b .1) at z) in
     record { passed = b .0; room = r; zero = b .1 ∙ lengths-fit _ _ r }
 
-pub goes-up : (f : List ℕ) (out : ℕ) → checkAs edition f .number ≡ 0 → Room (length (moved newest f)) out → upAnswer f out ≡ answer 0 0
+pub goes-up : (f : List ℕ) (out : ℕ) → checkAs firstEdition f .number ≡ 0 → Room (length (moved newest f)) out → upAnswer f out ≡ answer 0 0
 unfolding upAnswer
 goes-up f out z r = simp z (lengths-fit _ _ r)
 
-pub back-goes : (f : List ℕ) (out : ℕ) → backAnswer f out .number ≡ 0 → Goes newest edition f out (backAnswer f out) × NoStation f
+pub back-goes : (f : List ℕ) (out : ℕ) → backAnswer f out .number ≡ 0 → Goes newest firstEdition f out (backAnswer f out) × NoStation f
 unfolding backAnswer
 back-goes f out z =
-    let new = lengthAnswer (length (moved edition f)) out in
+    let new = lengthAnswer (length (moved firstEdition f)) out in
     let b = both-zero (checkAs newest f) (andThen (stationsFrom f (countOf f) 0) new) z in
     let s = both-zero (stationsFrom f (countOf f) 0) new (rw (b .1) at z) in
     let r = lengths-pass _ _ (rw (b .1 ∙ s .1) at z) in
@@ -109,7 +112,7 @@ pub station-stands : (f : List ℕ) (out : ℕ) → checkAs newest f .number ≡
 unfolding backAnswer
 station-stands f out z x q n = simp (z, ← q, ne-eqb _ _ n)
 
-pub goes-back : (f : List ℕ) (out : ℕ) → checkAs newest f .number ≡ 0 → NoStation f → Room (length (moved edition f)) out → backAnswer f out ≡ answer 0 0
+pub goes-back : (f : List ℕ) (out : ℕ) → checkAs newest f .number ≡ 0 → NoStation f → Room (length (moved firstEdition f)) out → backAnswer f out ≡ answer 0 0
 unfolding backAnswer
 goes-back f out z n r = simp (z, none-stations f n) (lengths-fit _ _ r)
 
@@ -120,22 +123,24 @@ pub up-is : (f out₀ : List ℕ) → upAnswer f (length out₀) ≡ answer 0 0 
 unfolding toEdition2
 up-is f out₀ q = ap (λ (x : Answer). moves x (moved newest f) out₀) q
 
-pub back-is : (f out₀ : List ℕ) → backAnswer f (length out₀) ≡ answer 0 0 → toEdition1 f out₀ ≡ done (moved edition f)
+pub back-is : (f out₀ : List ℕ) → backAnswer f (length out₀) ≡ answer 0 0 → toEdition1 f out₀ ≡ done (moved firstEdition f)
 unfolding toEdition1
-back-is f out₀ q = ap (λ (x : Answer). moves x (moved edition f) out₀) q
+back-is f out₀ q = ap (λ (x : Answer). moves x (moved firstEdition f) out₀) q
 
 -- ---- a file that passes can be moved
+
+pub tabled : (low high : ℕ) (f : List ℕ) → headNumber low high f ≡ 0 → Tabled f
+tabled low high f z =
+    let h = headed low high f z in
+    record { long = h .long; short = h .short; few = h .few; table = h .table }
 
 pub source : (e : ℕ) (f : List ℕ) → checkAs e f .number ≡ 0 → Source f
 unfolding bodyEnd
 source e f z =
     let p = passes e e f z in
     record {
-      long = p .head .long;
-      short = p .head .short;
-      few = p .head .few;
-      table = p .head .table;
-      behind = λ i l. omega (arith, after-table (widthOf f) f (countOf f) (p .walk) i (omega arith), p .walk .rows i l .place .starts);
+      tabled = tabled e e f (p .zero);
+      behind = λ i l. omega (arith, after-table (rowSizeOf f) f (countOf f) (p .walk) i (omega arith), p .walk .rows i l .place .starts);
       within = λ i l. omega (arith, p .walk .rows i l .place .ends);
     }
 
@@ -143,17 +148,39 @@ pub table-small : (e n : ℕ) → n ≤ 512 → rowStart (rowSize e) n < 1048576
 unfolding rowStart
 table-small e n h = omega (arith, mul-le-mul-right n (row-narrow e))
 
-module _ (f : List ℕ) (e : ℕ) (s : Source f) where
-  pub length-is : length (moved e f) ≡ carried (widthOf f) (rowSize e) (countOf f) (length f)
-  length-is = file-long (widthOf f) (rowSize e) f (countOf f) (s .table) (row-broad e) e
+pub length-is : (f : List ℕ) (e : ℕ) → Tabled f → length (moved e f) ≡ carried (rowSizeOf f) (rowSize e) (countOf f) (length f)
+length-is f e t = file-long (rowSizeOf f) (rowSize e) f (countOf f) (t .table) (row-broad e) e
 
-  pub movable : length (moved e f) ≤ 1048576 → Movable (widthOf f) (rowSize e) f (countOf f)
-  movable l = record {
-    table = s .table;
-    broad = row-broad e;
-    narrow = row-narrow e;
-    new-small = table-small e (countOf f) (s .few);
-    small = omega (arith, length-is);
-    behind = s .behind;
-    within = s .within;
-  }
+pub movable : (f : List ℕ) (e : ℕ) → Source f → length (moved e f) ≤ 1048576 → Movable (rowSizeOf f) (rowSize e) f (countOf f)
+movable f e s l = record {
+  table = s .tabled .table;
+  broad = row-broad e;
+  narrow = row-narrow e;
+  new-small = table-small e (countOf f) (s .tabled .few);
+  small = omega (arith, length-is f e (s .tabled));
+  behind = s .behind;
+  within = s .within;
+}
+
+-- ---- the length that is told
+
+pub length-none : (f : List ℕ) (x : Refusal) → answer (headNumber firstEdition newest f) 0 ≡ refusalAnswer x → movedLength f ≡ 0
+unfolding movedLength
+length-none f x q = simp (ne-eqb (headNumber firstEdition newest f) 0 (λ z. refusal-some x (ap (λ (y : Answer). y .number) (sym q) ∙ z)))
+
+-- a row of the newest edition's size is of that edition
+newest-size : (e : ℕ) → rowSize e ≡ rowSize newest → eqb e newest ≡ true
+unfolding rowSize
+newest-size e q = go (eqb e newest) refl q
+  where
+    go : (b : Bool) → eqb e newest ≡ b → _≡_ {A = ℕ} (cond b 36 32) 36 → eqb e newest ≡ true
+    go true p h = p
+    go false p h = absurd (omega arith)
+
+pub length-back : (f : List ℕ) → headNumber firstEdition newest f ≡ 0 → rowSizeOf f ≡ rowSize newest → movedLength f ≡ length (moved firstEdition f)
+unfolding movedLength
+length-back f z q = simp (z, newest-size (editionOf f) q)
+
+pub length-up : (f : List ℕ) → headNumber firstEdition newest f ≡ 0 → (rowSizeOf f ≡ rowSize newest → ⊥) → movedLength f ≡ length (moved newest f)
+unfolding movedLength
+length-up f z n = simp (z, is-false _ (λ e. n (ap rowSize (eqb-true (editionOf f) newest e))))

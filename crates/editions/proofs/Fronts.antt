@@ -1,6 +1,6 @@
 -- An output that is written from the front: what stands there so far, and one part more.
-use Prim.Native.Nat.{ℕ, zero, suc, _+_, _-_, _*_, _^_, _≤_, _<_}
-use native.Mathlib.Nat.{mul-suc, mul-zero, not-suc-le-zero, le-of-suc-le-suc}
+use Prim.Native.Nat.{ℕ, _+_, _-_, _*_, _^_, _≤_, _<_}
+use native.Mathlib.Nat.{mul-suc, mul-zero}
 use native.Mathlib.Numerals.{add-one}
 use native.Mathlib.Omega.{arith}
 use mathlib.Core.Path.{_≡_, refl, sym, ap, ap₂, _∙_}
@@ -37,11 +37,6 @@ mid-front o x y at m h q =
 pub front-is : (o p x y : List ℕ) (at m : ℕ) → take (at + length x) p ≡ take at o ++ x → x ≡ y → length x ≡ m → take (at + m) p ≡ take at o ++ y
 front-is o p x y at m e q l = ap (λ (k : ℕ). take (at + k) p) (sym l) ∙ e ∙ ap (λ (z : List ℕ). take at o ++ z) q
 
-pub take-zeros : (k m : ℕ) → k ≤ m → take k (replicate {A = ℕ} m 0) ≡ replicate k 0
-take-zeros zero m h = refl
-take-zeros (suc k) zero h = absurd (not-suc-le-zero h)
-take-zeros (suc k) (suc m) h = ap (λ (l : List ℕ). 0 ∷ l) (take-zeros k m (le-of-suc-le-suc h))
-
 pub take-bytes : (x y : ℕ) → take 4 (bytes 4 x ++ bytes 4 y) ≡ bytes 4 x
 take-bytes x y = take-at (bytes 4 x) (bytes 4 y) 4 (length-bytes 4 x)
 
@@ -73,14 +68,14 @@ rest-put f o p q s b d x y e g h xy =
 -- the row
 pub row-put : (f o p q : List ℕ) (w v n i : ℕ) → 32 ≤ v
     → take (restStart v i) p ≡ take (rowStart v i) o ++ (stretch f (rowStart w i) 4 ++ replicate (v - 32) 0)
-    → take (restStart v i + 28) q ≡ take (restStart v i) p ++ (stretch f (restStart w i) 4 ++ (bytes 4 (carried w v n (rowAt w f i .at)) ++ stretch f (restStart w i + 8) 20))
+    → take (restStart v i + 28) q ≡ take (restStart v i) p ++ (stretch f (restStart w i) 4 ++ (bytes 4 (carried w v n (rowAt w f i .«ad_at»)) ++ stretch f (restStart w i + 8) 20))
     → take (rowStart v (i + 1)) q ≡ take (rowStart v i) o ++ movedRow w v f n i
 unfolding movedRow restStart rowStart
 row-put f o p q w v n i h e g =
     let r : rowStart v (i + 1) ≡ restStart v i + 28 = rw add-one (omega (arith, mul-suc v i)) in
     let x = stretch f (rowStart w i) 4 in
     let z : List ℕ = replicate (v - 32) 0 in
-    let y = stretch f (restStart w i) 4 ++ (bytes 4 (carried w v n (rowAt w f i .at)) ++ stretch f (restStart w i + 8) 20) in
+    let y = stretch f (restStart w i) 4 ++ (bytes 4 (carried w v n (rowAt w f i .«ad_at»)) ++ stretch f (restStart w i + 8) 20) in
     ap (λ (k : ℕ). take k q) r
     ∙ two-parts o p q (x ++ z) y (rowStart v i) (restStart v i) (restStart v i + 28) e g
     ∙ ap (λ (l : List ℕ). take (rowStart v i) o ++ l) (append-assoc x z y)

@@ -84,7 +84,7 @@ module _ (e w v : ℕ) (f : List ℕ) (n : ℕ) (t : TableIn w f n) (broad : 32 
     pub field-part : stretch file (restStart v i) 4 ≡ stretch f (restStart w i) 4
     field-part = ap (λ (j : ℕ). stretch file j 4) (sym (add-zero (restStart v i))) ∙ read-rest 0 4 (omega arith) ∙ row-fields w v f n t broad i l
 
-    pub offset-part : stretch file (restStart v i + 4) 4 ≡ bytes 4 (carried w v n (rowAt w f i .at))
+    pub offset-part : stretch file (restStart v i + 4) 4 ≡ bytes 4 (carried w v n (rowAt w f i .«ad_at»))
     offset-part = read-rest 4 4 (omega arith) ∙ row-offset w v f n t broad i l
 
     pub rest-part : stretch file (restStart v i + 8) 20 ≡ stretch f (restStart w i + 8) 20
@@ -102,7 +102,7 @@ module _ (e w v : ℕ) (f : List ℕ) (n : ℕ) (t : TableIn w f n) (broad : 32 
     old-rest-fits = omega (arith, old-fits, t .broad)
 
     -- the row, with its offset carried
-    pub row-is : carried w v n (rowAt w f i .at) < 256 ^ 4 → rowAt v file i ≡ (let r = rowAt w f i in record { job = r .job; suite = r .suite; key = r .key; ad = r .ad; at = carried w v n (r .at); len = r .len })
+    pub row-is : carried w v n (rowAt w f i .«ad_at») < 256 ^ 4 → rowAt v file i ≡ (let r = rowAt w f i in record { job = r .job; suite = r .suite; key = r .key; «ad_len» = r .«ad_len»; «ad_at» = carried w v n (r .«ad_at»); «text_len» = r .«text_len» })
     unfolding rowAt
     row-is h =
         let p = restStart v i in
@@ -114,10 +114,10 @@ module _ (e w v : ℕ) (f : List ℕ) (n : ℕ) (t : TableIn w f n) (broad : 32 
         let key = byte-in f file q p 4 (omega (arith, old-rest-fits)) (omega (arith, rest-fits)) field-part 1 (omega arith) in
         let ad = word-in f file q p 4 (omega (arith, old-rest-fits)) (omega (arith, rest-fits)) field-part 2 2 (omega arith) in
         let at : word 4 file (p + 4) ≡ carried w v n (word 4 f (q + 4)) =
-        word-stretch 4 file (p + 4) (omega (arith, rest-fits)) ∙ ap value offset-part ∙ value-bytes 4 (carried w v n (rowAt w f i .at)) h in
+        word-stretch 4 file (p + 4) (omega (arith, rest-fits)) ∙ ap value offset-part ∙ value-bytes 4 (carried w v n (rowAt w f i .«ad_at»)) h in
         let len : word 4 file (p + 8) ≡ word 4 f (q + 8) =
         ap (λ (j : ℕ). word 4 file j) (sym (add-zero (p + 8))) ∙ word-in f file (q + 8) (p + 8) 20 (omega (arith, old-rest-fits)) (omega (arith, rest-fits)) rest-part 0 4 (omega arith) ∙ ap (λ (j : ℕ). word 4 f j) (add-zero (q + 8)) in
-        λ s. record { job = job s; suite = suite s; key = key s; ad = ad s; at = at s; len = len s }
+        λ s. record { job = job s; suite = suite s; key = key s; «ad_len» = ad s; «ad_at» = at s; «text_len» = len s }
 
     pub nonce-is : nonceAt v file i ≡ nonceAt w f i
     unfolding nonceAt nonceStart

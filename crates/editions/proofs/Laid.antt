@@ -28,7 +28,7 @@ module _ (w v : ℕ) (f : List ℕ) (n : ℕ) (t : TableIn w f n) (broad : 32 �
     fieldPart = stretch f (restStart w i) 4
 
     abbrev offset : List ℕ
-    offset = bytes 4 (carried w v n (rowAt w f i .at))
+    offset = bytes 4 (carried w v n (rowAt w f i .«ad_at»))
 
     abbrev restPart : List ℕ
     restPart = stretch f (restStart w i + 8) 20
@@ -37,7 +37,7 @@ module _ (w v : ℕ) (f : List ℕ) (n : ℕ) (t : TableIn w f n) (broad : 32 �
     zeros-long = length-replicate (v - 32) 0
 
     offset-long : length offset ≡ 4
-    offset-long = length-bytes 4 (carried w v n (rowAt w f i .at))
+    offset-long = length-bytes 4 (carried w v n (rowAt w f i .«ad_at»))
 
     job-long : length jobPart ≡ 4
     job-long = stretch-length f (rowStart w i) 4 (omega (arith, row-in w f n i t l .fits, t .broad))

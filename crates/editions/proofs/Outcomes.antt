@@ -11,6 +11,8 @@ use Rattle.table.proofs.Outcomes.{refusalOf, refusal-back, unlike, answer-one}
 use Rattle.editions.specs.declared.answers.Moved.{Moved}
 use Rattle.editions.specs.declared.answers.Moved.the-variants.{Done, Refused, Station, Room}
 use Rattle.editions.specs.Answers.{movedAnswer, FileMoved}
+use Rattle.editions.proofs.moved_length.Kinds as moved-length-kinds
+use Rattle.editions.proofs.moved_length.Reads as moved-length-reads
 use Rattle.editions.proofs.to_edition2.Kinds as to-edition2-kinds
 use Rattle.editions.proofs.to_edition2.Reads as to-edition2-reads
 use Rattle.editions.proofs.to_edition1.Kinds as to-edition1-kinds
@@ -34,6 +36,9 @@ moved-back Room = refl
 
 moved-one : {x y : Moved} → movedAnswer x ≡ movedAnswer y → x ≡ y
 moved-one {x} {y} q = sym (moved-back x) ∙ ap movedOf q ∙ moved-back y
+
+pub moved-length : OneOutcome moved-length-kinds.ps moved-length-kinds.r moved-length-reads.Pre moved-length-reads.Post
+moved-length κs a h x y = (x .ensures ∙ sym (y .ensures), refl)
 
 pub to-edition2 : OneOutcome to-edition2-kinds.ps to-edition2-kinds.r to-edition2-reads.Pre to-edition2-reads.Post
 to-edition2 κs a h x y =

@@ -8,9 +8,10 @@ use lib.ListN.{length, take}
 use lib.Dec.{eqb, leb, eqb·suc-zero}
 use borrow.Author.Tests.{eq-eqb, le-ltb}
 use Rattle.words.specs.Bytes.{sameBytes}
+use Rattle.words.specs.Blocks.{filled}
 use Rattle.cipher.specs.Cipher.{nonceOf}
 use Rattle.table.specs.declared.row.Row.{Row}
-use Rattle.table.specs.Format.{editionOf, countOf, totalOf, rowSize, widthOf, rowStart, rowAt, nonceAt, nonceReadAt, padded, bodyEnd}
+use Rattle.table.specs.Format.{editionOf, countOf, totalOf, rowSize, rowSizeOf, rowStart, rowAt, nonceAt, nonceReadAt, bodyEnd}
 use Rattle.table.specs.Answers.{answer}
 use Rattle.table.specs.Check.{outside, notAbove, badSuite, badLength, bodyStart, misplaced, unreadSet, clash, nonceSeen, badData, bodyNumber, rowNumber, endAnswer, rowsFrom, headNumber, checkBetween, checkAs}
 use Rattle.table.specs.Inside.{TableIn}
@@ -33,16 +34,16 @@ module _ (e w v : ℕ) (f : List ℕ) (n : ℕ) (t : TableIn w f n) (broad : 32 
   abbrev file : List ℕ
   file = movedFrom e w v f n
 
-  pub low : (i : ℕ) → i < n → rowStart w n ≤ rowAt w f i .at
+  pub low : (i : ℕ) → i < n → rowStart w n ≤ rowAt w f i .«ad_at»
   low i l = omega (arith, after-table w f n h i (omega arith), h .rows i l .place .starts)
 
-  at-small : (i : ℕ) → i < n → carried w v n (rowAt w f i .at) < 256 ^ 4
+  at-small : (i : ℕ) → i < n → carried w v n (rowAt w f i .«ad_at») < 256 ^ 4
   unfolding carried bodyEnd
   at-small i l = omega (arith, h .rows i l .place .ends)
 
   -- the row, with its offset carried
   abbrev shifted : Row → Row
-  shifted r = record { job = r .job; suite = r .suite; key = r .key; ad = r .ad; at = carried w v n (r .at); len = r .len }
+  shifted r = record { job = r .job; suite = r .suite; key = r .key; «ad_len» = r .«ad_len»; «ad_at» = carried w v n (r .«ad_at»); «text_len» = r .«text_len» }
 
   pub row : (i : ℕ) → i < n → rowAt v file i ≡ shifted (rowAt w f i)
   row i l = row-is e w v f n t broad i l (at-small i l)
@@ -84,7 +85,7 @@ module _ (e w v : ℕ) (f : List ℕ) (n : ℕ) (t : TableIn w f n) (broad : 32 
   start-is zero l = omega arith
   start-is (suc i) l = let s : suc i - 1 ≡ i = omega arith in simp (eqb·suc-zero, s) (end-is i l)
 
-  misplaced-false : (x : ℕ) (g : List ℕ) (i : ℕ) → rowAt x g i .at ≡ bodyStart x g n i → bodyEnd (rowAt x g i) ≤ length g → misplaced x g n i ≡ false
+  misplaced-false : (x : ℕ) (g : List ℕ) (i : ℕ) → rowAt x g i .«ad_at» ≡ bodyStart x g n i → bodyEnd (rowAt x g i) ≤ length g → misplaced x g n i ≡ false
   unfolding misplaced
   misplaced-false x g i a b = simp (eq-eqb _ _ a, le-ltb _ _ b)
 
@@ -93,13 +94,13 @@ module _ (e w v : ℕ) (f : List ℕ) (n : ℕ) (t : TableIn w f n) (broad : 32 
   place-same i l =
       let p = h .rows i l .place in
       misplaced-false v file i
-      (ap (λ (r : Row). r .at) (row i l) ∙ ap (carried w v n) (p .starts) ∙ sym (start-is i (omega arith)))
+      (ap (λ (r : Row). r .«ad_at») (row i l) ∙ ap (carried w v n) (p .starts) ∙ sym (start-is i (omega arith)))
       (omega (arith, end-is i l, file-long w v f n t broad e, p .ends))
       ∙ sym (misplaced-false w f i (p .starts) (p .ends))
 
   unread-same : (i : ℕ) → i < n → unreadSet v file i ≡ unreadSet w f i
   unfolding unreadSet
-  unread-same i l = ap₂ (λ (s x : List ℕ). not (sameBytes s (padded x))) (nonce i l) (reads i l)
+  unread-same i l = ap₂ (λ (s x : List ℕ). not (sameBytes s (filled x))) (nonce i l) (reads i l)
 
   clash-same : (i k : ℕ) → i < n → k < n → clash v file i k ≡ clash w f i k
   unfolding clash
@@ -113,9 +114,9 @@ module _ (e w v : ℕ) (f : List ℕ) (n : ℕ) (t : TableIn w f n) (broad : 32 
   unfolding badData
   data-same i l =
       let r = rowAt w f i in
-      let d = body-from e w v f n t broad (r .at) (low i l) in
+      let d = body-from e w v f n t broad (r .«ad_at») (low i l) in
       ap (badData file) (row i l)
-      ∙ ap₂ (λ (a b : ℕ). not (eqb a (r .job)) || not (eqb b 1 || eqb b 2)) (word-from f file 4 (carried w v n (r .at)) (r .at) d) (byte-from f file (carried w v n (r .at)) (r .at) 4 d)
+      ∙ ap₂ (λ (a b : ℕ). not (eqb a (r .job)) || not (eqb b 1 || eqb b 2)) (word-from f file 4 (carried w v n (r .«ad_at»)) (r .«ad_at») d) (byte-from f file (carried w v n (r .«ad_at»)) (r .«ad_at») 4 d)
 
   number-same : (i : ℕ) → i < n → rowNumber v file n i ≡ rowNumber w f n i
   unfolding rowNumber bodyNumber
@@ -144,12 +145,12 @@ module _ (e w v : ℕ) (f : List ℕ) (n : ℕ) (t : TableIn w f n) (broad : 32 
     head-zero q =
         let a : 8 ≤ length file = eight e w v f n t broad in
         let c : countOf file ≤ 512 = omega (arith, count, few) in
-        let width : widthOf file ≡ v = ap rowSize edition ∙ q in
-        let d : rowStart (widthOf file) (countOf file) ≤ length file = rw (width, count) (table-in e w v f n t broad .fits) in
+        let row-size : rowSizeOf file ≡ v = ap rowSize edition ∙ q in
+        let d : rowStart (rowSizeOf file) (countOf file) ≤ length file = rw (row-size, count) (table-in e w v f n t broad .fits) in
         simp (le-ltb _ _ a, le-ltb _ _ long, own-taken, le-ltb _ _ c, eq-eqb _ _ total, le-ltb _ _ d)
 
     pub file-passes : rowSize e ≡ v → checkAs e file ≡ answer 0 0
     unfolding checkBetween
     file-passes q =
-        let width : widthOf file ≡ v = ap rowSize edition ∙ q in
-        simp (head-zero q, width, count) rows-zero
+        let row-size : rowSizeOf file ≡ v = ap rowSize edition ∙ q in
+        simp (head-zero q, row-size, count) rows-zero

@@ -3,36 +3,32 @@ use Prim.Native.Nat.{ℕ, zero, suc, _+_, _-_, _*_, _^_, _≤_, _<_}
 use native.Mathlib.Nat.{mul-le-mul-right}
 use native.Mathlib.Omega.{arith}
 use mathlib.Core.Path.{_≡_, refl, sym, ap, ap₂, _∙_}
-use mathlib.Core.List.{List, _∷_}
+use mathlib.Core.List.{List}
 use lib.ListN.{length, drop, replicate}
-use lib.Dec.{lit<}
+use lib.Dec.{lit<, lit≤}
 use Rattle.words.specs.Bytes.{AllBytes, bytes, value}
-use Rattle.words.proofs.Bytes.{unpack}
+use Rattle.words.proofs.Bytes.{unpack, bytes-zeros}
 use Rattle.table.specs.declared.answers.Answer.{Answer}
 use Rattle.table.specs.declared.row.Row.{Row}
 use Rattle.table.specs.Part.{stretch}
-use Rattle.table.specs.Format.{editionOf, countOf, totalOf, edition, newest, rowSize, widthOf, rowStart, rowAt, rowOf, bodyEnd, stationAt}
+use Rattle.table.specs.Format.{editionOf, countOf, totalOf, firstEdition, newest, rowSize, rowSizeOf, rowStart, rowAt, rowOf, bodyEnd, stationAt}
 use Rattle.table.specs.Answers.{answer}
-use Rattle.table.specs.Check.{checkAs}
+use Rattle.table.specs.Check.{headNumber, checkAs}
 use Rattle.table.proofs.Rows.{row-broad, row-in, station-none}
 use Rattle.table.proofs.Passed.{Passes, passes, own-edition}
 use Rattle.table.proofs.Bodies.{after-table}
+use Rattle.table.proofs.Kept.{wider}
 use Rattle.editions.specs.Files.{carried, movedFrom, moved}
 use Rattle.editions.specs.Answers.{FileMoved, toEdition2, toEdition1}
-use Rattle.editions.specs.Promised.{done, ThereAndBack, BackAndThere, UpPasses, BackPasses, BackShort, UpRises, BackFalls}
+use Rattle.editions.specs.Promised.{done, ThereAndBack, BackAndThere, UpPasses, BackPasses, BackShort, LengthTold, UpRises, BackFalls}
 use Rattle.editions.proofs.Segments.{word-stretch}
 use Rattle.editions.proofs.Laid.{file-long}
 use Rattle.editions.proofs.Kept.{edition-is, count-is, total-is, station-part, table-in, body-from}
 use Rattle.editions.proofs.Back.{Whole, file-back}
 use Rattle.editions.proofs.Passing.{low, row, file-passes}
-use Rattle.editions.proofs.Done.{NoStation, up-goes, goes-up, back-goes, goes-back, up-is, back-is}
+use Rattle.editions.proofs.Done.{NoStation, up-goes, goes-up, back-goes, goes-back, up-is, back-is, length-back, length-up}
 
--- a station of 0, as bytes, and read again
-zero-bytes : (m : ℕ) → bytes m 0 ≡ replicate m 0
-unfolding bytes
-zero-bytes zero = refl
-zero-bytes (suc m) = ap (λ (l : List ℕ). 0 ∷ l) (zero-bytes m)
-
+-- a station of 0, read again
 zeros-value : (m : ℕ) → value (replicate m 0) ≡ 0
 unfolding value
 zeros-value zero = refl
@@ -47,7 +43,7 @@ module _ (a b : ℕ) (ha : a < 256 ^ 2) (hb : b < 256 ^ 2) (f : List ℕ) (z : c
   own = own-edition a f ok
 
   abbrev w : ℕ
-  w = widthOf f
+  w = rowSizeOf f
 
   abbrev v : ℕ
   v = rowSize b
@@ -61,8 +57,8 @@ module _ (a b : ℕ) (ha : a < 256 ^ 2) (hb : b < 256 ^ 2) (f : List ℕ) (z : c
   small-count : n < 256 ^ 2
   small-count = omega (arith, ok .head .few)
 
-  pub new-width : widthOf g ≡ v
-  new-width = ap rowSize (edition-is b w v f n (ok .head .table) (row-broad b) hb)
+  pub new-row-size : rowSizeOf g ≡ v
+  new-row-size = ap rowSize (edition-is b w v f n (ok .head .table) (row-broad b) hb)
 
   pub new-count : countOf g ≡ n
   new-count = count-is b w v f n (ok .head .table) (row-broad b) small-count
@@ -74,7 +70,7 @@ module _ (a b : ℕ) (ha : a < 256 ^ 2) (hb : b < 256 ^ 2) (f : List ℕ) (z : c
       let t = ok .head .table in
       let m : i < n = rw (sym new-count) l in
       let fits = row-in v g n i (table-in b w v f n t (row-broad b)) m .fits in
-      ap (λ (x : ℕ). stationAt x g i) new-width
+      ap (λ (x : ℕ). stationAt x g i) new-row-size
       ∙ word-stretch (v - 32) g (rowStart v i + 4) (omega (arith, fits, row-broad b))
       ∙ ap value (station-part b w v f n t (row-broad b) i m)
       ∙ zeros-value (v - 32)
@@ -90,18 +86,18 @@ module _ (a b : ℕ) (ha : a < 256 ^ 2) (hb : b < 256 ^ 2) (f : List ℕ) (z : c
     new-total : totalOf g ≡ carried w v n (length f)
     new-total = total-is b w v f n (ok .head .table) (row-broad b) small
 
-    new-offset : (i : ℕ) → i < n → rowOf g i .at ≡ carried w v n (rowOf f i .at)
+    new-offset : (i : ℕ) → i < n → rowOf g i .«ad_at» ≡ carried w v n (rowOf f i .«ad_at»)
     new-offset i l =
-        ap (λ (k : ℕ). rowAt k g i .at) new-width ∙ ap (λ (r : Row). r .at) (row b w v f n (ok .head .table) (row-broad b) (ok .walk) small i l)
+        ap (λ (k : ℕ). rowAt k g i .«ad_at») new-row-size ∙ ap (λ (r : Row). r .«ad_at») (row b w v f n (ok .head .table) (row-broad b) (ok .walk) small i l)
 
-    old-offset : (i : ℕ) → i < n → rowStart w n ≤ rowOf f i .at
+    old-offset : (i : ℕ) → i < n → rowStart w n ≤ rowOf f i .«ad_at»
     old-offset = low b w v f n (ok .head .table) (row-broad b) (ok .walk) small
 
-    new-bodies : drop (rowStart (widthOf g) (countOf g)) g ≡ drop (rowStart w n) f
+    new-bodies : drop (rowStart (rowSizeOf g) (countOf g)) g ≡ drop (rowStart w n) f
     unfolding carried
     new-bodies =
         let q : carried w v n (rowStart w n) ≡ rowStart v n = omega arith in
-        ap₂ (λ (x y : ℕ). drop (rowStart x y) g) new-width new-count
+        ap₂ (λ (x y : ℕ). drop (rowStart x y) g) new-row-size new-count
         ∙ ap (λ (x : ℕ). drop x g) (sym q)
         ∙ body-from b w v f n (ok .head .table) (row-broad b) (rowStart w n) (omega arith)
 
@@ -110,7 +106,7 @@ module _ (a b : ℕ) (ha : a < 256 ^ 2) (hb : b < 256 ^ 2) (f : List ℕ) (z : c
       unfolding stationAt
       station i l =
           let fits = row-in w f n i (ok .head .table) l .fits in
-          sym (unpack (w - 32) f (rowStart w i + 4) all (omega (arith, row-broad (editionOf f)))) ∙ ap (bytes (w - 32)) (none i l) ∙ zero-bytes (w - 32)
+          sym (unpack (w - 32) f (rowStart w i + 4) all (omega (arith, row-broad (editionOf f)))) ∙ ap (bytes (w - 32)) (none i l) ∙ bytes-zeros (w - 32)
 
       whole : Whole w v f n
       unfolding carried bodyEnd
@@ -127,25 +123,25 @@ module _ (a b : ℕ) (ha : a < 256 ^ 2) (hb : b < 256 ^ 2) (f : List ℕ) (z : c
       back-again : moved a g ≡ f
       back-again =
           let old : rowSize a ≡ w = ap rowSize (sym own) in
-          ap (λ (x : ℕ). movedFrom a x (rowSize a) g (countOf g)) new-width
+          ap (λ (x : ℕ). movedFrom a x (rowSize a) g (countOf g)) new-row-size
           ∙ ap (λ (x : ℕ). movedFrom a v x g (countOf g)) old
           ∙ ap (movedFrom a v w g) new-count
           ∙ ap (λ (x : ℕ). movedFrom x v w g n) (sym own)
           ∙ file-back b w v f n whole (row-broad b)
 
-pub one : edition < 256 ^ 2
+pub one : firstEdition < 256 ^ 2
 one = lit< tt
 
 pub two : newest < 256 ^ 2
 two = lit< tt
 
-one-size : rowSize edition ≡ 32
+one-size : rowSize firstEdition ≡ 32
 unfolding rowSize
 one-size = refl
 
 -- edition 1 has no station
-pub one-none : (f : List ℕ) → checkAs edition f .number ≡ 0 → NoStation f
-one-none f z i l = sym (station-none f i (widthOf f) (ap rowSize (own edition newest one two f z) ∙ one-size))
+pub one-none : (f : List ℕ) → checkAs firstEdition f .number ≡ 0 → NoStation f
+one-none f z i l = sym (station-none f i (rowSizeOf f) (ap rowSize (own firstEdition newest one two f z) ∙ one-size))
 
 -- the way back makes no file longer
 pub back-short : BackShort
@@ -153,8 +149,8 @@ unfolding carried rowStart
 back-short f z =
     let p = passes newest newest f z in
     let n = countOf f in
-    let m : rowSize edition * n ≤ widthOf f * n = rw one-size (mul-le-mul-right n (row-broad (editionOf f))) in
-    omega (arith, file-long (widthOf f) (rowSize edition) f n (p .head .table) (row-broad edition) edition, p .head .short, p .head .table .fits)
+    let m : rowSize firstEdition * n ≤ rowSizeOf f * n = rw one-size (mul-le-mul-right n (row-broad (editionOf f))) in
+    omega (arith, file-long (rowSizeOf f) (rowSize firstEdition) f n (p .head .table) (row-broad firstEdition) firstEdition, p .head .short, p .head .table .fits)
 
 -- from rows of 32 bytes to rows of 36 every place behind the table rises by 4n, and from 36 to 32 it falls by that
 carried-up : (w v n x : ℕ) → w ≡ 32 → v ≡ 36 → rowStart w n ≤ x → carried w v n x ≡ x + 4 * n
@@ -181,23 +177,23 @@ pub up-passes : UpPasses
 unfolding toEdition2
 up-passes f out₀ z =
     let d = up-goes f (length out₀) z in
-    ap (λ (x : List ℕ). checkAs newest x .number) (ap outOf (up-is f out₀ (d .zero))) ∙ ap numberOf (new-passes edition newest one two f (d .passed) (d .room .short))
+    ap (λ (x : List ℕ). checkAs newest x .number) (ap outOf (up-is f out₀ (d .zero))) ∙ ap numberOf (new-passes firstEdition newest one two f (d .passed) (d .room .short))
 
 pub back-passes : BackPasses
 unfolding toEdition1
 back-passes f out₀ z =
     let d = back-goes f (length out₀) z .0 in
-    ap (λ (x : List ℕ). checkAs edition x .number) (ap outOf (back-is f out₀ (d .zero))) ∙ ap numberOf (new-passes newest edition two one f (d .passed) (d .room .short))
+    ap (λ (x : List ℕ). checkAs firstEdition x .number) (ap outOf (back-is f out₀ (d .zero))) ∙ ap numberOf (new-passes newest firstEdition two one f (d .passed) (d .room .short))
 
 pub there-and-back : ThereAndBack
 unfolding toEdition2
 there-and-back f out₀ out₁ all z o =
     let d = up-goes f (length out₀) z in
     let g = moved newest f in
-    let again : moved edition g ≡ f = back-again edition newest one two f (d .passed) (d .room .short) all (one-none f (d .passed)) in
-    let passed : checkAs newest g .number ≡ 0 = ap numberOf (new-passes edition newest one two f (d .passed) (d .room .short)) in
+    let again : moved firstEdition g ≡ f = back-again firstEdition newest one two f (d .passed) (d .room .short) all (one-none f (d .passed)) in
+    let passed : checkAs newest g .number ≡ 0 = ap numberOf (new-passes firstEdition newest one two f (d .passed) (d .room .short)) in
     ap (λ (x : List ℕ). toEdition1 x out₁) (ap outOf (up-is f out₀ (d .zero)))
-    ∙ back-is g out₁ (goes-back g (length out₁) passed (new-none edition newest one two f (d .passed))
+    ∙ back-is g out₁ (goes-back g (length out₁) passed (new-none firstEdition newest one two f (d .passed))
     (record { short = back-short g passed; fits = o ∙ sym (ap length again) }))
     ∙ ap done again
 
@@ -205,9 +201,9 @@ pub back-and-there : BackAndThere
 unfolding toEdition1
 back-and-there f out₀ out₁ all z o =
     let d = back-goes f (length out₀) z .0 in
-    let g = moved edition f in
-    let again : moved newest g ≡ f = back-again newest edition two one f (d .passed) (d .room .short) all (back-goes f (length out₀) z .1) in
-    let passed : checkAs edition g .number ≡ 0 = ap numberOf (new-passes newest edition two one f (d .passed) (d .room .short)) in
+    let g = moved firstEdition f in
+    let again : moved newest g ≡ f = back-again newest firstEdition two one f (d .passed) (d .room .short) all (back-goes f (length out₀) z .1) in
+    let passed : checkAs firstEdition g .number ≡ 0 = ap numberOf (new-passes newest firstEdition two one f (d .passed) (d .room .short)) in
     let long : length (moved newest g) ≤ 1048576 = rw (ap length again) (passes newest newest f (d .passed) .head .short) in
     ap (λ (x : List ℕ). toEdition2 x out₁) (ap outOf (back-is f out₀ (d .zero)))
     ∙ up-is g out₁ (goes-up g (length out₁) passed (record { short = long; fits = o ∙ sym (ap length again) }))
@@ -220,14 +216,14 @@ up-rises f out₀ z =
     let p = d .passed in
     let short = d .room .short in
     let n = countOf f in
-    let t = ok edition newest one two f p .head in
-    let up : (x : ℕ) → rowStart (widthOf f) n ≤ x → carried (widthOf f) (rowSize newest) n x ≡ x + 4 * n = λ x h. carried-up (widthOf f) (rowSize newest) n x (ap rowSize (own edition newest one two f p) ∙ one-size) two-size h in
+    let t = ok firstEdition newest one two f p .head in
+    let up : (x : ℕ) → rowStart (rowSizeOf f) n ≤ x → carried (rowSizeOf f) (rowSize newest) n x ≡ x + 4 * n = λ x h. carried-up (rowSizeOf f) (rowSize newest) n x (ap rowSize (own firstEdition newest one two f p) ∙ one-size) two-size h in
     rw (ap outOf (up-is f out₀ (d .zero))) (record {
-      count = new-count edition newest one two f p;
-      long = file-long (widthOf f) (rowSize newest) f n (t .table) (row-broad newest) newest ∙ up (length f) (t .table .fits);
-      total = new-total edition newest one two f p short ∙ up (length f) (t .table .fits) ∙ ap (λ (x : ℕ). x + 4 * n) (sym (t .total));
-      offset = λ i l. new-offset edition newest one two f p short i l ∙ up (rowOf f i .at) (old-offset edition newest one two f p short i l);
-      bodies = new-bodies edition newest one two f p short;
+      count = new-count firstEdition newest one two f p;
+      long = file-long (rowSizeOf f) (rowSize newest) f n (t .table) (row-broad newest) newest ∙ up (length f) (t .table .fits);
+      total = new-total firstEdition newest one two f p short ∙ up (length f) (t .table .fits) ∙ ap (λ (x : ℕ). x + 4 * n) (sym (t .total));
+      offset = λ i l. new-offset firstEdition newest one two f p short i l ∙ up (rowOf f i .«ad_at») (old-offset firstEdition newest one two f p short i l);
+      bodies = new-bodies firstEdition newest one two f p short;
     })
 
 pub back-falls : BackFalls
@@ -237,16 +233,28 @@ back-falls f out₀ z =
     let p = d .passed in
     let short = d .room .short in
     let n = countOf f in
-    let g = moved edition f in
-    let t = ok newest edition two one f p .head in
-    let many : countOf g ≡ n = new-count newest edition two one f p in
-    let down : (x : ℕ) → rowStart (widthOf f) n ≤ x → x ≡ carried (widthOf f) (rowSize edition) n x + 4 * n = λ x h. carried-down (widthOf f) (rowSize edition) n x (ap rowSize (own newest edition two one f p) ∙ two-size) one-size h in
+    let g = moved firstEdition f in
+    let t = ok newest firstEdition two one f p .head in
+    let many : countOf g ≡ n = new-count newest firstEdition two one f p in
+    let down : (x : ℕ) → rowStart (rowSizeOf f) n ≤ x → x ≡ carried (rowSizeOf f) (rowSize firstEdition) n x + 4 * n = λ x h. carried-down (rowSizeOf f) (rowSize firstEdition) n x (ap rowSize (own newest firstEdition two one f p) ∙ two-size) one-size h in
     rw (ap outOf (back-is f out₀ (d .zero))) (record {
       count = sym many;
-      long = down (length f) (t .table .fits) ∙ ap₂ (λ (x y : ℕ). x + 4 * y) (sym (file-long (widthOf f) (rowSize edition) f n (t .table) (row-broad edition) edition)) (sym many);
-      total = t .total ∙ down (length f) (t .table .fits) ∙ ap₂ (λ (x y : ℕ). x + 4 * y) (sym (new-total newest edition two one f p short)) (sym many);
+      long = down (length f) (t .table .fits) ∙ ap₂ (λ (x y : ℕ). x + 4 * y) (sym (file-long (rowSizeOf f) (rowSize firstEdition) f n (t .table) (row-broad firstEdition) firstEdition)) (sym many);
+      total = t .total ∙ down (length f) (t .table .fits) ∙ ap₂ (λ (x y : ℕ). x + 4 * y) (sym (new-total newest firstEdition two one f p short)) (sym many);
       offset = λ i l.
           let m : i < n = rw many at l in
-          down (rowOf f i .at) (old-offset newest edition two one f p short i m) ∙ ap₂ (λ (x y : ℕ). x + 4 * y) (sym (new-offset newest edition two one f p short i m)) (sym many);
-      bodies = sym (new-bodies newest edition two one f p short);
+          down (rowOf f i .«ad_at») (old-offset newest firstEdition two one f p short i m) ∙ ap₂ (λ (x y : ℕ). x + 4 * y) (sym (new-offset newest firstEdition two one f p short i m)) (sym many);
+      bodies = sym (new-bodies newest firstEdition two one f p short);
     })
+
+-- a file that passes has its header in order, and the size of its rows is that of its edition
+head-zero : (e : ℕ) (f : List ℕ) → firstEdition ≤ e → e ≤ newest → checkAs e f .number ≡ 0 → headNumber firstEdition newest f ≡ 0
+head-zero e f low high z = passes firstEdition newest f (wider e f low high z) .zero
+
+pub length-told : LengthTold
+length-told = record {
+  up = λ f z.
+      length-up f (head-zero firstEdition f (lit≤ tt) (lit≤ tt) z)
+      (λ q. let s : _≡_ {A = ℕ} 32 36 = sym (ap rowSize (own firstEdition newest one two f z) ∙ one-size) ∙ q ∙ two-size in omega arith);
+  back = λ f z. length-back f (head-zero newest f (lit≤ tt) (lit≤ tt) z) (ap rowSize (own newest firstEdition two one f z));
+}

@@ -13,7 +13,7 @@ use Rattle.comet.specs.Answers as comet
 use Rattle.table.specs.declared.row.Row.{Row}
 use Rattle.table.specs.declared.answers.Answer.{Answer}
 use Rattle.table.specs.Part.{stretch}
-use Rattle.table.specs.Format.{editionOf, countOf, edition, newest, rowSize, widthOf, rowAt, nonceAt, nonceReadAt, rowOf, dataOf, textOf, tagOf, bodyEnd}
+use Rattle.table.specs.Format.{editionOf, countOf, firstEdition, newest, rowSize, rowSizeOf, rowAt, nonceAt, nonceReadAt, rowOf, dataOf, textOf, tagOf, bodyEnd}
 use Rattle.table.specs.Answers.{answer}
 use Rattle.table.specs.Check.{checkFile}
 use Rattle.table.proofs.Rows.{row-broad}
@@ -33,11 +33,11 @@ use Rattle.editions.proofs.Laid.{file-long}
 use Rattle.editions.proofs.Kept.{body-from}
 use Rattle.editions.proofs.Passing.{low, row, nonce, reads}
 use Rattle.editions.proofs.Done.{Goes, NoStation, up-goes, back-goes, up-is, back-is}
-use Rattle.editions.proofs.Promised.{new-width, new-count, new-none, new-passes, one, two, one-none, outOf}
+use Rattle.editions.proofs.Promised.{new-row-size, new-count, new-none, new-passes, one, two, one-none, outOf}
 
 -- a row, its body carried
 abbrev carriedRow : ℕ → ℕ → ℕ → Row → Row
-carriedRow w v n r = record { job = r .job; suite = r .suite; key = r .key; ad = r .ad; at = carried w v n (r .at); len = r .len }
+carriedRow w v n r = record { job = r .job; suite = r .suite; key = r .key; «ad_len» = r .«ad_len»; «ad_at» = carried w v n (r .«ad_at»); «text_len» = r .«text_len» }
 
 -- both pass, and every row of g is that of f, but for where its body lies
 pub record Alike (f g : List ℕ) : Type 0 where
@@ -47,20 +47,20 @@ pub record Alike (f g : List ℕ) : Type 0 where
   pub job : (i : ℕ) → i < countOf f → rowOf g i .job ≡ rowOf f i .job
   pub suite : (i : ℕ) → i < countOf f → rowOf g i .suite ≡ rowOf f i .suite
   pub key : (i : ℕ) → i < countOf f → rowOf g i .key ≡ rowOf f i .key
-  pub extra : (i : ℕ) → i < countOf f → rowOf g i .ad ≡ rowOf f i .ad
-  pub len : (i : ℕ) → i < countOf f → rowOf g i .len ≡ rowOf f i .len
+  pub extra : (i : ℕ) → i < countOf f → rowOf g i .«ad_len» ≡ rowOf f i .«ad_len»
+  pub len : (i : ℕ) → i < countOf f → rowOf g i .«text_len» ≡ rowOf f i .«text_len»
   pub nonce : (i : ℕ) → i < countOf f → nonceRead g i ≡ nonceRead f i
-  pub body : (i : ℕ) → i < countOf f → drop (rowOf g i .at) g ≡ drop (rowOf f i .at) f
+  pub body : (i : ℕ) → i < countOf f → drop (rowOf g i .«ad_at») g ≡ drop (rowOf f i .«ad_at») f
 
 module _ (f g : List ℕ) (h : Alike f g) where
   -- the same rows are looked at
   searched : (job : ℕ) → searching g job ≡ searching f job
   searched job =
       let n = countOf f in
-      goes g job (passes edition newest g (h .new) .zero)
-      ∙ ap (halving (jobsOf (widthOf g) g) job 0) (h .count)
-      ∙ jobs-same (jobsOf (widthOf g) g) (jobsOf (widthOf f) f) job n 0 n (omega arith) (λ i a b. h .job i (omega arith))
-      ∙ sym (goes f job (passes edition newest f (h .old) .zero))
+      goes g job (passes firstEdition newest g (h .new) .zero)
+      ∙ ap (halving (jobsOf (rowSizeOf g) g) job 0) (h .count)
+      ∙ jobs-same (jobsOf (rowSizeOf g) g) (jobsOf (rowSizeOf f) f) job n 0 n (omega arith) (λ i a b. h .job i (omega arith))
+      ∙ sym (goes f job (passes firstEdition newest f (h .old) .zero))
 
   found : (job : ℕ) → lookupJob g job ≡ lookupJob f job
   found job = sym (same-as-lookup g job (h .new)) ∙ ap (λ (x : Walk). x .says) (searched job) ∙ same-as-lookup f job (h .old)
@@ -71,26 +71,26 @@ module _ (f g : List ℕ) (h : Alike f g) where
 
   module _ (i : ℕ) (l : i < countOf f) where
     -- k bytes on in the body, m bytes
-    part : (k k′ m m′ : ℕ) → k ≡ k′ → m ≡ m′ → stretch g (rowOf g i .at + k) m ≡ stretch f (rowOf f i .at + k′) m′
+    part : (k k′ m m′ : ℕ) → k ≡ k′ → m ≡ m′ → stretch g (rowOf g i .«ad_at» + k) m ≡ stretch f (rowOf f i .«ad_at» + k′) m′
     part k k′ m m′ q r =
-        ap (take m) (sym (drop-drop k (rowOf g i .at) g))
+        ap (take m) (sym (drop-drop k (rowOf g i .«ad_at») g))
         ∙ (λ t. take (r t) (drop (q t) (h .body i l t)))
-        ∙ ap (take m′) (drop-drop k′ (rowOf f i .at) f)
+        ∙ ap (take m′) (drop-drop k′ (rowOf f i .«ad_at») f)
 
     data-same : dataOf g (rowOf g i) ≡ dataOf f (rowOf f i)
     data-same = ap₂ take (h .extra i l) (h .body i l)
 
     text-same : textOf g (rowOf g i) ≡ textOf f (rowOf f i)
-    text-same = part (rowOf g i .ad) (rowOf f i .ad) (rowOf g i .len) (rowOf f i .len) (h .extra i l) (h .len i l)
+    text-same = part (rowOf g i .«ad_len») (rowOf f i .«ad_len») (rowOf g i .«text_len») (rowOf f i .«text_len») (h .extra i l) (h .len i l)
 
     tag-same : tagOf g (rowOf g i) ≡ tagOf f (rowOf f i)
     tag-same =
         let r = rowOf g i in
         let s = rowOf f i in
-        let a : r .at + r .ad + r .len ≡ r .at + (r .ad + r .len) = omega arith in
-        let b : s .at + (s .ad + s .len) ≡ s .at + s .ad + s .len = omega arith in
+        let a : r .«ad_at» + r .«ad_len» + r .«text_len» ≡ r .«ad_at» + (r .«ad_len» + r .«text_len») = omega arith in
+        let b : s .«ad_at» + (s .«ad_len» + s .«text_len») ≡ s .«ad_at» + s .«ad_len» + s .«text_len» = omega arith in
         ap (λ (k : ℕ). stretch g k (sizeOf (r .suite))) a
-        ∙ part (r .ad + r .len) (s .ad + s .len) (sizeOf (r .suite)) (sizeOf (s .suite)) (ap₂ (λ (x y : ℕ). x + y) (h .extra i l) (h .len i l)) (ap sizeOf (h .suite i l))
+        ∙ part (r .«ad_len» + r .«text_len») (s .«ad_len» + s .«text_len») (sizeOf (r .suite)) (sizeOf (s .suite)) (ap₂ (λ (x y : ℕ). x + y) (h .extra i l) (h .len i l)) (ap sizeOf (h .suite i l))
         ∙ ap (λ (k : ℕ). stretch f k (sizeOf (s .suite))) b
 
     opener-same : (ring out : List ℕ) → entryOpening g ring i out ≡ entryOpening f ring i out
@@ -113,7 +113,7 @@ module _ (f g : List ℕ) (h : Alike f g) where
       i = lookupJob f job .row
 
       data-case : (b : Bool) → eqb (lookupJob f job .number) 0 ≡ b
-          → stretch g (cond b (rowOf g i .at) 0) (cond b (rowOf g i .ad) 0) ≡ stretch f (cond b (rowOf f i .at) 0) (cond b (rowOf f i .ad) 0)
+          → stretch g (cond b (rowOf g i .«ad_at») 0) (cond b (rowOf g i .«ad_len») 0) ≡ stretch f (cond b (rowOf f i .«ad_at») 0) (cond b (rowOf f i .«ad_len») 0)
       data-case true e = data-same i (within job e)
       data-case false e = refl
 
@@ -132,7 +132,7 @@ module _ (f g : List ℕ) (h : Alike f g) where
 
 -- ---- the moved file
 
-module _ (a b : ℕ) (la : edition ≤ a) (ma : a ≤ newest) (lb : edition ≤ b) (mb : b ≤ newest) (f : List ℕ) (out : ℕ) (x : Answer) (d : Goes a b f out x) where
+module _ (a b : ℕ) (la : firstEdition ≤ a) (ma : a ≤ newest) (lb : firstEdition ≤ b) (mb : b ≤ newest) (f : List ℕ) (out : ℕ) (x : Answer) (d : Goes a b f out x) where
   wa : a < 256 ^ 2
   wa = omega arith
 
@@ -140,7 +140,7 @@ module _ (a b : ℕ) (la : edition ≤ a) (ma : a ≤ newest) (lb : edition ≤ 
   wb = omega arith
 
   abbrev w : ℕ
-  w = widthOf f
+  w = rowSizeOf f
 
   abbrev v : ℕ
   v = rowSize b
@@ -161,7 +161,7 @@ module _ (a b : ℕ) (la : edition ≤ a) (ma : a ≤ newest) (lb : edition ≤ 
       let t = p .head .table in
       let broad = row-broad b in
       let small = small-is in
-      let wide = new-width a b wa wb f (d .passed) in
+      let wide = new-row-size a b wa wb f (d .passed) in
       let is : (i : ℕ) → i < n → rowOf g i ≡ rowAt v g i = λ i l. ap (λ (k : ℕ). rowAt k g i) wide in
       let carries : (i : ℕ) → i < n → rowOf g i ≡ carriedRow w v n (rowOf f i) = λ i l. is i l ∙ row b w v f n t broad (p .walk) small i l in
       record {
@@ -171,10 +171,10 @@ module _ (a b : ℕ) (la : edition ≤ a) (ma : a ≤ newest) (lb : edition ≤ 
         job = λ i l. ap (λ (r : Row). r .job) (carries i l);
         suite = λ i l. ap (λ (r : Row). r .suite) (carries i l);
         key = λ i l. ap (λ (r : Row). r .key) (carries i l);
-        extra = λ i l. ap (λ (r : Row). r .ad) (carries i l);
-        len = λ i l. ap (λ (r : Row). r .len) (carries i l);
+        extra = λ i l. ap (λ (r : Row). r .«ad_len») (carries i l);
+        len = λ i l. ap (λ (r : Row). r .«text_len») (carries i l);
         nonce = λ i l. ap (λ (k : ℕ). nonceReadAt k g i) wide ∙ reads b w v f n t broad (p .walk) small i l;
-        body = λ i l. ap (λ (r : Row). drop (r .at) g) (carries i l) ∙ body-from b w v f n t broad (rowAt w f i .at) (low b w v f n t broad (p .walk) small i l);
+        body = λ i l. ap (λ (r : Row). drop (r .«ad_at») g) (carries i l) ∙ body-from b w v f n t broad (rowAt w f i .«ad_at») (low b w v f n t broad (p .walk) small i l);
       }
 
   -- and row by row, stations and whole nonces too
@@ -186,14 +186,14 @@ module _ (a b : ℕ) (la : edition ≤ a) (ma : a ≤ newest) (lb : edition ≤ 
       let small : carried w v n (length f) < 256 ^ 4 = small-is in
       let r = rowOf g i in
       let s = rowOf f i in
-      let long : bodyEnd r - r .at ≡ bodyEnd s - s .at = omega (arith, h .extra i l, h .len i l, ap sizeOf (h .suite i l)) in
+      let long : bodyEnd r - r .«ad_at» ≡ bodyEnd s - s .«ad_at» = omega (arith, h .extra i l, h .len i l, ap sizeOf (h .suite i l)) in
       record {
         job = h .job i l;
         suite = h .suite i l;
         key = h .key i l;
-        ad = h .extra i l;
-        len = h .len i l;
-        nonce = ap (λ (k : ℕ). nonceAt k g i) (new-width a b wa wb f (d .passed)) ∙ nonce b w v f n (p .head .table) (row-broad b) (p .walk) small i l;
+        ad-len = h .extra i l;
+        text-len = h .len i l;
+        nonce = ap (λ (k : ℕ). nonceAt k g i) (new-row-size a b wa wb f (d .passed)) ∙ nonce b w v f n (p .head .table) (row-broad b) (p .walk) small i l;
         station = none′ i (omega (arith, l, h .count)) ∙ sym (none i l);
         body = ap₂ take long (h .body i l);
       }
@@ -203,7 +203,7 @@ unfolding toEdition2
 up-keeps f out₀ z =
     let d = up-goes f (length out₀) z in
     rw (ap outOf (up-is f out₀ (d .zero)))
-    (rows-kept edition newest (lit≤ tt) (lit≤ tt) (lit≤ tt) (lit≤ tt) f (length out₀) _ d (one-none f (d .passed)) (new-none edition newest one two f (d .passed)))
+    (rows-kept firstEdition newest (lit≤ tt) (lit≤ tt) (lit≤ tt) (lit≤ tt) f (length out₀) _ d (one-none f (d .passed)) (new-none firstEdition newest one two f (d .passed)))
 
 pub back-keeps : BackKeeps
 unfolding toEdition1
@@ -211,16 +211,16 @@ back-keeps f out₀ z =
     let b = back-goes f (length out₀) z in
     let d = b .0 in
     rw (ap outOf (back-is f out₀ (d .zero)))
-    (rows-kept newest edition (lit≤ tt) (lit≤ tt) (lit≤ tt) (lit≤ tt) f (length out₀) _ d (b .1) (new-none newest edition two one f (d .passed)))
+    (rows-kept newest firstEdition (lit≤ tt) (lit≤ tt) (lit≤ tt) (lit≤ tt) f (length out₀) _ d (b .1) (new-none newest firstEdition two one f (d .passed)))
 
 pub up-reads : UpReads
 unfolding toEdition2
 up-reads f out₀ z =
     let d = up-goes f (length out₀) z in
-    rw (ap outOf (up-is f out₀ (d .zero))) (same-read f (moved newest f) (alike edition newest (lit≤ tt) (lit≤ tt) (lit≤ tt) (lit≤ tt) f (length out₀) _ d))
+    rw (ap outOf (up-is f out₀ (d .zero))) (same-read f (moved newest f) (alike firstEdition newest (lit≤ tt) (lit≤ tt) (lit≤ tt) (lit≤ tt) f (length out₀) _ d))
 
 pub back-reads : BackReads
 unfolding toEdition1
 back-reads f out₀ z =
     let d = back-goes f (length out₀) z .0 in
-    rw (ap outOf (back-is f out₀ (d .zero))) (same-read f (moved edition f) (alike newest edition (lit≤ tt) (lit≤ tt) (lit≤ tt) (lit≤ tt) f (length out₀) _ d))
+    rw (ap outOf (back-is f out₀ (d .zero))) (same-read f (moved firstEdition f) (alike newest firstEdition (lit≤ tt) (lit≤ tt) (lit≤ tt) (lit≤ tt) f (length out₀) _ d))

@@ -6,9 +6,9 @@ use lib.ListN.{length}
 use lib.Dec.{eqb, ltb}
 use Rattle.table.specs.declared.answers.Answer.{Answer}
 use Rattle.table.specs.Search.{firstOf}
-use Rattle.table.specs.Format.{countOf, edition, newest, stationOf}
+use Rattle.table.specs.Format.{editionOf, countOf, firstEdition, newest, stationOf}
 use Rattle.table.specs.Answers.{answer, refusalAnswer}
-use Rattle.table.specs.Check.{andThen, checkAs}
+use Rattle.table.specs.Check.{headNumber, andThen, checkAs}
 use Rattle.editions.specs.declared.answers.Moved.{Moved}
 use Rattle.editions.specs.declared.answers.Moved.the-variants.{Done, Refused, Station, Room}
 use Rattle.editions.specs.Files.{moved}
@@ -28,13 +28,21 @@ stationsFrom f n i = firstOf (λ j. not (eqb (stationOf f j) 0)) (answer 35) (an
 unfoldable pub lengthAnswer : ℕ → ℕ → Answer
 lengthAnswer new out = cond (ltb 1048576 new) (answer 20 0) (cond (not (eqb out new)) (answer 6 0) (answer 0 0))
 
+-- the edition that a file is moved to: the other of the two
+abbrev pub other : List ℕ → ℕ
+other f = cond (eqb (editionOf f) newest) firstEdition newest
+
+-- how long it is there; 0 where one of 20 to 24 applies
+unfoldable pub movedLength : List ℕ → ℕ
+movedLength f = cond (eqb (headNumber firstEdition newest f) 0) (length (moved (other f) f)) 0
+
 -- to edition 2: the checks of edition 1, then 20, 6
 unfoldable pub upAnswer : List ℕ → ℕ → Answer
-upAnswer f out = andThen (checkAs edition f) (lengthAnswer (length (moved newest f)) out)
+upAnswer f out = andThen (checkAs firstEdition f) (lengthAnswer (length (moved newest f)) out)
 
 -- back to edition 1: the checks of edition 2, 35, then 6; 20 cannot come out here, since the file gets no longer
 unfoldable pub backAnswer : List ℕ → ℕ → Answer
-backAnswer f out = andThen (checkAs newest f) (andThen (stationsFrom f (countOf f) 0) (lengthAnswer (length (moved edition f)) out))
+backAnswer f out = andThen (checkAs newest f) (andThen (stationsFrom f (countOf f) 0) (lengthAnswer (length (moved firstEdition f)) out))
 
 -- what a move answers, and its output afterwards
 pub record FileMoved : Type 0 where
@@ -49,4 +57,4 @@ unfoldable pub toEdition2 : List ℕ → List ℕ → FileMoved
 toEdition2 f out₀ = moves (upAnswer f (length out₀)) (moved newest f) out₀
 
 unfoldable pub toEdition1 : List ℕ → List ℕ → FileMoved
-toEdition1 f out₀ = moves (backAnswer f (length out₀)) (moved edition f) out₀
+toEdition1 f out₀ = moves (backAnswer f (length out₀)) (moved firstEdition f) out₀

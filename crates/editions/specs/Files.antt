@@ -4,7 +4,7 @@ use mathlib.Core.List.{List, [], _++_}
 use lib.ListN.{length, drop, replicate}
 use Rattle.words.specs.Bytes.{bytes}
 use Rattle.table.specs.Part.{stretch}
-use Rattle.table.specs.Format.{countOf, rowSize, widthOf, rowStart, restStart, rowAt}
+use Rattle.table.specs.Format.{countOf, rowSize, rowSizeOf, rowStart, restStart, rowAt}
 
 -- where a place behind the table of n rows comes to lie: it rises, or falls, with the table's end, which is by 4n
 unfoldable pub carried : ℕ → ℕ → ℕ → ℕ → ℕ
@@ -16,7 +16,7 @@ movedRow w v f n i =
     stretch f (rowStart w i) 4
     ++ (replicate (v - 32) 0
     ++ (stretch f (restStart w i) 4
-    ++ (bytes 4 (carried w v n (rowAt w f i .at))
+    ++ (bytes 4 (carried w v n (rowAt w f i .«ad_at»))
     ++ stretch f (restStart w i + 8) 20)))
 
 -- the first k rows of n
@@ -34,4 +34,4 @@ movedFrom e w v f n = movedHeader e w v f n ++ (movedRows w v f n n ++ drop (row
 
 -- the file in edition e
 abbrev pub moved : ℕ → List ℕ → List ℕ
-moved e f = movedFrom e (widthOf f) (rowSize e) f (countOf f)
+moved e f = movedFrom e (rowSizeOf f) (rowSize e) f (countOf f)

@@ -5,7 +5,7 @@ use mathlib.Core.List.{List}
 use lib.ListN.{length, drop}
 use Rattle.words.specs.Bytes.{AllBytes}
 use Rattle.table.specs.Part.{stretch}
-use Rattle.table.specs.Format.{countOf, totalOf, edition, newest, widthOf, rowStart, rowOf, stationOf, nonceAt}
+use Rattle.table.specs.Format.{countOf, totalOf, firstEdition, newest, rowSizeOf, rowStart, rowOf, stationOf, nonceAt}
 use Rattle.table.specs.Laid.{bodyAt}
 use Rattle.table.specs.Answers.{answer}
 use Rattle.table.specs.Check.{checkAs}
@@ -14,7 +14,7 @@ use Rattle.shift.specs.Entry.{dataStart, dataLength}
 use Rattle.shift.specs.Opening.{jobOpening}
 use Rattle.search.specs.Halving.{searching}
 use Rattle.editions.specs.Files.{moved}
-use Rattle.editions.specs.Answers.{FileMoved, toEdition2, toEdition1}
+use Rattle.editions.specs.Answers.{movedLength, FileMoved, toEdition2, toEdition1}
 
 -- a move done: number 0, row 0, and the output is the file g
 abbrev pub done : List ℕ → FileMoved
@@ -37,19 +37,24 @@ abbrev pub UpPasses : Type 0
 UpPasses = (f out₀ : List ℕ) → toEdition2 f out₀ .answer .number ≡ 0 → checkAs newest (toEdition2 f out₀ .out) .number ≡ 0
 
 abbrev pub BackPasses : Type 0
-BackPasses = (f out₀ : List ℕ) → toEdition1 f out₀ .answer .number ≡ 0 → checkAs edition (toEdition1 f out₀ .out) .number ≡ 0
+BackPasses = (f out₀ : List ℕ) → toEdition1 f out₀ .answer .number ≡ 0 → checkAs firstEdition (toEdition1 f out₀ .out) .number ≡ 0
 
 -- going back, no file gets too long: 20 is the check's alone
 abbrev pub BackShort : Type 0
-BackShort = (f : List ℕ) → checkAs newest f .number ≡ 0 → length (moved edition f) ≤ 1048576
+BackShort = (f : List ℕ) → checkAs newest f .number ≡ 0 → length (moved firstEdition f) ≤ 1048576
+
+-- the length that is told of a file that passes is that of the moved file, which 6 asks of the output
+pub record LengthTold : Type 0 where
+  pub up : (f : List ℕ) → checkAs firstEdition f .number ≡ 0 → movedLength f ≡ length (moved newest f)
+  pub back : (f : List ℕ) → checkAs newest f .number ≡ 0 → movedLength f ≡ length (moved firstEdition f)
 
 -- g is f with rows of four bytes more: row count, jobs and bodies are kept, and the total length and every row's offset rise by 4n
 pub record Risen (f g : List ℕ) : Type 0 where
   pub count : countOf g ≡ countOf f
   pub long : length g ≡ length f + 4 * countOf f
   pub total : totalOf g ≡ totalOf f + 4 * countOf f
-  pub offset : (i : ℕ) → i < countOf f → rowOf g i .at ≡ rowOf f i .at + 4 * countOf f
-  pub bodies : drop (rowStart (widthOf g) (countOf g)) g ≡ drop (rowStart (widthOf f) (countOf f)) f
+  pub offset : (i : ℕ) → i < countOf f → rowOf g i .«ad_at» ≡ rowOf f i .«ad_at» + 4 * countOf f
+  pub bodies : drop (rowStart (rowSizeOf g) (countOf g)) g ≡ drop (rowStart (rowSizeOf f) (countOf f)) f
 
 abbrev pub UpRises : Type 0
 UpRises = (f out₀ : List ℕ) → toEdition2 f out₀ .answer .number ≡ 0 → Risen f (toEdition2 f out₀ .out)
@@ -63,11 +68,11 @@ pub record RowKept (f g : List ℕ) (i : ℕ) : Type 0 where
   pub job : rowOf g i .job ≡ rowOf f i .job
   pub suite : rowOf g i .suite ≡ rowOf f i .suite
   pub key : rowOf g i .key ≡ rowOf f i .key
-  pub ad : rowOf g i .ad ≡ rowOf f i .ad
-  pub len : rowOf g i .len ≡ rowOf f i .len
-  pub nonce : nonceAt (widthOf g) g i ≡ nonceAt (widthOf f) f i
+  pub ad-len : rowOf g i .«ad_len» ≡ rowOf f i .«ad_len»
+  pub text-len : rowOf g i .«text_len» ≡ rowOf f i .«text_len»
+  pub nonce : nonceAt (rowSizeOf g) g i ≡ nonceAt (rowSizeOf f) f i
   pub station : stationOf g i ≡ stationOf f i
-  pub body : bodyAt (widthOf g) g i ≡ bodyAt (widthOf f) f i
+  pub body : bodyAt (rowSizeOf g) g i ≡ bodyAt (rowSizeOf f) f i
 
 abbrev pub UpKeeps : Type 0
 UpKeeps = (f out₀ : List ℕ) → toEdition2 f out₀ .answer .number ≡ 0 → (i : ℕ) → i < countOf f → RowKept f (toEdition2 f out₀ .out) i

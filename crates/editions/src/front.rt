@@ -17,20 +17,20 @@ pub(crate) fn put(out: &mut [u8], at: usize, src: &[u8])
     copy(src, &mut out[at..end]);
 }
 
-// Writes the len bytes of f that start at `from`.
-pub(crate) fn put_part(out: &mut [u8], at: usize, f: &[u8], from: usize, len: usize)
-    requires { ⌜ (at + len ≤ length (now out)) × (from + len ≤ length (now f)) ⌝ }
-    ensures { λ _. ⌜ take (at + len) (now (out .exit)) ≡ take at (now (out .entry)) ++ stretch (now (f .entry)) from len ⌝ }
+// Writes the len bytes of a file that start at `from`.
+pub(crate) fn put_part(out: &mut [u8], at: usize, file: &[u8], from: usize, len: usize)
+    requires { ⌜ (at + len ≤ length (now out)) × (from + len ≤ length (now file)) ⌝ }
+    ensures { λ _. ⌜ take (at + len) (now (out .exit)) ≡ take at (now (out .entry)) ++ stretch (now (file .entry)) from len ⌝ }
 {
-    put(out, at, stretch(f, from, len));
+    put(out, at, stretch(file, from, len));
 }
 
 // Writes a number of four bytes.
-pub(crate) fn put32(out: &mut [u8], at: usize, x: u32)
+pub(crate) fn put32(out: &mut [u8], at: usize, number: u32)
     requires { ⌜ at + 4 ≤ length (now out) ⌝ }
-    ensures { λ _. ⌜ take (at + 4) (now (out .exit)) ≡ take at (now (out .entry)) ++ bytes 4 x ⌝ }
+    ensures { λ _. ⌜ take (at + 4) (now (out .exit)) ≡ take at (now (out .entry)) ++ bytes 4 number ⌝ }
 {
-    let b = words::arx::store2_32(x, 0);
+    let b = words::arx::store2_32(number, 0);
     put(out, at, &b[0..4]);
 }
 

@@ -10,61 +10,86 @@ use rows::put_rows;
 use table::answers::Checked;
 use table::answers::Refusal;
 use table::check_as;
-use table::row::EDITION;
+use table::check_head;
+use table::row::FIRST_EDITION;
 use table::row::NEWEST;
 use table::row::count;
 use table::row::row_size;
+use table::row::row_size_of;
 use table::row::row_start;
 use table::row::station_of;
-use table::row::width;
 ghost use mathlib.Core.Path.{_≡_};
 ghost use mathlib.Core.List.{_++_};
 ghost use Prim.Native.Nat.{_≤_, _<_};
 ghost use lib.ListN.{length, take};
 ghost use Rattle.words.specs.Bytes.{bytes};
-ghost use Rattle.table.specs.Format.{widthOf};
+ghost use Rattle.table.specs.Format.{rowSizeOf};
 ghost use Rattle.table.specs.Inside.{TableIn};
 ghost use Rattle.editions.specs.Files.{carried, movedFrom, moved};
-ghost use Rattle.editions.specs.Answers.{movedAnswer, stationsFrom, lengthAnswer, upAnswer, backAnswer, FileMoved, toEdition2, toEdition1};
-ghost use Rattle.editions.specs.Inside.{Movable, Source, Room};
+ghost use Rattle.editions.specs.Answers.{movedAnswer, stationsFrom, lengthAnswer, movedLength, upAnswer, backAnswer, FileMoved, toEdition2, toEdition1};
+ghost use Rattle.editions.specs.Inside.{Movable, Tabled, Source, Room};
 
 // Writes the header: edition, row count, and the output's own length.
-fn put_header(out: &mut [u8], e: u16, n: usize)
-    requires { ⌜ (n < 65536) × ((8 ≤ length (now out)) × (length (now out) < 0x1_0000_0000)) ⌝ }
-    ensures { λ _. ⌜ take 8 (now (out .exit)) ≡ bytes 2 e ++ (bytes 2 n ++ bytes 4 (length (now (out .entry)))) ⌝ }
+fn put_header(out: &mut [u8], edition: u16, rows: usize)
+    requires { ⌜ (rows < 65536) × ((8 ≤ length (now out)) × (length (now out) < 0x1_0000_0000)) ⌝ }
+    ensures { λ _. ⌜ take 8 (now (out .exit)) ≡ bytes 2 edition ++ (bytes 2 rows ++ bytes 4 (length (now (out .entry)))) ⌝ }
 {
-    let top = e as u32 + 65536 * (n as u32);
+    let top = edition as u32 + 65536 * (rows as u32);
     let b = words::arx::store2_32(top, out.len() as u32);
     put(out, 0, &b[0..8]);
 }
 
 // Writes header, rows and bodies.
-fn put_file(out: &mut [u8], e: u16, w: usize, v: usize, f: &[u8], n: usize)
-    requires { ⌜ Movable w v (now f) n × ((n < 65536) × (length (now out) ≡ carried w v n (length (now f)))) ⌝ }
-    ensures { λ _. ⌜ now (out .exit) ≡ movedFrom e w v (now (f .entry)) n ⌝ }
+fn put_file(out: &mut [u8], edition: u16, from: usize, to: usize, file: &[u8], rows: usize)
+    requires { ⌜ Movable from to (now file) rows × ((rows < 65536) × (length (now out) ≡ carried from to rows (length (now file)))) ⌝ }
+    ensures { λ _. ⌜ now (out .exit) ≡ movedFrom edition from to (now (file .entry)) rows ⌝ }
 {
-    put_header(out, e, n);
-    put_rows(out, w, v, f, n);
-    let p = row_start(w, n);
-    put_part(out, row_start(v, n), f, p, f.len() - p);
+    put_header(out, edition, rows);
+    put_rows(out, from, to, file, rows);
+    let p = row_start(from, rows);
+    put_part(out, row_start(to, rows), file, p, file.len() - p);
 }
 
-// Writes the file in edition e.
-fn write(e: u16, f: &[u8], out: &mut [u8])
-    requires { ⌜ Source (now f) × Room (length (moved e (now f))) (length (now out)) ⌝ }
-    ensures { λ _. ⌜ now (out .exit) ≡ moved e (now (f .entry)) ⌝ }
+// Writes the file in an edition.
+fn write(edition: u16, file: &[u8], out: &mut [u8])
+    requires { ⌜ Source (now file) × Room (length (moved edition (now file))) (length (now out)) ⌝ }
+    ensures { λ _. ⌜ now (out .exit) ≡ moved edition (now (file .entry)) ⌝ }
 {
-    put_file(out, e, width(f), row_size(e), f, count(f));
+    put_file(
+        out,
+        edition,
+        row_size_of(file),
+        row_size(edition),
+        file,
+        count(file),
+    );
 }
 
-// The length of the file in edition e.
-fn moved_length(e: u16, f: &[u8]) -> usize
-    requires { ⌜ Source (now f) ⌝ }
-    ensures { λ r. ⌜ r ≡ length (moved e (now (f .entry))) ⌝ }
+// The length of the file in an edition.
+fn length_in(edition: u16, file: &[u8]) -> usize
+    requires { ⌜ Tabled (now file) ⌝ }
+    ensures { λ r. ⌜ r ≡ length (moved edition (now (file .entry))) ⌝ }
 {
-    let n = count(f);
-    let old = row_start(width(f), n);
-    f.len() - old + row_start(row_size(e), n)
+    let n = count(file);
+    let old = row_start(row_size_of(file), n);
+    file.len() - old + row_start(row_size(edition), n)
+}
+
+// How long the file is once it is moved, from edition 1 to 2 or from 2 to 1: as long as the output of its move has to be.
+// 0 where one of 20 to 24 applies: its move is refused then, whatever the output.
+pub fn moved_length(file: &[u8]) -> usize
+    ensures { λ r. ⌜ r ≡ movedLength (now (file .entry)) ⌝ }
+{
+    match check_head(FIRST_EDITION, NEWEST, file) {
+        Checked::Refused(_) => {
+            return 0;
+        }
+        Checked::Passed => {}
+    }
+    if row_size_of(file) == row_size(NEWEST) {
+        return length_in(FIRST_EDITION, file);
+    }
+    length_in(NEWEST, file)
 }
 
 // 20 and 6, from the lengths of the moved file and the output.
@@ -80,14 +105,14 @@ fn length_refused(moved: usize, out: usize) -> Moved
     Moved::Done
 }
 
-// 35: the first of n rows whose station is not 0.
-fn first_station(f: &[u8], n: usize) -> Moved
-    requires { ⌜ TableIn (widthOf (now f)) (now f) n ⌝ }
-    ensures { λ r. ⌜ movedAnswer r ≡ stationsFrom (now (f .entry)) n 0 ⌝ }
+// 35: the first row whose station is not 0.
+fn first_station(file: &[u8], rows: usize) -> Moved
+    requires { ⌜ TableIn (rowSizeOf (now file)) (now file) rows ⌝ }
+    ensures { λ r. ⌜ movedAnswer r ≡ stationsFrom (now (file .entry)) rows 0 ⌝ }
 {
     let mut i: usize = 0;
-    while i < n {
-        if station_of(f, i) != 0 {
+    while i < rows {
+        if station_of(file, i) != 0 {
             return Moved::Station(i);
         }
         i += 1;
@@ -96,33 +121,33 @@ fn first_station(f: &[u8], n: usize) -> Moved
 }
 
 // The refusals of the move to edition 2: the checks, 20, 6.
-fn up_refused(f: &[u8], out: usize) -> Moved
-    ensures { λ r. ⌜ movedAnswer r ≡ upAnswer (now (f .entry)) out ⌝ }
+fn up_refused(file: &[u8], out: usize) -> Moved
+    ensures { λ r. ⌜ movedAnswer r ≡ upAnswer (now (file .entry)) out ⌝ }
 {
-    match check_as(EDITION, f) {
+    match check_as(FIRST_EDITION, file) {
         Checked::Refused(x) => {
             return Moved::Refused(x);
         }
         Checked::Passed => {}
     }
-    length_refused(moved_length(NEWEST, f), out)
+    length_refused(length_in(NEWEST, file), out)
 }
 
 // The refusals of the move back: the checks, 35, 6.
-fn back_refused(f: &[u8], out: usize) -> Moved
-    ensures { λ r. ⌜ movedAnswer r ≡ backAnswer (now (f .entry)) out ⌝ }
+fn back_refused(file: &[u8], out: usize) -> Moved
+    ensures { λ r. ⌜ movedAnswer r ≡ backAnswer (now (file .entry)) out ⌝ }
 {
-    match check_as(NEWEST, f) {
+    match check_as(NEWEST, file) {
         Checked::Refused(x) => {
             return Moved::Refused(x);
         }
         Checked::Passed => {}
     }
-    let station = first_station(f, count(f));
+    let station = first_station(file, count(file));
     let Moved::Done = station else {
         return station;
     };
-    length_refused(moved_length(EDITION, f), out)
+    length_refused(length_in(FIRST_EDITION, file), out)
 }
 
 // Writes a file of edition 1 in edition 2, station 0 everywhere: the checks, 20, 6.
@@ -145,6 +170,6 @@ pub fn to_edition1(file: &[u8], out: &mut [u8]) -> Moved
     let Moved::Done = refused else {
         return refused;
     };
-    write(EDITION, file, out);
+    write(FIRST_EDITION, file, out);
     Moved::Done
 }

@@ -1,4 +1,4 @@
-// The rows, from w bytes each to v bytes each.
+// The rows, from the bytes of a row in one edition to those in the other.
 use crate::front::put_part;
 use crate::front::put_zeros;
 use crate::front::put32;
@@ -16,58 +16,58 @@ ghost use Rattle.editions.specs.Files.{carried, movedRow, movedRows};
 ghost use Rattle.editions.specs.Inside.{Movable};
 
 // The offset of row i's body after the move.
-fn offset(w: usize, v: usize, f: &[u8], n: usize, i: usize) -> u32
-    requires { ⌜ Movable w v (now f) n × (i < n) ⌝ }
-    ensures { λ r. ⌜ r ≡ carried w v n (rowAt w (now (f .entry)) i .at) ⌝ }
+fn offset(from: usize, to: usize, file: &[u8], rows: usize, index: usize) -> u32
+    requires { ⌜ Movable from to (now file) rows × (index < rows) ⌝ }
+    ensures { λ r. ⌜ r ≡ carried from to rows (rowAt from (now (file .entry)) index .«ad_at») ⌝ }
 {
-    let row = row_at(w, f, i);
-    let at = row.at as usize;
-    let old = row_start(w, n);
-    let new = row_start(v, n);
+    let row = row_at(from, file, index);
+    let at = row.ad_at as usize;
+    let old = row_start(from, rows);
+    let new = row_start(to, rows);
     (at - old + new) as u32
 }
 
-// Writes the job number of row i, and a station of 0 where there is one.
-fn put_job(out: &mut [u8], w: usize, v: usize, f: &[u8], n: usize, i: usize)
-    requires { ⌜ Movable w v (now f) n × ((i < n) × (rowStart v n ≤ length (now out))) ⌝ }
-    ensures { λ _. ⌜ take (restStart v i) (now (out .exit)) ≡ take (rowStart v i) (now (out .entry)) ++ (stretch (now (f .entry)) (rowStart w i) 4 ++ replicate (v - 32) 0) ⌝ }
+// Writes the job number of a row, and a station of 0 where there is one.
+fn put_job(out: &mut [u8], from: usize, to: usize, file: &[u8], rows: usize, index: usize)
+    requires { ⌜ Movable from to (now file) rows × ((index < rows) × (rowStart to rows ≤ length (now out))) ⌝ }
+    ensures { λ _. ⌜ take (restStart to index) (now (out .exit)) ≡ take (rowStart to index) (now (out .entry)) ++ (stretch (now (file .entry)) (rowStart from index) 4 ++ replicate (to - 32) 0) ⌝ }
 {
-    let a = row_start(v, i);
-    let p = row_start(w, i);
-    put_part(out, a, f, p, 4);
-    put_zeros(out, a + 4, v - 32);
+    let a = row_start(to, index);
+    let p = row_start(from, index);
+    put_part(out, a, file, p, 4);
+    put_zeros(out, a + 4, to - 32);
 }
 
-// Writes the rest of row i.
-fn put_rest(out: &mut [u8], w: usize, v: usize, f: &[u8], n: usize, i: usize)
-    requires { ⌜ Movable w v (now f) n × ((i < n) × (rowStart v n ≤ length (now out))) ⌝ }
-    ensures { λ _. ⌜ take (restStart v i + 28) (now (out .exit)) ≡ take (restStart v i) (now (out .entry)) ++ (stretch (now (f .entry)) (restStart w i) 4 ++ (bytes 4 (carried w v n (rowAt w (now (f .entry)) i .at)) ++ stretch (now (f .entry)) (restStart w i + 8) 20)) ⌝ }
+// Writes the rest of a row.
+fn put_rest(out: &mut [u8], from: usize, to: usize, file: &[u8], rows: usize, index: usize)
+    requires { ⌜ Movable from to (now file) rows × ((index < rows) × (rowStart to rows ≤ length (now out))) ⌝ }
+    ensures { λ _. ⌜ take (restStart to index + 28) (now (out .exit)) ≡ take (restStart to index) (now (out .entry)) ++ (stretch (now (file .entry)) (restStart from index) 4 ++ (bytes 4 (carried from to rows (rowAt from (now (file .entry)) index .«ad_at»)) ++ stretch (now (file .entry)) (restStart from index + 8) 20)) ⌝ }
 {
-    let b = rest_start(v, i);
-    let q = rest_start(w, i);
-    let o = offset(w, v, f, n, i);
-    put_part(out, b, f, q, 4);
+    let b = rest_start(to, index);
+    let q = rest_start(from, index);
+    let o = offset(from, to, file, rows, index);
+    put_part(out, b, file, q, 4);
     put32(out, b + 4, o);
-    put_part(out, b + 8, f, q + 8, 20);
+    put_part(out, b + 8, file, q + 8, 20);
 }
 
-// Writes row i.
-fn put_row(out: &mut [u8], w: usize, v: usize, f: &[u8], n: usize, i: usize)
-    requires { ⌜ Movable w v (now f) n × ((i < n) × (rowStart v n ≤ length (now out))) ⌝ }
-    ensures { λ _. ⌜ take (rowStart v (i + 1)) (now (out .exit)) ≡ take (rowStart v i) (now (out .entry)) ++ movedRow w v (now (f .entry)) n i ⌝ }
+// Writes a row.
+fn put_row(out: &mut [u8], from: usize, to: usize, file: &[u8], rows: usize, index: usize)
+    requires { ⌜ Movable from to (now file) rows × ((index < rows) × (rowStart to rows ≤ length (now out))) ⌝ }
+    ensures { λ _. ⌜ take (rowStart to (index + 1)) (now (out .exit)) ≡ take (rowStart to index) (now (out .entry)) ++ movedRow from to (now (file .entry)) rows index ⌝ }
 {
-    put_job(out, w, v, f, n, i);
-    put_rest(out, w, v, f, n, i);
+    put_job(out, from, to, file, rows, index);
+    put_rest(out, from, to, file, rows, index);
 }
 
 // Writes all rows.
-pub(crate) fn put_rows(out: &mut [u8], w: usize, v: usize, f: &[u8], n: usize)
-    requires { ⌜ Movable w v (now f) n × (rowStart v n ≤ length (now out)) ⌝ }
-    ensures { λ _. ⌜ take (rowStart v n) (now (out .exit)) ≡ take 8 (now (out .entry)) ++ movedRows w v (now (f .entry)) n n ⌝ }
+pub(crate) fn put_rows(out: &mut [u8], from: usize, to: usize, file: &[u8], rows: usize)
+    requires { ⌜ Movable from to (now file) rows × (rowStart to rows ≤ length (now out)) ⌝ }
+    ensures { λ _. ⌜ take (rowStart to rows) (now (out .exit)) ≡ take 8 (now (out .entry)) ++ movedRows from to (now (file .entry)) rows rows ⌝ }
 {
     let mut i: usize = 0;
-    while i < n {
-        put_row(out, w, v, f, n, i);
+    while i < rows {
+        put_row(out, from, to, file, rows, i);
         i += 1;
     }
 }

@@ -6,10 +6,9 @@ use Prim.Native.Nat.{ℕ, suc, _+_, _-_, _*_, _/_, _%_, _<_}
 use native.Mathlib.Nat.{add-zero}
 use native.Mathlib.Omega.{arith}
 use lib.Dec.{eqb, eqb·suc-zero, lit<}
-use lib.ListN.{length, take, drop, length-append}
-use lib.Seq.{take-at, drop-at}
+use lib.ListN.{length, length-append}
 use Rattle.words.specs.Xors.{xors}
-use Rattle.words.proofs.Lists.{part-whole}
+use Rattle.words.proofs.Lists.{part-whole, append-inj}
 use Rattle.fips197.specs.Cipher.{subWord, rotWord, rcon, temp, w, roundKey}
 use Rattle.fips197.proofs.Steps.{w-length}
 
@@ -20,18 +19,12 @@ first-key key l = part-whole 16 key l
 
 -- ---- four words side by side are known each
 
-parts : (a b e f : List ℕ) → length a ≡ length e → a ++ b ≡ e ++ f → (a ≡ e) × (b ≡ f)
-parts a b e f l p = (
-  sym (take-at a b (length a) refl) ∙ ap (take (length a)) p ∙ take-at e f (length a) (sym l),
-  sym (drop-at a b (length a) refl) ∙ ap (drop (length a)) p ∙ drop-at e f (length a) (sym l),
-)
-
 four-parts : (a b c d e f g h : List ℕ) → length a ≡ length e → length b ≡ length f → length c ≡ length g → a ++ b ++ c ++ d ≡ e ++ f ++ g ++ h
     → (a ≡ e) × (b ≡ f) × (c ≡ g) × (d ≡ h)
 four-parts a b c d e f g h la lb lc p =
-    let r = parts (a ++ b ++ c) d (e ++ f ++ g) h (simp length-append (ap₂ _+_ (ap₂ _+_ la lb) lc)) p in
-    let q = parts (a ++ b) c (e ++ f) g (simp length-append (ap₂ _+_ la lb)) (r .0) in
-    let o = parts a b e f la (q .0) in
+    let r = append-inj (a ++ b ++ c) d (e ++ f ++ g) h (simp length-append (ap₂ _+_ (ap₂ _+_ la lb) lc)) p in
+    let q = append-inj (a ++ b) c (e ++ f) g (simp length-append (ap₂ _+_ la lb)) (r .0) in
+    let o = append-inj a b e f la (q .0) in
     (o .0, o .1, q .1, r .1)
 
 -- ---- a word from the fourth before it and the one before it

@@ -53,8 +53,8 @@ pub fn next(head: &mut [u8; 30]) -> bool {
     said(n == 30)
 }
 
-// Writes the lines of a call, the first n bytes of a text; false where there are none: the call was bad.
-pub fn done(text: &[u8], n: usize) -> bool {
-    crate::text::write(text, n);
-    said(0 < n)
+// Writes the lines of a call, the first len bytes of a text; false where there are none: the call was bad.
+pub fn done(text: &[u8], len: usize) -> bool {
+    crate::text::write(text, len);
+    said(0 < len)
 }

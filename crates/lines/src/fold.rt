@@ -3,20 +3,20 @@ ghost use mathlib.Core.Path.{_≡_};
 ghost use Prim.Native.Nat.{_<_};
 ghost use Rattle.lines.specs.Fold.{foldOf, foldFrom, next};
 
-// The fold s with the byte b behind it.
-pub fn folded(s: u64, b: u8) -> u64
-    requires { ⌜ s < 4294967291 ⌝ }
-    ensures { λ r. ⌜ (r ≡ next s b) × (r < 4294967291) ⌝ }
+// The fold with a byte behind it.
+pub fn folded(fold: u64, byte: u8) -> u64
+    requires { ⌜ fold < 4294967291 ⌝ }
+    ensures { λ r. ⌜ (r ≡ next fold byte) × (r < 4294967291) ⌝ }
 {
-    (s * 257 + b as u64 + 1) % 4294967291
+    (fold * 257 + byte as u64 + 1) % 4294967291
 }
 
-// The fold s with the bytes behind it.
-pub fn fold_from(s: u64, bytes: &[u8]) -> u64
-    requires { ⌜ s < 4294967291 ⌝ }
-    ensures { λ r. ⌜ (r ≡ foldFrom s (now (bytes .entry))) × (r < 4294967291) ⌝ }
+// The fold with the bytes behind it.
+pub fn fold_from(fold: u64, bytes: &[u8]) -> u64
+    requires { ⌜ fold < 4294967291 ⌝ }
+    ensures { λ r. ⌜ (r ≡ foldFrom fold (now (bytes .entry))) × (r < 4294967291) ⌝ }
 {
-    let mut t = s;
+    let mut t = fold;
     let mut i: usize = 0;
     while i < bytes.len() {
         t = folded(t, bytes[i]);

@@ -10,21 +10,21 @@ pub fn file_room() -> [u8; 524289]
     [0u8; 524289]
 }
 
-// The first n bytes of buf, or all of it where it has no more.
-pub fn front(buf: &[u8], n: usize) -> &[u8]
-    ensures { λ r. ⌜ (now r ≡ take n (now (buf .entry))) × (r .ptr ≡ buf .entry .ptr) ⌝ }
+// The first len bytes of buf, or all of it where it has no more.
+pub fn front(buf: &[u8], len: usize) -> &[u8]
+    ensures { λ r. ⌜ (now r ≡ take len (now (buf .entry))) × (r .ptr ≡ buf .entry .ptr) ⌝ }
 {
-    if buf.len() <= n {
+    if buf.len() <= len {
         return buf;
     }
-    &buf[0..n]
+    &buf[0..len]
 }
 
-// Reads n bytes of the input into buf and answers them; fewer where buf has no room or the input ends.
-pub fn field(buf: &mut [u8], n: usize) -> &[u8] {
+// Reads len bytes of the input into buf and answers them; fewer where buf has no room or the input ends.
+pub fn field(buf: &mut [u8], len: usize) -> &[u8] {
     let mut got: usize = 0;
-    if n <= buf.len() {
-        got = io::read_full(STDIN_FILENO, &mut buf[0..n]);
+    if len <= buf.len() {
+        got = io::read_full(STDIN_FILENO, &mut buf[0..len]);
     }
     front(&buf[..], got)
 }

@@ -3,11 +3,11 @@
 use libc::STDOUT_FILENO;
 
 // One byte.
-pub fn byte(out: &mut [u8], at: usize, b: u8) -> usize {
+pub fn byte(out: &mut [u8], at: usize, byte: u8) -> usize {
     if out.len() <= at {
         return at;
     }
-    out[at] = b;
+    out[at] = byte;
     at + 1
 }
 
@@ -31,28 +31,28 @@ pub fn put(out: &mut [u8], at: usize, bytes: &[u8]) -> usize {
 }
 
 // A number in decimal.
-pub fn number(out: &mut [u8], at: usize, n: u64) -> usize {
+pub fn number(out: &mut [u8], at: usize, value: u64) -> usize {
     let mut digits = [0u8; 20];
-    let k = io::decimal(n, &mut digits);
+    let k = io::decimal(value, &mut digits);
     put(out, at, &digits[..k])
 }
 
 // A space and a number.
-pub fn and_number(out: &mut [u8], at: usize, n: u64) -> usize {
+pub fn and_number(out: &mut [u8], at: usize, value: u64) -> usize {
     let to = space(out, at);
-    number(out, to, n)
+    number(out, to, value)
 }
 
 // A number in hexadecimal, of at least so many digits.
-pub fn hex_number(out: &mut [u8], at: usize, n: u64, width: usize) -> usize {
+pub fn hex_number(out: &mut [u8], at: usize, value: u64, width: usize) -> usize {
     let mut digits = [0u8; 16];
-    let k = io::hex(n, width, &mut digits);
+    let k = io::hex(value, width, &mut digits);
     put(out, at, &digits[..k])
 }
 
 // The two hex digits of a byte.
-fn pair(out: &mut [u8], at: usize, b: u8) -> usize {
-    hex_number(out, at, b as u64, 2)
+fn pair(out: &mut [u8], at: usize, byte: u8) -> usize {
+    hex_number(out, at, byte as u64, 2)
 }
 
 // Bytes in hex.
@@ -82,8 +82,8 @@ pub fn and_shown(out: &mut [u8], at: usize, bytes: &[u8]) -> usize {
     shown(out, to, bytes)
 }
 
-fn and_place(out: &mut [u8], at: usize, n: u32) -> usize {
-    and_number(out, at, n as u64)
+fn and_place(out: &mut [u8], at: usize, value: u32) -> usize {
+    and_number(out, at, value as u64)
 }
 
 // Every number of a list, a space before each.
@@ -103,7 +103,7 @@ pub fn answer(out: &mut [u8], at: usize, answer: u8, row: usize) -> usize {
     and_number(out, to, row as u64)
 }
 
-// Writes the first n bytes of a text to the standard output.
-pub fn write(text: &[u8], n: usize) -> bool {
-    io::write_all(STDOUT_FILENO, crate::read::front(text, n))
+// Writes the first bytes of a text to the standard output.
+pub fn write(text: &[u8], len: usize) -> bool {
+    io::write_all(STDOUT_FILENO, crate::read::front(text, len))
 }

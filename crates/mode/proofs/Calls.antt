@@ -11,14 +11,14 @@ use Rattle.cipher.specs.Cipher.{Cipher}
 use Rattle.mode.specs.Blocks.{blocks}
 use Rattle.mode.specs.Words.{shuffle, pad}
 use Rattle.mode.specs.Keys.{marks, keys}
-use Rattle.mode.specs.Mode.{Call, Chain, Run, laterKeys, enciphered, startCall, nextCall, image, startY, startZ, start, absorbed, masked, message, run, afterData, textOut, tagOut, calls}
+use Rattle.mode.specs.Mode.{CipherCall, Chain, Trail, laterKeys, enciphered, startCall, nextCall, image, startY, startZ, start, absorbed, masked, message, trail, afterData, textOut, tagOut, calls}
 use Rattle.mode.specs.Calls.{Agree, none, more, other}
 use Rattle.mode.proofs.Blocks.{as-many}
 
 -- ---- how many
 
-pub made-count : (κ : Cipher) (d : Bool) (c : Chain) (bs : List (List ℕ)) → length (run κ d c bs .made) ≡ length bs
-unfolding run
+pub made-count : (κ : Cipher) (d : Bool) (c : Chain) (bs : List (List ℕ)) → length (trail κ d c bs .made) ≡ length bs
+unfolding trail
 made-count κ d c [] = refl
 made-count κ d c (b ∷ bs) = ap suc (made-count κ d (absorbed κ c (message κ d c b)) bs)
 
@@ -27,9 +27,9 @@ pub calls-count : (κ : Cipher) (d : Bool) (key nonce ad text : List ℕ)
     → length (calls κ d key nonce ad text) ≡ length (blocks (κ .size) ad) + length (blocks (κ .size) text) + 2
 unfolding calls
 calls-count κ d key nonce ad text =
-    let r : Run = run κ false (start κ key nonce (length ad) (length text)) (blocks (κ .size) ad) in
-    let t : Run = run κ d (r .end) (blocks (κ .size) text) in
-    let l : List Call = nextCall κ (t .end) ∷ [] in
+    let r : Trail = trail κ false (start κ key nonce (length ad) (length text)) (blocks (κ .size) ad) in
+    let t : Trail = trail κ d (r .end) (blocks (κ .size) text) in
+    let l : List CipherCall = nextCall κ (t .end) ∷ [] in
     omega (
       arith,
       length-append (r .made) (t .made ++ l),
@@ -53,22 +53,22 @@ module _ (κ : Cipher) (E′ : List ℕ → List ℕ → List ℕ) where
   abbrev κ′ : Cipher
   κ′ = other κ E′
 
-  split : (xs : List Call) {ys : List Call} → Agree κ κ′ (xs ++ ys) → Agree κ κ′ xs × Agree κ κ′ ys
+  split : (xs : List CipherCall) {ys : List CipherCall} → Agree κ κ′ (xs ++ ys) → Agree κ κ′ xs × Agree κ κ′ ys
   split [] h = (none, h)
   split (x ∷ xs) (more e h) = (more e (split xs h .0), split xs h .1)
 
-  first-of : {q : Call} {qs : List Call} → Agree κ κ′ (q ∷ qs) → enciphered κ q ≡ enciphered κ′ q
+  first-of : {q : CipherCall} {qs : List CipherCall} → Agree κ κ′ (q ∷ qs) → enciphered κ q ≡ enciphered κ′ q
   first-of (more e h) = e
 
-  same-run : (d : Bool) (c : Chain) (bs : List (List ℕ)) → Agree κ κ′ (run κ d c bs .made) → run κ d c bs ≡ run κ′ d c bs
-  unfolding run absorbed masked message
-  same-run d c [] h = refl
-  same-run d c (b ∷ bs) (more e h) =
+  same-trail : (d : Bool) (c : Chain) (bs : List (List ℕ)) → Agree κ κ′ (trail κ d c bs .made) → trail κ d c bs ≡ trail κ′ d c bs
+  unfolding trail absorbed masked message
+  same-trail d c [] h = refl
+  same-trail d c (b ∷ bs) (more e h) =
       let n = κ .size in
       let o : List ℕ → List ℕ = λ x. xors b (shuffle n x) in
       let next : List ℕ → Chain = λ x. record { Y = xors x (pad n (cond d (o x) b)); left = laterKeys (c .left) } in
-      let join : List ℕ → Run → Run = λ x r. record { made = nextCall κ c ∷ r .made; out = o x ++ r .out; end = r .end } in
-      ap (join (image κ c)) (same-run d (next (image κ c)) bs h) ∙ ap (λ (x : List ℕ). join x (run κ′ d (next x) bs)) e
+      let join : List ℕ → Trail → Trail = λ x r. record { made = nextCall κ c ∷ r .made; out = o x ++ r .out; end = r .end } in
+      ap (join (image κ c)) (same-trail d (next (image κ c)) bs h) ∙ ap (λ (x : List ℕ). join x (trail κ′ d (next x) bs)) e
 
   same-start : (key nonce : List ℕ) (a m : ℕ) → enciphered κ (startCall κ key nonce) ≡ enciphered κ′ (startCall κ key nonce)
       → start κ key nonce a m ≡ start κ′ key nonce a m
@@ -85,12 +85,12 @@ module _ (κ : Cipher) (E′ : List ℕ → List ℕ → List ℕ) where
   calls-decide d key nonce ad text (more e h) =
       let n = κ .size in
       let s = start κ key nonce (length ad) (length text) in
-      let r : Run = run κ false s (blocks n ad) in
-      let t : Run = run κ d (r .end) (blocks n text) in
+      let r : Trail = trail κ false s (blocks n ad) in
+      let t : Trail = trail κ d (r .end) (blocks n text) in
       let h′ = split (r .made) h in
       let h″ = split (t .made) (h′ .1) in
-      let er : r ≡ run κ′ false (start κ′ key nonce (length ad) (length text)) (blocks n ad) =
-      same-run false s (blocks n ad) (h′ .0) ∙ ap (λ (c : Chain). run κ′ false c (blocks n ad)) (same-start key nonce (length ad) (length text) e) in
-      let et : t ≡ run κ′ d (run κ′ false (start κ′ key nonce (length ad) (length text)) (blocks n ad) .end) (blocks n text) =
-      same-run d (r .end) (blocks n text) (h″ .0) ∙ ap (λ (x : Run). run κ′ d (x .end) (blocks n text)) er in
-      (ap (λ (x : Run). x .out) et, first-of (h″ .1) ∙ ap (λ (x : Run). image κ′ (x .end)) et)
+      let er : r ≡ trail κ′ false (start κ′ key nonce (length ad) (length text)) (blocks n ad) =
+      same-trail false s (blocks n ad) (h′ .0) ∙ ap (λ (c : Chain). trail κ′ false c (blocks n ad)) (same-start key nonce (length ad) (length text) e) in
+      let et : t ≡ trail κ′ d (trail κ′ false (start κ′ key nonce (length ad) (length text)) (blocks n ad) .end) (blocks n text) =
+      same-trail d (r .end) (blocks n text) (h″ .0) ∙ ap (λ (x : Trail). trail κ′ d (x .end) (blocks n text)) er in
+      (ap (λ (x : Trail). x .out) et, first-of (h″ .1) ∙ ap (λ (x : Trail). image κ′ (x .end)) et)

@@ -15,7 +15,7 @@ use Rattle.words.proofs.Xors.{length-xors, all-xors, xors-cancel}
 use Rattle.cipher.specs.Cipher.{Cipher, Lawful, Block}
 use Rattle.mode.specs.Blocks.{blocks}
 use Rattle.mode.specs.Words.{shuffle, pad}
-use Rattle.mode.specs.Mode.{Chain, firstKey, image, absorbed, masked, message, run, after, crypted}
+use Rattle.mode.specs.Mode.{Chain, firstKey, image, absorbed, masked, message, trail, after, crypted}
 use Rattle.mode.proofs.Blocks.{blocks-nil, blocks-more, blocks-cons, AllBlocks, none, more}
 use Rattle.mode.proofs.Words.{pad-block, shuffle-block}
 use Rattle.mode.proofs.Keys.{Enough, enough-first}
@@ -85,7 +85,7 @@ module _ (κ : Cipher) (L : Lawful κ) where
   good-message d f c b g hb lb = good-absorbed f c (message κ d c b) g (all-message d c b hb) (omega (arith, length-message d c b lb))
 
   pub good-after : (d : Bool) (f : ℕ) (c : Chain) {bs : List (List ℕ)} → AllBlocks (κ .size) bs → Good κ (length bs + f) c → Good κ f (after κ d c bs)
-  unfolding run
+  unfolding trail
   good-after d f c none g = subst (λ (k : ℕ). Good κ k c) (zero-add f) g
   good-after d f c (more {b = b} {bs = bs} hb lb hbs) g =
       good-after d f (absorbed κ c (message κ d c b)) hbs
@@ -100,7 +100,7 @@ module _ (κ : Cipher) (L : Lawful κ) where
       (length o ≡ length t) × (crypted κ (not d) c (blocks n o) ≡ t) × (after κ (not d) c (blocks n o) ≡ after κ d c (blocks n t)) × AllBytes o
 
   undo-none : (d : Bool) (c : Chain) (t : List ℕ) → length t ≡ 0 → Undone d c t
-  unfolding run
+  unfolding trail
   undo-none d c t e =
       let n = κ .size in
       let bt : blocks n t ≡ [] = ap (blocks n) (nil-of t e) ∙ blocks-nil n some in
@@ -114,7 +114,7 @@ module _ (κ : Cipher) (L : Lawful κ) where
 
   undo-more : (d : Bool) (c : Chain) (t : List ℕ) → 0 < length t → AllBytes t
       → Undone d (absorbed κ c (message κ d c (take (κ .size) t))) (drop (κ .size) t) → Undone d c t
-  unfolding run
+  unfolding trail
   undo-more d c t p ht ih =
       let n = κ .size in
       let b = take n t in

@@ -8,14 +8,14 @@ use lib.ListN.{length}
 use Rattle.words.specs.Bytes.{AllBytes}
 use Rattle.cipher.specs.Cipher.{Cipher, Lawful, Block}
 use Rattle.mode.specs.Blocks.{blocks, chop}
-use Rattle.mode.specs.Mode.{nonceSize, image, run, after, crypted, afterData, textOut, tagOut}
+use Rattle.mode.specs.Mode.{nonceSize, image, trail, after, crypted, afterData, textOut, tagOut}
 use Rattle.mode.proofs.Blocks.{all-blocks}
 use Rattle.mode.proofs.Chain.{Good, Undone, undone, good-after, image-block, some}
 use Rattle.mode.proofs.Start.{good-data}
 
 -- of an empty text both directions make the same tag
 pub empty-tag : (κ : Cipher) (key nonce ad : List ℕ) → tagOut κ true key nonce ad [] ≡ tagOut κ false key nonce ad []
-unfolding tagOut run blocks chop
+unfolding tagOut trail blocks chop
 empty-tag κ key nonce ad = refl
 
 module _ (κ : Cipher) (L : Lawful κ) (key nonce ad : List ℕ) where

@@ -16,7 +16,7 @@ use Rattle.words.proofs.Xors.{xors-comm, xors-inj}
 use Rattle.cipher.specs.Cipher.{Cipher, Lawful, Block}
 use Rattle.mode.specs.Blocks.{blocks}
 use Rattle.mode.specs.Words.{pad}
-use Rattle.mode.specs.Mode.{Chain, firstKey, laterKeys, image, nonceSize, start, absorbed, message, run, absorb, afterData, tagOut, tag}
+use Rattle.mode.specs.Mode.{Chain, firstKey, laterKeys, image, nonceSize, start, absorbed, message, trail, absorb, afterData, tagOut, tag}
 use Rattle.mode.proofs.Blocks.{AllBlocks, none, more, all-blocks, blocks-split}
 use Rattle.mode.proofs.Words.{pad-block, pad-front}
 use Rattle.mode.proofs.Keys.{enough-first}
@@ -49,7 +49,7 @@ module _ (κ : Cipher) (L : Lawful κ) where
   -- and after any number of equal blocks
   blocks-told : (c c′ : Chain) {bs : List (List ℕ)} → AllBlocks (κ .size) bs → Good κ (length bs) c → Good κ (length bs) c′ → c .left ≡ c′ .left
       → image κ (absorb κ c bs) ≡ image κ (absorb κ c′ bs) → c .Y ≡ c′ .Y
-  unfolding run message
+  unfolding trail message
   blocks-told c c′ none g g′ el e = image-told 0 c c′ g g′ el e
   blocks-told c c′ (more {b = b} {bs = bs} hb lb hbs) g g′ el e =
       absorbed-told (length bs) c c′ b g g′ hb lb el
@@ -68,7 +68,7 @@ module _ (κ : Cipher) (L : Lawful κ) where
       sym (pad-front n b h) ∙ ap₂ take l same ∙ pad-front n b′ (omega arith)
 
   absorb-append : (c : Chain) (xs bs : List (List ℕ)) → absorb κ c (xs ++ bs) ≡ absorb κ (absorb κ c xs) bs
-  unfolding run message
+  unfolding trail message
   absorb-append c [] bs = refl
   absorb-append c (b ∷ xs) bs = absorb-append (absorbed κ c b) xs bs
 
@@ -76,7 +76,7 @@ module _ (κ : Cipher) (L : Lawful κ) where
   one-block : (c : Chain) {pre post : List (List ℕ)} (b b′ : List ℕ) → AllBlocks (κ .size) pre → AllBlocks (κ .size) post → AllBytes b → AllBytes b′
       → length b ≡ length b′ → length b ≤ κ .size → Good κ (length pre + suc (length post)) c
       → image κ (absorb κ c (pre ++ (b ∷ post))) ≡ image κ (absorb κ c (pre ++ (b′ ∷ post))) → b ≡ b′
-  unfolding run message
+  unfolding trail message
   one-block c {pre} {post} b b′ hpre hpost hb hb′ l h g e =
       let u = absorb κ c pre in
       let gu : Good κ (suc (length post)) u = good-after κ L false (suc (length post)) c hpre g in

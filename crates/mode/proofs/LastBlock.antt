@@ -11,14 +11,14 @@ use Rattle.words.specs.Bytes.{AllBytes}
 use Rattle.words.proofs.Lists.{all-take}
 use Rattle.cipher.specs.Cipher.{Cipher, Lawful, Block}
 use Rattle.mode.specs.Blocks.{blocks}
-use Rattle.mode.specs.Mode.{Chain, nonceSize, absorbed, masked, message, run, after, crypted, afterData, textOut, tagOut}
+use Rattle.mode.specs.Mode.{Chain, nonceSize, absorbed, masked, message, trail, after, crypted, afterData, textOut, tagOut}
 use Rattle.mode.proofs.Blocks.{blocks-split}
 use Rattle.mode.proofs.Chain.{undone, some}
 use Rattle.mode.proofs.Demand2.{text-length, text-bytes, text-back, tag-back}
 use Rattle.mode.proofs.Demand3.{message-told}
 
 crypted-append : (κ : Cipher) (d : Bool) (c : Chain) (xs bs : List (List ℕ)) → crypted κ d c (xs ++ bs) ≡ crypted κ d c xs ++ crypted κ d (after κ d c xs) bs
-unfolding run
+unfolding trail
 crypted-append κ d c [] bs = refl
 crypted-append κ d c (b ∷ xs) bs =
     ap (λ (r : List ℕ). masked κ c b ++ r) (crypted-append κ d (absorbed κ c (message κ d c b)) xs bs)

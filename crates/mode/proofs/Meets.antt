@@ -15,7 +15,7 @@ use Rattle.words.proofs.Xor.{twice, ones}
 use Rattle.words.proofs.Xors.{length-xors, getD-xors, xors-assoc, xors-comm, xors-middle, xors-inj, xors-zero}
 use Rattle.cipher.specs.Cipher.{Cipher, Lawful, Block}
 use Rattle.mode.specs.Words.{shuffle}
-use Rattle.mode.specs.Mode.{Call, Chain, enciphered, image, absorbed, masked, message, run, after}
+use Rattle.mode.specs.Mode.{CipherCall, Chain, enciphered, image, absorbed, masked, message, trail, after}
 use Rattle.mode.specs.Slips.{Complements, ComplementBytes}
 use Rattle.mode.proofs.Blocks.{AllBlocks, none, more}
 use Rattle.mode.proofs.Words.{pad-full, shuffle-block}
@@ -107,10 +107,10 @@ module _ (κ : Cipher) (L : Lawful κ) where
   Full bs = (i : ℕ) → i < length bs → length (getD bs i []) ≡ κ .size
 
   -- d stands behind the end of every list of calls
-  module _ (d : Call) where
+  module _ (d : CipherCall) where
     -- the output at block i, by the list of calls
     abbrev pub outputOf : Chain → List (List ℕ) → ℕ → List ℕ
-    outputOf c bs i = enciphered κ (getD (run κ true c bs .made) i d)
+    outputOf c bs i = enciphered κ (getD (trail κ true c bs .made) i d)
 
     -- at some block from number f on the outputs are complements
     abbrev pub Complemented : ℕ → Chain → Chain → List (List ℕ) → List (List ℕ) → Type 0
@@ -122,7 +122,7 @@ module _ (κ : Cipher) (L : Lawful κ) where
 
     -- a block in front, which is not counted
     in-front : (f : ℕ) (c c′ : Chain) (b b′ : List ℕ) (bs bs′ : List (List ℕ)) → Meets f (next c b) (next c′ b′) bs bs′ → Meets (suc f) c c′ (b ∷ bs) (b′ ∷ bs′)
-    unfolding run
+    unfolding trail
     in-front f c c′ b b′ bs bs′ m = (
       λ e. let s = m .0 e in (suc (s .0), omega (arith, s .1), omega (arith, s .2), s .3),
       λ s. m .1 (back s),
@@ -135,14 +135,14 @@ module _ (κ : Cipher) (L : Lawful κ) where
     -- before the changed block there are others
     pub changed-at : (c : Chain) (P Q : List (List ℕ)) (b b′ : List ℕ) → Meets 0 (next (after κ true c P) b) (next (after κ true c P) b′) Q Q
         → Meets (suc (length P)) c c (P ++ (b ∷ Q)) (P ++ (b′ ∷ Q))
-    unfolding run
+    unfolding trail
     changed-at c [] Q b b′ m = in-front 0 c c b b′ Q Q m
     changed-at c (p ∷ P) Q b b′ m = in-front (suc (length P)) c c p p (P ++ (b ∷ Q)) (P ++ (b′ ∷ Q)) (changed-at (next c p) P Q b b′ m)
 
     -- equal tags come from equal Ys or from complements at some block
     tags-same : (c c′ : Chain) {bs : List (List ℕ)} → AllBlocks (κ .size) bs → Full bs → Good κ (length bs) c → Good κ (length bs) c′ → c .left ≡ c′ .left
         → (image κ (after κ true c bs) ≡ image κ (after κ true c′ bs)) ↔ ((c .Y ≡ c′ .Y) ⊎ Complemented 0 c c′ bs bs)
-    unfolding run
+    unfolding trail
     tags-same c c′ none hf g g′ el = (
       λ e. inl (image-told κ L 0 c c′ g g′ el e),
       λ w. elim w [ inl y ↦ ap (image κ) (same-chain c c′ y el) | inr s ↦ absurd (not-suc-le-zero (s .2)) ],

@@ -16,7 +16,7 @@ use Rattle.words.proofs.Xors.{xors-comm, xors-inj}
 use Rattle.cipher.specs.Cipher.{Cipher, Lawful, Block}
 use Rattle.mode.specs.Blocks.{blocks}
 use Rattle.mode.specs.Words.{shuffle}
-use Rattle.mode.specs.Mode.{Call, Chain, Run, enciphered, startCall, nextCall, image, nonceSize, start, absorbed, masked, message, run, after, absorb, afterData, tagOut, calls}
+use Rattle.mode.specs.Mode.{CipherCall, Chain, Trail, enciphered, startCall, nextCall, image, nonceSize, start, absorbed, masked, message, trail, after, absorb, afterData, tagOut, calls}
 use Rattle.mode.specs.Slips.{outputAt, ComplementFrom, ChangedIn, in-data, in-text, FullFrom, SlipsThrough}
 use Rattle.mode.proofs.Blocks.{AllBlocks, all-blocks, blocks-split, as-many, first-blocks}
 use Rattle.mode.proofs.Words.{shuffle-block}
@@ -31,7 +31,7 @@ module _ (κ : Cipher) (L : Lawful κ) where
 
   -- as many blocks leave the same
   absorb-left : (c c′ : Chain) (bs bs′ : List (List ℕ)) → length bs ≡ length bs′ → c .left ≡ c′ .left → absorb κ c bs .left ≡ absorb κ c′ bs′ .left
-  unfolding run message
+  unfolding trail message
   absorb-left c c′ [] [] l e = e
   absorb-left c c′ [] (b ∷ bs′) l e = absurd (suc-ne-zero (length bs′) (sym l))
   absorb-left c c′ (b ∷ bs) [] l e = absurd (suc-ne-zero (length bs) l)
@@ -54,7 +54,7 @@ module _ (κ : Cipher) (L : Lawful κ) where
       let ls : length s ≡ κ .size = shuffle-block (κ .size) (image κ c) (L .sizes) .long in
       xors-inj s b b′ (omega arith) (omega arith) (xors-comm s b ∙ e ∙ xors-comm b′ s)
 
-  module _ (d : Call) where
+  module _ (d : CipherCall) where
     -- of one block, between equal ones
     block-meets : (A : Chain) {P Q : List (List ℕ)} (b b′ : List ℕ) → AllBlocks (κ .size) P → AllBlocks (κ .size) Q → AllBytes b → AllBytes b′
         → length b ≡ length b′ → length b ≤ κ .size → (b ≡ b′ → ⊥) → Good κ (length P + suc (length Q)) A → Full κ L Q
@@ -139,7 +139,7 @@ module _ (κ : Cipher) (L : Lawful κ) where
   -- ---- from chains to records
 
   module _ (key nonce : List ℕ) where
-    abbrev d₀ : Call
+    abbrev d₀ : CipherCall
     d₀ = startCall κ key nonce
 
     -- the message's calls stand in the list behind the start's and those of the associated data
@@ -149,9 +149,9 @@ module _ (κ : Cipher) (L : Lawful κ) where
     output-is ad c i h =
         let n = κ .size in
         let s = start κ key nonce (length ad) (length c) in
-        let r : Run = run κ false s (blocks n ad) in
-        let t : Run = run κ true (r .end) (blocks n c) in
-        let l : List Call = nextCall κ (t .end) ∷ [] in
+        let r : Trail = trail κ false s (blocks n ad) in
+        let t : Trail = trail κ true (r .end) (blocks n c) in
+        let l : List CipherCall = nextCall κ (t .end) ∷ [] in
         ap (enciphered κ)
         (ap (λ (k : ℕ). getD (r .made ++ (t .made ++ l)) (k + i) d₀) (sym (made-count κ false s (blocks n ad)))
         ∙ getD-append-add (r .made) (t .made ++ l) i d₀

@@ -7,7 +7,7 @@ use Rattle.cipher.specs.Cipher.{Lawful}
 use Rattle.mode.specs.Blocks.{chop, blocks, chopLengths, lengths}
 use Rattle.mode.specs.Words.{doubleBy, shuffle, pad}
 use Rattle.mode.specs.Keys.{textMarks, marks, marked, onLow, nextKey, keys}
-use Rattle.mode.specs.Mode.{startY, startZ, start, absorbed, masked, message, run, afterData, tagOut, calls}
+use Rattle.mode.specs.Mode.{startY, startZ, start, absorbed, masked, message, trail, afterData, tagOut, calls}
 use Rattle.mode.specs.Slips.{outputAt}
 use Rattle.mode.specs.Toy.{toy, Toy}
 
@@ -15,7 +15,7 @@ toy-lawful : Lawful toy
 toy-lawful = record { sizes = inr refl; image = λ k b hk hb. hb; one-to-one = λ k b b′ hk hb hb′ e. e }
 
 pub toy-holds : Toy
-unfolding xor value bytes chop blocks chopLengths lengths doubleBy shuffle pad textMarks marks marked onLow nextKey keys startY startZ start absorbed masked message run afterData tagOut calls outputAt
+unfolding xor value bytes chop blocks chopLengths lengths doubleBy shuffle pad textMarks marks marked onLow nextKey keys startY startZ start absorbed masked message trail afterData tagOut calls outputAt
 toy-holds =
     record {
       lawful = toy-lawful;

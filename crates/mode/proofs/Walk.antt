@@ -17,7 +17,7 @@ use Rattle.cipher.specs.Cipher.{Cipher, Lawful, Block}
 use Rattle.mode.specs.Blocks.{blocks, lengths}
 use Rattle.mode.specs.Words.{shuffle, pad}
 use Rattle.mode.specs.Keys.{shortMark, textMarks, placed, marks, keys}
-use Rattle.mode.specs.Mode.{Chain, firstKey, laterKeys, start, image, absorbed, masked, message, run, after, crypted, absorb, afterData, textOut, tagOut}
+use Rattle.mode.specs.Mode.{Chain, firstKey, laterKeys, start, image, absorbed, masked, message, trail, after, crypted, absorb, afterData, textOut, tagOut}
 use Rattle.mode.specs.Walk.{States, chainOf, whole, blockKey, blockZ, markOf, imageOf, turned, hidden, messageOf, walked, covered, tagged, origin, dataDone}
 use Rattle.mode.proofs.Blocks.{sizes, blocks-sizes, blocks-nil, blocks-more, blocks-turn, AllBlocks, none, more}
 use Rattle.mode.proofs.Words.{pad-block}
@@ -79,7 +79,7 @@ module _ (κ : Cipher) where
 
   pub after-walk : (d : Bool) (first short : ℕ) (s : States) (bs : List (List ℕ)) (ms : List ℕ)
       → after κ d (chainOf (κ .version) s (marksOf first short bs ms)) bs ≡ chainOf (κ .version) (walked κ d first short s bs) ms
-  unfolding run walked textMarks
+  unfolding trail walked textMarks
   after-walk d first short s [] ms = refl
   after-walk d first short s (b ∷ bs) ms =
       let m = markOf κ first short b in
@@ -88,7 +88,7 @@ module _ (κ : Cipher) where
 
   pub crypted-walk : (d : Bool) (first short : ℕ) (s : States) (bs : List (List ℕ)) (ms : List ℕ)
       → crypted κ d (chainOf (κ .version) s (marksOf first short bs ms)) bs ≡ covered κ d first short s bs
-  unfolding run covered textMarks
+  unfolding trail covered textMarks
   crypted-walk d first short s [] ms = refl
   crypted-walk d first short s (b ∷ bs) ms =
       let m = markOf κ first short b in

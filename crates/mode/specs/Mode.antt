@@ -16,13 +16,13 @@ pub record Chain : Type 0 where
   pub left : List (List ℕ)
 
 -- a call of the cipher: a key, and the block that is enciphered under it
-pub record Call : Type 0 where
+pub record CipherCall : Type 0 where
   pub key : List ℕ
   pub block : List ℕ
 
 -- what the blocks of a text leave: the calls that they made, the text that went out, and the chain behind them
-pub record Run : Type 0 where
-  pub made : List Call
+pub record Trail : Type 0 where
+  pub made : List CipherCall
   pub out : List ℕ
   pub end : Chain
 
@@ -40,11 +40,11 @@ module _ (κ : Cipher) where
   nonceSize = cond (eqb (κ .size) 16) 16 15
 
   -- what a call gives; the cipher is used nowhere else
-  abbrev pub enciphered : Call → List ℕ
+  abbrev pub enciphered : CipherCall → List ℕ
   enciphered q = κ .E (q .key) (q .block)
 
   -- the start's call, under the key: the nonce where a block has 16 bytes, else eight zero bytes
-  abbrev pub startCall : List ℕ → List ℕ → Call
+  abbrev pub startCall : List ℕ → List ℕ → CipherCall
   startCall key nonce = record { key = key; block = cond (eqb (κ .size) 16) nonce (replicate 8 0) }
 
   -- Y at the start: the key where a block has 16 bytes, else what the call gives
@@ -60,7 +60,7 @@ module _ (κ : Cipher) where
   start key nonce a m = record { Y = startY key nonce; left = keys (κ .version) (startZ key nonce) (marks (κ .version) (κ .size) a m) }
 
   -- the next call: Y under the next block key
-  abbrev pub nextCall : Chain → Call
+  abbrev pub nextCall : Chain → CipherCall
   nextCall c = record { key = firstKey (c .left); block = c .Y }
 
   -- X, what it gives
@@ -80,18 +80,18 @@ module _ (κ : Cipher) where
   message opening c b = cond opening (masked c b) b
 
   -- the blocks of a text, a call for each: the message's blocks go in
-  unfoldable pub run : Bool → Chain → List (List ℕ) → Run
-  run opening c [] = record { made = []; out = []; end = c }
-  run opening c (b ∷ bs) =
-      let r : Run = run opening (absorbed c (message opening c b)) bs in
+  unfoldable pub trail : Bool → Chain → List (List ℕ) → Trail
+  trail opening c [] = record { made = []; out = []; end = c }
+  trail opening c (b ∷ bs) =
+      let r : Trail = trail opening (absorbed c (message opening c b)) bs in
       record { made = nextCall c ∷ r .made; out = masked c b ++ r .out; end = r .end }
 
   -- the chain behind them, and the text that goes out
   abbrev pub after : Bool → Chain → List (List ℕ) → Chain
-  after opening c bs = run opening c bs .end
+  after opening c bs = trail opening c bs .end
 
   abbrev pub crypted : Bool → Chain → List (List ℕ) → List ℕ
-  crypted opening c bs = run opening c bs .out
+  crypted opening c bs = trail opening c bs .out
 
   -- the blocks of the associated data go in as a message's do in sealing, and nothing goes out
   abbrev pub absorb : Chain → List (List ℕ) → Chain
@@ -109,10 +109,10 @@ module _ (κ : Cipher) where
   tagOut opening key nonce ad text = image (after opening (afterData key nonce ad (length text)) (blocks (κ .size) text))
 
   -- every call that they take, in order: the start's, those of the blocks of associated data and text, the tag's
-  unfoldable pub calls : Bool → List ℕ → List ℕ → List ℕ → List ℕ → List Call
+  unfoldable pub calls : Bool → List ℕ → List ℕ → List ℕ → List ℕ → List CipherCall
   calls opening key nonce ad text =
-      let r : Run = run false (start key nonce (length ad) (length text)) (blocks (κ .size) ad) in
-      let t : Run = run opening (r .end) (blocks (κ .size) text) in
+      let r : Trail = trail false (start key nonce (length ad) (length text)) (blocks (κ .size) ad) in
+      let t : Trail = trail opening (r .end) (blocks (κ .size) text) in
       startCall key nonce ∷ (r .made ++ (t .made ++ (nextCall (t .end) ∷ [])))
 
   -- sealing: the ciphertext and the tag of a message

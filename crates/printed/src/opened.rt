@@ -1,6 +1,7 @@
 // Opened entries: `job` and `current`. After the answer a line for each of unit, job, suite, key number, station (in
 // edition 2), data (the associated data behind job and unit) and message. Bytes are shown as text where every one is
 // printable, and else in hex.
+use cipher::LIMIT;
 use lines::read::front;
 use lines::text::and_number;
 use lines::text::answer;
@@ -142,9 +143,9 @@ fn open_job(file: &[u8], ring: &[u8], job: u32, message: &mut [u8], out: &mut [u
 
 // Number and row on one line and, where the number is 0, the lines of the entry.
 pub fn job(file: &[u8], ring: &[u8], job: u32, out: &mut [u8]) -> usize {
-    let mut message = [0u8; 65536];
+    let mut message = [0u8; LIMIT];
     let n = shift::entry(file, job).text_len as usize;
-    if 65536 < n {
+    if LIMIT < n {
         return 0;
     }
     open_job(file, ring, job, &mut message[0..n], out)
@@ -188,9 +189,9 @@ pub fn current<'a>(
     job: u32,
     out: &mut [u8],
 ) -> usize {
-    let mut message = [0u8; 65536];
+    let mut message = [0u8; LIMIT];
     let n = amend::locate(amendment, day, job).entry.text_len as usize;
-    if 65536 < n {
+    if LIMIT < n {
         return 0;
     }
     open_current(amendment, day, ring, job, &mut message[0..n], out)

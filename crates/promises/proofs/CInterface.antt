@@ -26,6 +26,7 @@ c-interface = record {
   shift-reseal = record { asks-nothing = λ κs a. tt; one-outcome = one.shift-reseal };
   shift-amended = record { asks-nothing = λ κs a. tt; one-outcome = one.shift-amended };
   shift-open-amended = record { asks-nothing = λ κs a. tt; one-outcome = one.shift-open-amended };
+  shift-moved-length = record { asks-nothing = λ κs a. tt; one-outcome = one.shift-moved-length };
   shift-to-edition2 = record { asks-nothing = λ κs a. tt; one-outcome = one.shift-to-edition2 };
   shift-to-edition1 = record { asks-nothing = λ κs a. tt; one-outcome = one.shift-to-edition1 };
   shift-compare = record { asks-nothing = λ κs a. tt; one-outcome = one.shift-compare };
@@ -56,6 +57,7 @@ c-routines = record {
   shift-reseal = λ κs file ring out row x. x .ensures;
   shift-amended = λ κs amendment day job file row at len x. x .ensures;
   shift-open-amended = λ κs amendment day ring job out file row x. x .ensures;
+  shift-moved-length = λ κs file x. x .ensures;
   shift-to-edition2 = λ κs file out row x. x .ensures;
   shift-to-edition1 = λ κs file out row x. x .ensures;
   shift-compare = λ κs f g first second differ n-first n-second n-differ file row x. x .ensures;

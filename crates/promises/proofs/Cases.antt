@@ -9,7 +9,7 @@ use lib.ListN.{length}
 use lib.Dec.{eqb, ltb}
 use borrow.Author.Tests.{eqb-true, eqb-false, eq-eqb, ne-eqb, lt-ltb, le-ltb}
 use Rattle.cipher.specs.Cipher.{Seals}
-use Rattle.table.specs.Format.{countOf, edition, newest, widthOf, rowOf, tagOf, stationOf}
+use Rattle.table.specs.Format.{countOf, firstEdition, newest, rowSizeOf, rowOf, tagOf, stationOf}
 use Rattle.table.specs.declared.answers.Answer.{Answer}
 use Rattle.table.specs.Answers.{answer}
 use Rattle.table.specs.Check.{nonceSeen, headNumber, andThen, checkAs, checkFile}
@@ -52,19 +52,19 @@ lookup-cases f job = record { checked = λ n. simp (ne-eqb (checkFile f .number)
 
 module _ (f : List ℕ) (job : ℕ) where
   abbrev H : ℕ
-  H = headNumber edition newest f
+  H = headNumber firstEdition newest f
 
   search-stops : (H ≡ 0 → ⊥) → searching f job ≡ ends (answer H 0)
   unfolding searching
   search-stops n = simp (ne-eqb H 0 n)
 
-  search-goes : H ≡ 0 → searching f job ≡ halving (jobsOf (widthOf f) f) job 0 (countOf f)
+  search-goes : H ≡ 0 → searching f job ≡ halving (jobsOf (rowSizeOf f) f) job 0 (countOf f)
   unfolding searching
   search-goes z = simp z
 
   -- a number that the halving does not give is the head's
-  search-by : (k : ℕ) → (k ≡ 0 → ⊥) → (k ≡ 32 → ⊥) → By (λ j. searching f job ≡ ends (answer j 0)) Unit (ladder Unit (headTable edition newest f) (head-rungs edition newest f)) k
-  search-by k n0 n32 = (λ e. (tt, sym (head-is edition newest f) ∙ on (eqb H 0) refl e), λ y. let h : H ≡ k = head-is edition newest f ∙ y .1 in search-stops (λ z. n0 (sym h ∙ z)) ∙ ap (λ (m : ℕ). ends (answer m 0)) h)
+  search-by : (k : ℕ) → (k ≡ 0 → ⊥) → (k ≡ 32 → ⊥) → By (λ j. searching f job ≡ ends (answer j 0)) Unit (ladder Unit (headTable firstEdition newest f) (head-rungs firstEdition newest f)) k
+  search-by k n0 n32 = (λ e. (tt, sym (head-is firstEdition newest f) ∙ on (eqb H 0) refl e), λ y. let h : H ≡ k = head-is firstEdition newest f ∙ y .1 in search-stops (λ z. n0 (sym h ∙ z)) ∙ ap (λ (m : ℕ). ends (answer m 0)) h)
     where
       said : Walk → ℕ
       said x = x .says .number
@@ -72,14 +72,14 @@ module _ (f : List ℕ) (job : ℕ) where
       on : (b : Bool) → eqb H 0 ≡ b → searching f job ≡ ends (answer k 0) → H ≡ k
       on true t e =
           let q = ap said (sym (search-goes (eqb-true H 0 t)) ∙ e) in
-          absurd (⊎-elim (λ z. n0 (sym q ∙ z)) (λ z. n32 (sym q ∙ z)) (halved-number (jobsOf (widthOf f) f) job (countOf f) 0 (countOf f) (omega arith)))
+          absurd (⊎-elim (λ z. n0 (sym q ∙ z)) (λ z. n32 (sym q ∙ z)) (halved-number (jobsOf (rowSizeOf f) f) job (countOf f) 0 (countOf f) (omega arith)))
       on false t e = ap said (sym (search-stops (eqb-false H 0 t)) ∙ e)
 
   search-cases : SearchCases f job
   search-cases = record {
-    head = lines (λ k. searching f job ≡ ends (answer k 0)) Unit (headTable edition newest f) (head-rungs edition newest f) refl
+    head = lines (λ k. searching f job ≡ ends (answer k 0)) Unit (headTable firstEdition newest f) (head-rungs firstEdition newest f) refl
         (search-by 20 (λ e. omega arith) (λ e. omega arith), (search-by 21 (λ e. omega arith) (λ e. omega arith), (search-by 22 (λ e. omega arith) (λ e. omega arith), (search-by 23 (λ e. omega arith) (λ e. omega arith), (search-by 24 (λ e. omega arith) (λ e. omega arith), tt)))));
-    halved = λ h. search-goes (none-head edition newest f .1 h);
+    halved = λ h. search-goes (none-head firstEdition newest f .1 h);
   }
 
 -- ---- compare
@@ -181,7 +181,7 @@ up-cases f out =
               tt,
             ),
           ) refl (simp p (two-said (ltb 1048576 (length (moved newest f))) (not (eqb (length out) (length (moved newest f)))) 20 6));
-      checked = λ n. simp (ne-eqb (checkAs edition f .number) 0 n);
+      checked = λ n. simp (ne-eqb (checkAs firstEdition f .number) 0 n);
       long = λ p l. simp (p, lt-ltb 1048576 (length (moved newest f)) l);
       room = λ p l n. simp (p, le-ltb 1048576 (length (moved newest f)) l, ne-eqb (length out) (length (moved newest f)) n);
       moves = λ p l e. simp (p, le-ltb 1048576 (length (moved newest f)) l, eq-eqb (length out) (length (moved newest f)) e);
@@ -203,16 +203,16 @@ module _ (f out : List ℕ) where
   unfolding stationsFrom
   none q = first-none (λ j. not (eqb (stationOf f j) 0)) (answer 35) (answer 0 0) (countOf f) (λ j m. simp (q j m))
 
-  back-past : (b : Bool) → checkAs newest f .number ≡ 0 → AllZero (countOf f) → eqb (length out) (length (moved edition f)) ≡ b → toEdition1 f out ≡ cond b (done (moved edition f)) (unmoved 6 0 out)
+  back-past : (b : Bool) → checkAs newest f .number ≡ 0 → AllZero (countOf f) → eqb (length out) (length (moved firstEdition f)) ≡ b → toEdition1 f out ≡ cond b (done (moved firstEdition f)) (unmoved 6 0 out)
   unfolding toEdition1 backAnswer lengthAnswer
-  back-past true p q e = simp (p, none q, le-ltb 1048576 (length (moved edition f)) (back-short f p), e)
-  back-past false p q e = simp (p, none q, le-ltb 1048576 (length (moved edition f)) (back-short f p), e)
+  back-past true p q e = simp (p, none q, le-ltb 1048576 (length (moved firstEdition f)) (back-short f p), e)
+  back-past false p q e = simp (p, none q, le-ltb 1048576 (length (moved firstEdition f)) (back-short f p), e)
 
   -- 20 cannot come out
   back-climb : checkAs newest f .number ≡ 0 → toEdition1 f out .answer
-      ≡ andThen (firstRow 35 (countOf f) (λ i. not (eqb (stationOf f i) 0))) (cond (not (eqb (length out) (length (moved edition f)))) (answer 6 0) (answer 0 0))
+      ≡ andThen (firstRow 35 (countOf f) (λ i. not (eqb (stationOf f i) 0))) (cond (not (eqb (length out) (length (moved firstEdition f)))) (answer 6 0) (answer 0 0))
   unfolding toEdition1 backAnswer stationsFrom lengthAnswer
-  back-climb p = simp (p, le-ltb 1048576 (length (moved edition f)) (back-short f p))
+  back-climb p = simp (p, le-ltb 1048576 (length (moved firstEdition f)) (back-short f p))
 
   back-cases : BackCases f out
   back-cases =
@@ -222,15 +222,15 @@ module _ (f out : List ℕ) where
               λ i. not (eqb (stationOf f i) 0),
               λ i. tells-not (tells-eq _ 0),
               (
-                not (eqb (length out) (length (moved edition f))),
+                not (eqb (length out) (length (moved firstEdition f))),
                 tells-not (tells-eq _ _),
                 tt,
               ),
             ) refl (back-climb p);
         checked = back-stops;
         station = back-station;
-        room = λ p q n. back-past false p q (ne-eqb (length out) (length (moved edition f)) n);
-        moves = λ p q e. back-past true p q (eq-eqb (length out) (length (moved edition f)) e);
+        room = λ p q n. back-past false p q (ne-eqb (length out) (length (moved firstEdition f)) n);
+        moves = λ p q e. back-past true p q (eq-eqb (length out) (length (moved firstEdition f)) e);
       }
 
 -- ---- the report
@@ -274,20 +274,20 @@ tag-number f ring i = by (tagRight f ring i)
     by true = refl
     by false = refl
 
-row-said : (f ring : List ℕ) (i : ℕ) (out : List ℕ) → EntryIn (widthOf f) f i
-    → rowOpening f ring i out .answer ≡ answer (cond (not (eqb (length ring) 256)) 2 (cond (not (eqb (length out) (rowOf f i .len))) 6 (cond (not (tagRight f ring i)) 8 0))) 0
+row-said : (f ring : List ℕ) (i : ℕ) (out : List ℕ) → EntryIn (rowSizeOf f) f i
+    → rowOpening f ring i out .answer ≡ answer (cond (not (eqb (length ring) 256)) 2 (cond (not (eqb (length out) (rowOf f i .«text_len»))) 6 (cond (not (tagRight f ring i)) 8 0))) 0
 unfolding rowOpening
-row-said f ring i out h = by (eqb (length ring) 256) (eqb (length out) (rowOf f i .len)) refl refl
+row-said f ring i out h = by (eqb (length ring) 256) (eqb (length out) (rowOf f i .«text_len»)) refl refl
   where
     opened : JobOpened
     opened = left (answer (entryOpening f ring i out .number) 0) (entryOpening f ring i out .out)
 
-    by : (a b : Bool) → eqb (length ring) 256 ≡ a → eqb (length out) (rowOf f i .len) ≡ b
+    by : (a b : Bool) → eqb (length ring) 256 ≡ a → eqb (length out) (rowOf f i .«text_len») ≡ b
         → cond (not a) (left (answer 2 0) out) (cond (not b) (left (answer 6 0) out) opened) .answer ≡ answer (cond (not a) 2 (cond (not b) 6 (cond (not (tagRight f ring i)) 8 0))) 0
     by false b p q = refl
     by true false p q = refl
     by true true p q =
-        ap (λ (m : ℕ). answer m 0) (number-is f ring i h (eqb-true (length ring) 256 p) _ _ out (eqb-true (length out) (rowOf f i .len) q) refl ∙ tag-number f ring i)
+        ap (λ (m : ℕ). answer m 0) (number-is f ring i h (eqb-true (length ring) 256 p) _ _ out (eqb-true (length out) (rowOf f i .«text_len») q) refl ∙ tag-number f ring i)
 
 tells-tag : (f ring : List ℕ) (i : ℕ) → Tells (tagRight f ring i) (RightTag f ring i)
 unfolding tagRight
@@ -303,7 +303,7 @@ job-cases f ring job out =
             not (eqb (length ring) 256),
             λ _. tells-not (tells-eq _ _),
             (
-              not (eqb (length out) (rowOf f i .len)),
+              not (eqb (length out) (rowOf f i .«text_len»)),
               λ _. tells-not (tells-eq _ _),
               (
                 not (tagRight f ring i),
@@ -391,10 +391,10 @@ unfolding fileResealing resealAnswer takeAnswer seenFrom lentAnswer wrongAgainFr
 reseal-order file ring out p =
     let a = not (eqb (length ring) 256) in
     let b = not (eqb (length out) (length file)) in
-    let c = firstRow 29 (countOf file) (nonceSeen (widthOf (retabled file)) (retabled file)) in
+    let c = firstRow 29 (countOf file) (nonceSeen (rowSizeOf (retabled file)) (retabled file)) in
     let w = firstRow 8 (countOf file) (wrongAgain file ring) in
     order (fileResealing file ring out .answer) _ (
-      nonceSeen (widthOf (retabled file)) (retabled file),
+      nonceSeen (rowSizeOf (retabled file)) (retabled file),
       λ i. tells-true _,
       (
         a,

@@ -1,21 +1,23 @@
 -- The shift file's check: one of three things happened, and each number is of one of them alone.
 use mathlib.Core.Path.{_≡_, refl, sym, ap, _∙_, subst}
 use mathlib.Core.Logic.{_⊎_, _↔_, ⊎-elim}
-use mathlib.Core.Bool.{Bool, true, false, cond, not, _||_, true≢false}
-use Prim.Native.Nat.{ℕ, zero, suc, _+_, _-_, _≤_, _<_}
+use mathlib.Core.Bool.{Bool, true, false, cond, not, _||_}
+use Prim.Native.Nat.{ℕ, _+_, _-_, _≤_, _<_}
 use native.Mathlib.Omega.{arith}
 use mathlib.Core.List.{List}
 use lib.ListN.{length}
 use lib.Dec.{eqb, ltb}
 use borrow.Author.Tests.{eqb-true, eqb-false, ne-eqb, not-true, not-false}
+use Rattle.words.specs.Blocks.{filled}
 use Rattle.cipher.proofs.Suites.{tag-size}
+use Rattle.cipher.specs.Cipher.{limit}
 use Rattle.table.specs.declared.row.Row.{Row}
 use Rattle.table.specs.declared.answers.Answer.{Answer}
 use Rattle.table.specs.Search.{anyBelow}
-use Rattle.table.specs.Format.{editionOf, countOf, totalOf, widthOf, rowStart, rowOf, nonceAt, nonceReadAt, padded, bodyEnd, dataJob, unitOf}
+use Rattle.table.specs.Format.{editionOf, countOf, totalOf, rowSizeOf, rowStart, rowOf, nonceAt, nonceReadAt, bodyEnd, dataJob, unitOf}
 use Rattle.table.specs.Answers.{answer}
 use Rattle.table.specs.Check.{notAbove, badSuite, badLength, bodyStart, misplaced, unreadSet, clash, nonceSeen, badData, bodyNumber, rowNumber, endAnswer, rowsFrom, headNumber, checkBetween}
-use Rattle.table.proofs.Searches.{any-hit, first-at, first-none}
+use Rattle.table.proofs.Searches.{any-some, any-hit, first-at, first-none}
 use Rattle.shift.specs.Nonces.{SameNonce}
 use Rattle.promises.specs.Tables.{None}
 use Rattle.promises.specs.Numbers.{tagSize, headTable, rowTable, endTable, SoundTo, CheckNumbers, Numbers}
@@ -25,30 +27,21 @@ use Rattle.promises.proofs.Numbers.{tells-suite, seal-numbers, open-num
 -- ---- the tests
 
 -- some number below n
-any-some : {p : ℕ → Bool} {P : ℕ → Type 0} → ((j : ℕ) → Tells (p j) (P j)) → (n : ℕ) → anyBelow p n ≡ true → (j : ℕ) × (j < n) × P j
-unfolding anyBelow
-any-some {p} {P} t zero e = absurd (true≢false (sym e))
-any-some {p} {P} t (suc n) e = here (p n) refl e (any-some t n)
-  where
-    here : (b : Bool) → p n ≡ b → b || anyBelow p n ≡ true → (anyBelow p n ≡ true → (j : ℕ) × (j < n) × P j) → (j : ℕ) × (j < suc n) × P j
-    here true q e later = (n, omega arith, t n .0 q)
-    here false q e later = let r = later e in (r .0, omega (arith, r .1), r .2)
-
 tells-any : {p : ℕ → Bool} {P : ℕ → Type 0} → ((j : ℕ) → Tells (p j) (P j)) → (n : ℕ) → Tells (anyBelow p n) ((j : ℕ) × (j < n) × P j)
-tells-any {p} {P} t n = (any-some t n, λ h. any-hit p (h .0) n (h .1) (t (h .0) .1 (h .2)))
+tells-any {p} {P} t n = (λ e. let r = any-some p n e in (r .0, r .1 .0, t (r .0) .0 (r .1 .1)), λ h. any-hit p (h .0) n (h .1) (t (h .0) .1 (h .2)))
 
-tells-clash : (f : List ℕ) (i j : ℕ) → Tells (clash (widthOf f) f i j) (SameNonce f i j)
+tells-clash : (f : List ℕ) (i j : ℕ) → Tells (clash (rowSizeOf f) f i j) (SameNonce f i j)
 unfolding clash
 tells-clash f i j =
-    tells-as (tells-and (tells-eq (rowOf f i .suite) (rowOf f j .suite)) (tells-and (tells-eq (rowOf f i .key) (rowOf f j .key)) (tells-same (nonceReadAt (widthOf f) f i) (nonceReadAt (widthOf f) f j))))
+    tells-as (tells-and (tells-eq (rowOf f i .suite) (rowOf f j .suite)) (tells-and (tells-eq (rowOf f i .key) (rowOf f j .key)) (tells-same (nonceReadAt (rowSizeOf f) f i) (nonceReadAt (rowSizeOf f) f j))))
     (λ h. record { suite = h .0; key = h .1 .0; nonce = h .1 .1 }, λ h. (h .suite, (h .key, h .nonce)))
 
-tells-above : (f : List ℕ) (i : ℕ) → Tells (notAbove (widthOf f) f i) ((0 < i) × (rowOf f i .job ≤ rowOf f (i - 1) .job))
+tells-above : (f : List ℕ) (i : ℕ) → Tells (notAbove (rowSizeOf f) f i) ((0 < i) × (rowOf f i .job ≤ rowOf f (i - 1) .job))
 unfolding notAbove
 tells-above f i = tells-and (tells-as (tells-not (tells-eq i 0)) (λ n. omega (arith, n), λ l e. omega (arith, l, e))) (tells-le (rowOf f i .job) (rowOf f (i - 1) .job))
 
 -- a body ends behind its tag
-tells-end : (f : List ℕ) (r : Row) → Tells (ltb (length f) (bodyEnd r)) (length f < r .at + r .ad + r .len + tagSize (r .suite))
+tells-end : (f : List ℕ) (r : Row) → Tells (ltb (length f) (bodyEnd r)) (length f < r .«ad_at» + r .«ad_len» + r .«text_len» + tagSize (r .suite))
 unfolding bodyEnd
 tells-end f r =
     let q = tag-size (r .suite) in
@@ -69,7 +62,7 @@ head-rungs low high f = (
         not (eqb (totalOf f) (length f)),
         λ _. tells-not (tells-eq _ _),
         (
-          ltb (length f) (rowStart (widthOf f) (countOf f)),
+          ltb (length f) (rowStart (rowSizeOf f) (countOf f)),
           λ _. tells-lt _ _,
           tt,
         ),
@@ -82,22 +75,22 @@ row-rungs : (reached : Type 0) (f : List ℕ) (i : ℕ) → Rungs reached (rowTa
 unfolding notAbove badSuite badLength misplaced unreadSet nonceSeen badData
 row-rungs reached f i =
     let r = rowOf f i in (
-      notAbove (widthOf f) f i,
+      notAbove (rowSizeOf f) f i,
       λ _. tells-above f i,
       (
         badSuite r,
         λ _. tells-or (tells-suite (r .suite)) (tells-lt 15 (r .key)),
         (
           badLength r,
-          λ _. tells-or (tells-or (tells-lt (r .ad) 5) (tells-lt 1024 (r .ad))) (tells-lt 65536 (r .len)),
+          λ _. tells-or (tells-or (tells-lt (r .«ad_len») 5) (tells-lt 1024 (r .«ad_len»))) (tells-lt limit (r .«text_len»)),
           (
-            misplaced (widthOf f) f (countOf f) i,
-            λ _. tells-or (tells-not (tells-eq (r .at) (bodyStart (widthOf f) f (countOf f) i))) (tells-end f r),
+            misplaced (rowSizeOf f) f (countOf f) i,
+            λ _. tells-or (tells-not (tells-eq (r .«ad_at») (bodyStart (rowSizeOf f) f (countOf f) i))) (tells-end f r),
             (
-              unreadSet (widthOf f) f i,
-              λ _. tells-not (tells-same (nonceAt (widthOf f) f i) (padded (nonceReadAt (widthOf f) f i))),
+              unreadSet (rowSizeOf f) f i,
+              λ _. tells-not (tells-same (nonceAt (rowSizeOf f) f i) (filled (nonceReadAt (rowSizeOf f) f i))),
               (
-                nonceSeen (widthOf f) f i,
+                nonceSeen (rowSizeOf f) f i,
                 λ _. tells-any (tells-clash f i) i,
                 (
                   badData f r,
@@ -112,7 +105,7 @@ row-rungs reached f i =
     )
 
 end-rungs : (reached : Type 0) (f : List ℕ) → Rungs reached (endTable f)
-end-rungs reached f = (not (eqb (bodyStart (widthOf f) f (countOf f) (countOf f)) (length f)), λ _. tells-not (tells-eq _ _), tt)
+end-rungs reached f = (not (eqb (bodyStart (rowSizeOf f) f (countOf f) (countOf f)) (length f)), λ _. tells-not (tells-eq _ _), tt)
 
 -- ---- their ladders
 
@@ -120,13 +113,13 @@ pub head-is : (low high : ℕ) (f : List ℕ) → headNumber low high f ≡ ladd
 unfolding head-rungs headNumber
 head-is low high f = refl
 
-row-is : (reached : Type 0) (f : List ℕ) (i : ℕ) → rowNumber (widthOf f) f (countOf f) i ≡ ladder reached (rowTable f i) (row-rungs reached f i)
+row-is : (reached : Type 0) (f : List ℕ) (i : ℕ) → rowNumber (rowSizeOf f) f (countOf f) i ≡ ladder reached (rowTable f i) (row-rungs reached f i)
 unfolding row-rungs rowNumber bodyNumber
 row-is reached f i = refl
 
-end-is : (reached : Type 0) (f : List ℕ) → endAnswer (widthOf f) f (countOf f) ≡ answer (ladder reached (endTable f) (end-rungs reached f)) 0
+end-is : (reached : Type 0) (f : List ℕ) → endAnswer (rowSizeOf f) f (countOf f) ≡ answer (ladder reached (endTable f) (end-rungs reached f)) 0
 unfolding end-rungs endAnswer
-end-is reached f = by (eqb (bodyStart (widthOf f) f (countOf f) (countOf f)) (length f))
+end-is reached f = by (eqb (bodyStart (rowSizeOf f) f (countOf f) (countOf f)) (length f))
   where
     by : (b : Bool) → cond b (answer 0 0) (answer 31 0) ≡ answer (cond (not b) 31 0) 0
     by true = refl
@@ -142,7 +135,7 @@ module _ (low high : ℕ) (f : List ℕ) where
   H = headNumber low high f
 
   abbrev R : ℕ → ℕ
-  R = rowNumber (widthOf f) f (countOf f)
+  R = rowNumber (rowSizeOf f) f (countOf f)
 
   abbrev E : ℕ
   E = ladder Unit (endTable f) (end-rungs Unit f)
@@ -157,12 +150,12 @@ module _ (low high : ℕ) (f : List ℕ) where
   row-stands : H ≡ 0 → (i : ℕ) → i < countOf f → Quiet i → (R i ≡ 0 → ⊥) → said ≡ answer (R i) i
   unfolding checkBetween rowsFrom
   row-stands z i l q n =
-      simp z (first-at (λ j. not (eqb (R j) 0)) (λ j. answer (R j) j) (endAnswer (widthOf f) f (countOf f)) (countOf f) i l (simp (ne-eqb (R i) 0 n)) (λ j m. simp (q j m)))
+      simp z (first-at (λ j. not (eqb (R j) 0)) (λ j. answer (R j) j) (endAnswer (rowSizeOf f) f (countOf f)) (countOf f) i l (simp (ne-eqb (R i) 0 n)) (λ j m. simp (q j m)))
 
   end-stands : H ≡ 0 → Quiet (countOf f) → said ≡ answer E 0
   unfolding checkBetween rowsFrom
   end-stands z q =
-      simp z (first-none (λ j. not (eqb (R j) 0)) (λ j. answer (R j) j) (endAnswer (widthOf f) f (countOf f)) (countOf f) (λ j m. simp (q j m)) ∙ end-is Unit f)
+      simp z (first-none (λ j. not (eqb (R j) 0)) (λ j. answer (R j) j) (endAnswer (rowSizeOf f) f (countOf f)) (countOf f) (λ j m. simp (q j m)) ∙ end-is Unit f)
 
   by-case : (P : Type 0)
       → ((H ≡ 0 → ⊥) → said ≡ answer H 0 → P)

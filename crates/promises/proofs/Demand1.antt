@@ -11,7 +11,7 @@ use lib.Dec.{ltb, eqb}
 use borrow.Author.Tests.{eq-eqb}
 use Rattle.words.specs.Bytes.{sameBytes}
 use Rattle.words.proofs.Ladder.{rung}
-use Rattle.cipher.specs.Cipher.{isSuite, sizeOf, nonceOf, cipherOf}
+use Rattle.cipher.specs.Cipher.{isSuite, sizeOf, nonceOf, cipherOf, limit}
 use Rattle.mode.specs.Mode.{ciphertext, tag, textOut, tagOut}
 use Rattle.comet.specs.Answers.{takes, refusal, Sealed, sealedAs, sealing, Opened, openedAs, opening, verifying}
 use Rattle.comet.proofs.Outcomes as comet
@@ -51,6 +51,7 @@ entry-points =
       locate = record { asks-nothing = λ κs a. tt; one-outcome = amend.locate };
       current = record { asks-nothing = λ κs a. tt; one-outcome = amend.current };
       open-current = record { asks-nothing = λ κs a. tt; one-outcome = amend.open-current };
+      moved-length = record { asks-nothing = λ κs a. tt; one-outcome = editions.moved-length };
       to-edition2 = record { asks-nothing = λ κs a. tt; one-outcome = editions.to-edition2 };
       to-edition1 = record { asks-nothing = λ κs a. tt; one-outcome = editions.to-edition1 };
       compare = record { asks-nothing = λ κs a. tt; one-outcome = comparing.compare };
@@ -111,8 +112,8 @@ room-right d s k v a t g =
     (rung Six (not (takes d s)) 10 _ (λ e. lt-irrefl 6 (omega arith))
     (rung Six (not (eqb k 16)) 2 _ (λ e. lt-irrefl 6 (omega arith))
     (rung Six (not (eqb v (nonceOf s))) 3 _ (λ e. lt-irrefl 6 (omega arith))
-    (rung Six (ltb 65536 a) 4 _ (λ e. lt-irrefl 6 (omega arith))
-    (rung Six (ltb 65536 t) 5 _ (λ e. lt-irrefl 6 (omega arith))
+    (rung Six (ltb limit a) 4 _ (λ e. lt-irrefl 6 (omega arith))
+    (rung Six (ltb limit t) 5 _ (λ e. lt-irrefl 6 (omega arith))
     (subst (λ (b : Bool). Six (cond (not b) 6 (cond (not (eqb g (sizeOf s))) 7 0))) (sym (eq-eqb t t refl))
     (rung Six (not (eqb g (sizeOf s))) 7 _ (λ e. lt-irrefl 6 (omega arith)) (λ e. lt-irrefl 6 (omega arith)))))))))
 

@@ -4,7 +4,7 @@ use mathlib.Core.Bool.{true, false}
 use Prim.Native.Nat.{ℕ, _≤_}
 use mathlib.Core.List.{List}
 use lib.ListN.{length}
-use Rattle.cipher.specs.Cipher.{Block, cipherOf}
+use Rattle.cipher.specs.Cipher.{Block, cipherOf, limit}
 use Rattle.cipher.proofs.Lawful.{lawful}
 use Rattle.mode.specs.Mode.{ciphertext, tag, textOut, tagOut}
 use Rattle.mode.proofs.Demand2.{text-length, text-bytes, text-back, tag-back, tag-block}
@@ -65,7 +65,7 @@ round-trip suite key nonce ad msg out₀ i lo =
         text-bytes = text-bytes κ L key nonce ad false msg (x .text-bytes);
       };
       ad-most = i .ad-most;
-      text-most = subst (λ (n : ℕ). n ≤ 65536) (sym lc) (i .text-most);
+      text-most = subst (λ (n : ℕ). n ≤ limit) (sym lc) (i .text-most);
     } in
     returning suite key nonce ad c (tag κ key nonce ad msg) out₀ msg ic (lo ∙ sym lc)
     (tag-block κ L key nonce ad false msg hk (x .nonce-bytes) (nonce-right suite key nonce ad msg x) (x .ad-bytes) (x .text-bytes) .long)

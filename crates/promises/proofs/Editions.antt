@@ -4,14 +4,14 @@ use mathlib.Core.List.{List}
 use Prim.Native.Nat.{ℕ, _<_}
 use lib.ListN.{length}
 use lib.Dec.{lit≤}
-use Rattle.table.specs.Format.{countOf, edition, newest}
+use Rattle.table.specs.Format.{countOf, firstEdition, newest}
 use Rattle.table.specs.Check.{checkFile}
 use Rattle.table.proofs.Kept.{wider}
 use Rattle.compare.proofs.Promised.{equal-rows}
 use Rattle.editions.specs.Answers.{toEdition2, toEdition1}
 use Rattle.editions.specs.Promised.{RowKept}
 use Rattle.editions.proofs.Done.{up-goes, back-goes}
-use Rattle.editions.proofs.Promised.{there-and-back, back-and-there, up-passes, back-passes, back-short, up-rises, back-falls}
+use Rattle.editions.proofs.Promised.{there-and-back, back-and-there, up-passes, back-passes, back-short, length-told, up-rises, back-falls}
 use Rattle.editions.proofs.Reading.{up-keeps, back-keeps, up-reads, back-reads}
 use Rattle.promises.specs.Editions.{Equal, UpEqual, BackEqual, Editions}
 
@@ -20,18 +20,18 @@ equal-of f g p q c kept x y z =
     equal-rows f g x y z p q c
     (λ i l.
     let k = kept i l in
-    (sym (k .job), record { suite = sym (k .suite); key = sym (k .key); ad = sym (k .ad); nonce = sym (k .nonce); body = sym (k .body); station = sym (k .station) }))
+    (sym (k .job), record { suite = sym (k .suite); key = sym (k .key); ad-len = sym (k .ad-len); nonce = sym (k .nonce); body = sym (k .body); station = sym (k .station) }))
 
 up-equal : UpEqual
 unfolding toEdition2
 up-equal f out₀ z =
-    equal-of f (toEdition2 f out₀ .out) (wider edition f (lit≤ tt) (lit≤ tt) (up-goes f (length out₀) z .passed)) (wider newest _ (lit≤ tt) (lit≤ tt) (up-passes f out₀ z))
+    equal-of f (toEdition2 f out₀ .out) (wider firstEdition f (lit≤ tt) (lit≤ tt) (up-goes f (length out₀) z .passed)) (wider newest _ (lit≤ tt) (lit≤ tt) (up-passes f out₀ z))
     (sym (up-rises f out₀ z .count)) (up-keeps f out₀ z)
 
 back-equal : BackEqual
 unfolding toEdition1
 back-equal f out₀ z =
-    equal-of f (toEdition1 f out₀ .out) (wider newest f (lit≤ tt) (lit≤ tt) (back-goes f (length out₀) z .0 .passed)) (wider edition _ (lit≤ tt) (lit≤ tt) (back-passes f out₀ z))
+    equal-of f (toEdition1 f out₀ .out) (wider newest f (lit≤ tt) (lit≤ tt) (back-goes f (length out₀) z .0 .passed)) (wider firstEdition _ (lit≤ tt) (lit≤ tt) (back-passes f out₀ z))
     (back-falls f out₀ z .count) (back-keeps f out₀ z)
 
 pub editions : Editions
@@ -45,6 +45,7 @@ editions = record {
   up-keeps = up-keeps;
   back-keeps = back-keeps;
   back-short = back-short;
+  length-told = length-told;
   up-reads = up-reads;
   back-reads = back-reads;
   up-equal = up-equal;

@@ -9,11 +9,12 @@ use lib.ListN.{length}
 use lib.Dec.{eqb, ltb, leb}
 use borrow.Author.Tests.{not-true}
 use Rattle.words.specs.Bytes.{sameBytes}
-use Rattle.cipher.specs.Cipher.{isSuite, retired, seals, cipherOf, sizeOf, nonceOf}
+use Rattle.cipher.specs.Cipher.{isSuite, retired, seals, cipherOf, sizeOf, nonceOf, limit}
 use Rattle.cipher.proofs.Suites.{tag-size, only-four}
 use Rattle.mode.specs.Mode.{textOut, tagOut}
 use Rattle.comet.specs.Answers.{takes, refusal, sealedAs, sealing, openedAs, opening}
-use Rattle.session.specs.Value.{Value, Given, sound, answered, startNumber, starting, dataNumber, dataPart, textNumber, textDone, textPart, endNumber, ending}
+use Rattle.session.specs.Value.{Value, Given, sound, answered, startNumber, starting, dataNumber, dataPart, textNumber, textPart, endNumber, ending}
+use Rattle.session.proofs.Parts.{done-number}
 use Rattle.promises.specs.Numbers.{tagSize, numbers, SealNumbers, OpenNumbers, StartNumbers, Going, DataNumbers, PartNumbers, EndNumbers}
 use Rattle.promises.proofs.Tables.{Tells, tells-eq, tells-lt, tells-le, tells-same, tells-not, tells-and, tells-as, tells-true, stable, Rungs, table}
 
@@ -78,10 +79,10 @@ rungs d suite key nonce ad text out tag = (
         not (eqb (length nonce) (nonceOf suite)),
         λ _. tells-not (tells-eq _ _),
         (
-          ltb 65536 (length ad),
+          ltb limit (length ad),
           λ _. tells-lt _ _,
           (
-            ltb 65536 (length text),
+            ltb limit (length text),
             λ _. tells-lt _ _,
             (
               not (eqb (length out) (length text)),
@@ -124,8 +125,8 @@ open-numbers suite key nonce ad text tag out =
     (by (not (isSuite suite)) 0 _ _
     (by (not (eqb (length key) 16)) 1 _ _
     (by (not (eqb (length nonce) (nonceOf suite))) 2 _ _
-    (by (ltb 65536 (length ad)) 3 _ _
-    (by (ltb 65536 (length text)) 4 _ _
+    (by (ltb limit (length ad)) 3 _ _
+    (by (ltb limit (length text)) 4 _ _
     (by (not (eqb (length out) (length text))) 5 _ _
     (by (not (eqb (length tag) (sizeOf suite))) 6 _ _ (last right))))))))
   where
@@ -169,42 +170,38 @@ start-numbers suite key nonce =
       ),
     ) refl (answered-number _ _ _ [] [] refl)
 
-tells-going : (v : Value) → Tells (sound (v .suite) (v .came) (v .text)) (Going v)
-tells-going v = tells-and (tells-true (seals (v .suite))) (tells-and (tells-le (v .came) 65536) (tells-le (v .text) 65536))
+tells-going : (v : Value) → Tells (sound (v .suite) (v .«ad_total») (v .«text_total»)) (Going v)
+tells-going v = tells-and (tells-true (seals (v .suite))) (tells-and (tells-le (v .«ad_total») limit) (tells-le (v .«text_total») limit))
 
 -- a total that is within the limit, and goes over it by l bytes
-pub tells-over : (t l : ℕ) → t ≤ 65536 → Tells (ltb (65536 - t) l) (65536 < t + l)
-tells-over t l h = tells-as (tells-lt (65536 - t) l) (λ k. omega (arith, h, k), λ k. omega (arith, h, k))
+pub tells-over : (t l : ℕ) → t ≤ limit → Tells (ltb (limit - t) l) (limit < t + l)
+tells-over t l h = tells-as (tells-lt (limit - t) l) (λ k. omega (arith, h, k), λ k. omega (arith, h, k))
 
 pub data-numbers : DataNumbers
 unfolding dataPart dataNumber
 data-numbers v part =
     table _ _ (
-      not (sound (v .suite) (v .came) (v .text) && eqb (v .text) 0),
+      not (sound (v .suite) (v .«ad_total») (v .«text_total») && eqb (v .«text_total») 0),
       λ _. tells-not goes,
       (
-        ltb (65536 - v .came) (length part),
-        λ r. tells-over (v .came) (length part) (stable goes (r .1) .0 .1 .0),
+        ltb (limit - v .«ad_total») (length part),
+        λ r. tells-over (v .«ad_total») (length part) (stable goes (r .1) .0 .1 .0),
         tt,
       ),
     ) refl (answered-number _ _ v [] [] refl)
   where
-    goes : Tells (sound (v .suite) (v .came) (v .text) && eqb (v .text) 0) (Going v × (v .text ≡ 0))
-    goes = tells-and (tells-going v) (tells-eq (v .text) 0)
-
-pub done-number : (v : Value) (p out : List ℕ) → textDone v p out .number ≡ 0
-done-number v [] out = refl
-done-number v (x ∷ p) out = refl
+    goes : Tells (sound (v .suite) (v .«ad_total») (v .«text_total») && eqb (v .«text_total») 0) (Going v × (v .«text_total» ≡ 0))
+    goes = tells-and (tells-going v) (tells-eq (v .«text_total») 0)
 
 pub part-numbers : PartNumbers
 unfolding textPart textNumber
 part-numbers v part out =
     table _ _ (
-      not (sound (v .suite) (v .came) (v .text)),
+      not (sound (v .suite) (v .«ad_total») (v .«text_total»)),
       λ _. tells-not (tells-going v),
       (
-        ltb (65536 - v .text) (length part),
-        λ r. tells-over (v .text) (length part) (stable (tells-going v) (r .1) .1 .1),
+        ltb (limit - v .«text_total») (length part),
+        λ r. tells-over (v .«text_total») (length part) (stable (tells-going v) (r .1) .1 .1),
         (
           ltb (length out) (length part + (sizeOf (v .suite) - 1)),
           λ _. tells-lt _ _,
@@ -217,7 +214,7 @@ pub end-numbers : EndNumbers
 unfolding ending endNumber
 end-numbers v out tag =
     table _ _ (
-      not (sound (v .suite) (v .came) (v .text)),
+      not (sound (v .suite) (v .«ad_total») (v .«text_total»)),
       λ _. tells-not (tells-going v),
       (
         ltb (length out) (sizeOf (v .suite)),

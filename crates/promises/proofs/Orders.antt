@@ -6,7 +6,7 @@ use Prim.Native.Nat.{ℕ, _-_, _<_}
 use mathlib.Core.List.{List, [], _∷_}
 use lib.Dec.{eqb}
 use borrow.Author.Tests.{ne-eqb}
-use Rattle.words.proofs.Same.{and-true}
+use Rattle.words.proofs.Tests.{both-true}
 use Rattle.table.specs.declared.answers.Answer.{Answer}
 use Rattle.table.specs.Search.{firstOf}
 use Rattle.table.specs.Answers.{answer}
@@ -91,16 +91,16 @@ numbersIn (rows k n c ∷ ss) = k ∷ numbersIn ss
 not-given : (k : ℕ) (ss : List Stage) (t : Steps ss) → distinct (numbersIn ss) ≡ true → fresh k (numbersIn ss) ≡ true → climb ss t .number ≡ k → ⊥
 not-given k [] t d f e = ne-true k 0 f (sym e)
 not-given k (whole m c ∷ ss) t d f e =
-    let g = and-true (not (eqb k m)) (fresh k (numbersIn ss)) f in
-    let h = and-true (fresh m (numbersIn ss)) (distinct (numbersIn ss)) d in
+    let g = both-true (not (eqb k m)) (fresh k (numbersIn ss)) f in
+    let h = both-true (fresh m (numbersIn ss)) (distinct (numbersIn ss)) d in
     by (t .0) e (ne-true k m (g .0)) (not-given k ss (t .2) (h .1) (g .1))
   where
     by : (b : Bool) → cond b (answer m 0) (climb ss (t .2)) .number ≡ k → (k ≡ m → ⊥) → (climb ss (t .2) .number ≡ k → ⊥) → ⊥
     by true e n r = n (sym e)
     by false e n r = r e
 not-given k (rows m n c ∷ ss) t d f e =
-    let g = and-true (not (eqb k m)) (fresh k (numbersIn ss)) f in
-    let h = and-true (fresh m (numbersIn ss)) (distinct (numbersIn ss)) d in
+    let g = both-true (not (eqb k m)) (fresh k (numbersIn ss)) f in
+    let h = both-true (fresh m (numbersIn ss)) (distinct (numbersIn ss)) d in
     let some = fresh-some m (numbersIn ss) (h .0) in
     let r = climb ss (t .2) in
     ⊎-elim
@@ -126,18 +126,18 @@ module _ (Gives : ℕ → ℕ → Type 0) where
       → EachBy reached x ss → EachBy after r ss
   past reached after x r k [] f h e = tt
   past reached after x r k (whole m c ∷ ss) f h e =
-      let g = and-true (not (eqb k m)) (fresh k (numbersIn ss)) f in
+      let g = both-true (not (eqb k m)) (fresh k (numbersIn ss)) f in
       let s = h m 0 (ne-true k m (g .0)) in
       ((λ y. s .0 (e .0 .0 y), λ y. e .0 .1 (s .1 y)), past reached after x r k ss (g .1) h (e .1))
   past reached after x r k (rows m n c ∷ ss) f h e =
-      let g = and-true (not (eqb k m)) (fresh k (numbersIn ss)) f in
+      let g = both-true (not (eqb k m)) (fresh k (numbersIn ss)) f in
       let o = ne-true k m (g .0) in
       (λ i. (λ y. h m i o .0 (e .0 i .0 y), λ y. e .0 i .1 (h m i o .1 y)), past reached after x r k ss (g .1) h (e .1))
 
   stages : (reached : Type 0) (ss : List Stage) (t : Steps ss) → distinct (numbersIn ss) ≡ true → EachBy reached (climb ss t) ss → Stages Gives reached ss
   stages reached [] t d e = tt
   stages reached (whole k c ∷ ss) t d e =
-      let g = and-true (fresh k (numbersIn ss)) (distinct (numbersIn ss)) d in
+      let g = both-true (fresh k (numbersIn ss)) (distinct (numbersIn ss)) d in
       let r = climb ss (t .2) in
       let a = at-whole (t .0) k r (not-given k ss (t .2) (g .1) (g .0)) in (
         (λ y. let z = e .0 .0 y in (z .0, t .1 .0 (a .0 (z .1))), λ y. e .0 .1 (y .0, a .1 (t .1 .1 (y .1)))),
@@ -149,7 +149,7 @@ module _ (Gives : ℕ → ℕ → Type 0) where
             (e .1)),
       )
   stages reached (rows k n c ∷ ss) t d e =
-      let g = and-true (fresh k (numbersIn ss)) (distinct (numbersIn ss)) d in
+      let g = both-true (fresh k (numbersIn ss)) (distinct (numbersIn ss)) d in
       let r = climb ss (t .2) in
       let p = t .0 in
       let some = fresh-some k (numbersIn ss) (g .0) in
@@ -175,12 +175,12 @@ module _ (Gives : ℕ → ℕ → Type 0) where
 quiet : (ss : List Stage) (t : Steps ss) → distinct (numbersIn ss) ≡ true → (climb ss t ≡ answer 0 0) ↔ Quiet ss
 quiet [] t d = (λ e. tt, λ e. refl)
 quiet (whole k c ∷ ss) t d =
-    let g = and-true (fresh k (numbersIn ss)) (distinct (numbersIn ss)) d in
+    let g = both-true (fresh k (numbersIn ss)) (distinct (numbersIn ss)) d in
     let q = past-whole (t .0) k (climb ss (t .2)) 0 0 (fresh-some k (numbersIn ss) (g .0)) in
     let s = quiet ss (t .2) (g .1) in
     (λ e. let z = q .0 e in (λ w. z .0 (t .1 .1 w), s .0 (z .1)), λ h. q .1 (λ b. h .0 (t .1 .0 b), s .1 (h .1)))
 quiet (rows k n c ∷ ss) t d =
-    let g = and-true (fresh k (numbersIn ss)) (distinct (numbersIn ss)) d in
+    let g = both-true (fresh k (numbersIn ss)) (distinct (numbersIn ss)) d in
     let some = fresh-some k (numbersIn ss) (g .0) in
     let q = past-rows k n (t .0) some (climb ss (t .2)) 0 0 some in
     let s = quiet ss (t .2) (g .1) in

@@ -1,17 +1,14 @@
 -- W7, the suite that seals no more: the line of 10 in the tables of sealer, opener and session is suite 4's.
 use mathlib.Core.Path.{_≡_, refl, sym, _∙_}
-use mathlib.Core.Bool.{Bool, true, false, true≢false}
+use mathlib.Core.Bool.{false, true≢false}
 use Prim.Native.Nat.{ℕ}
-use Rattle.cipher.specs.Cipher.{isSuite, IsSuite, retired, seals, Seals}
+use Rattle.words.proofs.Tests.{is-false}
+use Rattle.cipher.specs.Cipher.{isSuite, IsSuite, retired, seals}
 use Rattle.cipher.proofs.Suites.{only-four}
 use Rattle.comet.specs.Answers.{refusal, sealing}
 use Rattle.session.specs.Value.{startNumber, starting}
 use Rattle.promises.specs.Retired.{OnlyFour, SealerRefuses, StartRefuses, OpenerNever, Retired}
 use Rattle.promises.proofs.Numbers.{seal-numbers, open-numbers, start-numbers}
-
-seals-not : (b : Bool) (s : ℕ) → seals s ≡ b → (Seals s → ⊥) → b ≡ false
-seals-not true s e n = absurd (n e)
-seals-not false s e n = refl
 
 -- suite 4 itself
 has-four : IsSuite 4
@@ -24,7 +21,7 @@ shut-four = refl
 
 four : OnlyFour
 four suite = (
-  λ h. only-four suite (h .0) (seals-not _ suite refl (h .1)),
+  λ h. only-four suite (h .0) (is-false _ (h .1)),
   λ e. (rw e has-four, λ s. true≢false (sym (rw e at s) ∙ shut-four)),
 )
 

@@ -26,6 +26,7 @@ routines = record {
   locate = λ κs amendment day job x. x .ensures;
   current = λ κs amendment day job x. x .ensures;
   open-current = λ κs amendment day ring job out x. x .ensures;
+  moved-length = λ κs file x. x .ensures;
   to-edition2 = λ κs file out x. x .ensures;
   to-edition1 = λ κs file out x. x .ensures;
   compare = λ κs f g first second differ x. x .ensures;

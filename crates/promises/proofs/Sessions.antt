@@ -7,20 +7,21 @@ use lib.ListN.{length}
 use lib.Dec.{eqb, ltb}
 use borrow.Author.Tests.{le-leb}
 use Rattle.words.specs.Bytes.{AllBytes}
-use Rattle.cipher.specs.Cipher.{Seals, cipherOf, sizeOf}
+use Rattle.cipher.specs.Cipher.{Seals, cipherOf, sizeOf, limit}
 use Rattle.cipher.proofs.Suites.{seals-has}
 use Rattle.comet.specs.Answers.{opening}
 use Rattle.session.specs.Value.{Value, Given, sound, answered, gave, starting, dataNumber, dataIn, dataPart, textNumber, textDone, textPart, endNumber, endDone, ending}
-use Rattle.session.specs.Calls.{Call, AllLent, Run, runOf, Next}
+use Rattle.session.specs.Calls.{SessionCall, AllInBytes, Run, runOf, Next}
+use Rattle.session.proofs.Parts.{done-number}
 use Rattle.session.proofs.Whatever.{starts, refused-shut, goes, finished, whatever, facts}
 use Rattle.promises.specs.Input.{Input}
 use Rattle.promises.specs.Sessions.{AsOneCall, OpensWhole, NextNumbers, RunNumbers, Keeps, Sessions}
 use Rattle.promises.proofs.Tables.{tells-eq, tells-lt, tells-not, table}
-use Rattle.promises.proofs.Numbers.{tells-tag-size, answered-number, tells-over, done-number}
+use Rattle.promises.proofs.Numbers.{tells-tag-size, answered-number, tells-over}
 use Rattle.promises.proofs.Demand2.{sealing-is, round-trip}
 
 -- the joined texts are an input of the sealer
-input : (suite : ℕ) (key nonce : List ℕ) (cs : List Call) (out₀ tag₀ : List ℕ) → AllBytes key → AllBytes nonce → AllLent cs
+input : (suite : ℕ) (key nonce : List ℕ) (cs : List SessionCall) (out₀ tag₀ : List ℕ) → AllBytes key → AllBytes nonce → AllInBytes cs
     → starting suite key nonce .number ≡ 0 → ending (runOf suite key nonce cs .now) out₀ tag₀ .number ≡ 0
     → let r : Run = runOf suite key nonce cs in Input suite key nonce (r .ad) (r .msg)
 input suite key nonce cs out₀ tag₀ hk hv hc e0 e1 =
@@ -57,8 +58,8 @@ opens-whole suite key nonce cs out₀ tag₀ hk hv hc e0 e1 out₁ lo =
 -- ---- the numbers of a run
 
 -- the totals of a session that goes on are within the limits, so 9 is gone
-goes-on : (suite a m : ℕ) → Seals suite → a ≤ 65536 → m ≤ 65536 → sound suite a m ≡ true
-goes-on suite a m h la lm = simp (h, le-leb a 65536 la, le-leb m 65536 lm)
+goes-on : (suite a m : ℕ) → Seals suite → a ≤ limit → m ≤ limit → sound suite a m ≡ true
+goes-on suite a m h la lm = simp (h, le-leb a limit la, le-leb m limit lm)
 
 -- so are the three numbers, once the totals are the joined lengths
 module _ (suite : ℕ) (r : Run) (n : Next suite r) where
@@ -74,17 +75,17 @@ module _ (suite : ℕ) (r : Run) (n : Next suite r) where
   on : sound suite a m ≡ true
   on = goes-on suite a m (n .seals) (n .data-most) (n .text-most)
 
-  data-said : (l : ℕ) → dataNumber (v .suite) (v .came) (v .text) l ≡ cond (not (eqb m 0)) 9 (cond (ltb (65536 - a) l) 4 0)
+  data-said : (l : ℕ) → dataNumber (v .suite) (v .«ad_total») (v .«text_total») l ≡ cond (not (eqb m 0)) 9 (cond (ltb (limit - a) l) 4 0)
   unfolding dataNumber
-  data-said l = simp (n .suite-is, n .came-is, n .text-is, on)
+  data-said l = simp (n .suite-is, n .ad-total-is, n .text-total-is, on)
 
-  text-said : (l o : ℕ) → textNumber (v .suite) (v .came) (v .text) l o ≡ cond (ltb (65536 - m) l) 5 (cond (ltb o (l + (sizeOf suite - 1))) 6 0)
+  text-said : (l o : ℕ) → textNumber (v .suite) (v .«ad_total») (v .«text_total») l o ≡ cond (ltb (limit - m) l) 5 (cond (ltb o (l + (sizeOf suite - 1))) 6 0)
   unfolding textNumber
-  text-said l o = simp (n .suite-is, n .came-is, n .text-is, on)
+  text-said l o = simp (n .suite-is, n .ad-total-is, n .text-total-is, on)
 
-  end-said : (o t : ℕ) → endNumber (v .suite) (v .came) (v .text) o t ≡ cond (ltb o (sizeOf suite)) 6 (cond (not (eqb t (sizeOf suite))) 7 0)
+  end-said : (o t : ℕ) → endNumber (v .suite) (v .«ad_total») (v .«text_total») o t ≡ cond (ltb o (sizeOf suite)) 6 (cond (not (eqb t (sizeOf suite))) 7 0)
   unfolding endNumber
-  end-said o t = simp (n .suite-is, n .came-is, n .text-is, on)
+  end-said o t = simp (n .suite-is, n .ad-total-is, n .text-total-is, on)
 
   next-numbers : NextNumbers suite r
   unfolding dataPart textPart ending
@@ -95,14 +96,14 @@ module _ (suite : ℕ) (r : Run) (n : Next suite r) where
               not (eqb m 0),
               λ _. tells-not (tells-eq m 0),
               (
-                ltb (65536 - a) (length p),
+                ltb (limit - a) (length p),
                 λ _. tells-over a (length p) (n .data-most),
                 tt,
               ),
             ) refl (answered-number _ _ v [] [] refl ∙ data-said (length p));
         message = λ p out.
             table _ _ (
-              ltb (65536 - m) (length p),
+              ltb (limit - m) (length p),
               λ _. tells-over m (length p) (n .text-most),
               (
                 ltb (length out) (length p + (sizeOf suite - 1)),
@@ -136,12 +137,12 @@ pub keeps : Keeps
 unfolding dataPart textPart ending
 keeps v = (
   λ p h.
-      let k = kept (dataNumber (v .suite) (v .came) (v .text) (length p)) (gave 0 0 (dataIn (cipherOf (v .suite)) v p) [] []) v [] [] refl h in
+      let k = kept (dataNumber (v .suite) (v .«ad_total») (v .«text_total») (length p)) (gave 0 0 (dataIn (cipherOf (v .suite)) v p) [] []) v [] [] refl h in
       (k .0, k .1),
   λ p out h.
-      let k = kept (textNumber (v .suite) (v .came) (v .text) (length p) (length out)) (textDone v p out) v out [] (done-number v p out) h in
+      let k = kept (textNumber (v .suite) (v .«ad_total») (v .«text_total») (length p) (length out)) (textDone v p out) v out [] (done-number v p out) h in
       (k .0, k .1, k .2),
-  λ out tag h. kept (endNumber (v .suite) (v .came) (v .text) (length out) (length tag)) (endDone v out) v out tag refl h,
+  λ out tag h. kept (endNumber (v .suite) (v .«ad_total») (v .«text_total») (length out) (length tag)) (endDone v out) v out tag refl h,
 )
 
 pub sessions : Sessions

@@ -9,7 +9,8 @@ use mathlib.Core.List.{List, [], _∷_}
 use lib.Dec.{eqb, ltb, leb}
 use borrow.Author.Tests.{ltb-true, leb-true, eqb-true, eqb-false, lt-ltb, le-leb, eq-eqb, not-true}
 use Rattle.words.specs.Bytes.{sameBytes}
-use Rattle.words.proofs.Same.{same-refl, same-true, and-true}
+use Rattle.words.proofs.Tests.{both-true}
+use Rattle.words.proofs.Same.{same-refl, same-true}
 use Rattle.table.specs.declared.answers.Answer.{Answer}
 use Rattle.table.specs.Answers.{answer}
 use Rattle.promises.specs.Tables.{Line, None, Lines, Table}
@@ -131,13 +132,13 @@ ne-true x y h = eqb-false x y (not-true (eqb x y) h)
 -- a fresh number is not 0
 pub fresh-some : (k : ℕ) (ms : List ℕ) → fresh k ms ≡ true → k ≡ 0 → ⊥
 fresh-some k [] f e = ne-true k 0 f e
-fresh-some k (m ∷ ms) f e = fresh-some k ms (and-true (not (eqb k m)) (fresh k ms) f .1) e
+fresh-some k (m ∷ ms) f e = fresh-some k ms (both-true (not (eqb k m)) (fresh k ms) f .1) e
 
 -- a ladder never gives a number that is fresh
 pub not-given : (k : ℕ) (reached : Type 0) (ls : List Line) (t : Rungs reached ls) → fresh k (numbersOf ls) ≡ true → ladder reached ls t ≡ k → ⊥
 not-given k reached [] t f e = ne-true k 0 f (sym e)
 not-given k reached (l ∷ ls) t f e =
-    let g = and-true (not (eqb k (l .number))) (fresh k (numbersOf ls)) f in
+    let g = both-true (not (eqb k (l .number))) (fresh k (numbersOf ls)) f in
     by (t .0) e (ne-true k (l .number) (g .0)) (not-given k (reached × (l .applies → ⊥)) ls (t .2) (g .1))
   where
     by : (b : Bool) → cond b (l .number) (ladder (reached × (l .applies → ⊥)) ls (t .2)) ≡ k → (k ≡ l .number → ⊥) → (ladder (reached × (l .applies → ⊥)) ls (t .2) ≡ k → ⊥) → ⊥
@@ -163,7 +164,7 @@ module _ (Gives : ℕ → Type 0) where
       → Each (By reached (cond b k r)) ls → Each (By (reached × (P → ⊥)) r) ls
   past reached P b k r [] t f h = tt
   past reached P b k r (l ∷ ls) t f h =
-      let g = and-true (not (eqb k (l .number))) (fresh k (numbersOf ls)) f in
+      let g = both-true (not (eqb k (l .number))) (fresh k (numbersOf ls)) f in
       let n = ne-true k (l .number) (g .0) in (
         (
           λ x.
@@ -178,7 +179,7 @@ module _ (Gives : ℕ → Type 0) where
   pub lines : (reached : Type 0) (ls : List Line) (t : Rungs reached ls) → distinct (numbersOf ls) ≡ true → Each (By reached (ladder reached ls t)) ls → Lines Gives reached ls
   lines reached [] t d h = tt
   lines reached (l ∷ ls) t d h =
-      let g = and-true (fresh (l .number) (numbersOf ls)) (distinct (numbersOf ls)) d in
+      let g = both-true (fresh (l .number) (numbersOf ls)) (distinct (numbersOf ls)) d in
       let r = ladder (reached × (l .applies → ⊥)) ls (t .2) in
       let a = at-line (t .0) (l .number) r (not-given (l .number) (reached × (l .applies → ⊥)) ls (t .2) (g .0)) in (
         (
@@ -192,7 +193,7 @@ module _ (Gives : ℕ → Type 0) where
 pub nothing : (reached : Type 0) (ls : List Line) (t : Rungs reached ls) → distinct (numbersOf ls) ≡ true → reached → (ladder reached ls t ≡ 0) ↔ None ls
 nothing reached [] t d x = (λ e. tt, λ n. refl)
 nothing reached (l ∷ ls) t d x =
-    let g = and-true (fresh (l .number) (numbersOf ls)) (distinct (numbersOf ls)) d in
+    let g = both-true (fresh (l .number) (numbersOf ls)) (distinct (numbersOf ls)) d in
     let after = reached × (l .applies → ⊥) in
     let p = past-line (t .0) (l .number) 0 (ladder after ls (t .2)) (fresh-some (l .number) (numbersOf ls) (g .0)) in (
       λ e.

@@ -18,7 +18,7 @@ use Rattle.search.specs.Halving.{searching}
 use Rattle.draft.specs.Answers.{writes, fileSealing, fileUnsealing}
 use Rattle.reseal.specs.Answers.{fileResealing}
 use Rattle.amend.specs.Amending.{AmendedOpening, amendedOpening}
-use Rattle.editions.specs.Answers.{FileMoved, toEdition2, toEdition1}
+use Rattle.editions.specs.Answers.{movedLength, FileMoved, toEdition2, toEdition1}
 use Rattle.compare.specs.Comparing.{Comparison, comparison}
 use Rattle.reader.specs.Reporting.{Report, reporting}
 use Rattle.snoekeldraf.specs.declared.parts.CometSession.{CometSession}
@@ -51,6 +51,7 @@ pub record CInterface : Type 0 where
   pub shift-reseal : Answers the.shift-reseal
   pub shift-amended : Answers the.shift-amended
   pub shift-open-amended : Answers the.shift-open-amended
+  pub shift-moved-length : Answers the.shift-moved-length
   pub shift-to-edition2 : Answers the.shift-to-edition2
   pub shift-to-edition1 : Answers the.shift-to-edition1
   pub shift-compare : Answers the.shift-compare
@@ -127,7 +128,9 @@ pub record CRoutines : Type 0 where
   pub shift-open-amended : (κs : Lfts 6) (amendment day ring : RefT (List ℕ)) (job : ℕ) (out : RefT (List ℕ)) (file row : RefT ℕ) (x : Gave the.shift-open-amended κs (amendment, (day, (ring, (job, (out, (file, (row, tt)))))))) →
       let (_, (_, (_, (_, (out′, (file′, (row′, _))))))) = x .last in
       _≡_ {A = AmendedOpening} (record { file = file′; answer = answer (x .result) row′; out = out′ }) (amendedOpening (now amendment) (now day) (now ring) job (now out))
-  -- the moves
+  -- the length of a moved file, and the moves
+  pub shift-moved-length : (κs : Lfts 1) (file : RefT (List ℕ)) (x : Gave the.shift-moved-length κs (file, tt)) →
+      x .result ≡ movedLength (now file)
   pub shift-to-edition2 : (κs : Lfts 3) (file out : RefT (List ℕ)) (row : RefT ℕ) (x : Gave the.shift-to-edition2 κs (file, (out, (row, tt)))) →
       let (_, (out′, (row′, _))) = x .last in
       _≡_ {A = FileMoved} (record { answer = answer (x .result) row′; out = out′ }) (toEdition2 (now file) (now out))

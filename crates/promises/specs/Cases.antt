@@ -5,7 +5,7 @@ use Prim.Native.Nat.{ℕ, _≤_, _<_}
 use mathlib.Core.List.{List, [], _∷_}
 use lib.ListN.{length}
 use Rattle.cipher.specs.Cipher.{Seals}
-use Rattle.table.specs.Format.{countOf, edition, newest, widthOf, rowOf, stationOf}
+use Rattle.table.specs.Format.{countOf, firstEdition, newest, rowSizeOf, rowOf, stationOf}
 use Rattle.table.specs.Answers.{answer}
 use Rattle.table.specs.Check.{headNumber, checkAs, checkFile}
 use Rattle.shift.specs.Lookup.{lookupJob}
@@ -40,15 +40,15 @@ pub record JobCases (f ring : List ℕ) (job : ℕ) (out : List ℕ) : Type 0 wh
   pub checked : (lookupJob f job .number ≡ 0 → ⊥) → jobOpening f ring job out ≡ left (lookupJob f job) out
   pub found : (i : ℕ) → lookupJob f job ≡ answer 0 i → Table (λ k. jobOpening f ring job out .answer ≡ answer k 0) (
       (2 when (length ring ≡ 256 → ⊥))
-      ∷ (6 when (length out ≡ rowOf f i .len → ⊥))
+      ∷ (6 when (length out ≡ rowOf f i .«text_len» → ⊥))
       ∷ (8 when (RightTag f ring i → ⊥))
       ∷ []
       )
 
 -- the search (W6): each of 20 to 24, and no row is looked at; else what the halving rule gives (`Halves`), which is 0 or 32
 pub record SearchCases (f : List ℕ) (job : ℕ) : Type 0 where
-  pub head : Lines (λ k. searching f job ≡ ends (answer k 0)) Unit (headTable edition newest f)
-  pub halved : None (headTable edition newest f) → searching f job ≡ halving (jobsOf (widthOf f) f) job 0 (countOf f)
+  pub head : Lines (λ k. searching f job ≡ ends (answer k 0)) Unit (headTable firstEdition newest f)
+  pub halved : None (headTable firstEdition newest f) → searching f job ≡ halving (jobsOf (rowSizeOf f) f) job 0 (countOf f)
 
 -- compare (W8): the first file's refusal, the second's, 36; every refusal leaves the lists as they were
 
@@ -78,27 +78,27 @@ unmoved k i out = record { answer = answer k i; out = out }
 
 -- to edition 2 (W10): the checks of edition 1, 20, 6
 pub record UpCases (f out : List ℕ) : Type 0 where
-  pub numbers : checkAs edition f .number ≡ 0 → Table (λ k. toEdition2 f out .answer ≡ answer k 0) (
+  pub numbers : checkAs firstEdition f .number ≡ 0 → Table (λ k. toEdition2 f out .answer ≡ answer k 0) (
       (20 when 1048576 < length (moved newest f))
       ∷ (6 when (length out ≡ length (moved newest f) → ⊥))
       ∷ []
       )
-  pub checked : (checkAs edition f .number ≡ 0 → ⊥) → toEdition2 f out ≡ record { answer = checkAs edition f; out = out }
-  pub long : checkAs edition f .number ≡ 0 → 1048576 < length (moved newest f) → toEdition2 f out ≡ unmoved 20 0 out
-  pub room : checkAs edition f .number ≡ 0 → length (moved newest f) ≤ 1048576 → (length out ≡ length (moved newest f) → ⊥) → toEdition2 f out ≡ unmoved 6 0 out
-  pub moves : checkAs edition f .number ≡ 0 → length (moved newest f) ≤ 1048576 → length out ≡ length (moved newest f) → toEdition2 f out ≡ done (moved newest f)
+  pub checked : (checkAs firstEdition f .number ≡ 0 → ⊥) → toEdition2 f out ≡ record { answer = checkAs firstEdition f; out = out }
+  pub long : checkAs firstEdition f .number ≡ 0 → 1048576 < length (moved newest f) → toEdition2 f out ≡ unmoved 20 0 out
+  pub room : checkAs firstEdition f .number ≡ 0 → length (moved newest f) ≤ 1048576 → (length out ≡ length (moved newest f) → ⊥) → toEdition2 f out ≡ unmoved 6 0 out
+  pub moves : checkAs firstEdition f .number ≡ 0 → length (moved newest f) ≤ 1048576 → length out ≡ length (moved newest f) → toEdition2 f out ≡ done (moved newest f)
 
 -- back to edition 1: the checks of edition 2, 35 with the first row that has a station, 6; 20 cannot come out (`BackShort`)
 pub record BackCases (f out : List ℕ) : Type 0 where
   pub numbers : checkAs newest f .number ≡ 0 → Order (λ k i. toEdition1 f out .answer ≡ answer k i) (
       rows 35 (countOf f) (λ i. stationOf f i ≡ 0 → ⊥)
-      ∷ whole 6 (length out ≡ length (moved edition f) → ⊥)
+      ∷ whole 6 (length out ≡ length (moved firstEdition f) → ⊥)
       ∷ []
       )
   pub checked : (checkAs newest f .number ≡ 0 → ⊥) → toEdition1 f out ≡ record { answer = checkAs newest f; out = out }
   pub station : checkAs newest f .number ≡ 0 → (i : ℕ) → i < countOf f → (stationOf f i ≡ 0 → ⊥) → ((k : ℕ) → k < i → stationOf f k ≡ 0) → toEdition1 f out ≡ unmoved 35 i out
-  pub room : checkAs newest f .number ≡ 0 → ((i : ℕ) → i < countOf f → stationOf f i ≡ 0) → (length out ≡ length (moved edition f) → ⊥) → toEdition1 f out ≡ unmoved 6 0 out
-  pub moves : checkAs newest f .number ≡ 0 → ((i : ℕ) → i < countOf f → stationOf f i ≡ 0) → length out ≡ length (moved edition f) → toEdition1 f out ≡ done (moved edition f)
+  pub room : checkAs newest f .number ≡ 0 → ((i : ℕ) → i < countOf f → stationOf f i ≡ 0) → (length out ≡ length (moved firstEdition f) → ⊥) → toEdition1 f out ≡ unmoved 6 0 out
+  pub moves : checkAs newest f .number ≡ 0 → ((i : ℕ) → i < countOf f → stationOf f i ≡ 0) → length out ≡ length (moved firstEdition f) → toEdition1 f out ≡ done (moved firstEdition f)
 
 -- the report (W14): 20 for a file of more than 65,280 bytes, the checks, 2; 6 where a list has fewer places than there are entries
 pub record ReportCases (f ring jobs numbers : List ℕ) : Type 0 where
@@ -129,7 +129,7 @@ SealOrder =
 -- unsealing a file that passes: 2, 6, 8 with the first row
 abbrev pub UnsealOrder : Type 0
 UnsealOrder =
-    (file ring out : List ℕ) → checkAs edition file .number ≡ 0 → Order (λ k i. fileUnsealing file ring out .answer ≡ answer k i) (
+    (file ring out : List ℕ) → checkAs firstEdition file .number ≡ 0 → Order (λ k i. fileUnsealing file ring out .answer ≡ answer k i) (
     whole 2 (length ring ≡ 256 → ⊥)
     ∷ whole 6 (length out ≡ length file → ⊥)
     ∷ rows 8 (countOf file) (λ i. RightTag file ring i → ⊥)
@@ -139,7 +139,7 @@ UnsealOrder =
 -- resealing a file that passes (W7): 29 with the lowest later row, 2, 6, 8 with the first row of suite 4
 abbrev pub ResealOrder : Type 0
 ResealOrder =
-    (file ring out : List ℕ) → checkAs edition file .number ≡ 0 → Order (λ k i. fileResealing file ring out .answer ≡ answer k i) (
+    (file ring out : List ℕ) → checkAs firstEdition file .number ≡ 0 → Order (λ k i. fileResealing file ring out .answer ≡ answer k i) (
     rows 29 (countOf file) (Clashes file)
     ∷ whole 2 (length ring ≡ 256 → ⊥)
     ∷ whole 6 (length out ≡ length file → ⊥)

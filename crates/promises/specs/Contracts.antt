@@ -48,6 +48,8 @@ use Rattle.amend.proofs.current.Kinds as current-kinds
 use Rattle.amend.proofs.current.Reads as current-reads
 use Rattle.amend.proofs.open_current.Kinds as open-current-kinds
 use Rattle.amend.proofs.open_current.Reads as open-current-reads
+use Rattle.editions.proofs.moved_length.Kinds as moved-length-kinds
+use Rattle.editions.proofs.moved_length.Reads as moved-length-reads
 use Rattle.editions.proofs.to_edition2.Kinds as to-edition2-kinds
 use Rattle.editions.proofs.to_edition2.Reads as to-edition2-reads
 use Rattle.editions.proofs.to_edition1.Kinds as to-edition1-kinds
@@ -104,6 +106,8 @@ use Rattle.snoekeldraf.proofs.amending.shift_amended.Kinds as shift-amended-kin
 use Rattle.snoekeldraf.proofs.amending.shift_amended.Reads as shift-amended-reads
 use Rattle.snoekeldraf.proofs.amending.shift_open_amended.Kinds as shift-open-amended-kinds
 use Rattle.snoekeldraf.proofs.amending.shift_open_amended.Reads as shift-open-amended-reads
+use Rattle.snoekeldraf.proofs.moves.shift_moved_length.Kinds as shift-moved-length-kinds
+use Rattle.snoekeldraf.proofs.moves.shift_moved_length.Reads as shift-moved-length-reads
 use Rattle.snoekeldraf.proofs.moves.shift_to_edition2.Kinds as shift-to-edition2-kinds
 use Rattle.snoekeldraf.proofs.moves.shift_to_edition2.Reads as shift-to-edition2-reads
 use Rattle.snoekeldraf.proofs.moves.shift_to_edition1.Kinds as shift-to-edition1-kinds
@@ -190,6 +194,9 @@ current = record { lifetimes = 1; params = current-kinds.ps; result = current-ki
 abbrev pub open-current : Contract
 open-current = record { lifetimes = 4; params = open-current-kinds.ps; result = open-current-kinds.r; Pre = open-current-reads.Pre; Post = open-current-reads.Post }
 
+abbrev pub moved-length : Contract
+moved-length = record { lifetimes = 1; params = moved-length-kinds.ps; result = moved-length-kinds.r; Pre = moved-length-reads.Pre; Post = moved-length-reads.Post }
+
 abbrev pub to-edition2 : Contract
 to-edition2 = record { lifetimes = 2; params = to-edition2-kinds.ps; result = to-edition2-kinds.r; Pre = to-edition2-reads.Pre; Post = to-edition2-reads.Post }
 
@@ -275,6 +282,9 @@ shift-amended = record { lifetimes = 6; params = shift-amended-kinds.ps; result 
 
 abbrev pub shift-open-amended : Contract
 shift-open-amended = record { lifetimes = 6; params = shift-open-amended-kinds.ps; result = shift-open-amended-kinds.r; Pre = shift-open-amended-reads.Pre; Post = shift-open-amended-reads.Post }
+
+abbrev pub shift-moved-length : Contract
+shift-moved-length = record { lifetimes = 1; params = shift-moved-length-kinds.ps; result = shift-moved-length-kinds.r; Pre = shift-moved-length-reads.Pre; Post = shift-moved-length-reads.Post }
 
 abbrev pub shift-to-edition2 : Contract
 shift-to-edition2 = record { lifetimes = 3; params = shift-to-edition2-kinds.ps; result = shift-to-edition2-kinds.r; Pre = shift-to-edition2-reads.Pre; Post = shift-to-edition2-reads.Post }

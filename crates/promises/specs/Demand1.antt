@@ -55,6 +55,7 @@ pub record EntryPoints : Type 0 where
   -- W8
   pub compare : Answers the.compare
   -- W10
+  pub moved-length : Answers the.moved-length
   pub to-edition2 : Answers the.to-edition2
   pub to-edition1 : Answers the.to-edition1
   -- W11: the second hands back a part of one of two files

@@ -5,7 +5,7 @@ use Prim.Native.Nat.{ℕ}
 use Rattle.table.specs.Answers.{answer}
 use Rattle.compare.specs.Comparing.{refusedIn, stopped, comparison}
 use Rattle.editions.specs.Answers.{toEdition2, toEdition1}
-use Rattle.editions.specs.Promised.{ThereAndBack, BackAndThere, UpPasses, BackPasses, BackShort, UpRises, BackFalls, UpKeeps, BackKeeps, UpReads, BackReads}
+use Rattle.editions.specs.Promised.{ThereAndBack, BackAndThere, UpPasses, BackPasses, BackShort, LengthTold, UpRises, BackFalls, UpKeeps, BackKeeps, UpReads, BackReads}
 
 -- compare (W8) of a file and its moved file: three empty lists, so that any buffers do and stay as they were
 abbrev pub Equal : List ℕ → List ℕ → Type 0
@@ -32,6 +32,8 @@ pub record Editions : Type 0 where
   pub back-keeps : BackKeeps
   -- going back, 20 cannot come out after the checks
   pub back-short : BackShort
+  -- and the length that is told of a file is the moved file's
+  pub length-told : LengthTold
   -- lookup, search, associated data and opening give on the moved file what they gave
   pub up-reads : UpReads
   pub back-reads : BackReads

@@ -4,7 +4,7 @@ use Prim.Native.Nat.{ℕ, _≤_}
 use mathlib.Core.List.{List}
 use lib.ListN.{length}
 use Rattle.words.specs.Bytes.{AllBytes}
-use Rattle.cipher.specs.Cipher.{IsSuite, nonceOf}
+use Rattle.cipher.specs.Cipher.{IsSuite, nonceOf, limit}
 
 -- a suite, a key and a nonce of it, associated data and a text, which is a message or a ciphertext
 pub record Texts (suite : ℕ) (key nonce ad text : List ℕ) : Type 0 where
@@ -16,8 +16,8 @@ pub record Texts (suite : ℕ) (key nonce ad text : List ℕ) : Type 0 where
   pub ad-bytes : AllBytes ad
   pub text-bytes : AllBytes text
 
--- the same within the limits of numbers 4 and 5
+-- the same within the limits of numbers 4 and 5: 65,536 bytes each
 pub record Input (suite : ℕ) (key nonce ad text : List ℕ) : Type 0 where
   pub texts : Texts suite key nonce ad text
-  pub ad-most : length ad ≤ 65536
-  pub text-most : length text ≤ 65536
+  pub ad-most : length ad ≤ limit
+  pub text-most : length text ≤ limit

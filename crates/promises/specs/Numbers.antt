@@ -5,11 +5,12 @@ use mathlib.Core.Logic.{_⊎_, _↔_}
 use Prim.Native.Nat.{ℕ, _+_, _-_, _*_, _≤_, _<_}
 use mathlib.Core.List.{List, [], _∷_}
 use lib.ListN.{length}
-use Rattle.cipher.specs.Cipher.{factsOf, Seals, cipherOf, sizeOf, nonceOf}
+use Rattle.words.specs.Blocks.{filled}
+use Rattle.cipher.specs.Cipher.{factsOf, Seals, cipherOf, sizeOf, nonceOf, limit}
 use Rattle.mode.specs.Mode.{tagOut}
 use Rattle.comet.specs.Answers.{sealing, opening}
 use Rattle.session.specs.Value.{Value, starting, dataPart, textPart, ending}
-use Rattle.table.specs.Format.{editionOf, countOf, totalOf, widthOf, rowOf, nonceAt, nonceReadAt, padded, dataJob, unitOf}
+use Rattle.table.specs.Format.{editionOf, countOf, totalOf, rowSizeOf, rowOf, nonceAt, nonceReadAt, dataJob, unitOf}
 use Rattle.table.specs.Answers.{answer}
 use Rattle.table.specs.Check.{bodyStart, checkBetween}
 use Rattle.shift.specs.Nonces.{SameNonce}
@@ -21,15 +22,15 @@ use Rattle.promises.specs.Tables.{Line, _when_, None, Lines, Table}
 abbrev pub tagSize : ℕ → ℕ
 tagSize suite = factsOf suite .tag
 
--- `tag` is the sealer's tag buffer, and the tag that the opener was given
+-- `tag` is the sealer's tag buffer, and the tag that the opener was given; `limit` is 65,536
 abbrev pub numbers : Bool → ℕ → List ℕ → List ℕ → List ℕ → List ℕ → List ℕ → List ℕ → List Line
 numbers opens suite key nonce ad text out tag =
     (1 when (suite < 1) ⊎ (6 < suite))
     ∷ (10 when (opens ≡ false) × (suite ≡ 4))
     ∷ (2 when (length key ≡ 16 → ⊥))
     ∷ (3 when (length nonce ≡ nonceOf suite → ⊥))
-    ∷ (4 when 65536 < length ad)
-    ∷ (5 when 65536 < length text)
+    ∷ (4 when limit < length ad)
+    ∷ (5 when limit < length text)
     ∷ (6 when (length out ≡ length text → ⊥))
     ∷ (7 when (length tag ≡ tagSize suite → ⊥))
     ∷ (8 when (opens ≡ true) × (tagOut (cipherOf suite) true key nonce ad text ≡ tag → ⊥))
@@ -55,13 +56,13 @@ StartNumbers =
 
 -- a session that goes on: neither refused nor ended, of a suite that seals and with totals within the limits
 abbrev pub Going : Value → Type 0
-Going v = Seals (v .suite) × ((v .came ≤ 65536) × (v .text ≤ 65536))
+Going v = Seals (v .suite) × ((v .«ad_total» ≤ limit) × (v .«text_total» ≤ limit))
 
 abbrev pub DataNumbers : Type 0
 DataNumbers =
     (v : Value) (part : List ℕ) → Table (λ k. dataPart v part .number ≡ k) (
-    (9 when (Going v × (v .text ≡ 0) → ⊥))
-    ∷ (4 when 65536 < v .came + length part)
+    (9 when (Going v × (v .«text_total» ≡ 0) → ⊥))
+    ∷ (4 when limit < v .«ad_total» + length part)
     ∷ []
     )
 
@@ -69,7 +70,7 @@ abbrev pub PartNumbers : Type 0
 PartNumbers =
     (v : Value) (part out : List ℕ) → Table (λ k. textPart v part out .number ≡ k) (
     (9 when (Going v → ⊥))
-    ∷ (5 when 65536 < v .text + length part)
+    ∷ (5 when limit < v .«text_total» + length part)
     ∷ (6 when length out < length part + (sizeOf (v .suite) - 1))
     ∷ []
     )
@@ -91,7 +92,7 @@ headTable low high f =
     ∷ (21 when (editionOf f < low) ⊎ (high < editionOf f))
     ∷ (22 when 512 < countOf f)
     ∷ (23 when (totalOf f ≡ length f → ⊥))
-    ∷ (24 when length f < 8 + widthOf f * countOf f)
+    ∷ (24 when length f < 8 + rowSizeOf f * countOf f)
     ∷ []
 
 abbrev pub rowTable : List ℕ → ℕ → List Line
@@ -99,15 +100,15 @@ rowTable f i =
     let r = rowOf f i in
     (25 when (0 < i) × (r .job ≤ rowOf f (i - 1) .job))
     ∷ (26 when ((r .suite < 1) ⊎ (6 < r .suite)) ⊎ (15 < r .key))
-    ∷ (27 when ((r .ad < 5) ⊎ (1024 < r .ad)) ⊎ (65536 < r .len))
-    ∷ (28 when (r .at ≡ bodyStart (widthOf f) f (countOf f) i → ⊥) ⊎ (length f < r .at + r .ad + r .len + tagSize (r .suite)))
-    ∷ (34 when (nonceAt (widthOf f) f i ≡ padded (nonceReadAt (widthOf f) f i) → ⊥))
+    ∷ (27 when ((r .«ad_len» < 5) ⊎ (1024 < r .«ad_len»)) ⊎ (limit < r .«text_len»))
+    ∷ (28 when (r .«ad_at» ≡ bodyStart (rowSizeOf f) f (countOf f) i → ⊥) ⊎ (length f < r .«ad_at» + r .«ad_len» + r .«text_len» + tagSize (r .suite)))
+    ∷ (34 when (nonceAt (rowSizeOf f) f i ≡ filled (nonceReadAt (rowSizeOf f) f i) → ⊥))
     ∷ (29 when (j : ℕ) × (j < i) × SameNonce f i j)
     ∷ (30 when (dataJob f r ≡ r .job → ⊥) ⊎ ((unitOf f r ≡ 1) ⊎ (unitOf f r ≡ 2) → ⊥))
     ∷ []
 
 abbrev pub endTable : List ℕ → List Line
-endTable f = (31 when (bodyStart (widthOf f) f (countOf f) (countOf f) ≡ length f → ⊥)) ∷ []
+endTable f = (31 when (bodyStart (rowSizeOf f) f (countOf f) (countOf f) ≡ length f → ⊥)) ∷ []
 
 -- rows 0 to i - 1 have no fault
 abbrev pub SoundTo : List ℕ → ℕ → Type 0

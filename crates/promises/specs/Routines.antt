@@ -22,7 +22,7 @@ use Rattle.draft.specs.Answers.{writes, fileSealing, fileUnsealing}
 use Rattle.writer.specs.Answers.{writtenAnswer}
 use Rattle.reseal.specs.Answers.{fileResealing}
 use Rattle.amend.specs.Amending.{amendedEntry, CurrentPart, AmendedOpening, amendedOpening}
-use Rattle.editions.specs.Answers.{movedAnswer, FileMoved, toEdition2, toEdition1}
+use Rattle.editions.specs.Answers.{movedAnswer, movedLength, FileMoved, toEdition2, toEdition1}
 use Rattle.compare.specs.Comparing.{findingOf, Comparison, comparison}
 use Rattle.reader.specs.declared.cursor.Cursor.{Cursor}
 use Rattle.reader.specs.Reading.{startOf, askOf}
@@ -99,7 +99,9 @@ pub record Routines : Type 0 where
       let (_, (_, (_, (_, (out′, _))))) = x .last in
       _≡_ {A = AmendedOpening} (record { file = x .result .file; answer = openedAnswer (x .result .opened); out = out′ })
       (amendedOpening (now amendment) (now day) (now ring) job (now out))
-  -- W10: the moves
+  -- W10: the length of a moved file, and the moves
+  pub moved-length : (κs : Lfts 1) (file : RefT (List ℕ)) (x : Gave the.moved-length κs (file, tt)) →
+      x .result ≡ movedLength (now file)
   pub to-edition2 : (κs : Lfts 2) (file out : RefT (List ℕ)) (x : Gave the.to-edition2 κs (file, (out, tt))) →
       let (_, (out′, _)) = x .last in
       _≡_ {A = FileMoved} (record { answer = movedAnswer (x .result); out = out′ }) (toEdition2 (now file) (now out))

@@ -5,17 +5,17 @@ use Prim.Native.Nat.{ℕ, _+_, _-_, _<_}
 use mathlib.Core.List.{List, [], _∷_}
 use lib.ListN.{length}
 use Rattle.words.specs.Bytes.{AllBytes}
-use Rattle.cipher.specs.Cipher.{sizeOf}
+use Rattle.cipher.specs.Cipher.{sizeOf, limit}
 use Rattle.comet.specs.Answers.{sealing, opening}
 use Rattle.session.specs.Value.{Value, Given, starting, dataPart, textPart, ending}
-use Rattle.session.specs.Calls.{Call, AllLent, Run, runOf, joined, Starts, RefusedShut, Goes, Whatever}
+use Rattle.session.specs.Calls.{SessionCall, AllInBytes, Run, runOf, joined, Starts, RefusedShut, Goes, Whatever}
 use Rattle.promises.specs.Tables.{_when_, Table}
 use Rattle.promises.specs.Numbers.{tagSize}
 
 -- of a run whose start and end answered 0
 abbrev pub OfRuns : (ℕ → List ℕ → List ℕ → Run → Given → Type 0) → Type 0
 OfRuns P =
-    (suite : ℕ) (key nonce : List ℕ) (cs : List Call) (out₀ tag₀ : List ℕ) → AllBytes key → AllBytes nonce → AllLent cs
+    (suite : ℕ) (key nonce : List ℕ) (cs : List SessionCall) (out₀ tag₀ : List ℕ) → AllBytes key → AllBytes nonce → AllInBytes cs
     → starting suite key nonce .number ≡ 0
     → ending (runOf suite key nonce cs .now) out₀ tag₀ .number ≡ 0
     → P suite key nonce (runOf suite key nonce cs) (ending (runOf suite key nonce cs .now) out₀ tag₀)
@@ -38,11 +38,11 @@ OpensWhole =
 pub record NextNumbers (suite : ℕ) (r : Run) : Type 0 where
   pub associated : (p : List ℕ) → Table (λ k. dataPart (r .now) p .number ≡ k) (
       (9 when (length (r .msg) ≡ 0 → ⊥))
-      ∷ (4 when 65536 < length (r .ad) + length p)
+      ∷ (4 when limit < length (r .ad) + length p)
       ∷ []
       )
   pub message : (p out : List ℕ) → Table (λ k. textPart (r .now) p out .number ≡ k) (
-      (5 when 65536 < length (r .msg) + length p)
+      (5 when limit < length (r .msg) + length p)
       ∷ (6 when length out < length p + (sizeOf suite - 1))
       ∷ []
       )
@@ -55,7 +55,7 @@ pub record NextNumbers (suite : ℕ) (r : Run) : Type 0 where
 -- after a start that answered 0 and any calls, until an end is accepted; behind it every call is 9 (`Goes`)
 abbrev pub RunNumbers : Type 0
 RunNumbers =
-    (suite : ℕ) (key nonce : List ℕ) (cs : List Call) → AllBytes key → AllBytes nonce → AllLent cs
+    (suite : ℕ) (key nonce : List ℕ) (cs : List SessionCall) → AllBytes key → AllBytes nonce → AllInBytes cs
     → starting suite key nonce .number ≡ 0 → runOf suite key nonce cs .ended ≡ false → NextNumbers suite (runOf suite key nonce cs)
 
 -- a refused call leaves the session and the buffers as they were, length 0, whatever value arrives

@@ -21,7 +21,7 @@ pub record VersionOne : Type 0 where
 -- ---- suites 5 and 6: cipher and sizes of suites 1 and 3, in version 2
 
 abbrev pub inTwo : Facts → Facts
-inTwo f = facts (f .block) (f .nonce) (f .tag) two (f .E)
+inTwo f = facts (f .block) (f .nonce) (f .tag) two (f .engine)
 
 pub record VersionTwo : Type 0 where
   pub five : factsOf 5 ≡ inTwo (factsOf 1)

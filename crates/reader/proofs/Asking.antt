@@ -13,7 +13,7 @@ use borrow.Author.Tests.{eq-eqb, ne-eqb, lt-ltb, le-ltb, eqb-true}
 use denote.Ref.{RefT, now}
 use Rattle.table.specs.declared.answers.Answer.{Answer}
 use Rattle.table.specs.declared.answers.Refusal.{Refusal}
-use Rattle.table.specs.Format.{edition, newest, countOf, widthOf}
+use Rattle.table.specs.Format.{firstEdition, newest, countOf, rowSizeOf}
 use Rattle.table.specs.Answers.{answer, refusalAnswer}
 use Rattle.table.specs.Check.{headNumber, checkFile}
 use Rattle.table.specs.Inside.{RowIn}
@@ -47,25 +47,25 @@ pub rows-none : (f : List ℕ) (x : Refusal) → checkFile f ≡ refusalAnswer x
 rows-none f x q = rows-other f (λ z. refusal-some x (ap numberOf (sym q) ∙ z))
 
 -- by the header alone
-pub laid-all : (f : List ℕ) → headNumber edition newest f ≡ 0 → rowsLaid f ≡ countOf f
+pub laid-all : (f : List ℕ) → headNumber firstEdition newest f ≡ 0 → rowsLaid f ≡ countOf f
 unfolding rowsLaid
 laid-all f z = simp z
 
-pub laid-none : (f : List ℕ) (x : Refusal) → answer (headNumber edition newest f) 0 ≡ refusalAnswer x → rowsLaid f ≡ 0
+pub laid-none : (f : List ℕ) (x : Refusal) → answer (headNumber firstEdition newest f) 0 ≡ refusalAnswer x → rowsLaid f ≡ 0
 unfolding rowsLaid
-laid-none f x q = simp (ne-eqb (headNumber edition newest f) 0 (λ z. refusal-some x (ap numberOf (sym q) ∙ z)))
+laid-none f x q = simp (ne-eqb (headNumber firstEdition newest f) 0 (λ z. refusal-some x (ap numberOf (sym q) ∙ z)))
 
 -- a file that passes has the rows that its header lays down
 both-all : (f : List ℕ) → checkFile f .number ≡ 0 → rowsIn f ≡ rowsLaid f
-both-all f z = rows-all f z ∙ sym (laid-all f (passes edition newest f z .zero))
+both-all f z = rows-all f z ∙ sym (laid-all f (passes firstEdition newest f z .zero))
 
 -- a row that is laid down lies in the file
-pub laid-in : (f : List ℕ) (i : ℕ) → i < rowsLaid f → RowIn (widthOf f) f i
+pub laid-in : (f : List ℕ) (i : ℕ) → i < rowsLaid f → RowIn (rowSizeOf f) f i
 unfolding rowsLaid
-laid-in f i l = lies (eqb (headNumber edition newest f) 0) refl l
+laid-in f i l = lies (eqb (headNumber firstEdition newest f) 0) refl l
   where
-    lies : (b : Bool) → eqb (headNumber edition newest f) 0 ≡ b → i < cond b (countOf f) 0 → RowIn (widthOf f) f i
-    lies true e h = row-in (widthOf f) f (countOf f) i (headed edition newest f (eqb-true _ _ e) .table) h
+    lies : (b : Bool) → eqb (headNumber firstEdition newest f) 0 ≡ b → i < cond b (countOf f) 0 → RowIn (rowSizeOf f) f i
+    lies true e h = row-in (rowSizeOf f) f (countOf f) i (headed firstEdition newest f (eqb-true _ _ e) .table) h
     lies false e h = absurd (not-suc-le-zero h)
 
 -- ---- one ask

@@ -5,7 +5,7 @@ use mathlib.Core.Bool.{Bool, true, false, cond}
 use mathlib.Core.List.{List}
 use lib.ListN.{length}
 use Rattle.comet.specs.Answers.{Opened, openedAs}
-use Rattle.table.specs.Format.{widthOf, rowOf, textOf}
+use Rattle.table.specs.Format.{rowSizeOf, rowOf, textOf}
 use Rattle.table.specs.Inside.{EntryIn}
 use Rattle.table.specs.Answers.{answer}
 use Rattle.shift.specs.Opening.{entryOpening, entryVerifying, JobOpened}
@@ -24,7 +24,7 @@ opened-number true x o = refl
 opened-number false x o = refl
 
 -- the opener's number, into an output of the message's length
-pub number-is : (f ring : List ℕ) (i : ℕ) → EntryIn (widthOf f) f i → length ring ≡ 256 → (m : ℕ) (x o : List ℕ) → length o ≡ rowOf f i .len
+pub number-is : (f ring : List ℕ) (i : ℕ) → EntryIn (rowSizeOf f) f i → length ring ≡ 256 → (m : ℕ) (x o : List ℕ) → length o ≡ rowOf f i .«text_len»
     → _≡_ {A = Opened} (record { number = m; out = x }) (entryOpening f ring i o) → m ≡ tagNumber f ring i
 unfolding tagNumber
 number-is f ring i h g m x o l e =
@@ -38,7 +38,7 @@ opening-says f ring out i z g l o =
     ∙ ap (λ (m : ℕ). answer m 0) (number-is f ring i (found-in f (jobOf f i) i found) g _ _ out o refl)
 
 -- and what the record's test answers
-pub test-is : (f ring : List ℕ) (i : ℕ) → EntryIn (widthOf f) f i → length ring ≡ 256 → entryVerifying f ring i ≡ tagNumber f ring i
+pub test-is : (f ring : List ℕ) (i : ℕ) → EntryIn (rowSizeOf f) f i → length ring ≡ 256 → entryVerifying f ring i ≡ tagNumber f ring i
 test-is f ring i h g =
     let o = textOf f (rowOf f i) in
     test-number f ring i ∙ number-is f ring i h g _ _ o (text-long f ring i h g) refl

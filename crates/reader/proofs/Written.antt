@@ -9,7 +9,7 @@ use borrow.Author.Tests.{eq-eqb}
 use Rattle.words.specs.Bytes.{AllBytes, sameBytes}
 use Rattle.words.proofs.Same.{same-refl}
 use Rattle.table.specs.declared.answers.Answer.{Answer}
-use Rattle.table.specs.Format.{countOf, edition, widthOf, rowOf, tagOf}
+use Rattle.table.specs.Format.{countOf, firstEdition, rowSizeOf, rowOf, tagOf}
 use Rattle.table.specs.Answers.{answer}
 use Rattle.table.specs.Check.{rowNumber, endAnswer, rowsFrom, headNumber, checkBetween, checkAs}
 use Rattle.table.proofs.Searches.{first-none}
@@ -29,8 +29,8 @@ zero-row : (e : ℕ) (f : List ℕ) → checkAs e f .number ≡ 0 → checkAs e 
 unfolding checkBetween rowsFrom endAnswer
 zero-row e f z =
     let w = passes e e f z .walk in
-    both-zero (answer (headNumber e e f) 0) (rowsFrom (widthOf f) f (countOf f) 0) z .1
-    ∙ first-none (λ j. not (eqb (rowNumber (widthOf f) f (countOf f) j) 0)) (λ j. answer (rowNumber (widthOf f) f (countOf f) j) j) (endAnswer (widthOf f) f (countOf f)) (countOf f) (λ j l. simp (w .zeros j l))
+    both-zero (answer (headNumber e e f) 0) (rowsFrom (rowSizeOf f) f (countOf f) 0) z .1
+    ∙ first-none (λ j. not (eqb (rowNumber (rowSizeOf f) f (countOf f) j) 0)) (λ j. answer (rowNumber (rowSizeOf f) f (countOf f) j) j) (endAnswer (rowSizeOf f) f (countOf f)) (countOf f) (λ j l. simp (w .zeros j l))
     ∙ simp (eq-eqb _ _ (w .ends))
 
 answered : (draft ring out₀ : List ℕ) → fileSealing draft ring out₀ .answer ≡ sealAnswer draft (length ring) (length out₀)
@@ -52,5 +52,5 @@ writer-reported draft ring out₀ jobs numbers d r z short a b =
     let file = fileSealing draft ring out₀ .out in
     let g = genuine draft ring out₀ d r z in
     let n = countOf file in
-    all-said file ring jobs numbers short (wider edition file (lit≤ tt) (lit≤ tt) (ap (λ (x : Answer). x .number) (g .0 .checked))) (g .1) a b
+    all-said file ring jobs numbers short (wider firstEdition file (lit≤ tt) (lit≤ tt) (ap (λ (x : Answer). x .number) (g .0 .checked))) (g .1) a b
     ∙ ap (λ (l : List ℕ). record { said = entries n; jobs = front (jobOf file) n jobs; numbers = l ++ drop n numbers }) (each-same (tagNumber file ring) (λ i. 0) n (right-zero file ring (g .0)))

@@ -4,14 +4,14 @@ use mathlib.Core.Path.{_≡_}
 use mathlib.Core.List.{List}
 use lib.ListN.{length}
 use Rattle.table.specs.declared.row.Row.{Row}
-use Rattle.table.specs.Format.{widthOf, countOf, rowOf}
+use Rattle.table.specs.Format.{rowSizeOf, countOf, rowOf}
 use Rattle.table.specs.Check.{checkFile}
 use Rattle.table.specs.Inside.{EntryIn}
 
 -- row i can be opened under the ring
 pub record Openable (f ring : List ℕ) (i : ℕ) (r : Row) : Type 0 where
   pub is-row : r ≡ rowOf f i
-  pub entry : EntryIn (widthOf f) f i
+  pub entry : EntryIn (rowSizeOf f) f i
   pub ring-long : length ring ≡ 256
 
 -- all n entries can be listed

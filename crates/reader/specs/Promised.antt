@@ -35,7 +35,7 @@ OthersRows = (r : Reader) (k m : ℕ) → r .place .end ≡ rowsLaid (now (r .sr
 -- an entry line's 0 or 8 is what opening its job answers, into an output of the message's length
 abbrev pub OpeningSays : Type 0
 OpeningSays =
-    (f ring out : List ℕ) (i : ℕ) → checkFile f .number ≡ 0 → length ring ≡ 256 → i < countOf f → length out ≡ rowOf f i .len
+    (f ring out : List ℕ) (i : ℕ) → checkFile f .number ≡ 0 → length ring ≡ 256 → i < countOf f → length out ≡ rowOf f i .«text_len»
     → jobOpening f ring (jobOf f i) out .answer ≡ answer (tagNumber f ring i) 0
 
 -- a file of at most 65,280 bytes that the writer makes gets 0 on every entry line under the same ring

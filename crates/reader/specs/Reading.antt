@@ -4,7 +4,7 @@ use mathlib.Core.List.{List, [], _∷_}
 use mathlib.Core.Bool.{_&&_, cond}
 use lib.Dec.{ltb, eqb}
 use denote.Ref.{RefT, now}
-use Rattle.table.specs.Format.{countOf, edition, newest, widthOf, nonceStart, rowOf, stationOf}
+use Rattle.table.specs.Format.{countOf, firstEdition, newest, rowSizeOf, nonceStart, rowOf, stationOf}
 use Rattle.table.specs.Check.{headNumber, checkFile}
 use Rattle.reader.specs.declared.cursor.Cursor.{Cursor}
 use Rattle.reader.specs.declared.cursor.Listed.{Listed}
@@ -20,11 +20,11 @@ rowsIn f = cond (eqb (checkFile f .number) 0) (countOf f) 0
 
 -- how many rows the header lays down: none where one of 20 to 24 applies
 unfoldable pub rowsLaid : List ℕ → ℕ
-rowsLaid f = cond (eqb (headNumber edition newest f) 0) (countOf f) 0
+rowsLaid f = cond (eqb (headNumber firstEdition newest f) 0) (countOf f) 0
 
 -- row i as the table has it: its fields, its station, and where its nonce starts
 abbrev pub listedOf : List ℕ → ℕ → Listed
-listedOf f i = record { index = i; row = rowOf f i; station = stationOf f i; nonce = nonceStart (widthOf f) i }
+listedOf f i = record { index = i; row = rowOf f i; station = stationOf f i; nonce = nonceStart (rowSizeOf f) i }
 
 -- a cursor at row 0
 abbrev pub startOf : List ℕ → Cursor

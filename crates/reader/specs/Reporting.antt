@@ -7,7 +7,7 @@ use lib.Dec.{ltb, eqb}
 use Rattle.table.specs.declared.answers.Answer.{Answer}
 use Rattle.table.specs.Format.{countOf, rowOf}
 use Rattle.table.specs.Answers.{answer, refusalAnswer}
-use Rattle.table.specs.Check.{checkFile}
+use Rattle.table.specs.Check.{checkFile, refused}
 use Rattle.draft.specs.Answers.{tagRight}
 use Rattle.reader.specs.declared.answers.Said.{Said}
 use Rattle.reader.specs.declared.answers.Reported.{Reported}
@@ -67,7 +67,7 @@ longest = 65280
 unfoldable pub reporting : List ℕ → List ℕ → List ℕ → List ℕ → Report
 reporting f ring jobs numbers =
     cond (ltb longest (length f)) (stopped (answer 20 0) jobs numbers)
-    (cond (not (eqb (checkFile f .number) 0)) (stopped (checkFile f) jobs numbers)
+    (cond (refused f) (stopped (checkFile f) jobs numbers)
     (cond (not (eqb (length ring) 256)) (stopped (answer 2 0) jobs numbers)
     (cond (ltb (length jobs) (countOf f) || ltb (length numbers) (countOf f)) (stopped (answer 6 0) jobs numbers)
     (record { said = entries (countOf f); jobs = front (jobOf f) (countOf f) jobs; numbers = front (tagNumber f ring) (countOf f) numbers }))))

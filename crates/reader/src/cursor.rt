@@ -3,15 +3,15 @@ use shift::lend::row_of;
 use table::answers::Checked;
 use table::check;
 use table::check_head;
-use table::row::EDITION;
+use table::row::FIRST_EDITION;
 use table::row::NEWEST;
 use table::row::Row;
 use table::row::count;
 use table::row::nonce_start;
+use table::row::row_size_of;
 use table::row::station_of;
-use table::row::width;
 ghost use mathlib.Core.Path.{_≡_};
-ghost use Rattle.table.specs.Format.{widthOf};
+ghost use Rattle.table.specs.Format.{rowSizeOf};
 ghost use Rattle.table.specs.Inside.{RowIn};
 ghost use Rattle.reader.specs.Reading.{rowsLaid, listedOf, startOf, askOf};
 
@@ -62,7 +62,7 @@ pub fn start(file: &[u8]) -> Cursor
 fn laid(file: &[u8]) -> usize
     ensures { λ r. ⌜ r ≡ rowsLaid (now (file .entry)) ⌝ }
 {
-    match check_head(EDITION, NEWEST, file) {
+    match check_head(FIRST_EDITION, NEWEST, file) {
         Checked::Refused(_) => {
             return 0;
         }
@@ -71,36 +71,36 @@ fn laid(file: &[u8]) -> usize
     count(file)
 }
 
-// Row i.
-fn listed_at(f: &[u8], i: usize) -> Listed
-    requires { ⌜ RowIn (widthOf (now f)) (now f) i ⌝ }
-    ensures { λ r. ⌜ r ≡ listedOf (now (f .entry)) i ⌝ }
+// A row, as it is listed.
+fn listed_at(file: &[u8], index: usize) -> Listed
+    requires { ⌜ RowIn (rowSizeOf (now file)) (now file) index ⌝ }
+    ensures { λ r. ⌜ r ≡ listedOf (now (file .entry)) index ⌝ }
 {
     Listed {
-        index: i,
-        row: row_of(f, i),
-        station: station_of(f, i),
-        nonce: nonce_start(width(f), i),
+        index: index,
+        row: row_of(file, index),
+        station: station_of(file, index),
+        nonce: nonce_start(row_size_of(file), index),
     }
 }
 
 // The next row, and the cursor past it. A cursor says nothing of the file that it comes with, so the header is looked at
 // again, which tells that the row lies in the file; the check is not run again.
-pub fn ask(c: Cursor, file: &[u8]) -> Stepped
-    ensures { λ r. ⌜ r ≡ askOf c (now (file .entry)) ⌝ }
+pub fn ask(cursor: Cursor, file: &[u8]) -> Stepped
+    ensures { λ r. ⌜ r ≡ askOf cursor (now (file .entry)) ⌝ }
 {
-    let at = c.at;
-    let end = c.end;
+    let at = cursor.at;
+    let end = cursor.end;
     let n = laid(file);
     if end != n {
         return Stepped {
-            next: c,
+            next: cursor,
             entry: Given::Ended,
         };
     }
     if n <= at {
         return Stepped {
-            next: c,
+            next: cursor,
             entry: Given::Ended,
         };
     }

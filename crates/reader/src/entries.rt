@@ -7,25 +7,25 @@ ghost use Prim.Native.Nat.{_<_};
 ghost use Rattle.reader.specs.Reporting.{jobOf, tagNumber, front};
 ghost use Rattle.reader.specs.Inside.{Openable, Listable};
 
-// 0 where the tag of row i is right, 8 where it is wrong; no message is written.
-fn tag_number(f: &[u8], ring: &[u8], i: usize, row: Row) -> u8
-    requires { ⌜ Openable (now f) (now ring) i row ⌝ }
-    ensures { λ r. ⌜ r ≡ tagNumber (now (f .entry)) (now (ring .entry)) i ⌝ }
+// 0 where the tag of a row is right, 8 where it is wrong; no message is written.
+fn tag_number(file: &[u8], ring: &[u8], index: usize, row: Row) -> u8
+    requires { ⌜ Openable (now file) (now ring) index row ⌝ }
+    ensures { λ r. ⌜ r ≡ tagNumber (now (file .entry)) (now (ring .entry)) index ⌝ }
 {
-    let a = verify_row(f, ring, i, row);
+    let a = verify_row(file, ring, index, row);
     a.number()
 }
 
-// All n entries, from the front of both lists on; a wrong tag stops nothing.
-pub(crate) fn list_all(f: &[u8], ring: &[u8], n: usize, jobs: &mut [u32], numbers: &mut [u8])
-    requires { ⌜ Listable (now f) (now ring) n (now jobs) (now numbers) ⌝ }
-    ensures { λ _. ⌜ (now (jobs .exit) ≡ front (jobOf (now (f .entry))) n (now (jobs .entry))) × (now (numbers .exit) ≡ front (tagNumber (now (f .entry)) (now (ring .entry))) n (now (numbers .entry))) ⌝ }
+// All entries, from the front of both lists on; a wrong tag stops nothing.
+pub(crate) fn list_all(file: &[u8], ring: &[u8], rows: usize, jobs: &mut [u32], numbers: &mut [u8])
+    requires { ⌜ Listable (now file) (now ring) rows (now jobs) (now numbers) ⌝ }
+    ensures { λ _. ⌜ (now (jobs .exit) ≡ front (jobOf (now (file .entry))) rows (now (jobs .entry))) × (now (numbers .exit) ≡ front (tagNumber (now (file .entry)) (now (ring .entry))) rows (now (numbers .entry))) ⌝ }
 {
     let mut i: usize = 0;
-    while i < n {
-        let row = row_of(f, i);
+    while i < rows {
+        let row = row_of(file, i);
         jobs[i] = row.job;
-        numbers[i] = tag_number(f, ring, i, row);
+        numbers[i] = tag_number(file, ring, i, row);
         i += 1;
     }
 }

@@ -69,11 +69,11 @@ pub fn step_at(file: &[u8], place: Cursor) -> Stepped
 }
 
 // The same in place: the reader is lent, and its place moves.
-pub fn next_in<'s, 'a>(r: &'s mut Reader<'a>) -> Given
-    ensures { λ e. ⌜ asked (now (r .exit)) e ≡ nextOf (now (r .entry)) ⌝ }
+pub fn next_in<'s, 'a>(reader: &'s mut Reader<'a>) -> Given
+    ensures { λ e. ⌜ asked (now (reader .exit)) e ≡ nextOf (now (reader .entry)) ⌝ }
 {
-    let s = ask(r.place, r.src);
-    r.place = s.next;
+    let s = ask(reader.place, reader.src);
+    reader.place = s.next;
     s.entry
 }
 

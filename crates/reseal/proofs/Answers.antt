@@ -8,9 +8,10 @@ use mathlib.Core.Logic.{_⊎_, inl, inr, ⊎-elim}
 use lib.ListN.{length}
 use lib.Dec.{eqb, lit<}
 use borrow.Author.Tests.{eq-eqb, ne-eqb, eqb-true, eqb-false, not-false}
+use Rattle.words.proofs.Tests.{is-false}
 use Rattle.cipher.specs.Cipher.{retiredSuite}
 use Rattle.table.specs.declared.answers.Answer.{Answer}
-use Rattle.table.specs.Format.{countOf, edition, widthOf, rowOf}
+use Rattle.table.specs.Format.{countOf, firstEdition, rowSizeOf, rowOf}
 use Rattle.table.specs.Answers.{answer}
 use Rattle.table.specs.Check.{nonceSeen, andThen, checkAs}
 use Rattle.table.proofs.Searches.{first-none, first-at}
@@ -22,31 +23,27 @@ use Rattle.reseal.specs.Files.{retabled, resealedFile}
 use Rattle.reseal.specs.Answers.{seenFrom, wrongAgain, wrongAgainFrom, takeAnswer, resealAnswer, fileResealing}
 use Rattle.reseal.specs.Promised.{HasFour, Calm, ResealCases, Resealing, ResealNumbers}
 
-not-true-false : (b : Bool) → (b ≡ true → ⊥) → b ≡ false
-not-true-false true n = absurd (n refl)
-not-true-false false n = refl
-
 abbrev number : Answer → ℕ
 number x = x .number
 
 -- ---- 29, on any table
 
 module _ (f : List ℕ) (n : ℕ) where
-  pub seen-none : ((i : ℕ) → i < n → nonceSeen (widthOf f) f i ≡ true → ⊥) → seenFrom f n 0 ≡ answer 0 0
+  pub seen-none : ((i : ℕ) → i < n → nonceSeen (rowSizeOf f) f i ≡ true → ⊥) → seenFrom f n 0 ≡ answer 0 0
   unfolding seenFrom
-  seen-none h = first-none _ _ _ n (λ i l. not-true-false _ (h i l))
+  seen-none h = first-none _ _ _ n (λ i l. is-false _ (h i l))
 
-  seen-first : (i : ℕ) → i < n → nonceSeen (widthOf f) f i ≡ true → ((k : ℕ) → k < i → nonceSeen (widthOf f) f k ≡ true → ⊥) → seenFrom f n 0 ≡ answer 29 i
+  seen-first : (i : ℕ) → i < n → nonceSeen (rowSizeOf f) f i ≡ true → ((k : ℕ) → k < i → nonceSeen (rowSizeOf f) f k ≡ true → ⊥) → seenFrom f n 0 ≡ answer 29 i
   unfolding seenFrom
-  seen-first i l h z = first-at _ _ _ n i l h (λ k b. not-true-false _ (z k b))
+  seen-first i l h z = first-at _ _ _ n i l h (λ k b. is-false _ (z k b))
 
-  none-seen : seenFrom f n 0 .number ≡ 0 → (i : ℕ) → i < n → nonceSeen (widthOf f) f i ≡ true → ⊥
+  none-seen : seenFrom f n 0 .number ≡ 0 → (i : ℕ) → i < n → nonceSeen (rowSizeOf f) f i ≡ true → ⊥
   unfolding seenFrom
-  none-seen z i l e = true≢false (sym e ∙ found-none (nonceSeen (widthOf f) f) 29 (lit< tt) n z i l)
+  none-seen z i l e = true≢false (sym e ∙ found-none (nonceSeen (rowSizeOf f) f) 29 (lit< tt) n z i l)
 
   seen-number : (seenFrom f n 0 ≡ answer 0 0) ⊎ (seenFrom f n 0 .number ≡ 29)
   unfolding seenFrom
-  seen-number = found-number (nonceSeen (widthOf f) f) 29 (lit< tt) n
+  seen-number = found-number (nonceSeen (rowSizeOf f) f) 29 (lit< tt) n
 
 -- ---- 8, of the suite 4 rows
 
@@ -94,11 +91,11 @@ module _ (file : List ℕ) (ring out : ℕ) where
   abbrev seen : Answer
   seen = seenFrom (retabled file) (countOf file) 0
 
-  take-checked : (checkAs edition file .number ≡ 0 → ⊥) → takeAnswer file ring out ≡ checkAs edition file
+  take-checked : (checkAs firstEdition file .number ≡ 0 → ⊥) → takeAnswer file ring out ≡ checkAs firstEdition file
   unfolding takeAnswer
   take-checked n = simp (ne-eqb _ _ n)
 
-  module _ (z : checkAs edition file .number ≡ 0) where
+  module _ (z : checkAs firstEdition file .number ≡ 0) where
     pub take-seen : (x : Answer) → x ≡ seen → (x .number ≡ 0 → ⊥) → x ≡ takeAnswer file ring out
     unfolding takeAnswer
     take-seen x q n = simp (eq-eqb _ _ z, ← q, ne-eqb _ _ n)
@@ -110,12 +107,12 @@ module _ (file : List ℕ) (ring out : ℕ) where
   abbrev TakeNumbers : Type 0
   TakeNumbers =
       let x : Answer = takeAnswer file ring out in
-      (x ≡ answer 0 0) ⊎ (x .number ≡ 2) ⊎ (x .number ≡ 6) ⊎ (x .number ≡ 29) ⊎ (x ≡ checkAs edition file)
+      (x ≡ answer 0 0) ⊎ (x .number ≡ 2) ⊎ (x .number ≡ 6) ⊎ (x .number ≡ 29) ⊎ (x ≡ checkAs firstEdition file)
 
   take-numbers : TakeNumbers
-  take-numbers = check-case (eqb (checkAs edition file .number) 0) refl
+  take-numbers = check-case (eqb (checkAs firstEdition file .number) 0) refl
     where
-      lent-case : checkAs edition file .number ≡ 0 → seen ≡ answer 0 0 → TakeNumbers
+      lent-case : checkAs firstEdition file .number ≡ 0 → seen ≡ answer 0 0 → TakeNumbers
       lent-case z q =
           let e = sym (take-lent z q) in
           ⊎-elim
@@ -123,7 +120,7 @@ module _ (file : List ℕ) (ring out : ℕ) where
           (⊎-elim (λ h. inr (inl (ap number (e ∙ h)))) (λ h. inr (inr (inl (ap number (e ∙ h))))))
           (lent-number (length file) ring out)
 
-      check-case : (b : Bool) → eqb (checkAs edition file .number) 0 ≡ b → TakeNumbers
+      check-case : (b : Bool) → eqb (checkAs firstEdition file .number) 0 ≡ b → TakeNumbers
       check-case false e = inr (inr (inr (inr (take-checked (eqb-false _ _ e)))))
       check-case true e =
           let z = eqb-true _ _ e in
@@ -138,7 +135,7 @@ module _ (file : List ℕ) (ring out : ℕ) where
       (⊎-elim (λ h. omega arith)
       (⊎-elim (λ h. omega arith)
       (⊎-elim (λ h. omega arith)
-      (λ h. not-eight edition file (sym (ap number h) ∙ q))))) take-numbers
+      (λ h. not-eight firstEdition file (sym (ap number h) ∙ q))))) take-numbers
 
   -- what 0 says
   pub record Takeable : Type 0 where
@@ -148,7 +145,7 @@ module _ (file : List ℕ) (ring out : ℕ) where
   pub takeable : takeAnswer file ring out .number ≡ 0 → Takeable
   unfolding takeAnswer
   takeable z =
-      let a = both-zero (checkAs edition file) (andThen seen (lentAnswer (length file) ring out)) z in
+      let a = both-zero (checkAs firstEdition file) (andThen seen (lentAnswer (length file) ring out)) z in
       let b = both-zero seen (lentAnswer (length file) ring out) (rw (a .1) at z) in
       record {
         calm = record { checked = a .0; calm = none-seen (retabled file) (countOf file) (b .0) };
@@ -235,7 +232,7 @@ unfolding fileResealing
 reseal-numbers file ring out₀ = number-case (eqb (taken file ring out₀ .number) 0) refl
   where
     number-case : (b : Bool) → eqb (taken file ring out₀ .number) 0 ≡ b
-        → let x : Answer = resealAnswer file ring (length out₀) in (x .number ≡ 0) ⊎ (x .number ≡ 2) ⊎ (x .number ≡ 6) ⊎ (x .number ≡ 8) ⊎ (x .number ≡ 29) ⊎ (x ≡ checkAs edition file)
+        → let x : Answer = resealAnswer file ring (length out₀) in (x .number ≡ 0) ⊎ (x .number ≡ 2) ⊎ (x .number ≡ 6) ⊎ (x .number ≡ 8) ⊎ (x .number ≡ 29) ⊎ (x ≡ checkAs firstEdition file)
     number-case true e =
         let q = result-wrong file ring out₀ (eqb-true _ _ e) in
         ⊎-elim

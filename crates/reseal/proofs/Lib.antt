@@ -3,5 +3,5 @@ pub mod Pieces
 pub mod Answers
 pub mod Resealed
 pub mod Promised
-pub mod Lent
+pub mod Lending
 pub mod Outcomes

@@ -8,7 +8,7 @@ use Rattle.comet.specs.Answers.{Opened, openedAs}
 use Rattle.words.specs.Bytes.{AllBytes}
 use Rattle.table.specs.declared.row.Row.{Row}
 use Rattle.table.specs.declared.answers.Answer.{Answer}
-use Rattle.table.specs.Format.{countOf, edition, widthOf, rowOf, dataOf}
+use Rattle.table.specs.Format.{countOf, firstEdition, rowSizeOf, rowOf, dataOf}
 use Rattle.table.specs.Answers.{answer}
 use Rattle.table.specs.Check.{nonceSeen, checkAs}
 use Rattle.table.proofs.Passed.{passes}
@@ -31,11 +31,11 @@ pub of-check : ClashOfCheck
 of-check = clash-of-check
 
 -- without suite 4 the table stays, so that no two rows clash that did not before
-calm-same : (f : List ℕ) → checkAs edition f .number ≡ 0 → ((i : ℕ) → i < countOf f → HasFour f i → ⊥) → Calm f
+calm-same : (f : List ℕ) → checkAs firstEdition f .number ≡ 0 → ((i : ℕ) → i < countOf f → HasFour f i → ⊥) → Calm f
 calm-same f z none =
     record {
       checked = z;
-      calm = λ i l e. true≢false (sym e ∙ ap (λ (x : List ℕ). nonceSeen (widthOf x) x i) (t-same f z none) ∙ passes edition edition f z .walk .rows i l .fresh);
+      calm = λ i l e. true≢false (sym e ∙ ap (λ (x : List ℕ). nonceSeen (rowSizeOf x) x i) (t-same f z none) ∙ passes firstEdition firstEdition f z .walk .rows i l .fresh);
     }
 
 pub nothing-retired : NothingRetired
@@ -49,7 +49,7 @@ module _ (f ring : List ℕ) (hf : AllBytes f) (hr : AllBytes ring) (c : Calm f)
   abbrev F : List ℕ
   F = resealedFile f ring
 
-  passed : checkAs edition F .number ≡ 0
+  passed : checkAs firstEdition F .number ≡ 0
   passed = ap (λ (x : Answer). x .number) (resealed-passes f ring hf hr c full)
 
   resealed : (i : ℕ) → i < countOf f → HasFour f i → Resealed f ring F i
@@ -58,11 +58,11 @@ module _ (f ring : List ℕ) (hf : AllBytes f) (hr : AllBytes ring) (c : Calm f)
       let right₃ = right-again f ring hf hr c full i l four in
       let m : i < countOf F = rw (resealed-count f ring hf hr c full) l in
       let same = same-message f ring hf hr c full i l four in
-      let old : (room : List ℕ) → length room ≡ rowOf f i .len → entryOpening f ring i room ≡ record { number = 0; out = entryOut true f ring i } =
-      λ room o. open-done f ring i (entry-at edition f plain-file (c .checked) i l) full room o ∙ ap (λ (b : Bool). openedAs 0 b (entryOut true f ring i) room) (right-test f i ring (right i l four)) in
-      let new : (room : List ℕ) → length room ≡ rowOf f i .len → entryOpening F ring i room ≡ record { number = 0; out = entryOut true F ring i } =
+      let old : (room : List ℕ) → length room ≡ rowOf f i .«text_len» → entryOpening f ring i room ≡ record { number = 0; out = entryOut true f ring i } =
+      λ room o. open-done f ring i (entry-at firstEdition f plain-file (c .checked) i l) full room o ∙ ap (λ (b : Bool). openedAs 0 b (entryOut true f ring i) room) (right-test f i ring (right i l four)) in
+      let new : (room : List ℕ) → length room ≡ rowOf f i .«text_len» → entryOpening F ring i room ≡ record { number = 0; out = entryOut true F ring i } =
       λ room o.
-      open-done F ring i (entry-at edition F plain-file passed i m) full room (o ∙ ap (λ (r : Row). r .len) (sym row))
+      open-done F ring i (entry-at firstEdition F plain-file passed i m) full room (o ∙ ap (λ (r : Row). r .«text_len») (sym row))
       ∙ ap (λ (b : Bool). openedAs 0 b (entryOut true F ring i) room) (right-test F i ring right₃) in
       record {
         suite = ap (λ (r : Row). r .suite) row;

@@ -18,7 +18,7 @@ use Rattle.mode.proofs.Start.{suite-nonce}
 use Rattle.table.specs.declared.row.Row.{Row}
 use Rattle.table.specs.declared.answers.Answer.{Answer}
 use Rattle.table.specs.Part.{stretch}
-use Rattle.table.specs.Format.{countOf, edition, widthOf, nonceAt, rowOf, dataOf, textOf, tagOf}
+use Rattle.table.specs.Format.{countOf, firstEdition, rowSizeOf, nonceAt, rowOf, dataOf, textOf, tagOf}
 use Rattle.table.specs.Answers.{answer}
 use Rattle.table.specs.Check.{checkAs}
 use Rattle.table.specs.Inside.{EntryIn}
@@ -41,7 +41,7 @@ use Rattle.reseal.proofs.Answers.{seen-none}
 
 -- the nonce bytes that suite 3 reads of row i
 abbrev nonceAgain : List ℕ → ℕ → List ℕ
-nonceAgain f i = take (nonceOf successor) (nonceAt (widthOf f) f i)
+nonceAgain f i = take (nonceOf successor) (nonceAt (rowSizeOf f) f i)
 
 -- a message, sealed as suite 3: text and tag
 abbrev againText : List ℕ → List ℕ → ℕ → List ℕ → List ℕ
@@ -51,7 +51,7 @@ abbrev againTag : List ℕ → List ℕ → ℕ → List ℕ → List ℕ
 againTag f ring i msg = tagAs false f ring i successor msg
 
 -- of a suite 4 entry's message: how long they are
-module _ (f ring : List ℕ) (hf : AllBytes f) (hr : AllBytes ring) (full : length ring ≡ 256) (i : ℕ) (e : EntryIn (widthOf f) f i) (four : HasFour f i) where
+module _ (f ring : List ℕ) (hf : AllBytes f) (hr : AllBytes ring) (full : length ring ≡ 256) (i : ℕ) (e : EntryIn (rowSizeOf f) f i) (four : HasFour f i) where
   abbrev msg : List ℕ
   msg = entryOut true f ring i
 
@@ -60,12 +60,12 @@ module _ (f ring : List ℕ) (hf : AllBytes f) (hr : AllBytes ring) (full : leng
   msg-all = let r = rowOf f i in text-bytes (cipherOf (r .suite)) (lawful (r .suite)) (ringKey ring (r .key)) (nonceRead f i) (dataOf f r) true (textOf f r) (text-all f ring i e full hf hr)
 
   nonce-four : nonceRead f i ≡ nonceAgain f i
-  nonce-four = ap (λ (k : ℕ). take k (nonceAt (widthOf f) f i)) (sym (nonce-new (rowOf f i .suite)) ∙ ap nonceOf (new-four (rowOf f i .suite) four))
+  nonce-four = ap (λ (k : ℕ). take k (nonceAt (rowSizeOf f) f i)) (sym (nonce-new (rowOf f i .suite)) ∙ ap nonceOf (new-four (rowOf f i .suite) four))
 
   size-four : sizeOf (rowOf f i .suite) ≡ sizeOf successor
   size-four = sym (size-new (rowOf f i .suite)) ∙ ap sizeOf (new-four (rowOf f i .suite) four)
 
-  text-long : length (againText f ring i msg) ≡ rowOf f i .len
+  text-long : length (againText f ring i msg) ≡ rowOf f i .«text_len»
   text-long =
       let r = rowOf f i in
       text-length (cipherOf successor) (lawful successor) (ringKey ring (r .key)) (nonceAgain f i) (dataOf f r) false msg msg-all ∙ out-long f ring i e full hf hr true
@@ -79,7 +79,7 @@ module _ (f ring : List ℕ) (hf : AllBytes f) (hr : AllBytes ring) (full : leng
   tag-long =
       let r = rowOf f i in
       tag-block (cipherOf successor) (lawful successor) (ringKey ring (r .key)) (nonceAgain f i) (dataOf f r) false msg
-      (key-block f ring i e full hr) (all-nonce (nonce-bytes f i hf)) (nonce-fit ∙ sym (suite-nonce successor)) (all-stretch f (r .at) (r .ad) hf) msg-all .long
+      (key-block f ring i e full hr) (all-nonce (nonce-bytes f i hf)) (nonce-fit ∙ sym (suite-nonce successor)) (all-stretch f (r .«ad_at») (r .«ad_len») hf) msg-all .long
     where
       all-nonce : AllBytes (nonceRead f i) → AllBytes (nonceAgain f i)
       all-nonce h = rw nonce-four at h
@@ -91,28 +91,28 @@ module _ (f ring : List ℕ) (hf : AllBytes f) (hr : AllBytes ring) (c : Calm f)
   abbrev T : List ℕ
   T = retabled f
 
-  z : checkAs edition f .number ≡ 0
+  z : checkAs firstEdition f .number ≡ 0
   z = c .checked
 
   -- the theorem of the table: with the new suites it passes too
-  t-passes : checkAs edition T .number ≡ 0
+  t-passes : checkAs firstEdition T .number ≡ 0
   t-passes = ap (λ (x : Answer). x .number) (clash-of-check f z ∙ seen-none T n (c .calm))
 
-  taken : (i : ℕ) → i < n → EntryIn (widthOf f) f i
-  taken = entry-at edition f plain-file z
+  taken : (i : ℕ) → i < n → EntryIn (rowSizeOf f) f i
+  taken = entry-at firstEdition f plain-file z
 
   t-start : (i : ℕ) → i < n → pieceStart T i ≡ pieceStart f i
   unfolding pieceStart
-  t-start i l = ap (λ (r : Row). r .at + r .ad) (t-row f z i l)
+  t-start i l = ap (λ (r : Row). r .«ad_at» + r .«ad_len») (t-row f z i l)
 
   t-size : (i : ℕ) → i < n → pieceSize T i ≡ pieceSize f i
-  t-size i l = ap (λ (r : Row). r .len + sizeOf (r .suite)) (t-row f z i l) ∙ ap (λ (k : ℕ). rowOf f i .len + k) (size-new (rowOf f i .suite))
+  t-size i l = ap (λ (r : Row). r .«text_len» + sizeOf (r .suite)) (t-row f z i l) ∙ ap (λ (k : ℕ). rowOf f i .«text_len» + k) (size-new (rowOf f i .suite))
 
-  t-edition : inEdition edition T ≡ T
+  t-edition : inEdition firstEdition T ≡ T
   t-edition =
-      edition-same edition T (omega (arith, t-length f z, head edition f plain-file z .long))
-      (t-head f z 0 (omega arith) ∙ pair-low f edition hf (plain-file .1) (edition-own edition f plain-file z))
-      (t-head f z 1 (omega arith) ∙ pair-high f edition hf (plain-file .1) (edition-own edition f plain-file z))
+      edition-same firstEdition T (omega (arith, t-length f z, head firstEdition f plain-file z .long))
+      (t-head f z 0 (omega arith) ∙ pair-low f firstEdition hf (plain-file .1) (edition-own firstEdition f plain-file z))
+      (t-head f z 1 (omega arith) ∙ pair-high f firstEdition hf (plain-file .1) (edition-own firstEdition f plain-file z))
 
   -- ---- with a piece for every row: where nothing is put, what stands there
 
@@ -152,11 +152,11 @@ module _ (f ring : List ℕ) (hf : AllBytes f) (hr : AllBytes ring) (c : Calm f)
       let m : i < n = rw (sym (t-count f z)) l in
       ⊎-elim
       (λ q. ap length (whole-four i q) ∙ four-long i m q ∙ sym (t-size i m))
-      (λ q. ap length (whole-other i q) ∙ stretch-length T (pieceStart T i) (pieceSize T i) (piece-in edition T plain-file t-passes i l))
+      (λ q. ap length (whole-other i q) ∙ stretch-length T (pieceStart T i) (pieceSize T i) (piece-in firstEdition T plain-file t-passes i l))
       (four-or i)
 
   abbrev R : List ℕ
-  R = rewritten edition whole T
+  R = rewritten firstEdition whole T
 
   resealed-is : resealedFile f ring ≡ R
   unfolding resealedFile
@@ -167,7 +167,7 @@ module _ (f ring : List ℕ) (hf : AllBytes f) (hr : AllBytes ring) (c : Calm f)
       ∙ ap (putAll (pieceStart T) whole (countOf T)) (sym t-edition)
     where
       t-apart : Apart (pieceStart T) whole (countOf T) T
-      t-apart = rw t-edition at (pieces-apart edition T plain-file t-passes edition plain-file whole whole-long)
+      t-apart = rw t-edition at (pieces-apart firstEdition T plain-file t-passes firstEdition plain-file whole whole-long)
 
       alike : (i : ℕ) → i < countOf T → (againPiece f ring i ≡ whole i) ⊎ ((againPiece f ring i ≡ []) × (whole i ≡ stretch T (pieceStart T i) (length (whole i))))
       alike i l =
@@ -176,28 +176,28 @@ module _ (f ring : List ℕ) (hf : AllBytes f) (hr : AllBytes ring) (c : Calm f)
           (λ q. inr (again-other i q, whole-other i q ∙ ap (stretch T (pieceStart T i)) (sym (whole-long i l))))
           (four-or i)
 
-  pub resealed-passes : checkAs edition (resealedFile f ring) ≡ answer 0 0
-  resealed-passes = ap (checkAs edition) resealed-is ∙ passes-again edition T plain-file t-passes edition plain-file whole whole-long
+  pub resealed-passes : checkAs firstEdition (resealedFile f ring) ≡ answer 0 0
+  resealed-passes = ap (checkAs firstEdition) resealed-is ∙ passes-again firstEdition T plain-file t-passes firstEdition plain-file whole whole-long
 
   pub resealed-length : length (resealedFile f ring) ≡ length f
-  resealed-length = ap length resealed-is ∙ same-length edition T plain-file t-passes edition plain-file whole whole-long ∙ t-length f z
+  resealed-length = ap length resealed-is ∙ same-length firstEdition T plain-file t-passes firstEdition plain-file whole whole-long ∙ t-length f z
 
   pub resealed-count : countOf (resealedFile f ring) ≡ n
-  resealed-count = ap countOf resealed-is ∙ same-count edition T plain-file t-passes edition plain-file whole whole-long ∙ t-count f z
+  resealed-count = ap countOf resealed-is ∙ same-count firstEdition T plain-file t-passes firstEdition plain-file whole whole-long ∙ t-count f z
 
   pub resealed-row : (i : ℕ) → i < n → rowOf (resealedFile f ring) i ≡ withSuite (rowOf f i)
   resealed-row i l =
       ap (λ (x : List ℕ). rowOf x i) resealed-is
-      ∙ same-row edition T plain-file t-passes edition plain-file whole whole-long i (rw (t-count f z) l)
+      ∙ same-row firstEdition T plain-file t-passes firstEdition plain-file whole whole-long i (rw (t-count f z) l)
       ∙ t-row f z i l
 
   pub none-left : (i : ℕ) → i < countOf (resealedFile f ring) → HasFour (resealedFile f ring) i → ⊥
   none-left i l q = new-not (rowOf f i .suite) (sym (ap (λ (r : Row). r .suite) (resealed-row i (rw resealed-count at l))) ∙ q)
 
-  pub resealed-nonce : (i : ℕ) → i < n → nonceAt (widthOf (resealedFile f ring)) (resealedFile f ring) i ≡ nonceAt (widthOf f) f i
+  pub resealed-nonce : (i : ℕ) → i < n → nonceAt (rowSizeOf (resealedFile f ring)) (resealedFile f ring) i ≡ nonceAt (rowSizeOf f) f i
   resealed-nonce i l =
-      ap (λ (x : List ℕ). nonceAt (widthOf x) x i) resealed-is
-      ∙ same-nonce edition T plain-file t-passes edition plain-file whole whole-long i (rw (t-count f z) l)
+      ap (λ (x : List ℕ). nonceAt (rowSizeOf x) x i) resealed-is
+      ∙ same-nonce firstEdition T plain-file t-passes firstEdition plain-file whole whole-long i (rw (t-count f z) l)
       ∙ t-nonce f z i l
 
   -- ---- a suite 4 entry, resealed
@@ -214,10 +214,10 @@ module _ (f ring : List ℕ) (hf : AllBytes f) (hr : AllBytes ring) (c : Calm f)
 
     -- the row, with suite 3
     abbrev three : Row
-    three = record { job = r .job; suite = successor; key = r .key; ad = r .ad; at = r .at; len = r .len }
+    three = record { job = r .job; suite = successor; key = r .key; «ad_len» = r .«ad_len»; «ad_at» = r .«ad_at»; «text_len» = r .«text_len» }
 
     new-three : withSuite r ≡ three
-    new-three = ap (λ (s : ℕ). record { job = r .job; suite = s; key = r .key; ad = r .ad; at = r .at; len = r .len }) (new-four (r .suite) four)
+    new-three = ap (λ (s : ℕ). record { job = r .job; suite = s; key = r .key; «ad_len» = r .«ad_len»; «ad_at» = r .«ad_at»; «text_len» = r .«text_len» }) (new-four (r .suite) four)
 
     pub row-three : rowOf F i ≡ three
     row-three = resealed-row i l ∙ new-three
@@ -232,14 +232,14 @@ module _ (f ring : List ℕ) (hf : AllBytes f) (hr : AllBytes ring) (c : Calm f)
     data-three =
         ap (λ (x : List ℕ). dataOf x three) resealed-is
         ∙ ap (dataOf R) (sym row-t)
-        ∙ same-data edition T plain-file t-passes edition plain-file whole whole-long i in-t
+        ∙ same-data firstEdition T plain-file t-passes firstEdition plain-file whole whole-long i in-t
         ∙ ap (dataOf T) row-t
-        ∙ stretch-same T f (t-length f z) (r .at) (r .ad) (λ k a b. t-body f z k (omega (arith, body-late edition f plain-file z i l)))
+        ∙ stretch-same T f (t-length f z) (r .«ad_at») (r .«ad_len») (λ k a b. t-body f z k (omega (arith, body-late firstEdition f plain-file z i l)))
 
     parts-three : (textOf F three ≡ againText f ring i msg₄) × (tagOf F three ≡ againTag f ring i msg₄)
     parts-three =
-        let p = parts-are edition T plain-file t-passes edition plain-file whole whole-long i in-t (againText f ring i msg₄) (againTag f ring i msg₄) (whole-four i four)
-        (text-long f ring hf hr full i (taken i l) four ∙ ap (λ (q : Row). q .len) (sym row-t)) in (
+        let p = parts-are firstEdition T plain-file t-passes firstEdition plain-file whole whole-long i in-t (againText f ring i msg₄) (againTag f ring i msg₄) (whole-four i four)
+        (text-long f ring hf hr full i (taken i l) four ∙ ap (λ (q : Row). q .«text_len») (sym row-t)) in (
           ap (λ (x : List ℕ). textOf x three) resealed-is ∙ ap (textOf R) (sym row-t) ∙ p .0,
           ap (λ (x : List ℕ). tagOf x three) resealed-is ∙ ap (tagOf R) (sym row-t) ∙ p .1,
         )
@@ -279,8 +279,8 @@ module _ (f ring : List ℕ) (hf : AllBytes f) (hr : AllBytes ring) (c : Calm f)
 
   again-apart : Apart (pieceStart f) (againPiece f ring) n T
   again-apart = record {
-    fits = λ i l. omega (arith, again-most i l, piece-in edition f plain-file z i l, t-length f z);
-    after = λ i j l m. omega (arith, again-most i (omega arith), piece-end edition f plain-file z i, bodies-apart edition f plain-file z i j l m, start-is edition f plain-file z j);
+    fits = λ i l. omega (arith, again-most i l, piece-in firstEdition f plain-file z i l, t-length f z);
+    after = λ i j l m. omega (arith, again-most i (omega arith), piece-end firstEdition f plain-file z i, bodies-apart firstEdition f plain-file z i j l m, start-is firstEdition f plain-file z j);
   }
 
   pub kept-else : (k : ℕ) → ((i : ℕ) → i < n → HasFour f i → Elsewhere f i k) → getD (resealedFile f ring) k 0 ≡ getD f k 0
@@ -303,6 +303,6 @@ module _ (f ring : List ℕ) (hf : AllBytes f) (hr : AllBytes ring) (c : Calm f)
 
 -- ---- no suite 4 row: nothing changes
 
-pub unchanged : (f ring : List ℕ) → checkAs edition f .number ≡ 0 → ((i : ℕ) → i < countOf f → HasFour f i → ⊥) → resealedFile f ring ≡ f
+pub unchanged : (f ring : List ℕ) → checkAs firstEdition f .number ≡ 0 → ((i : ℕ) → i < countOf f → HasFour f i → ⊥) → resealedFile f ring ≡ f
 unfolding resealedFile againPiece
 unchanged f ring z none = put-empty (pieceStart f) (againPiece f ring) (countOf f) (retabled f) (λ i l. simp (ne-eqb _ _ (none i l))) ∙ t-same f z none

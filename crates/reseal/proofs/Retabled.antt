@@ -11,9 +11,10 @@ use lib.Seq.{ext-getD}
 use lib.Dec.{eqb, leb}
 use borrow.Author.Tests.{le-ltb, eq-eqb, ne-eqb, eqb-true}
 use Rattle.words.specs.Bytes.{sameBytes}
+use Rattle.words.specs.Blocks.{filled}
 use Rattle.cipher.specs.Cipher.{retiredSuite, factsOf, isSuite, sizeOf, nonceOf}
 use Rattle.table.specs.declared.row.Row.{Row}
-use Rattle.table.specs.Format.{editionOf, countOf, totalOf, edition, rowSize, widthOf, rowStart, restStart, rowAt, nonceStart, nonceAt, nonceReadAt, padded, rowOf, bodyEnd}
+use Rattle.table.specs.Format.{editionOf, countOf, totalOf, firstEdition, rowSize, rowSizeOf, rowStart, restStart, rowAt, nonceStart, nonceAt, nonceReadAt, rowOf, bodyEnd}
 use Rattle.table.specs.Answers.{answer}
 use Rattle.table.specs.Check.{notAbove, badSuite, badLength, bodyStart, misplaced, unreadSet, clash, nonceSeen, badData, bodyNumber, rowNumber, endAnswer, rowsFrom, headNumber, checkBetween, checkAs}
 use Rattle.table.specs.Inside.{TableIn}
@@ -72,17 +73,17 @@ module _ (s : ℕ) where
 
 -- the row with its new suite
 abbrev pub withSuite : Row → Row
-withSuite r = record { job = r .job; suite = newSuite (r .suite); key = r .key; ad = r .ad; at = r .at; len = r .len }
+withSuite r = record { job = r .job; suite = newSuite (r .suite); key = r .key; «ad_len» = r .«ad_len»; «ad_at» = r .«ad_at»; «text_len» = r .«text_len» }
 
 end-new : (r : Row) → bodyEnd (withSuite r) ≡ bodyEnd r
 unfolding bodyEnd
-end-new r = ap (λ (k : ℕ). r .at + r .ad + r .len + k) (size-new (r .suite))
+end-new r = ap (λ (k : ℕ). r .«ad_at» + r .«ad_len» + r .«text_len» + k) (size-new (r .suite))
 
 -- ---- bytes that have the file's table, with the new suites
 
-module _ (f l : List ℕ) (n : ℕ) (tf : TableIn (widthOf f) f n) (tl : TableIn (widthOf f) l n) (agree : (k : ℕ) → k < rowStart (widthOf f) n → getD l k 0 ≡ getD f k 0) where
+module _ (f l : List ℕ) (n : ℕ) (tf : TableIn (rowSizeOf f) f n) (tl : TableIn (rowSizeOf f) l n) (agree : (k : ℕ) → k < rowStart (rowSizeOf f) n → getD l k 0 ≡ getD f k 0) where
   abbrev w : ℕ
-  w = widthOf f
+  w = rowSizeOf f
 
   broad : 32 ≤ w
   broad = row-broad (editionOf f)
@@ -130,8 +131,8 @@ module _ (f l : List ℕ) (n : ℕ) (tf : TableIn (widthOf f) f n) (tl : TableIn
   pub new-edition : editionOf g ≡ editionOf f
   new-edition = word-same g f 2 0 (λ k b c. head-kept k (omega arith) ∙ agree k (omega (arith, row-late w n)))
 
-  new-width : widthOf g ≡ w
-  new-width = ap rowSize new-edition
+  new-row-size : rowSizeOf g ≡ w
+  new-row-size = ap rowSize new-edition
 
   -- a row's bytes but for the suite
   row-kept : (i : ℕ) → i < n → (k : ℕ) → rowStart w i ≤ k → k < rowStart w i + w → (k ≡ restStart w i → ⊥) → getD g k 0 ≡ getD f k 0
@@ -163,16 +164,16 @@ module _ (f l : List ℕ) (n : ℕ) (tf : TableIn (widthOf f) f n) (tl : TableIn
       let at = word-same g f 4 (q + 4) (λ k c d. row-kept i b k (omega arith) (omega arith) (λ s. omega arith)) in
       let len = word-same g f 4 (q + 8) (λ k c d. row-kept i b k (omega arith) (omega arith) (λ s. omega arith)) in
       let suite = suite-new i b in
-      λ t. record { job = job t; suite = suite t; key = key t; ad = ad t; at = at t; len = len t }
+      λ t. record { job = job t; suite = suite t; key = key t; «ad_len» = ad t; «ad_at» = at t; «text_len» = len t }
 
   pub row-new : (i : ℕ) → i < n → rowOf g i ≡ withSuite (rowOf f i)
-  row-new i b = ap (λ (v : ℕ). rowAt v g i) new-width ∙ row-at i b
+  row-new i b = ap (λ (v : ℕ). rowAt v g i) new-row-size ∙ row-at i b
 
   table-at : TableIn w g n
   table-at = record { broad = tl .broad; fits = omega (arith, tl .fits, new-length) }
 
-  pub new-table : TableIn (widthOf g) g n
-  new-table = rw new-width table-at
+  pub new-table : TableIn (rowSizeOf g) g n
+  new-table = rw new-row-size table-at
 
   nonce-at : (i : ℕ) → i < n → nonceAt w g i ≡ nonceAt w f i
   unfolding nonceAt nonceStart
@@ -185,8 +186,8 @@ module _ (f l : List ℕ) (n : ℕ) (tf : TableIn (widthOf f) f n) (tl : TableIn
       ∙ row-kept i b (nonceStart w i + k) (omega (arith, place i, broad)) (omega (arith, place i)) (λ s. omega arith)
       ∙ sym (stretch-at f (nonceStart w i) 16 k m))
 
-  pub nonce-kept : (i : ℕ) → i < n → nonceAt (widthOf g) g i ≡ nonceAt w f i
-  nonce-kept i b = ap (λ (v : ℕ). nonceAt v g i) new-width ∙ nonce-at i b
+  pub nonce-kept : (i : ℕ) → i < n → nonceAt (rowSizeOf g) g i ≡ nonceAt w f i
+  nonce-kept i b = ap (λ (v : ℕ). nonceAt v g i) new-row-size ∙ nonce-at i b
 
   read-at : (i : ℕ) → i < n → nonceReadAt w g i ≡ nonceReadAt w f i
   read-at i b =
@@ -196,22 +197,22 @@ module _ (f l : List ℕ) (n : ℕ) (tf : TableIn (widthOf f) f n) (tl : TableIn
   -- 34 says of a row what it said
   unread-at : (i : ℕ) → i < n → unreadSet w g i ≡ unreadSet w f i
   unfolding unreadSet
-  unread-at i b = ap₂ (λ (s t : List ℕ). not (sameBytes s (padded t))) (nonce-at i b) (read-at i b)
+  unread-at i b = ap₂ (λ (s t : List ℕ). not (sameBytes s (filled t))) (nonce-at i b) (read-at i b)
 
-  pub unread-kept : (i : ℕ) → i < n → unreadSet (widthOf g) g i ≡ unreadSet w f i
-  unread-kept i b = ap (λ (v : ℕ). unreadSet v g i) new-width ∙ unread-at i b
+  pub unread-kept : (i : ℕ) → i < n → unreadSet (rowSizeOf g) g i ≡ unreadSet w f i
+  unread-kept i b = ap (λ (v : ℕ). unreadSet v g i) new-row-size ∙ unread-at i b
 
 -- ---- a file that passes, with the new suites
 
-module _ (f : List ℕ) (z : checkAs edition f .number ≡ 0) where
+module _ (f : List ℕ) (z : checkAs firstEdition f .number ≡ 0) where
   abbrev n : ℕ
   n = countOf f
 
   abbrev v : ℕ
-  v = widthOf f
+  v = rowSizeOf f
 
-  P : Passes edition edition f
-  P = passes edition edition f z
+  P : Passes firstEdition firstEdition f
+  P = passes firstEdition firstEdition f z
 
   pub tab : TableIn v f n
   tab = P .head .table
@@ -225,13 +226,13 @@ module _ (f : List ℕ) (z : checkAs edition f .number ≡ 0) where
   pub t-row : (i : ℕ) → i < n → rowOf T i ≡ withSuite (rowOf f i)
   t-row = row-new f f n tab tab (λ k b. refl)
 
-  pub t-nonce : (i : ℕ) → i < n → nonceAt (widthOf T) T i ≡ nonceAt v f i
+  pub t-nonce : (i : ℕ) → i < n → nonceAt (rowSizeOf T) T i ≡ nonceAt v f i
   t-nonce = nonce-kept f f n tab tab (λ k b. refl)
 
-  pub t-table : TableIn (widthOf T) T n
+  pub t-table : TableIn (rowSizeOf T) T n
   t-table = new-table f f n tab tab (λ k b. refl)
 
-  pub t-unread : (i : ℕ) → i < n → unreadSet (widthOf T) T i ≡ unreadSet v f i
+  pub t-unread : (i : ℕ) → i < n → unreadSet (rowSizeOf T) T i ≡ unreadSet v f i
   t-unread = unread-kept f f n tab tab (λ k b. refl)
 
   pub t-head : (k : ℕ) → k < 8 → getD T k 0 ≡ getD f k 0
@@ -262,9 +263,9 @@ module _ (f : List ℕ) (z : checkAs edition f .number ≡ 0) where
   t-edition : editionOf T ≡ editionOf f
   t-edition = new-edition f f n tab tab (λ k b. refl)
 
-  -- the check reads the rows of the new table by the old one's width
-  t-width : widthOf T ≡ v
-  t-width = ap rowSize t-edition
+  -- the check reads the rows of the new table at the old one's row size
+  t-row-size : rowSizeOf T ≡ v
+  t-row-size = ap rowSize t-edition
 
   t-at : (i : ℕ) → i < n → rowAt v T i ≡ withSuite (rowOf f i)
   t-at = row-at f f n tab tab (λ k b. refl)
@@ -299,7 +300,7 @@ module _ (f : List ℕ) (z : checkAs edition f .number ≡ 0) where
     data-new : badData T (rowAt v T i) ≡ false
     unfolding badData
     data-new =
-        let b = body-late edition f plain-file z i l in
+        let b = body-late firstEdition f plain-file z i l in
         ap (badData T) (t-at i l) ∙ data-held f T v i (s .held) (λ k a c. t-body k (omega (arith, b)))
 
     number-new : rowNumber v T n i ≡ cond (nonceSeen v T i) 29 0
@@ -310,7 +311,7 @@ module _ (f : List ℕ) (z : checkAs edition f .number ≡ 0) where
   unfolding endAnswer
   t-end = simp (eq-eqb _ _ (start-kept n (omega arith) ∙ P .walk .ends ∙ sym t-length))
 
-  t-zero : headNumber edition edition T ≡ 0
+  t-zero : headNumber firstEdition firstEdition T ≡ 0
   unfolding headNumber
   t-zero =
       let t : totalOf T ≡ totalOf f = word-same T f 4 4 (λ k a b. t-head k (omega arith)) in
@@ -320,7 +321,7 @@ module _ (f : List ℕ) (z : checkAs edition f .number ≡ 0) where
   unfolding rowsFrom seenFrom
   t-rows =
       first-same _ _ _ _ _ _ (n - 0) 0
-      (λ j l. ap (λ (m : ℕ). not (eqb m 0)) (number-new j (omega arith)) ∙ some (nonceSeen v T j) ∙ ap (λ (u : ℕ). nonceSeen u T j) (sym t-width))
+      (λ j l. ap (λ (m : ℕ). not (eqb m 0)) (number-new j (omega arith)) ∙ some (nonceSeen v T j) ∙ ap (λ (u : ℕ). nonceSeen u T j) (sym t-row-size))
       (λ j l e. ap (λ (m : ℕ). answer m j) (seen (nonceSeen v T j) (rowNumber v T n j) (number-new j (omega arith)) e))
       t-end
     where
@@ -333,9 +334,9 @@ module _ (f : List ℕ) (z : checkAs edition f .number ≡ 0) where
       seen false m q e = absurd (let z : _≡_ {A = ℕ} 0 1 = ap (λ (b : Bool). cond b 1 0) (sym (ap (λ (k : ℕ). not (eqb k 0)) q) ∙ e) in omega arith)
 
   -- the theorem: the check of the file with the new suites is the search for a clash
-  pub clash-of-check : checkAs edition T ≡ seenFrom T n 0
+  pub clash-of-check : checkAs firstEdition T ≡ seenFrom T n 0
   unfolding checkBetween
-  clash-of-check = simp (t-zero, t-count, t-width) t-rows
+  clash-of-check = simp (t-zero, t-count, t-row-size) t-rows
 
   -- no suite 4 row: nothing changes
   pub t-same : ((i : ℕ) → i < n → rowOf f i .suite ≡ retiredSuite → ⊥) → T ≡ f

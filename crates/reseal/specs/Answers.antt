@@ -7,7 +7,7 @@ use lib.Dec.{eqb}
 use Rattle.cipher.specs.Cipher.{retiredSuite}
 use Rattle.table.specs.declared.answers.Answer.{Answer}
 use Rattle.table.specs.Search.{firstOf}
-use Rattle.table.specs.Format.{countOf, edition, widthOf, rowOf}
+use Rattle.table.specs.Format.{countOf, firstEdition, rowSizeOf, rowOf}
 use Rattle.table.specs.Answers.{answer}
 use Rattle.table.specs.Check.{nonceSeen, andThen, checkAs}
 use Rattle.draft.specs.Answers.{tagRight, lentAnswer, FileWritten, leaves}
@@ -15,7 +15,7 @@ use Rattle.reseal.specs.Files.{retabled, resealedFile}
 
 -- 29: the first row of n, from row i on, that clashes with an earlier one, by the check's own rule
 unfoldable pub seenFrom : List ℕ → ℕ → ℕ → Answer
-seenFrom f n i = firstOf (nonceSeen (widthOf f) f) (answer 29) (answer 0 0) i (n - i)
+seenFrom f n i = firstOf (nonceSeen (rowSizeOf f) f) (answer 29) (answer 0 0) i (n - i)
 
 -- the tag of row i is wrong and the row is looked at: only suite 4 entries are opened
 unfoldable pub wrongAgain : List ℕ → List ℕ → ℕ → Bool
@@ -27,7 +27,7 @@ wrongAgainFrom f ring n i = firstOf (wrongAgain f ring) (answer 8) (answer 0 0) 
 
 -- the checks, 29 on the table as it would be, 2, 6
 unfoldable pub takeAnswer : List ℕ → ℕ → ℕ → Answer
-takeAnswer file ring out = andThen (checkAs edition file) (andThen (seenFrom (retabled file) (countOf file) 0) (lentAnswer (length file) ring out))
+takeAnswer file ring out = andThen (checkAs firstEdition file) (andThen (seenFrom (retabled file) (countOf file) 0) (lentAnswer (length file) ring out))
 
 -- and then 8
 unfoldable pub resealAnswer : List ℕ → List ℕ → ℕ → Answer

@@ -4,7 +4,7 @@ use mathlib.Core.Bool.{true, cond}
 use mathlib.Core.List.{List, [], _∷_}
 use lib.Dec.{eqb}
 use Rattle.cipher.specs.Cipher.{retiredSuite}
-use Rattle.table.specs.Format.{countOf, widthOf, restStart, rowOf}
+use Rattle.table.specs.Format.{countOf, rowSizeOf, restStart, rowOf}
 use Rattle.draft.specs.Put.{putAll}
 use Rattle.draft.specs.Files.{pieceStart, pieceAs, entryOut}
 
@@ -17,7 +17,7 @@ newSuite s = cond (eqb s retiredSuite) successor s
 
 -- a list of bytes with the new suites of the file's first n rows in its table
 unfoldable pub resuited : List ℕ → ℕ → List ℕ → List ℕ
-resuited f n l = putAll (restStart (widthOf f)) (λ i. newSuite (rowOf f i .suite) ∷ []) n l
+resuited f n l = putAll (restStart (rowSizeOf f)) (λ i. newSuite (rowOf f i .suite) ∷ []) n l
 
 -- the file with the table as it would be
 abbrev pub retabled : List ℕ → List ℕ

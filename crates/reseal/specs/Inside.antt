@@ -4,13 +4,13 @@ use mathlib.Core.Path.{_≡_}
 use mathlib.Core.List.{List}
 use Rattle.cipher.specs.Cipher.{retiredSuite}
 use Rattle.table.specs.declared.row.Row.{Row}
-use Rattle.table.specs.Format.{countOf, edition, rowOf}
+use Rattle.table.specs.Format.{countOf, firstEdition, rowOf}
 use Rattle.table.specs.Check.{checkAs}
 use Rattle.writer.specs.Inside.{RowWritable}
 
 -- a file of n rows that passes the check
 pub record Passing (f : List ℕ) (n : ℕ) : Type 0 where
-  pub passed : checkAs edition f .number ≡ 0
+  pub passed : checkAs firstEdition f .number ≡ 0
   pub rows : n ≡ countOf f
 
 -- row i can be written, and is one of suite 4

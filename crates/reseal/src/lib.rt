@@ -7,7 +7,7 @@ use suites::first_clash;
 use suites::put_suites;
 use table::answers::Checked;
 use table::check_as;
-use table::row::EDITION;
+use table::row::FIRST_EDITION;
 use table::row::count;
 use words::runs::copy;
 use writer::answers::Written;
@@ -21,7 +21,7 @@ ghost use Rattle.reseal.specs.Answers.{takeAnswer, fileResealing};
 fn refused(file: &[u8], ring: usize, out: usize) -> Written
     ensures { λ r. ⌜ writtenAnswer r ≡ takeAnswer (now (file .entry)) ring out ⌝ }
 {
-    match check_as(EDITION, file) {
+    match check_as(FIRST_EDITION, file) {
         Checked::Refused(x) => {
             return Written::Refused(x);
         }

@@ -20,47 +20,47 @@ ghost use Rattle.reseal.specs.Files.{againPiece};
 ghost use Rattle.reseal.specs.Answers.{wrongAgain, wrongAgainFrom};
 ghost use Rattle.reseal.specs.Inside.{Resealable};
 
-// Opens row i into its own place in the output, and seals it there; false where the tag is wrong. The message stands nowhere else.
-fn reseal_entry(f: &[u8], ring: &[u8], i: usize, row: Row, out: &mut [u8]) -> bool
-    requires { ⌜ Resealable (now f) i row (now ring) (now out) ⌝ }
-    ensures right { λ r. ⌜ r ≡ tagRight (now (f .entry)) (now (ring .entry)) i ⌝ }
-    ensures text { λ r. ⌜ (r ≡ true → now (out .exit) ≡ put (now (out .entry)) (pieceStart (now (f .entry)) i) (againPiece (now (f .entry)) (now (ring .entry)) i)) ⌝ }
+// Opens a row into its own place in the output, and seals it there; false where the tag is wrong. The message stands nowhere else.
+fn reseal_entry(file: &[u8], ring: &[u8], index: usize, row: Row, out: &mut [u8]) -> bool
+    requires { ⌜ Resealable (now file) index row (now ring) (now out) ⌝ }
+    ensures right { λ r. ⌜ r ≡ tagRight (now (file .entry)) (now (ring .entry)) index ⌝ }
+    ensures text { λ r. ⌜ (r ≡ true → now (out .exit) ≡ put (now (out .entry)) (pieceStart (now (file .entry)) index) (againPiece (now (file .entry)) (now (ring .entry)) index)) ⌝ }
 {
-    let len = row.len as usize;
+    let len = row.text_len as usize;
     let n = len + cipher::size_of(SUCCESSOR);
     let a = text_start(row);
     let b = a + len;
     let e = a + n;
-    let opened = open_row(f, ring, i, row, &mut out[a..b]);
+    let opened = open_row(file, ring, index, row, &mut out[a..b]);
     let Verdict::Done = opened else {
         return false;
     };
-    seal_into(f, ring, i, row, SUCCESSOR, &mut out[a..e]);
+    seal_into(file, ring, index, row, SUCCESSOR, &mut out[a..e]);
     true
 }
 
-// Row i: only a suite 4 entry is opened, any other stays as it was copied; false where a tag is wrong.
-fn reseal_row(f: &[u8], ring: &[u8], i: usize, out: &mut [u8]) -> bool
-    requires { ⌜ RowWritable (now f) i (now ring) (now out) ⌝ }
-    ensures right { λ r. ⌜ not r ≡ wrongAgain (now (f .entry)) (now (ring .entry)) i ⌝ }
-    ensures text { λ r. ⌜ (r ≡ true → now (out .exit) ≡ put (now (out .entry)) (pieceStart (now (f .entry)) i) (againPiece (now (f .entry)) (now (ring .entry)) i)) ⌝ }
+// A row: only a suite 4 entry is opened, any other stays as it was copied; false where a tag is wrong.
+fn reseal_row(file: &[u8], ring: &[u8], index: usize, out: &mut [u8]) -> bool
+    requires { ⌜ RowWritable (now file) index (now ring) (now out) ⌝ }
+    ensures right { λ r. ⌜ not r ≡ wrongAgain (now (file .entry)) (now (ring .entry)) index ⌝ }
+    ensures text { λ r. ⌜ (r ≡ true → now (out .exit) ≡ put (now (out .entry)) (pieceStart (now (file .entry)) index) (againPiece (now (file .entry)) (now (ring .entry)) index)) ⌝ }
 {
-    let row = row_of(f, i);
+    let row = row_of(file, index);
     if row.suite != RETIRED {
         return true;
     }
-    reseal_entry(f, ring, i, row, out)
+    reseal_entry(file, ring, index, row, out)
 }
 
-// The n rows; the first whose tag is wrong leaves zeros all over.
-pub(crate) fn reseal_rows(f: &[u8], n: usize, ring: &[u8], out: &mut [u8]) -> Written
-    requires { ⌜ Writable (now f) n (now ring) (now out) ⌝ }
+// The rows; the first whose tag is wrong leaves zeros all over.
+pub(crate) fn reseal_rows(file: &[u8], rows: usize, ring: &[u8], out: &mut [u8]) -> Written
+    requires { ⌜ Writable (now file) rows (now ring) (now out) ⌝ }
     ensures { λ r. ⌜ _≡_ {A = FileWritten} (record { answer = writtenAnswer r; out = now (out .exit) })
-        (leaves (wrongAgainFrom (now (f .entry)) (now (ring .entry)) n 0) (putAll (pieceStart (now (f .entry))) (againPiece (now (f .entry)) (now (ring .entry))) n (now (out .entry))) (now (out .entry))) ⌝ }
+        (leaves (wrongAgainFrom (now (file .entry)) (now (ring .entry)) rows 0) (putAll (pieceStart (now (file .entry))) (againPiece (now (file .entry)) (now (ring .entry))) rows (now (out .entry))) (now (out .entry))) ⌝ }
 {
     let mut i: usize = 0;
-    while i < n {
-        if !reseal_row(f, ring, i, out) {
+    while i < rows {
+        if !reseal_row(file, ring, i, out) {
             wipe(out);
             return Written::Forged(i);
         }

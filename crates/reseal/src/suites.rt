@@ -4,8 +4,8 @@ use table::answers::Fault;
 use table::answers::Refusal;
 use table::row::Row;
 use table::row::nonce_at;
+use table::row::row_size_of;
 use table::row::set_suite;
-use table::row::width;
 use words::block::Block;
 use words::block::filled;
 use words::block::same;
@@ -15,7 +15,7 @@ ghost use mathlib.Core.Bool.{_&&_};
 ghost use Prim.Native.Nat.{_<_};
 ghost use lib.Dec.{eqb};
 ghost use Rattle.words.specs.Blocks.{wide};
-ghost use Rattle.table.specs.Format.{widthOf, nonceAt};
+ghost use Rattle.table.specs.Format.{rowSizeOf, nonceAt};
 ghost use Rattle.table.specs.Check.{clash, nonceSeen};
 ghost use Rattle.table.specs.Inside.{RowIn, TableIn};
 ghost use Rattle.writer.specs.Answers.{writtenAnswer};
@@ -34,15 +34,15 @@ fn new_suite(suite: u8) -> u8
     if suite == RETIRED { SUCCESSOR } else { suite }
 }
 
-// The new suites of the file's n rows, into the table of `out`.
-pub(crate) fn put_suites(f: &[u8], n: usize, out: &mut [u8])
-    requires { ⌜ TableIn (widthOf (now f)) (now f) n × TableIn (widthOf (now f)) (now out) n ⌝ }
-    ensures { λ _. ⌜ now (out .exit) ≡ resuited (now (f .entry)) n (now (out .entry)) ⌝ }
+// The new suites of the file's rows, into the table of `out`.
+pub(crate) fn put_suites(file: &[u8], rows: usize, out: &mut [u8])
+    requires { ⌜ TableIn (rowSizeOf (now file)) (now file) rows × TableIn (rowSizeOf (now file)) (now out) rows ⌝ }
+    ensures { λ _. ⌜ now (out .exit) ≡ resuited (now (file .entry)) rows (now (out .entry)) ⌝ }
 {
     let mut i: usize = 0;
-    while i < n {
-        let row = row_of(f, i);
-        set_suite(width(f), out, i, new_suite(row.suite));
+    while i < rows {
+        let row = row_of(file, i);
+        set_suite(row_size_of(file), out, i, new_suite(row.suite));
         i += 1;
     }
 }
@@ -57,33 +57,33 @@ fn same_key(a: Row, b: Row) -> bool
     a.key == b.key
 }
 
-// The nonce of row i as a block.
-fn nonce_of(f: &[u8], i: usize) -> Block
-    requires { ⌜ RowIn (widthOf (now f)) (now f) i ⌝ }
-    ensures { λ r. ⌜ wide r ≡ nonceAt (widthOf (now (f .entry))) (now (f .entry)) i ⌝ }
+// The nonce of a row as a block.
+fn nonce_of(file: &[u8], index: usize) -> Block
+    requires { ⌜ RowIn (rowSizeOf (now file)) (now file) index ⌝ }
+    ensures { λ r. ⌜ wide r ≡ nonceAt (rowSizeOf (now (file .entry))) (now (file .entry)) index ⌝ }
 {
-    filled(nonce_at(width(f), f, i))
+    filled(nonce_at(row_size_of(file), file, index))
 }
 
-// Rows i and j clash in the table as it would be. Zeros stand where a suite does not read (34), so all sixteen bytes tell what it reads.
-fn clashes(f: &[u8], n: usize, i: usize, j: usize) -> bool
-    requires { ⌜ Passing (now f) n × ((i < n) × (j < n)) ⌝ }
-    ensures { λ r. ⌜ r ≡ clash (widthOf (retabled (now (f .entry)))) (retabled (now (f .entry))) i j ⌝ }
+// Two rows clash in the table as it would be. Zeros stand where a suite does not read (34), so all sixteen bytes tell what it reads.
+fn clashes(file: &[u8], rows: usize, index: usize, other: usize) -> bool
+    requires { ⌜ Passing (now file) rows × ((index < rows) × (other < rows)) ⌝ }
+    ensures { λ r. ⌜ r ≡ clash (rowSizeOf (retabled (now (file .entry)))) (retabled (now (file .entry))) index other ⌝ }
 {
-    if same(nonce_of(f, i), nonce_of(f, j)) {
-        return same_key(row_of(f, i), row_of(f, j));
+    if same(nonce_of(file, index), nonce_of(file, other)) {
+        return same_key(row_of(file, index), row_of(file, other));
     }
     false
 }
 
-// Row i clashes with an earlier one in the table as it would be.
-fn nonce_seen(f: &[u8], n: usize, i: usize) -> bool
-    requires { ⌜ Passing (now f) n × (i < n) ⌝ }
-    ensures { λ r. ⌜ r ≡ nonceSeen (widthOf (retabled (now (f .entry)))) (retabled (now (f .entry))) i ⌝ }
+// A row clashes with an earlier one in the table as it would be.
+fn nonce_seen(file: &[u8], rows: usize, index: usize) -> bool
+    requires { ⌜ Passing (now file) rows × (index < rows) ⌝ }
+    ensures { λ r. ⌜ r ≡ nonceSeen (rowSizeOf (retabled (now (file .entry)))) (retabled (now (file .entry))) index ⌝ }
 {
     let mut j: usize = 0;
-    while j < i {
-        if clashes(f, n, i, j) {
+    while j < index {
+        if clashes(file, rows, index, j) {
             return true;
         }
         j += 1;
@@ -92,13 +92,13 @@ fn nonce_seen(f: &[u8], n: usize, i: usize) -> bool
 }
 
 // 29, of the table as it would be: the file's own rows tell, and nothing is copied.
-pub(crate) fn first_clash(f: &[u8], n: usize) -> Written
-    requires { ⌜ Passing (now f) n ⌝ }
-    ensures { λ r. ⌜ writtenAnswer r ≡ seenFrom (retabled (now (f .entry))) n 0 ⌝ }
+pub(crate) fn first_clash(file: &[u8], rows: usize) -> Written
+    requires { ⌜ Passing (now file) rows ⌝ }
+    ensures { λ r. ⌜ writtenAnswer r ≡ seenFrom (retabled (now (file .entry))) rows 0 ⌝ }
 {
     let mut i: usize = 0;
-    while i < n {
-        if nonce_seen(f, n, i) {
+    while i < rows {
+        if nonce_seen(file, rows, i) {
             return Written::Refused(Refusal::InRow(Fault::Nonce, i));
         }
         i += 1;

@@ -13,7 +13,7 @@ use borrow.Author.Tests.{eqb-true, ne-eqb}
 use Rattle.words.specs.Bytes.{word}
 use Rattle.table.specs.declared.row.Row.{Row}
 use Rattle.table.specs.declared.answers.Answer.{Answer}
-use Rattle.table.specs.Format.{editionOf, countOf, edition, newest, rowSize, widthOf, rowStart, rowAt}
+use Rattle.table.specs.Format.{editionOf, countOf, firstEdition, newest, rowSize, rowSizeOf, rowStart, rowAt}
 use Rattle.table.specs.declared.answers.Refusal.{Refusal}
 use Rattle.table.specs.Answers.{answer, refusalAnswer}
 use Rattle.table.specs.Check.{headNumber, checkFile}
@@ -30,7 +30,7 @@ use Rattle.search.specs.Promised.{Halves, SameJobs, RowsDecide, SameAsLo
 use Rattle.search.proofs.Halves.{halving-none, halving-hit, halving-up, halving-down, looks, row-most, jobs-same, Same, visited-same, says}
 
 -- the header passes: all rows are halved
-pub goes : (f : List ℕ) (job : ℕ) → headAnswer f .number ≡ 0 → searching f job ≡ halving (jobsOf (widthOf f) f) job 0 (countOf f)
+pub goes : (f : List ℕ) (job : ℕ) → headAnswer f .number ≡ 0 → searching f job ≡ halving (jobsOf (rowSizeOf f) f) job 0 (countOf f)
 unfolding searching
 goes f job z = simp z
 
@@ -49,7 +49,7 @@ halves jobs job s c = record {
   keeps-before = λ some l. halving-down jobs job s c some l;
 }
 
-listed : (f g : List ℕ) (is : List ℕ) → SameJobs f g is → Same (jobsOf (widthOf f) f) (jobsOf (widthOf g) g) is
+listed : (f g : List ℕ) (is : List ℕ) → SameJobs f g is → Same (jobsOf (rowSizeOf f) f) (jobsOf (rowSizeOf g) g) is
 listed f g [] h = tt
 listed f g (i ∷ is) h = (h .0, listed f g is (h .1))
 
@@ -61,7 +61,7 @@ rows-decide f g job a n = head-case (eqb (headAnswer f .number) 0) refl
     tests = ap (λ (x : Answer). eqb (x .number) 0) (sym a)
 
     jobs : List ℕ → ℕ → ℕ
-    jobs x = jobsOf (widthOf x) x
+    jobs x = jobsOf (rowSizeOf x) x
 
     head-case : (b : Bool) → eqb (headAnswer f .number) 0 ≡ b → SameJobs f g (cond b (halving (jobs f) job 0 (countOf f)) (ends (headAnswer f)) .rows)
         → cond b (halving (jobs f) job 0 (countOf f)) (ends (headAnswer f)) ≡ cond (eqb (headAnswer g .number) 0) (halving (jobs g) job 0 (countOf g)) (ends (headAnswer g))
@@ -70,20 +70,20 @@ rows-decide f g job a n = head-case (eqb (headAnswer f .number) 0) refl
 
 pub same-as-lookup : SameAsLookup
 same-as-lookup f job z =
-    let p = passes edition newest f z in
+    let p = passes firstEdition newest f z in
     let n = countOf f in
     ap (λ (x : Walk). x .says) (goes f job (p .zero))
     ∙ ⊎-elim
     (λ r. r .gives ∙ sym (finds f job z .found (r .at) .1 (record { within = omega (arith, r .below); right = r .has })))
     (λ g. g .gives ∙ sym (finds f job z .missing .1 (λ i h. g .none i (omega arith) (omega (arith, h .within)) (h .right))))
-    (says (jobsOf (widthOf f) f) job n 0 n n (omega arith) (omega arith) (rising (widthOf f) f n (p .walk)))
+    (says (jobsOf (rowSizeOf f) f) job n 0 n n (omega arith) (omega arith) (rising (rowSizeOf f) f n (p .walk)))
 
 pub ten-looks : TenLooks
 unfolding searching
 ten-looks f job = head-case (eqb (headAnswer f .number) 0) refl
   where
-    head-case : (b : Bool) → eqb (headAnswer f .number) 0 ≡ b → length (cond b (halving (jobsOf (widthOf f) f) job 0 (countOf f)) (ends (headAnswer f)) .rows) ≤ 10
-    head-case true e = looks (jobsOf (widthOf f) f) job 10 0 (countOf f) (lt-of-le-of-lt (headed edition newest f (eqb-true _ _ e) .few) (lit< tt))
+    head-case : (b : Bool) → eqb (headAnswer f .number) 0 ≡ b → length (cond b (halving (jobsOf (rowSizeOf f) f) job 0 (countOf f)) (ends (headAnswer f)) .rows) ≤ 10
+    head-case true e = looks (jobsOf (rowSizeOf f) f) job 10 0 (countOf f) (lt-of-le-of-lt (headed firstEdition newest f (eqb-true _ _ e) .few) (lit< tt))
     head-case false e = lit≤ tt
 
 -- the row of an answer is one of the file's
@@ -91,10 +91,10 @@ pub says-low : (f : List ℕ) (job : ℕ) → searching f job .says .row ≤ 512
 unfolding searching
 says-low f job = head-case (eqb (headAnswer f .number) 0) refl
   where
-    head-case : (b : Bool) → eqb (headAnswer f .number) 0 ≡ b → cond b (halving (jobsOf (widthOf f) f) job 0 (countOf f)) (ends (headAnswer f)) .says .row ≤ 512
+    head-case : (b : Bool) → eqb (headAnswer f .number) 0 ≡ b → cond b (halving (jobsOf (rowSizeOf f) f) job 0 (countOf f)) (ends (headAnswer f)) .says .row ≤ 512
     head-case true e =
-        let few = headed edition newest f (eqb-true _ _ e) .few in
-        omega (arith, few, row-most (jobsOf (widthOf f) f) job (countOf f) 0 (countOf f) (omega arith))
+        let few = headed firstEdition newest f (eqb-true _ _ e) .few in
+        omega (arith, few, row-most (jobsOf (rowSizeOf f) f) job (countOf f) 0 (countOf f) (omega arith))
     head-case false e = lit≤ tt
 
 -- equal fronts are equal bytes
@@ -115,15 +115,15 @@ module _ (f g : List ℕ) (job : ℕ) (h : SameTable f g) where
   unfolding headNumber
   heads = ap (λ (m : ℕ). answer m 0) (simp (h .long, number-same 2 0 (lit≤ tt), number-same 2 2 (lit≤ tt), number-same 4 4 (lit≤ tt)))
 
-  walks : headAnswer f .number ≡ 0 → halving (jobsOf (widthOf f) f) job 0 (countOf f) ≡ halving (jobsOf (widthOf g) g) job 0 (countOf g)
+  walks : headAnswer f .number ≡ 0 → halving (jobsOf (rowSizeOf f) f) job 0 (countOf f) ≡ halving (jobsOf (rowSizeOf g) g) job 0 (countOf g)
   walks z =
-      let w = widthOf f in
+      let w = rowSizeOf f in
       let n = countOf f in
       let t : AgreeTable f g (h .long) w n = λ k a b. front-agree f g (rowStart w n) (h .table z) k (omega arith) (omega arith) in
-      let v : w ≡ widthOf g = ap rowSize (number-same 2 0 (lit≤ tt)) in
-      jobs-same (jobsOf w f) (jobsOf (widthOf g) g) job n 0 n (omega arith)
+      let v : w ≡ rowSizeOf g = ap rowSize (number-same 2 0 (lit≤ tt)) in
+      jobs-same (jobsOf w f) (jobsOf (rowSizeOf g) g) job n 0 n (omega arith)
       (λ i a b. ap (λ (r : Row). r .job) (row-same f g (h .long) w n (row-broad (editionOf f)) t i (omega arith) ∙ ap (λ (x : ℕ). rowAt x g i) v))
-      ∙ ap (halving (jobsOf (widthOf g) g) job 0) (number-same 2 2 (lit≤ tt))
+      ∙ ap (halving (jobsOf (rowSizeOf g) g) job 0) (number-same 2 2 (lit≤ tt))
 
 pub bodies-unread : BodiesUnread
 unfolding searching

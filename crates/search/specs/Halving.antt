@@ -4,7 +4,7 @@ use mathlib.Core.Bool.{cond}
 use mathlib.Core.List.{List, [], _∷_}
 use lib.Dec.{eqb, ltb}
 use Rattle.table.specs.declared.answers.Answer.{Answer}
-use Rattle.table.specs.Format.{countOf, edition, newest, widthOf, rowAt}
+use Rattle.table.specs.Format.{countOf, firstEdition, newest, rowSizeOf, rowAt}
 use Rattle.table.specs.Answers.{answer}
 use Rattle.table.specs.Check.{headNumber}
 
@@ -43,8 +43,8 @@ jobsOf w f i = rowAt w f i .job
 
 -- 20 to 24 alone
 abbrev pub headAnswer : List ℕ → Answer
-headAnswer f = answer (headNumber edition newest f) 0
+headAnswer f = answer (headNumber firstEdition newest f) 0
 
 -- checks 20 to 24 first (a refusal there looks at no row), then all rows
 unfoldable pub searching : List ℕ → ℕ → Walk
-searching f job = cond (eqb (headAnswer f .number) 0) (halving (jobsOf (widthOf f) f) job 0 (countOf f)) (ends (headAnswer f))
+searching f job = cond (eqb (headAnswer f .number) 0) (halving (jobsOf (rowSizeOf f) f) job 0 (countOf f)) (ends (headAnswer f))

@@ -3,7 +3,7 @@ use Prim.Native.Nat.{ℕ, _+_, _-_, _/_, _≤_, _<_}
 use mathlib.Core.Path.{_≡_}
 use mathlib.Core.List.{List, [], _∷_}
 use lib.ListN.{length, take}
-use Rattle.table.specs.Format.{countOf, widthOf, rowStart, rowOf}
+use Rattle.table.specs.Format.{countOf, rowSizeOf, rowStart, rowOf}
 use Rattle.table.specs.Answers.{answer}
 use Rattle.table.specs.Check.{checkFile}
 use Rattle.shift.specs.Lookup.{lookupJob}
@@ -44,7 +44,7 @@ TenLooks = (f : List ℕ) (job : ℕ) → length (searching f job .rows) ≤ 10
 pub record SameTable (f g : List ℕ) : Type 0 where
   pub long : length f ≡ length g
   pub header : take 8 f ≡ take 8 g
-  pub table : headAnswer f .number ≡ 0 → take (rowStart (widthOf f) (countOf f)) f ≡ take (rowStart (widthOf f) (countOf f)) g
+  pub table : headAnswer f .number ≡ 0 → take (rowStart (rowSizeOf f) (countOf f)) f ≡ take (rowStart (rowSizeOf f) (countOf f)) g
 
 -- such files give the same answer, whatever the bodies, and the same rows are looked at
 abbrev pub BodiesUnread : Type 0

@@ -2,11 +2,11 @@
 use shift::answers::Found;
 use table::answers::Checked;
 use table::check_head;
-use table::row::EDITION;
+use table::row::FIRST_EDITION;
 use table::row::NEWEST;
 use table::row::count;
 use table::row::row_at;
-use table::row::width;
+use table::row::row_size_of;
 ghost use mathlib.Core.Path.{_≡_};
 ghost use lib.ListN.{length};
 ghost use Rattle.table.specs.Inside.{TableIn};
@@ -19,18 +19,18 @@ pub struct Searched {
     pub looked: usize,
 }
 
-// Halves n rows until one has the job or none is left.
-fn halve(w: usize, f: &[u8], n: usize, job: u32) -> Searched
-    requires { ⌜ TableIn w (now f) n ⌝ }
-    ensures { λ r. ⌜ (foundAnswer (r .found) ≡ halving (jobsOf w (now (f .entry))) job 0 n .says) × (r .looked ≡ length (halving (jobsOf w (now (f .entry))) job 0 n .rows)) ⌝ }
+// Halves the rows until one has the job or none is left.
+fn halve(size: usize, file: &[u8], rows: usize, job: u32) -> Searched
+    requires { ⌜ TableIn size (now file) rows ⌝ }
+    ensures { λ r. ⌜ (foundAnswer (r .found) ≡ halving (jobsOf size (now (file .entry))) job 0 rows .says) × (r .looked ≡ length (halving (jobsOf size (now (file .entry))) job 0 rows .rows)) ⌝ }
 {
     let mut s: usize = 0;
-    let mut c: usize = n;
+    let mut c: usize = rows;
     let mut looked: usize = 0;
     while 0 < c {
         let h = c / 2;
         let m = s + h;
-        let row = row_at(w, f, m);
+        let row = row_at(size, file, m);
         let seen = row.job;
         let looks = looked + 1;
         if seen == job {
@@ -57,7 +57,7 @@ fn halve(w: usize, f: &[u8], n: usize, job: u32) -> Searched
 pub fn search(file: &[u8], job: u32) -> Searched
     ensures { λ r. ⌜ (foundAnswer (r .found) ≡ searching (now (file .entry)) job .says) × (r .looked ≡ length (searching (now (file .entry)) job .rows)) ⌝ }
 {
-    match check_head(EDITION, NEWEST, file) {
+    match check_head(FIRST_EDITION, NEWEST, file) {
         Checked::Refused(x) => {
             return Searched {
                 found: Found::Refused(x),
@@ -66,5 +66,5 @@ pub fn search(file: &[u8], job: u32) -> Searched
         }
         Checked::Passed => {}
     }
-    halve(width(file), file, count(file), job)
+    halve(row_size_of(file), file, count(file), job)
 }

@@ -9,22 +9,24 @@ use lib.ListN.{length, replicate, length-append, length-replicate}
 use lib.Dec.{leb, ltb, eqb}
 use borrow.Author.Tests.{le-leb, le-ltb, eq-eqb, ne-eqb}
 use Rattle.words.proofs.Lists.{nil-of}
-use Rattle.cipher.specs.Cipher.{Seals, sizeOf, cipherOf}
+use Rattle.words.specs.Blocks.{filled}
+use Rattle.cipher.specs.Cipher.{Seals, sizeOf, cipherOf, limit}
 use Rattle.cipher.proofs.Lawful.{lawful}
 use Rattle.cipher.proofs.Suites.{size-most}
 use Rattle.mode.specs.Walk.{rest}
 use Rattle.mode.proofs.Chain.{some}
 use Rattle.mode.proofs.Cut.{rest-less}
-use Rattle.session.specs.Value.{Value, Given, filled, answered, gave, dataIn, dataNumber, dataPart, textNumber, textDone, textPart, endNumber, endDone, ending, sound}
+use Rattle.session.specs.Value.{Value, Given, answered, gave, dataIn, dataNumber, dataPart, textNumber, textDone, textPart, endNumber, endDone, ending, sound}
 use Rattle.session.specs.Calls.{Run, Next}
 use Rattle.session.proofs.Joined.{heldSoFar, soFar}
 use Rattle.session.proofs.Refuse.{text-is, end-is, data-begun, data-limit}
+use Rattle.session.proofs.Parts.{done-number}
 use Rattle.session.proofs.Count.{part-count, end-count}
 
 filled-long : (l : List ℕ) → length l ≤ 16 → length (filled l) ≡ 16
 filled-long l h = length-append l (replicate (16 - length l) 0) ∙ ap (λ (k : ℕ). length l + k) (length-replicate (16 - length l) 0) ∙ omega arith
 
-module _ (suite : ℕ) (key nonce : List ℕ) (still : Seals suite) (a m : List ℕ) (ha : length a ≤ 65536) (hm : length m ≤ 65536) where
+module _ (suite : ℕ) (key nonce : List ℕ) (still : Seals suite) (a m : List ℕ) (ha : length a ≤ limit) (hm : length m ≤ limit) where
   abbrev n : ℕ
   n = sizeOf suite
 
@@ -35,14 +37,14 @@ module _ (suite : ℕ) (key nonce : List ℕ) (still : Seals suite) (a m : List 
   at = soFar suite key nonce a m
 
   goes-on : sound suite (length a) (length m) ≡ true
-  goes-on = simp (still, le-leb (length a) 65536 ha, le-leb (length m) 65536 hm)
+  goes-on = simp (still, le-leb (length a) limit ha, le-leb (length m) limit hm)
 
   -- ---- associated data
 
-  data-number : (l : ℕ) → m ≡ [] → length a + l ≤ 65536 → dataNumber suite (length a) (length m) l ≡ 0
-  data-number l e h = data-limit suite (length a) (length m) l false goes-on (eq-eqb (length m) 0 (ap length e)) (le-ltb (65536 - length a) l (omega arith))
+  data-number : (l : ℕ) → m ≡ [] → length a + l ≤ limit → dataNumber suite (length a) (length m) l ≡ 0
+  data-number l e h = data-limit suite (length a) (length m) l false goes-on (eq-eqb (length m) 0 (ap length e)) (le-ltb (limit - length a) l (omega arith))
 
-  takes-data : (p : List ℕ) → m ≡ [] → length a + length p ≤ 65536 → dataPart at p .number ≡ 0
+  takes-data : (p : List ℕ) → m ≡ [] → length a + length p ≤ limit → dataPart at p .number ≡ 0
   unfolding dataPart soFar
   takes-data p e h = ap (λ (k : ℕ). answered k (gave 0 0 (dataIn (cipherOf suite) at p) [] []) at [] [] .number) (data-number (length p) e h)
 
@@ -54,15 +56,11 @@ module _ (suite : ℕ) (key nonce : List ℕ) (still : Seals suite) (a m : List 
 
   -- ---- message
 
-  done-number : (v : Value) (p out : List ℕ) → textDone v p out .number ≡ 0
-  done-number v [] out = refl
-  done-number v (x ∷ p) out = refl
-
-  takes-text : (p out : List ℕ) → length m + length p ≤ 65536 → length p + (n - 1) ≤ length out → textPart at p out .number ≡ 0
+  takes-text : (p out : List ℕ) → length m + length p ≤ limit → length p + (n - 1) ≤ length out → textPart at p out .number ≡ 0
   unfolding textPart soFar
   takes-text p out h r =
       ap (λ (k : ℕ). answered k (textDone at p out) at out [] .number)
-      (text-is suite (length a) (length m) (length p) (length out) true false false goes-on (le-ltb (65536 - length m) (length p) (omega arith)) (le-ltb (length out) (length p + (n - 1)) r))
+      (text-is suite (length a) (length m) (length p) (length out) true false false goes-on (le-ltb (limit - length m) (length p) (omega arith)) (le-ltb (length out) (length p + (n - 1)) r))
       ∙ done-number at p out
 
   held-16 : length (at .held) ≡ 16
@@ -120,8 +118,8 @@ module _ (suite : ℕ) (key nonce : List ℕ) (still : Seals suite) (a m : List 
       record {
         seals = still;
         suite-is = refl;
-        came-is = refl;
-        text-is = refl;
+        ad-total-is = refl;
+        text-total-is = refl;
         data-most = ha;
         text-most = hm;
         data-taken = takes-data;

@@ -16,7 +16,7 @@ use Rattle.mode.specs.Blocks.{blocks}
 use Rattle.mode.proofs.Blocks.{blocks-nil, blocks-more}
 use Rattle.mode.proofs.Chain.{some, length-masked}
 use Rattle.mode.specs.Walk.{States, chainOf, markOf, whole, turned, hidden, covered}
-use Rattle.session.specs.Value.{Value, heldOf, begun, firstMark, textOut, partOut, endOut}
+use Rattle.session.specs.Value.{Value, heldOf, begun, firstMark, blocksOut, partOut, endOut}
 use Rattle.mode.proofs.Cut.{length-whole}
 use Rattle.mode.proofs.Walk.{hidden-chain}
 
@@ -49,21 +49,21 @@ module _ (v : Value) (held : length (v .held) ≡ 16) where
   abbrev κ : Cipher
   κ = cipherOf (v .suite)
 
-  held-long : length (heldOf κ v (v .text)) ≡ v .text % κ .size
+  held-long : length (heldOf κ v (v .«text_total»)) ≡ v .«text_total» % κ .size
   held-long =
-      let h : v .text % κ .size < κ .size = mod-lt (v .text) (some κ (lawful (v .suite))) in
-      length-take-le (v .text % κ .size) (v .held) (omega (arith, size-most (v .suite), h))
+      let h : v .«text_total» % κ .size < κ .size = mod-lt (v .«text_total») (some κ (lawful (v .suite))) in
+      length-take-le (v .«text_total» % κ .size) (v .held) (omega (arith, size-most (v .suite), h))
 
-  pub part-count : (p : List ℕ) → length (partOut κ v p) ≡ (v .text % κ .size + length p) / κ .size * κ .size
-  unfolding partOut textOut
+  pub part-count : (p : List ℕ) → length (partOut κ v p) ≡ (v .«text_total» % κ .size + length p) / κ .size * κ .size
+  unfolding partOut blocksOut
   part-count p =
-      let l : List ℕ = heldOf κ v (v .text) ++ p in
-      covered-long κ (lawful (v .suite)) 0x40 (length (whole (κ .size) l)) (firstMark κ 0x20 (v .text)) (begun κ v) (whole (κ .size) l) (le-refl (length (whole (κ .size) l)))
+      let l : List ℕ = heldOf κ v (v .«text_total») ++ p in
+      covered-long κ (lawful (v .suite)) 0x40 (length (whole (κ .size) l)) (firstMark κ 0x20 (v .«text_total»)) (begun κ v) (whole (κ .size) l) (le-refl (length (whole (κ .size) l)))
       ∙ length-whole (κ .size) (some κ (lawful (v .suite))) l
-      ∙ ap (λ (k : ℕ). k / κ .size * κ .size) (length-append (heldOf κ v (v .text)) p ∙ ap (λ (k : ℕ). k + length p) held-long)
+      ∙ ap (λ (k : ℕ). k / κ .size * κ .size) (length-append (heldOf κ v (v .«text_total»)) p ∙ ap (λ (k : ℕ). k + length p) held-long)
 
-  pub end-count : length (endOut κ v) ≡ v .text % κ .size
-  unfolding endOut textOut
+  pub end-count : length (endOut κ v) ≡ v .«text_total» % κ .size
+  unfolding endOut blocksOut
   end-count =
-      let l : List ℕ = heldOf κ v (v .text) in
-      covered-long κ (lawful (v .suite)) 0x40 (length l) (firstMark κ 0x20 (v .text)) (begun κ v) l (le-refl (length l)) ∙ held-long
+      let l : List ℕ = heldOf κ v (v .«text_total») in
+      covered-long κ (lawful (v .suite)) 0x40 (length l) (firstMark κ 0x20 (v .«text_total»)) (begun κ v) l (le-refl (length l)) ∙ held-long

@@ -1,41 +1,33 @@
 -- Bytes held and joined, bytes written, and the block that held bytes and a part make, as laws on lists.
 use mathlib.Core.Path.{_≡_, sym, ap, ap₂, _∙_}
 use mathlib.Core.Bool.{false}
-use Prim.Native.Nat.{ℕ, zero, suc, _+_, _-_, _*_, _/_, _≤_, _<_}
+use Prim.Native.Nat.{ℕ, _+_, _-_, _*_, _/_, _≤_, _<_}
 use native.Mathlib.Nat.{le-of-eq}
 use native.Mathlib.Omega.{arith}
 use mathlib.Core.List.{List, [], _++_, append-assoc, append-nil}
 use lib.ListN.{length, take, drop, replicate, length-append, length-drop, take-append-drop, drop-of-length-le}
 use borrow.Rule.Slice.PartMut.{postOf, putMid, post-is}
 use lib.Seq.{take-at, drop-at, take-all, take-length, take-append-add, drop-append-add, length-take-le, paste}
+use Rattle.words.specs.Blocks.{filled}
+use Rattle.words.proofs.Lists.{drop-replicate}
 use Rattle.cipher.specs.Cipher.{Cipher}
 use Rattle.mode.specs.Blocks.{blocks}
 use Rattle.mode.proofs.Cut.{length-whole, cut-whole, cut-rest}
 use Rattle.mode.specs.Walk.{States, whole, rest, walked}
 use Rattle.walk.proofs.Front.{front-rest, front-walk, one-walk}
-use Rattle.session.specs.Value.{filled, written}
+use Rattle.session.specs.Value.{written}
 
 -- ---- bytes held
 
-zeros : ℕ → List ℕ
-zeros n = replicate n 0
-
-drop-zeros : (j n : ℕ) → drop j (zeros n) ≡ zeros (n - j)
-unfolding zeros
-drop-zeros zero n = let e : n ≡ n - 0 = omega arith in ap zeros e
-drop-zeros (suc j) zero = let e : 0 ≡ 0 - suc j = omega arith in ap zeros e
-drop-zeros (suc j) (suc n) = let e : n - j ≡ suc n - suc j = omega arith in drop-zeros j n ∙ ap zeros e
-
 -- p copied behind x
 pub joined-is : (x p : List ℕ) (h : ℕ) → length x ≡ h → h + length p ≤ 16 → paste (filled x) h p (length p) ≡ filled (x ++ p)
-unfolding zeros
 joined-is x p h e le =
     let z : List ℕ = replicate (16 - length x) 0 in
     let eh : h + length p ≡ length x + length p = omega arith in
     let ez : 16 - length x - length p ≡ 16 - length (x ++ p) = omega (arith, length-append x p) in
     ap₂ (λ (a b : List ℕ). (a ++ b) ++ drop (h + length p) (filled x)) (take-at x z h e) (take-length p)
     ∙ ap (λ (r : List ℕ). (x ++ p) ++ r)
-    (ap (λ (k : ℕ). drop k (filled x)) eh ∙ drop-append-add x z (length p) ∙ drop-zeros (length p) (16 - length x) ∙ ap zeros ez)
+    (ap (λ (k : ℕ). drop k (filled x)) eh ∙ drop-append-add x z (length p) ∙ drop-replicate (length p) (16 - length x) 0 ∙ ap (λ (k : ℕ). replicate k 0) ez)
 
 -- ---- bytes written
 

@@ -3,10 +3,11 @@ use Prim.Native.Nat.{ℕ}
 use mathlib.Core.Bool.{false}
 use mathlib.Core.List.{List, [], _∷_}
 use lib.ListN.{length}
+use Rattle.words.specs.Blocks.{filled}
 use Rattle.cipher.specs.Cipher.{Cipher, cipherOf}
 use Rattle.mode.specs.Blocks.{blocks}
 use Rattle.mode.specs.Walk.{States, whole, rest, walked, covered, origin, dataDone}
-use Rattle.session.specs.Value.{Value, valueOf, filled}
+use Rattle.session.specs.Value.{Value, valueOf}
 
 module _ (κ : Cipher) (key nonce : List ℕ) where
   -- the whole blocks of a are in, and none of the message

@@ -31,7 +31,7 @@ session-told : (s t : Session) → Words s → Words t → asValue s ≡ asValue
 session-told s t p q e =
     let ey : s .y ≡ t .y = wide-told (s .y) (t .y) (p .ya) (p .yb) (q .ya) (q .yb) (ap (λ (v : Value). v .Y) e) in
     let ez : s .z ≡ t .z = wide-told (s .z) (t .z) (p .za) (p .zb) (q .za) (q .zb) (ap (λ (v : Value). v .Z) e) in
-    λ i. record { suite = e i .suite; y = ey i; z = ez i; held = e i .held; came = e i .came; text = e i .text }
+    λ i. record { suite = e i .suite; y = ey i; z = ez i; held = e i .held; «ad_total» = e i .«ad_total»; «text_total» = e i .«text_total» }
 
 step-told : (x y : Step) (o t o′ t′ : List ℕ) → Words (x .next) → Words (y .next) → gives x o t ≡ gives y o′ t′ → x ≡ y
 step-told x y o t o′ t′ p q e =

@@ -7,38 +7,39 @@ use native.Mathlib.Omega.{arith}
 use mathlib.Core.List.{List, [], _∷_, _++_}
 use lib.ListN.{length, take}
 use Rattle.words.proofs.Lists.{nil-of}
+use Rattle.words.specs.Blocks.{filled}
 use Rattle.cipher.specs.Cipher.{Cipher, cipherOf}
 use Rattle.mode.specs.Blocks.{blocks}
 use Rattle.mode.specs.Walk.{States, whole, rest, walked, covered, tagged}
-use Rattle.session.specs.Value.{Value, Given, valueOf, filled, written, gave, firstMark, begun, textStates, textOut, textIn, partOut, textGiven, textDone, endOut, endTag, endDone, over}
+use Rattle.session.specs.Value.{Value, Given, valueOf, written, gave, firstMark, begun, textStates, blocksOut, textIn, partOut, textGiven, textDone, endOut, endTag, endDone, over}
 
 -- two, n and m are what the code found for the states, the block's size and the first mark
 module _ (v : Value) (two : States) (n m : ℕ)
-    (e2 : two ≡ begun (cipherOf (v .suite)) v) (en : n ≡ cipherOf (v .suite) .size) (em : m ≡ firstMark (cipherOf (v .suite)) 0x20 (v .text)) where
+    (e2 : two ≡ begun (cipherOf (v .suite)) v) (en : n ≡ cipherOf (v .suite) .size) (em : m ≡ firstMark (cipherOf (v .suite)) 0x20 (v .«text_total»)) where
   abbrev κ : Cipher
   κ = cipherOf (v .suite)
 
   module _ (p : List ℕ) where
     abbrev text : List ℕ
-    text = take (v .text % n) (v .held) ++ p
+    text = take (v .«text_total» % n) (v .held) ++ p
 
     abbrev new : List ℕ
     new = covered κ false m 0x40 two (blocks (κ .size) (whole (κ .size) text))
 
     new-is : new ≡ partOut κ v p
-    unfolding partOut textOut
-    new-is = λ i. covered κ false (em i) 0x40 (e2 i) (blocks (κ .size) (whole (κ .size) (take (v .text % en i) (v .held) ++ p)))
+    unfolding partOut blocksOut
+    new-is = λ i. covered κ false (em i) 0x40 (e2 i) (blocks (κ .size) (whole (κ .size) (take (v .«text_total» % en i) (v .held) ++ p)))
 
-    next-is : (next : Value) (su : States) (g : List ℕ) → next ≡ valueOf (v .suite) su g (v .came) (v .text + length p)
+    next-is : (next : Value) (su : States) (g : List ℕ) → next ≡ valueOf (v .suite) su g (v .«ad_total») (v .«text_total» + length p)
         → su ≡ walked κ false m 0x40 two (blocks (κ .size) (whole (κ .size) text)) → g ≡ filled (rest (κ .size) text) → next ≡ textIn κ v p
     unfolding textIn textStates
     next-is next su g e es eg =
-        e ∙ ap₂ (λ (s : States) (h : List ℕ). valueOf (v .suite) s h (v .came) (v .text + length p)) es eg
-        ∙ (λ i. valueOf (v .suite) (walked κ false (em i) 0x40 (e2 i) (blocks (κ .size) (whole (κ .size) (take (v .text % en i) (v .held) ++ p))))
-        (filled (rest (κ .size) (take (v .text % en i) (v .held) ++ p))) (v .came) (v .text + length p))
+        e ∙ ap₂ (λ (s : States) (h : List ℕ). valueOf (v .suite) s h (v .«ad_total») (v .«text_total» + length p)) es eg
+        ∙ (λ i. valueOf (v .suite) (walked κ false (em i) 0x40 (e2 i) (blocks (κ .size) (whole (κ .size) (take (v .«text_total» % en i) (v .held) ++ p))))
+        (filled (rest (κ .size) (take (v .«text_total» % en i) (v .held) ++ p))) (v .«ad_total») (v .«text_total» + length p))
 
     pub part-given : (out o : List ℕ) (count : ℕ) (next : Value) (su : States) (g : List ℕ) → o ≡ written new out → count ≡ length new
-        → next ≡ valueOf (v .suite) su g (v .came) (v .text + length p)
+        → next ≡ valueOf (v .suite) su g (v .«ad_total») (v .«text_total» + length p)
         → su ≡ walked κ false m 0x40 two (blocks (κ .size) (whole (κ .size) text)) → g ≡ filled (rest (κ .size) text)
         → gave 0 count next o [] ≡ textGiven v p out
     part-given out o count next su g eo ec e es eg =
@@ -46,15 +47,15 @@ module _ (v : Value) (two : States) (n m : ℕ)
 
   -- the end: the held bytes are all that is left
   abbrev last : List ℕ
-  last = take (v .text % n) (v .held)
+  last = take (v .«text_total» % n) (v .held)
 
   end-out-is : covered κ false m 0x40 two (blocks (κ .size) last) ≡ endOut κ v
-  unfolding endOut textOut
-  end-out-is = λ i. covered κ false (em i) 0x40 (e2 i) (blocks (κ .size) (take (v .text % en i) (v .held)))
+  unfolding endOut blocksOut
+  end-out-is = λ i. covered κ false (em i) 0x40 (e2 i) (blocks (κ .size) (take (v .«text_total» % en i) (v .held)))
 
   end-tag-is : tagged κ (walked κ false m 0x40 two (blocks (κ .size) last)) ≡ endTag κ v
   unfolding endTag textStates
-  end-tag-is = λ i. tagged κ (walked κ false (em i) 0x40 (e2 i) (blocks (κ .size) (take (v .text % en i) (v .held))))
+  end-tag-is = λ i. tagged κ (walked κ false (em i) 0x40 (e2 i) (blocks (κ .size) (take (v .«text_total» % en i) (v .held))))
 
   pub end-given : (out o t : List ℕ) (count : ℕ) (next : Value) (su : States) → o ≡ written (covered κ false m 0x40 two (blocks (κ .size) last)) out
       → count ≡ length (covered κ false m 0x40 two (blocks (κ .size) last)) → next ≡ over → su ≡ walked κ false m 0x40 two (blocks (κ .size) last) → t ≡ tagged κ su
@@ -71,3 +72,8 @@ done-empty v (x ∷ p) out e = absurd (suc-ne-zero (length p) e)
 pub done-more : (v : Value) (p out : List ℕ) → (length p ≡ 0 → ⊥) → textGiven v p out ≡ textDone v p out
 done-more v [] out h = absurd (h refl)
 done-more v (x ∷ p) out h = refl
+
+-- the number is 0 for both
+pub done-number : (v : Value) (p out : List ℕ) → textDone v p out .number ≡ 0
+done-number v [] out = refl
+done-number v (x ∷ p) out = refl

@@ -6,23 +6,23 @@ use mathlib.Core.List.{List, []}
 use lib.Dec.{leb, ltb, eqb, lit<}
 use borrow.Author.Tests.{leb-true, ltb-false, eqb-true, not-false}
 use Rattle.words.proofs.Ladder.{not-taken}
-use Rattle.words.proofs.Same.{and-true}
+use Rattle.words.proofs.Tests.{both-true}
 use Rattle.cipher.proofs.Suites.{seals-has}
-use Rattle.cipher.specs.Cipher.{isSuite, seals, Seals, sizeOf, nonceOf}
+use Rattle.cipher.specs.Cipher.{isSuite, seals, Seals, sizeOf, nonceOf, limit}
 use Rattle.session.specs.Value.{Value, Given, sound, Sound, answered, gave, dataNumber, textNumber, endNumber, startNumber}
 
 pub sound-told : (s c t : ℕ) → sound s c t ≡ true → Sound s c t
 sound-told s c t e =
-    let p = and-true (seals s) (leb c 65536 && leb t 65536) e in
-    let r = and-true (leb c 65536) (leb t 65536) (p .1) in
-    record { known = seals-has s (p .0); data-most = leb-true c 65536 (r .0); text-most = leb-true t 65536 (r .1) }
+    let p = both-true (seals s) (leb c limit && leb t limit) e in
+    let r = both-true (leb c limit) (leb t limit) (p .1) in
+    record { known = seals-has s (p .0); data-most = leb-true c limit (r .0); text-most = leb-true t limit (r .1) }
 
-pub data-passed : (s c t l : ℕ) → dataNumber s c t l ≡ 0 → Sound s c t × (t ≡ 0) × (l ≤ 65536 - c)
+pub data-passed : (s c t l : ℕ) → dataNumber s c t l ≡ 0 → Sound s c t × (t ≡ 0) × (l ≤ limit - c)
 unfolding dataNumber
 data-passed s c t l e =
-    let p = not-taken (not (sound s c t && eqb t 0)) 9 (cond (ltb (65536 - c) l) 4 0) (lit< tt) e in
-    let q = and-true (sound s c t) (eqb t 0) (not-false (sound s c t && eqb t 0) (p .0)) in
-    (sound-told s c t (q .0), eqb-true t 0 (q .1), ltb-false (65536 - c) l (not-taken (ltb (65536 - c) l) 4 0 (lit< tt) (p .1) .0))
+    let p = not-taken (not (sound s c t && eqb t 0)) 9 (cond (ltb (limit - c) l) 4 0) (lit< tt) e in
+    let q = both-true (sound s c t) (eqb t 0) (not-false (sound s c t && eqb t 0) (p .0)) in
+    (sound-told s c t (q .0), eqb-true t 0 (q .1), ltb-false (limit - c) l (not-taken (ltb (limit - c) l) 4 0 (lit< tt) (p .1) .0))
 
 -- k is the number
 pub answer-kept : (k j : ℕ) (done : Given) (v : Value) (out tag : List ℕ) → (k ≡ 0 → ⊥) → k ≡ j → gave k 0 v out tag ≡ answered j done v out tag
@@ -36,27 +36,27 @@ answer-done k j done v out tag z e = ap (λ (i : ℕ). answered i done v out tag
 module _ (s c t l : ℕ) where
   pub data-closed : sound s c t ≡ false → dataNumber s c t l ≡ 9
   unfolding dataNumber
-  data-closed e = ap (λ (b : Bool). cond (not (b && eqb t 0)) 9 (cond (ltb (65536 - c) l) 4 0)) e
+  data-closed e = ap (λ (b : Bool). cond (not (b && eqb t 0)) 9 (cond (ltb (limit - c) l) 4 0)) e
 
   pub data-begun : sound s c t ≡ true → eqb t 0 ≡ false → dataNumber s c t l ≡ 9
   unfolding dataNumber
-  data-begun e z = ap₂ (λ (b d : Bool). cond (not (b && d)) 9 (cond (ltb (65536 - c) l) 4 0)) e z
+  data-begun e z = ap₂ (λ (b d : Bool). cond (not (b && d)) 9 (cond (ltb (limit - c) l) 4 0)) e z
 
-  pub data-limit : (b : Bool) → sound s c t ≡ true → eqb t 0 ≡ true → ltb (65536 - c) l ≡ b → dataNumber s c t l ≡ cond b 4 0
+  pub data-limit : (b : Bool) → sound s c t ≡ true → eqb t 0 ≡ true → ltb (limit - c) l ≡ b → dataNumber s c t l ≡ cond b 4 0
   unfolding dataNumber
   data-limit b e z q =
-      ap₂ (λ (x y : Bool). cond (not (x && y)) 9 (cond (ltb (65536 - c) l) 4 0)) e z ∙ ap (λ (x : Bool). cond x 4 0) q
+      ap₂ (λ (x y : Bool). cond (not (x && y)) 9 (cond (ltb (limit - c) l) 4 0)) e z ∙ ap (λ (x : Bool). cond x 4 0) q
 
 module _ (s c t l o : ℕ) where
-  pub text-passed : textNumber s c t l o ≡ 0 → Sound s c t × (l ≤ 65536 - t) × (l + (sizeOf s - 1) ≤ o)
+  pub text-passed : textNumber s c t l o ≡ 0 → Sound s c t × (l ≤ limit - t) × (l + (sizeOf s - 1) ≤ o)
   unfolding textNumber
   text-passed e =
-      let p = not-taken (not (sound s c t)) 9 (cond (ltb (65536 - t) l) 5 (cond (ltb o (l + (sizeOf s - 1))) 6 0)) (lit< tt) e in
-      let q = not-taken (ltb (65536 - t) l) 5 (cond (ltb o (l + (sizeOf s - 1))) 6 0) (lit< tt) (p .1) in
-      (sound-told s c t (not-false (sound s c t) (p .0)), ltb-false (65536 - t) l (q .0), ltb-false o (l + (sizeOf s - 1)) (not-taken (ltb o (l + (sizeOf s - 1))) 6 0 (lit< tt) (q .1) .0))
+      let p = not-taken (not (sound s c t)) 9 (cond (ltb (limit - t) l) 5 (cond (ltb o (l + (sizeOf s - 1))) 6 0)) (lit< tt) e in
+      let q = not-taken (ltb (limit - t) l) 5 (cond (ltb o (l + (sizeOf s - 1))) 6 0) (lit< tt) (p .1) in
+      (sound-told s c t (not-false (sound s c t) (p .0)), ltb-false (limit - t) l (q .0), ltb-false o (l + (sizeOf s - 1)) (not-taken (ltb o (l + (sizeOf s - 1))) 6 0 (lit< tt) (q .1) .0))
 
   -- the ladder, its tests given
-  pub text-is : (b d f : Bool) → sound s c t ≡ b → ltb (65536 - t) l ≡ d → ltb o (l + (sizeOf s - 1)) ≡ f → textNumber s c t l o ≡ cond (not b) 9 (cond d 5 (cond f 6 0))
+  pub text-is : (b d f : Bool) → sound s c t ≡ b → ltb (limit - t) l ≡ d → ltb o (l + (sizeOf s - 1)) ≡ f → textNumber s c t l o ≡ cond (not b) 9 (cond d 5 (cond f 6 0))
   unfolding textNumber
   text-is b d f eb ed ef =
       ap₂ (λ (x y : Bool). cond (not x) 9 (cond y 5 (cond (ltb o (l + (sizeOf s - 1))) 6 0))) eb ed ∙ ap (λ (z : Bool). cond (not b) 9 (cond d 5 (cond z 6 0))) ef

@@ -11,6 +11,7 @@ use lib.Dec.{eqb, ltb}
 use borrow.Author.Tests.{eq-eqb, ne-eqb}
 use Rattle.words.specs.Bytes.{AllBytes}
 use Rattle.words.proofs.Lists.{all-take, all-append}
+use Rattle.words.specs.Blocks.{filled}
 use Rattle.cipher.specs.Cipher.{Cipher, Lawful, Block, cipherOf, nonceOf}
 use Rattle.cipher.proofs.Lawful.{lawful}
 use Rattle.mode.specs.Blocks.{blocks}
@@ -19,7 +20,7 @@ use Rattle.mode.proofs.Blocks.{blocks-nil, all-blocks}
 use Rattle.mode.proofs.Chain.{some}
 use Rattle.mode.proofs.Start.{suite-nonce, y-block, z-block}
 use Rattle.mode.specs.Walk.{States, whole, rest, walked, covered, tagged, origin, dataDone}
-use Rattle.session.specs.Value.{Value, filled, fresh, states, heldOf, firstMark, dataStates, dataIn, begun, textStates, textOut, textIn, partOut, endOut, endTag}
+use Rattle.session.specs.Value.{Value, fresh, states, heldOf, firstMark, dataStates, dataIn, begun, textStates, blocksOut, textIn, partOut, endOut, endTag}
 use Rattle.session.proofs.Joined.{dataSoFar, textSoFar, outSoFar, statesSoFar, heldSoFar, soFar}
 use Rattle.mode.proofs.Cut.{length-rest, whole-rest, whole-short, rest-short, blocks-whole-rest, blocks-more-bytes, rest-more}
 use Rattle.step.proofs.Turns.{states-path}
@@ -120,9 +121,9 @@ module _ (suite : ℕ) (key nonce : List ℕ) (hk : Block 16 key) (hv : AllBytes
       ∙ walk-more κ pos 0x08 0x10 (origin κ key nonce) a p
 
   value-path : {s t : States} {h g : List ℕ} {a b c d : ℕ} → s ≡ t → h ≡ g → a ≡ b → c ≡ d
-      → _≡_ {A = Value} (record { suite = suite; Y = filled (s .Y); Z = s .Z; held = filled h; came = a; text = c })
-      (record { suite = suite; Y = filled (t .Y); Z = t .Z; held = filled g; came = b; text = d })
-  value-path p q r e = λ i. record { suite = suite; Y = filled (p i .Y); Z = p i .Z; held = filled (q i); came = r i; text = e i }
+      → _≡_ {A = Value} (record { suite = suite; Y = filled (s .Y); Z = s .Z; held = filled h; «ad_total» = a; «text_total» = c })
+      (record { suite = suite; Y = filled (t .Y); Z = t .Z; held = filled g; «ad_total» = b; «text_total» = d })
+  value-path p q r e = λ i. record { suite = suite; Y = filled (p i .Y); Z = p i .Z; held = filled (q i); «ad_total» = r i; «text_total» = e i }
 
   pub data-more : (a p : List ℕ) → AllBytes a → dataIn κ (value a []) p ≡ value (a ++ p) []
   unfolding dataIn soFar
@@ -140,15 +141,15 @@ module _ (suite : ℕ) (key nonce : List ℕ) (hk : Block 16 key) (hv : AllBytes
       ∙ sym (ap (walked κ false 0x20 0x40 (dataDone κ key nonce a)) (ap (blocks (κ .size)) (whole-short (κ .size) pos [] pos) ∙ blocks-nil (κ .size) pos))
   begun-is a (x ∷ m) ha hm =
       let v = value a (x ∷ m) in
-      ap (λ (t : Bool). cond t (walked κ false (firstMark κ 0x08 (v .came)) 0x10 (states κ v) (blocks (κ .size) (heldOf κ v (v .came)))) (states κ v)) (ne-eqb (length (x ∷ m)) 0 (λ e. omega arith))
+      ap (λ (t : Bool). cond t (walked κ false (firstMark κ 0x08 (v .«ad_total»)) 0x10 (states κ v) (blocks (κ .size) (heldOf κ v (v .«ad_total»)))) (states κ v)) (ne-eqb (length (x ∷ m)) 0 (λ e. omega arith))
       ∙ states-are a (x ∷ m) ha hm
 
   text-states : (a m l : List ℕ) → AllBytes a → AllBytes m → textStates κ (value a m) l ≡ walked κ false (firstMark κ 0x20 (length m)) 0x40 (textSoFar κ key nonce a m) (blocks (κ .size) l)
   unfolding textStates soFar
   text-states a m l ha hm = ap (λ (s : States). walked κ false (firstMark κ 0x20 (length m)) 0x40 s (blocks (κ .size) l)) (begun-is a m ha hm)
 
-  text-out : (a m l : List ℕ) → AllBytes a → AllBytes m → textOut κ (value a m) l ≡ covered κ false (firstMark κ 0x20 (length m)) 0x40 (textSoFar κ key nonce a m) (blocks (κ .size) l)
-  unfolding textOut soFar
+  text-out : (a m l : List ℕ) → AllBytes a → AllBytes m → blocksOut κ (value a m) l ≡ covered κ false (firstMark κ 0x20 (length m)) 0x40 (textSoFar κ key nonce a m) (blocks (κ .size) l)
+  unfolding blocksOut soFar
   text-out a m l ha hm = ap (λ (s : States). covered κ false (firstMark κ 0x20 (length m)) 0x40 s (blocks (κ .size) l)) (begun-is a m ha hm)
 
   -- what goes out for a part is the next piece of the ciphertext
@@ -156,7 +157,7 @@ module _ (suite : ℕ) (key nonce : List ℕ) (hk : Block 16 key) (hv : AllBytes
   unfolding partOut soFar
   part-out a m p ha hm =
       ap (λ (o : List ℕ). outSoFar κ key nonce a m ++ o)
-      (ap (λ (h : List ℕ). textOut κ (value a m) (whole (κ .size) (h ++ p))) (text-held a m) ∙ text-out a m (whole (κ .size) (rest (κ .size) m ++ p)) ha hm)
+      (ap (λ (h : List ℕ). blocksOut κ (value a m) (whole (κ .size) (h ++ p))) (text-held a m) ∙ text-out a m (whole (κ .size) (rest (κ .size) m ++ p)) ha hm)
       ∙ out-more κ pos 0x20 0x40 (dataDone κ key nonce a) m p
 
   part-states : (a m p : List ℕ) → AllBytes a → AllBytes m
@@ -180,7 +181,7 @@ module _ (suite : ℕ) (key nonce : List ℕ) (hk : Block 16 key) (hv : AllBytes
   unfolding endOut soFar
   end-out a m ha hm =
       ap (λ (o : List ℕ). outSoFar κ key nonce a m ++ o)
-      (ap (textOut κ (value a m)) (text-held a m) ∙ text-out a m (rest (κ .size) m) ha hm)
+      (ap (blocksOut κ (value a m)) (text-held a m) ∙ text-out a m (rest (κ .size) m) ha hm)
       ∙ out-last κ pos 0x20 0x40 (dataDone κ key nonce a) m
       ∙ sym (text-walk κ pos key nonce a m false)
 

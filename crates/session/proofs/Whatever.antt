@@ -12,11 +12,11 @@ use lib.Seq.{take-append-seam}
 use Rattle.words.specs.Bytes.{AllBytes}
 use Rattle.words.proofs.Lists.{nil-of, all-append, all-nil}
 use Rattle.cipher.proofs.Suites.{seals-has}
-use Rattle.cipher.specs.Cipher.{Block, isSuite, seals, Seals, cipherOf, sizeOf, nonceOf}
+use Rattle.cipher.specs.Cipher.{Block, isSuite, seals, Seals, cipherOf, sizeOf, nonceOf, limit}
 use Rattle.mode.specs.Mode.{ciphertext, tag}
 use Rattle.session.specs.Value.{Value, Given, over, answered, gave, written, startNumber, starting, dataNumber, dataPart, textNumber, textDone, textPart, endNumber, endDone, ending, dataIn, partOut, endOut, fresh}
 use Rattle.session.proofs.Joined.{outSoFar, soFar}
-use Rattle.session.specs.Calls.{Call, associated, message, finish, Lent, AllLent, Run, accepted, endedBy, step, run, runOf, joined, Starts, Shut, RefusedShut, Next, Goes, Whatever}
+use Rattle.session.specs.Calls.{SessionCall, associated, message, finish, InBytes, AllInBytes, Run, accepted, endedBy, step, run, runOf, joined, Starts, Shut, RefusedShut, Next, Goes, Whatever}
 use Rattle.session.proofs.Refuse.{data-passed, text-passed, start-passed, start-is}
 use Rattle.session.proofs.Accepts.{next-is}
 use Rattle.session.proofs.SoFar.{data-more, part-out, text-more, end-out, end-tag, fresh-is, none-out}
@@ -27,8 +27,8 @@ pub record Stands (suite : ℕ) (key nonce : List ℕ) (v : Value) (a m o : List
   pub out : o ≡ outSoFar (cipherOf suite) key nonce a m
   pub dataBytes : AllBytes a
   pub textBytes : AllBytes m
-  pub dataSmall : length a ≤ 65536
-  pub textSmall : length m ≤ 65536
+  pub dataSmall : length a ≤ limit
+  pub textSmall : length m ≤ limit
 
 pub data Kept (suite : ℕ) (key nonce : List ℕ) (r : Run) : Type 0 where
   closed : r .now ≡ over → r .ended ≡ true → Kept suite key nonce r
@@ -62,12 +62,12 @@ module _ (suite : ℕ) (key nonce : List ℕ) (hk : Block 16 key) (hv : AllBytes
   -- ---- associated data
 
   -- 0 says that no message byte has come, and that there is room under the limit
-  data-told : (a m : List ℕ) (l : ℕ) → dataNumber suite (length a) (length m) l ≡ 0 → (m ≡ []) × (l ≤ 65536 - length a)
+  data-told : (a m : List ℕ) (l : ℕ) → dataNumber suite (length a) (length m) l ≡ 0 → (m ≡ []) × (l ≤ limit - length a)
   data-told a m l e =
       let p = data-passed suite (length a) (length m) l e in
       (nil-of m (p .1), p .2)
 
-  data-zero : (a p o : List ℕ) → AllBytes p → length p ≤ 65536 - length a → S (value a []) a [] o → S (dataIn (cipherOf suite) (value a []) p) (a ++ p) [] o
+  data-zero : (a p o : List ℕ) → AllBytes p → length p ≤ limit - length a → S (value a []) a [] o → S (dataIn (cipherOf suite) (value a []) p) (a ++ p) [] o
   data-zero a p o hp lp s =
       record {
         at = data-more suite key nonce hk hv lv a p (s .dataBytes);
@@ -110,7 +110,7 @@ module _ (suite : ℕ) (key nonce : List ℕ) (hk : Block 16 key) (hv : AllBytes
   abbrev newOf : List ℕ → List ℕ → List ℕ → List ℕ
   newOf a m p = partOut (cipherOf suite) (value a m) p
 
-  text-done : (a m o p out : List ℕ) → AllBytes p → length p ≤ 65536 - length m → S (value a m) a m o → TextAfter (textDone (value a m) p out) a m o p
+  text-done : (a m o p out : List ℕ) → AllBytes p → length p ≤ limit - length m → S (value a m) a m o → TextAfter (textDone (value a m) p out) a m o p
   unfolding soFar
   text-done a m o [] out hp lp s = same refl (sym (append-nil m)) (sym (append-nil o)) s
   text-done a m o (x ∷ p) out hp lp s =
@@ -150,13 +150,13 @@ module _ (suite : ℕ) (key nonce : List ℕ) (hk : Block 16 key) (hv : AllBytes
 
   -- ---- any call
 
-  over-step : (r : Run) (c : Call) → r .now ≡ over → step r c .now ≡ over
+  over-step : (r : Run) (c : SessionCall) → r .now ≡ over → step r c .now ≡ over
   unfolding step
   over-step r (associated p) e = ap (λ (v : Value). dataPart v p .next) e ∙ over-data p
   over-step r (message p out) e = ap (λ (v : Value). textPart v p out .next) e ∙ over-text p out
   over-step r (finish out tag) e = ap (λ (v : Value). ending v out tag .next) e ∙ over-end out tag
 
-  over-ended : (r : Run) (c : Call) → r .now ≡ over → r .ended ≡ true → step r c .ended ≡ true
+  over-ended : (r : Run) (c : SessionCall) → r .now ≡ over → r .ended ≡ true → step r c .ended ≡ true
   unfolding step
   over-ended r (associated p) e t = t
   over-ended r (message p out) e t = t
@@ -165,20 +165,20 @@ module _ (suite : ℕ) (key nonce : List ℕ) (hk : Block 16 key) (hv : AllBytes
   abbrev runAt : Value → List ℕ → List ℕ → List ℕ → Bool → Run
   runAt v a m o b = record { now = v; ad = a; msg = m; out = o; ended = b }
 
-  stands-step : (a m o : List ℕ) (b : Bool) (c : Call) → Lent c → b ≡ false → S (value a m) a m o → H (step (runAt (value a m) a m o b) c)
+  stands-step : (a m o : List ℕ) (b : Bool) (c : SessionCall) → InBytes c → b ≡ false → S (value a m) a m o → H (step (runAt (value a m) a m o b) c)
   unfolding step
   stands-step a m o b (associated p) h eb s = stands (data-step a m o p h s) eb
   stands-step a m o b (message p out) h eb s = stands (text-step a m o p out h s) eb
   stands-step a m o b (finish out tag) h eb s = end-step a m o out tag b eb s
 
-  one-step : (r : Run) (c : Call) → Lent c → H r → H (step r c)
+  one-step : (r : Run) (c : SessionCall) → InBytes c → H r → H (step r c)
   one-step r c h (closed e t) = closed (over-step r c e) (over-ended r c e t)
   one-step r c h (stands s eb) =
       let e = s .at in
       subst (λ (v : Value). S v (r .ad) (r .msg) (r .out) → H (step (runAt v (r .ad) (r .msg) (r .out) (r .ended)) c)) (sym e)
       (stands-step (r .ad) (r .msg) (r .out) (r .ended) c h eb) s
 
-  pub all-steps : (r : Run) (cs : List Call) → AllLent cs → H r → H (run r cs)
+  pub all-steps : (r : Run) (cs : List SessionCall) → AllInBytes cs → H r → H (run r cs)
   unfolding run
   all-steps r [] h k = k
   all-steps r (c ∷ cs) h k = all-steps (step r c) cs (h .1) (one-step r c (h .0) k)
@@ -248,7 +248,7 @@ refused-shut suite key nonce h = shut-go (startNumber suite (length key) (length
 
 -- ---- a whole run
 
-module _ (suite : ℕ) (key nonce : List ℕ) (cs : List Call) (hk : AllBytes key) (hv : AllBytes nonce) (hc : AllLent cs) (e0 : starting suite key nonce .number ≡ 0) where
+module _ (suite : ℕ) (key nonce : List ℕ) (cs : List SessionCall) (hk : AllBytes key) (hv : AllBytes nonce) (hc : AllInBytes cs) (e0 : starting suite key nonce .number ≡ 0) where
   abbrev all : Run
   all = runOf suite key nonce cs
 
@@ -291,7 +291,7 @@ pub goes : Goes
 goes suite key nonce cs hk hv hc e0 = (going suite key nonce cs hk hv hc e0 (kept suite key nonce cs hk hv hc e0), shut suite key nonce cs hk hv hc e0 (kept suite key nonce cs hk hv hc e0))
 
 -- where the end answered 0: the outputs, and what stood before it
-pub finished : (suite : ℕ) (key nonce : List ℕ) (cs : List Call) (out₀ tag₀ : List ℕ) (hk : AllBytes key) (hv : AllBytes nonce) (hc : AllLent cs)
+pub finished : (suite : ℕ) (key nonce : List ℕ) (cs : List SessionCall) (out₀ tag₀ : List ℕ) (hk : AllBytes key) (hv : AllBytes nonce) (hc : AllInBytes cs)
     (e0 : starting suite key nonce .number ≡ 0) → ending (runOf suite key nonce cs .now) out₀ tag₀ .number ≡ 0
     → let r : Run = runOf suite key nonce cs in
     let e : Given = ending (r .now) out₀ tag₀ in

@@ -5,25 +5,25 @@ use mathlib.Core.Bool.{Bool, true, false}
 use mathlib.Core.List.{List, [], _∷_, _++_}
 use lib.ListN.{length, take}
 use Rattle.words.specs.Bytes.{AllBytes}
-use Rattle.cipher.specs.Cipher.{Seals, cipherOf, sizeOf, nonceOf}
+use Rattle.cipher.specs.Cipher.{Seals, cipherOf, sizeOf, nonceOf, limit}
 use Rattle.mode.specs.Mode.{ciphertext, tag}
 use Rattle.session.specs.Value.{Value, Given, starting, dataPart, textPart, ending}
 
 -- a call, with the part or the buffers that it is lent
-pub data Call : Type 0 where
-  associated : List ℕ → Call
-  message : List ℕ → List ℕ → Call
-  finish : List ℕ → List ℕ → Call
+pub data SessionCall : Type 0 where
+  associated : List ℕ → SessionCall
+  message : List ℕ → List ℕ → SessionCall
+  finish : List ℕ → List ℕ → SessionCall
 
 -- the parts are bytes
-abbrev pub Lent : Call → Type 0
-Lent (associated p) = AllBytes p
-Lent (message p out) = AllBytes p
-Lent (finish out tag) = Unit
+abbrev pub InBytes : SessionCall → Type 0
+InBytes (associated p) = AllBytes p
+InBytes (message p out) = AllBytes p
+InBytes (finish out tag) = Unit
 
-abbrev pub AllLent : List Call → Type 0
-AllLent [] = Unit
-AllLent (c ∷ cs) = Lent c × AllLent cs
+abbrev pub AllInBytes : List SessionCall → Type 0
+AllInBytes [] = Unit
+AllInBytes (c ∷ cs) = InBytes c × AllInBytes cs
 
 -- the session that stands; the accepted associated data, the accepted message and the ciphertext, each joined; whether an end was accepted
 pub record Run : Type 0 where
@@ -43,7 +43,7 @@ abbrev pub endedBy : ℕ → Bool → Bool
 endedBy zero b = true
 endedBy (suc k) b = b
 
-unfoldable pub step : Run → Call → Run
+unfoldable pub step : Run → SessionCall → Run
 step r (associated p) =
     let g : Given = dataPart (r .now) p in
     record { now = g .next; ad = r .ad ++ accepted (g .number) p; msg = r .msg; out = r .out; ended = r .ended }
@@ -54,12 +54,12 @@ step r (finish out tag) =
     let g : Given = ending (r .now) out tag in
     record { now = g .next; ad = r .ad; msg = r .msg; out = r .out ++ take (g .count) (g .out); ended = endedBy (g .number) (r .ended) }
 
-unfoldable pub run : Run → List Call → Run
+unfoldable pub run : Run → List SessionCall → Run
 run r [] = r
 run r (c ∷ cs) = run (step r c) cs
 
 -- the run of a session that key and nonce start
-abbrev pub runOf : ℕ → List ℕ → List ℕ → List Call → Run
+abbrev pub runOf : ℕ → List ℕ → List ℕ → List SessionCall → Run
 runOf suite key nonce cs = run (record { now = starting suite key nonce .next; ad = []; msg = []; out = []; ended = false }) cs
 
 -- the joined ciphertext, once the end gave the rest
@@ -85,15 +85,15 @@ pub record Next (suite : ℕ) (r : Run) : Type 0 where
   -- the suite is the start's and seals; the session's two totals are the lengths of the joined texts, which are within the limits
   pub seals : Seals suite
   pub suite-is : r .now .suite ≡ suite
-  pub came-is : r .now .came ≡ length (r .ad)
-  pub text-is : r .now .text ≡ length (r .msg)
-  pub data-most : length (r .ad) ≤ 65536
-  pub text-most : length (r .msg) ≤ 65536
+  pub ad-total-is : r .now .«ad_total» ≡ length (r .ad)
+  pub text-total-is : r .now .«text_total» ≡ length (r .msg)
+  pub data-most : length (r .ad) ≤ limit
+  pub text-most : length (r .msg) ≤ limit
   -- before the first message byte, associated data within the limit is accepted; behind it, no part is, not even an empty one
-  pub data-taken : (p : List ℕ) → r .msg ≡ [] → length (r .ad) + length p ≤ 65536 → dataPart (r .now) p .number ≡ 0
+  pub data-taken : (p : List ℕ) → r .msg ≡ [] → length (r .ad) + length p ≤ limit → dataPart (r .now) p .number ≡ 0
   pub data-late : (p : List ℕ) → (r .msg ≡ [] → ⊥) → dataPart (r .now) p .number ≡ 9
   -- a message part within the limit and with room is accepted, and gives the ciphertext of the blocks that it completes
-  pub text-taken : (p out : List ℕ) → length (r .msg) + length p ≤ 65536 → length p + (sizeOf suite - 1) ≤ length out → textPart (r .now) p out .number ≡ 0
+  pub text-taken : (p out : List ℕ) → length (r .msg) + length p ≤ limit → length p + (sizeOf suite - 1) ≤ length out → textPart (r .now) p out .number ≡ 0
   pub text-count : (p out : List ℕ) → textPart (r .now) p out .number ≡ 0
       → textPart (r .now) p out .count ≡ (length (r .msg) % sizeOf suite + length p) / sizeOf suite * sizeOf suite
   -- the end with room is accepted, and gives the rest
@@ -103,7 +103,7 @@ pub record Next (suite : ℕ) (r : Run) : Type 0 where
 -- after a start that answered 0 and any calls: until an end is accepted the next call is answered so, and behind it by 9
 abbrev pub Goes : Type 0
 Goes =
-    (suite : ℕ) (key nonce : List ℕ) (cs : List Call) → AllBytes key → AllBytes nonce → AllLent cs
+    (suite : ℕ) (key nonce : List ℕ) (cs : List SessionCall) → AllBytes key → AllBytes nonce → AllInBytes cs
     → starting suite key nonce .number ≡ 0
     → (runOf suite key nonce cs .ended ≡ false → Next suite (runOf suite key nonce cs))
     × (runOf suite key nonce cs .ended ≡ true → Shut (runOf suite key nonce cs .now))
@@ -111,12 +111,12 @@ Goes =
 -- whatever the cutting: where the start and the end answered 0, the joined ciphertext and the tag are those of the joined associated data and message, which are within the limits
 abbrev pub Whatever : Type 0
 Whatever =
-    (suite : ℕ) (key nonce : List ℕ) (cs : List Call) (out₀ tag₀ : List ℕ) → AllBytes key → AllBytes nonce → AllLent cs
+    (suite : ℕ) (key nonce : List ℕ) (cs : List SessionCall) (out₀ tag₀ : List ℕ) → AllBytes key → AllBytes nonce → AllInBytes cs
     → starting suite key nonce .number ≡ 0
     → ending (runOf suite key nonce cs .now) out₀ tag₀ .number ≡ 0
     → let r : Run = runOf suite key nonce cs in
     let e : Given = ending (r .now) out₀ tag₀ in
     (joined r e ≡ ciphertext (cipherOf suite) key nonce (r .ad) (r .msg))
     × (e .tag ≡ tag (cipherOf suite) key nonce (r .ad) (r .msg))
-    × (length (r .ad) ≤ 65536)
-    × (length (r .msg) ≤ 65536)
+    × (length (r .ad) ≤ limit)
+    × (length (r .msg) ≤ limit)

@@ -8,7 +8,7 @@ use Rattle.session.specs.Value.{Value, Given}
 
 -- a session's value
 abbrev pub asValue : Session → Value
-asValue s = record { suite = s .suite; Y = wide (s .y); Z = wide (s .z); held = s .held; came = s .came; text = s .text }
+asValue s = record { suite = s .suite; Y = wide (s .y); Z = wide (s .z); held = s .held; «ad_total» = s .«ad_total»; «text_total» = s .«text_total» }
 
 -- what a call gave, with the buffers that it was lent
 abbrev pub gives : Step → List ℕ → List ℕ → Given

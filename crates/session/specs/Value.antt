@@ -4,7 +4,8 @@ use mathlib.Core.Bool.{Bool, false, cond, not, _&&_}
 use mathlib.Core.List.{List, [], _∷_, _++_}
 use lib.ListN.{length, take, drop, replicate}
 use lib.Dec.{leb, ltb, eqb}
-use Rattle.cipher.specs.Cipher.{Cipher, isSuite, IsSuite, seals, cipherOf, sizeOf, nonceOf}
+use Rattle.words.specs.Blocks.{filled}
+use Rattle.cipher.specs.Cipher.{Cipher, IsSuite, seals, cipherOf, sizeOf, limit, underKey}
 use Rattle.mode.specs.Blocks.{blocks}
 use Rattle.mode.specs.Walk.{States, whole, rest, walked, covered, tagged, origin}
 
@@ -14,30 +15,26 @@ pub record Value : Type 0 where
   pub Y : List ℕ
   pub Z : List ℕ
   pub held : List ℕ
-  pub came : ℕ
-  pub text : ℕ
-
--- zeros behind, up to sixteen bytes
-abbrev pub filled : List ℕ → List ℕ
-filled l = l ++ replicate (16 - length l) 0
+  pub «ad_total» : ℕ
+  pub «text_total» : ℕ
 
 -- the value of these states, held bytes and totals
 abbrev pub valueOf : ℕ → States → List ℕ → ℕ → ℕ → Value
-valueOf suite s held came text = record { suite = suite; Y = filled (s .Y); Z = s .Z; held = held; came = came; text = text }
+valueOf suite s held ad-total text-total = record { suite = suite; Y = filled (s .Y); Z = s .Z; held = held; «ad_total» = ad-total; «text_total» = text-total }
 
 -- a session that answers 9 to every call: a refused one, and one that has ended
 abbrev pub over : Value
-over = record { suite = 0; Y = replicate 16 0; Z = replicate 16 0; held = replicate 16 0; came = 0; text = 0 }
+over = record { suite = 0; Y = replicate 16 0; Z = replicate 16 0; held = replicate 16 0; «ad_total» = 0; «text_total» = 0 }
 
 -- a session that goes on, by its suite and its totals: a suite that seals, and totals within the limit. No other value is one that a run of ours gives
 abbrev pub sound : ℕ → ℕ → ℕ → Bool
-sound suite came text = seals suite && (leb came 65536 && leb text 65536)
+sound suite ad-total text-total = seals suite && (leb ad-total limit && leb text-total limit)
 
 -- what the work needs of that, as facts
-pub record Sound (suite came text : ℕ) : Type 0 where
+pub record Sound (suite ad-total text-total : ℕ) : Type 0 where
   pub known : IsSuite suite
-  pub data-most : came ≤ 65536
-  pub text-most : text ≤ 65536
+  pub data-most : ad-total ≤ limit
+  pub text-most : text-total ≤ limit
 
 module _ (κ : Cipher) where
   -- the session's two states
@@ -54,36 +51,36 @@ module _ (κ : Cipher) where
 
   -- the states once associated data p came: the whole blocks of held bytes and p go in
   unfoldable pub dataStates : Value → List ℕ → States
-  dataStates v p = walked κ false (firstMark 0x08 (v .came)) 0x10 (states v) (blocks (κ .size) (whole (κ .size) (heldOf v (v .came) ++ p)))
+  dataStates v p = walked κ false (firstMark 0x08 (v .«ad_total»)) 0x10 (states v) (blocks (κ .size) (whole (κ .size) (heldOf v (v .«ad_total») ++ p)))
 
   unfoldable pub dataIn : Value → List ℕ → Value
-  dataIn v p = valueOf (v .suite) (dataStates v p) (filled (rest (κ .size) (heldOf v (v .came) ++ p))) (v .came + length p) (v .text)
+  dataIn v p = valueOf (v .suite) (dataStates v p) (filled (rest (κ .size) (heldOf v (v .«ad_total») ++ p))) (v .«ad_total» + length p) (v .«text_total»)
 
   -- the states as the message goes on: if it has not begun, the associated data's last bytes go in first, a short block if there are any
   unfoldable pub begun : Value → States
-  begun v = cond (eqb (v .text) 0) (walked κ false (firstMark 0x08 (v .came)) 0x10 (states v) (blocks (κ .size) (heldOf v (v .came)))) (states v)
+  begun v = cond (eqb (v .«text_total») 0) (walked κ false (firstMark 0x08 (v .«ad_total»)) 0x10 (states v) (blocks (κ .size) (heldOf v (v .«ad_total»)))) (states v)
 
   -- the states once blocks of message went in, and what goes out for them
   unfoldable pub textStates : Value → List ℕ → States
-  textStates v l = walked κ false (firstMark 0x20 (v .text)) 0x40 (begun v) (blocks (κ .size) l)
+  textStates v l = walked κ false (firstMark 0x20 (v .«text_total»)) 0x40 (begun v) (blocks (κ .size) l)
 
-  unfoldable pub textOut : Value → List ℕ → List ℕ
-  textOut v l = covered κ false (firstMark 0x20 (v .text)) 0x40 (begun v) (blocks (κ .size) l)
+  unfoldable pub blocksOut : Value → List ℕ → List ℕ
+  blocksOut v l = covered κ false (firstMark 0x20 (v .«text_total»)) 0x40 (begun v) (blocks (κ .size) l)
 
   -- message bytes p, at least one
   unfoldable pub textIn : Value → List ℕ → Value
-  textIn v p = valueOf (v .suite) (textStates v (whole (κ .size) (heldOf v (v .text) ++ p))) (filled (rest (κ .size) (heldOf v (v .text) ++ p))) (v .came) (v .text + length p)
+  textIn v p = valueOf (v .suite) (textStates v (whole (κ .size) (heldOf v (v .«text_total») ++ p))) (filled (rest (κ .size) (heldOf v (v .«text_total») ++ p))) (v .«ad_total») (v .«text_total» + length p)
 
   -- what goes out for them: the ciphertext of the blocks that they complete
   unfoldable pub partOut : Value → List ℕ → List ℕ
-  partOut v p = textOut v (whole (κ .size) (heldOf v (v .text) ++ p))
+  partOut v p = blocksOut v (whole (κ .size) (heldOf v (v .«text_total») ++ p))
 
   -- at the end: the rest of the ciphertext, and the tag
   unfoldable pub endOut : Value → List ℕ
-  endOut v = textOut v (heldOf v (v .text))
+  endOut v = blocksOut v (heldOf v (v .«text_total»))
 
   unfoldable pub endTag : Value → List ℕ
-  endTag v = tagged κ (textStates v (heldOf v (v .text)))
+  endTag v = tagged κ (textStates v (heldOf v (v .«text_total»)))
 
 -- what a call gives: the number, how many bytes it wrote at the output's start, the next session, and the buffers after it (none: the empty list)
 pub record Given : Type 0 where
@@ -108,12 +105,7 @@ written new out = new ++ drop (length new) out
 -- ---- start
 
 unfoldable pub startNumber : ℕ → ℕ → ℕ → ℕ
-startNumber suite key nonce =
-    cond (not (isSuite suite)) 1
-    (cond (not (seals suite)) 10
-    (cond (not (eqb key 16)) 2
-    (cond (not (eqb nonce (nonceOf suite))) 3
-    0)))
+startNumber suite key nonce = underKey (seals suite) suite key nonce 0
 
 abbrev pub fresh : ℕ → List ℕ → List ℕ → Value
 fresh suite key nonce = valueOf suite (origin (cipherOf suite) key nonce) (replicate 16 0) 0 0
@@ -124,15 +116,15 @@ starting suite key nonce = answered (startNumber suite (length key) (length nonc
 -- ---- associated data
 
 unfoldable pub dataNumber : ℕ → ℕ → ℕ → ℕ → ℕ
-dataNumber suite came text l = cond (not (sound suite came text && eqb text 0)) 9 (cond (ltb (65536 - came) l) 4 0)
+dataNumber suite ad-total text-total l = cond (not (sound suite ad-total text-total && eqb text-total 0)) 9 (cond (ltb (limit - ad-total) l) 4 0)
 
 unfoldable pub dataPart : Value → List ℕ → Given
-dataPart v p = answered (dataNumber (v .suite) (v .came) (v .text) (length p)) (gave 0 0 (dataIn (cipherOf (v .suite)) v p) [] []) v [] []
+dataPart v p = answered (dataNumber (v .suite) (v .«ad_total») (v .«text_total») (length p)) (gave 0 0 (dataIn (cipherOf (v .suite)) v p) [] []) v [] []
 
 -- ---- message: an empty part changes nothing
 
 unfoldable pub textNumber : ℕ → ℕ → ℕ → ℕ → ℕ → ℕ
-textNumber suite came text l o = cond (not (sound suite came text)) 9 (cond (ltb (65536 - text) l) 5 (cond (ltb o (l + (sizeOf suite - 1))) 6 0))
+textNumber suite ad-total text-total l o = cond (not (sound suite ad-total text-total)) 9 (cond (ltb (limit - text-total) l) 5 (cond (ltb o (l + (sizeOf suite - 1))) 6 0))
 
 abbrev pub textGiven : Value → List ℕ → List ℕ → Given
 textGiven v p out =
@@ -143,12 +135,12 @@ textDone v [] out = gave 0 0 v out []
 textDone v (x ∷ p) out = textGiven v (x ∷ p) out
 
 unfoldable pub textPart : Value → List ℕ → List ℕ → Given
-textPart v p out = answered (textNumber (v .suite) (v .came) (v .text) (length p) (length out)) (textDone v p out) v out []
+textPart v p out = answered (textNumber (v .suite) (v .«ad_total») (v .«text_total») (length p) (length out)) (textDone v p out) v out []
 
 -- ---- end
 
 unfoldable pub endNumber : ℕ → ℕ → ℕ → ℕ → ℕ → ℕ
-endNumber suite came text o t = cond (not (sound suite came text)) 9 (cond (ltb o (sizeOf suite)) 6 (cond (not (eqb t (sizeOf suite))) 7 0))
+endNumber suite ad-total text-total o t = cond (not (sound suite ad-total text-total)) 9 (cond (ltb o (sizeOf suite)) 6 (cond (not (eqb t (sizeOf suite))) 7 0))
 
 abbrev pub endDone : Value → List ℕ → Given
 endDone v out =
@@ -156,4 +148,4 @@ endDone v out =
     gave 0 (length new) over (written new out) (endTag (cipherOf (v .suite)) v)
 
 unfoldable pub ending : Value → List ℕ → List ℕ → Given
-ending v out tag = answered (endNumber (v .suite) (v .came) (v .text) (length out) (length tag)) (endDone v out) v out tag
+ending v out tag = answered (endNumber (v .suite) (v .«ad_total») (v .«text_total») (length out) (length tag)) (endDone v out) v out tag

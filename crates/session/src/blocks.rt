@@ -8,12 +8,13 @@ ghost use mathlib.Core.Bool.{false};
 ghost use mathlib.Core.List.{_++_};
 ghost use Prim.Native.Nat.{ℕ, _+_, _-_, _≤_, _<_};
 ghost use lib.ListN.{length, take};
+ghost use Rattle.words.specs.Blocks.{filled};
 ghost use Rattle.cipher.specs.Cipher.{Ready, IsSuite, sizeOf, cipherOf};
 ghost use Rattle.mode.specs.Blocks.{blocks};
 ghost use Rattle.mode.specs.Walk.{whole, rest, walked, covered};
 ghost use Rattle.step.specs.Two.{twoOf};
 ghost use Rattle.walk.specs.Behind.{wholes, Passed};
-ghost use Rattle.session.specs.Value.{filled, written};
+ghost use Rattle.session.specs.Value.{written};
 
 // The two states, and what is held back.
 pub(crate) struct Fed {
@@ -36,12 +37,12 @@ fn joined(held: [u8; 16], h: usize, p: &[u8]) -> [u8; 16]
 }
 
 // The whole blocks of ad go in, none of them the first, and the rest is held.
-fn absorb_blocks(tb: &[Lent], suite: u8, s: State, ad: &[u8]) -> Fed
-    requires { ⌜ Ready suite (now tb) × IsSuite suite ⌝ }
+fn absorb_blocks(lent: &[Lent], suite: u8, s: State, ad: &[u8]) -> Fed
+    requires { ⌜ Ready suite (now lent) × IsSuite suite ⌝ }
     ensures states { λ r. ⌜ twoOf suite (r .s) ≡ walked (cipherOf suite) false 0 0x10 (twoOf suite s) (blocks (sizeOf suite) (whole (sizeOf suite) (now (ad .entry)))) ⌝ }
     ensures held { λ r. ⌜ r .held ≡ filled (rest (sizeOf suite) (now (ad .entry))) ⌝ }
 {
-    let w = walk::absorb(tb, false, suite, s, 0, ad);
+    let w = walk::absorb(lent, false, suite, s, 0, ad);
     let t = w.s;
     let i = w.at;
     let h = words::block::filled_bytes(&ad[i..ad.len()]);
@@ -49,16 +50,24 @@ fn absorb_blocks(tb: &[Lent], suite: u8, s: State, ad: &[u8]) -> Fed
 }
 
 // The whole blocks of h held bytes and then ad, which completes one, go in, the first under the mark m, and the rest is held.
-fn absorb_past(tb: &[Lent], suite: u8, s: State, m: u8, held: [u8; 16], h: usize, ad: &[u8]) -> Fed
-    requires { ⌜ Ready suite (now tb) × IsSuite suite × (h < sizeOf suite) × (sizeOf suite ≤ h + length (now ad)) ⌝ }
+fn absorb_past(
+    lent: &[Lent],
+    suite: u8,
+    s: State,
+    m: u8,
+    held: [u8; 16],
+    h: usize,
+    ad: &[u8],
+) -> Fed
+    requires { ⌜ Ready suite (now lent) × IsSuite suite × (h < sizeOf suite) × (sizeOf suite ≤ h + length (now ad)) ⌝ }
     ensures states { λ r. ⌜ twoOf suite (r .s) ≡ walked (cipherOf suite) false m 0x10 (twoOf suite s) (blocks (sizeOf suite) (whole (sizeOf suite) (take h held ++ now (ad .entry)))) ⌝ }
     ensures held { λ r. ⌜ r .held ≡ filled (rest (sizeOf suite) (take h held ++ now (ad .entry))) ⌝ }
 {
     let n = cipher::size_of(suite);
     let need = n - h;
     let b = joined(held, h, &ad[0..need]);
-    let t = walk::absorb(tb, false, suite, s, m, &b[0..n]);
-    absorb_blocks(tb, suite, t.s, &ad[need..ad.len()])
+    let t = walk::absorb(lent, false, suite, s, m, &b[0..n]);
+    absorb_blocks(lent, suite, t.s, &ad[need..ad.len()])
 }
 
 // The whole blocks of h held bytes and then ad go in, the first under the mark m, and the rest is held. Tables are made only where a block is completed.
@@ -73,8 +82,8 @@ pub(crate) fn absorb_part(suite: u8, s: State, m: u8, held: [u8; 16], h: usize, 
         return Fed { s: s, held: g };
     }
     if cipher::lends(suite) {
-        let tb = cipher::tables(suite);
-        return absorb_past(&tb, suite, s, m, held, h, ad);
+        let lent = cipher::tables(suite);
+        return absorb_past(&lent, suite, s, m, held, h, ad);
     }
     absorb_past(&[], suite, s, m, held, h, ad)
 }
@@ -103,8 +112,8 @@ fn crypt_blocks(suite: u8, s: State, m: u8, text: &mut [u8]) -> Behind
     ensures state { λ r. ⌜ Passed suite false m s (now (text .entry)) r ⌝ }
 {
     if cipher::lends(suite) {
-        let tb = cipher::tables(suite);
-        return walk::crypt(&tb, false, suite, s, m, text);
+        let lent = cipher::tables(suite);
+        return walk::crypt(&lent, false, suite, s, m, text);
     }
     walk::crypt(&[], false, suite, s, m, text)
 }
@@ -150,7 +159,7 @@ pub(crate) fn crypt_part(
 
 // The h held bytes of message go in as a short block, if there are any, and their ciphertext out.
 pub(crate) fn last_in(
-    tb: &[Lent],
+    lent: &[Lent],
     suite: u8,
     s: State,
     m: u8,
@@ -158,7 +167,7 @@ pub(crate) fn last_in(
     h: usize,
     out: &mut [u8],
 ) -> State
-    requires { ⌜ Ready suite (now tb) × IsSuite suite × (h < sizeOf suite) × (sizeOf suite ≤ length (now out)) ⌝ }
+    requires { ⌜ Ready suite (now lent) × IsSuite suite × (h < sizeOf suite) × (sizeOf suite ≤ length (now out)) ⌝ }
     ensures text { λ _. ⌜ now (out .exit) ≡ written (covered (cipherOf suite) false m 0x40 (twoOf suite s) (blocks (sizeOf suite) (take h held))) (now (out .entry)) ⌝ }
     ensures count { λ _. ⌜ h ≡ length (covered (cipherOf suite) false m 0x40 (twoOf suite s) (blocks (sizeOf suite) (take h held))) ⌝ }
     ensures state { λ r. ⌜ twoOf suite r ≡ walked (cipherOf suite) false m 0x40 (twoOf suite s) (blocks (sizeOf suite) (take h held)) ⌝ }
@@ -167,5 +176,5 @@ pub(crate) fn last_in(
         return s;
     }
     words::runs::copy(&held[0..h], &mut out[0..h]);
-    crypt_short(tb, false, suite, s, m ^ 0x40, &mut out[0..h])
+    crypt_short(lent, false, suite, s, m ^ 0x40, &mut out[0..h])
 }

@@ -16,8 +16,8 @@ pub struct Session {
     pub y: Block,
     pub z: Block,
     pub held: [u8; 16],
-    pub came: usize,
-    pub text: usize,
+    pub ad_total: usize,
+    pub text_total: usize,
 }
 
 // What a call gives: the next session, the number, and how many bytes it wrote at the output's start.
@@ -37,8 +37,8 @@ impl Session {
             return work::refused(k);
         }
         if cipher::lends(suite) {
-            let tb = cipher::tables(suite);
-            return work::started(&tb, suite, key, nonce);
+            let lent = cipher::tables(suite);
+            return work::started(&lent, suite, key, nonce);
         }
         work::started(&[], suite, key, nonce)
     }
@@ -48,9 +48,9 @@ impl Session {
         ensures { λ r. ⌜ gives r [] [] ≡ dataPart (asValue self) (now (part .entry)) ⌝ }
     {
         let suite = self.suite;
-        let came = self.came;
-        let text = self.text;
-        let k = numbers::data_number(suite, came, text, part.len());
+        let ad_total = self.ad_total;
+        let text_total = self.text_total;
+        let k = numbers::data_number(suite, ad_total, text_total, part.len());
         if k != 0 {
             return Step {
                 next: self,
@@ -66,9 +66,9 @@ impl Session {
         ensures { λ r. ⌜ gives r (now (out .exit)) [] ≡ textPart (asValue self) (now (part .entry)) (now (out .entry)) ⌝ }
     {
         let suite = self.suite;
-        let came = self.came;
-        let text = self.text;
-        let k = numbers::text_number(suite, came, text, part.len(), out.len());
+        let ad_total = self.ad_total;
+        let text_total = self.text_total;
+        let k = numbers::text_number(suite, ad_total, text_total, part.len(), out.len());
         if k != 0 {
             return Step {
                 next: self,
@@ -91,9 +91,9 @@ impl Session {
         ensures { λ r. ⌜ gives r (now (out .exit)) (now (tag .exit)) ≡ ending (asValue self) (now (out .entry)) (now (tag .entry)) ⌝ }
     {
         let suite = self.suite;
-        let came = self.came;
-        let text = self.text;
-        let k = numbers::end_number(suite, came, text, out.len(), tag.len());
+        let ad_total = self.ad_total;
+        let text_total = self.text_total;
+        let k = numbers::end_number(suite, ad_total, text_total, out.len(), tag.len());
         if k != 0 {
             return Step {
                 next: self,
@@ -102,8 +102,8 @@ impl Session {
             };
         }
         if cipher::lends(suite) {
-            let tb = cipher::tables(suite);
-            return work::close(&tb, self, out, tag);
+            let lent = cipher::tables(suite);
+            return work::close(&lent, self, out, tag);
         }
         work::close(&[], self, out, tag)
     }

@@ -1,4 +1,5 @@
 // The numbers of the four calls, from the suite, the totals and the lengths: the first that applies.
+use cipher::LIMIT;
 ghost use mathlib.Core.Path.{_≡_};
 ghost use Rattle.session.specs.Value.{sound, startNumber, dataNumber, textNumber, endNumber};
 
@@ -25,45 +26,51 @@ pub(crate) fn start_number(suite: u8, key: usize, nonce: usize) -> u8
 }
 
 // Whether a session is one that goes on.
-fn goes_on(suite: u8, came: usize, text: usize) -> bool
-    ensures { λ r. ⌜ r ≡ sound suite came text ⌝ }
+fn goes_on(suite: u8, ad_total: usize, text_total: usize) -> bool
+    ensures { λ r. ⌜ r ≡ sound suite «ad_total» «text_total» ⌝ }
 {
     let b = cipher::seals(suite);
     if !b {
         return false;
     }
-    if 65536 < came {
+    if LIMIT < ad_total {
         return false;
     }
-    text <= 65536
+    text_total <= LIMIT
 }
 
 // The number of a part of associated data, from its length.
-pub(crate) fn data_number(suite: u8, came: usize, text: usize, part: usize) -> u8
-    ensures { λ r. ⌜ r ≡ dataNumber suite came text part ⌝ }
+pub(crate) fn data_number(suite: u8, ad_total: usize, text_total: usize, part: usize) -> u8
+    ensures { λ r. ⌜ r ≡ dataNumber suite «ad_total» «text_total» part ⌝ }
 {
-    let b = goes_on(suite, came, text);
+    let b = goes_on(suite, ad_total, text_total);
     if !b {
         return 9;
     }
-    if text != 0 {
+    if text_total != 0 {
         return 9;
     }
-    if 65536 - came < part {
+    if LIMIT - ad_total < part {
         return 4;
     }
     0
 }
 
 // The number of a part of message, from the lengths of part and output.
-pub(crate) fn text_number(suite: u8, came: usize, text: usize, part: usize, out: usize) -> u8
-    ensures { λ r. ⌜ r ≡ textNumber suite came text part out ⌝ }
+pub(crate) fn text_number(
+    suite: u8,
+    ad_total: usize,
+    text_total: usize,
+    part: usize,
+    out: usize,
+) -> u8
+    ensures { λ r. ⌜ r ≡ textNumber suite «ad_total» «text_total» part out ⌝ }
 {
-    let b = goes_on(suite, came, text);
+    let b = goes_on(suite, ad_total, text_total);
     if !b {
         return 9;
     }
-    if 65536 - text < part {
+    if LIMIT - text_total < part {
         return 5;
     }
     let n = cipher::size_of(suite);
@@ -74,10 +81,16 @@ pub(crate) fn text_number(suite: u8, came: usize, text: usize, part: usize, out:
 }
 
 // The number of the end, from the lengths of output and tag buffer.
-pub(crate) fn end_number(suite: u8, came: usize, text: usize, out: usize, tag: usize) -> u8
-    ensures { λ r. ⌜ r ≡ endNumber suite came text out tag ⌝ }
+pub(crate) fn end_number(
+    suite: u8,
+    ad_total: usize,
+    text_total: usize,
+    out: usize,
+    tag: usize,
+) -> u8
+    ensures { λ r. ⌜ r ≡ endNumber suite «ad_total» «text_total» out tag ⌝ }
 {
-    let b = goes_on(suite, came, text);
+    let b = goes_on(suite, ad_total, text_total);
     if !b {
         return 9;
     }

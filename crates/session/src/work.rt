@@ -11,11 +11,11 @@ ghost use mathlib.Core.Bool.{false};
 ghost use mathlib.Core.List.{[]};
 ghost use Prim.Native.Nat.{_<_};
 ghost use lib.ListN.{length, take};
-ghost use Rattle.words.specs.Blocks.{wide};
+ghost use Rattle.words.specs.Blocks.{wide, filled};
 ghost use Rattle.cipher.specs.Cipher.{Ready, IsSuite, sizeOf, cipherOf};
 ghost use Rattle.mode.specs.Walk.{turned, messageOf};
 ghost use Rattle.step.specs.Two.{twoOf, Holds, oneMore};
-ghost use Rattle.session.specs.Value.{valueOf, filled, over, gave, firstMark, begun, startNumber, starting, dataNumber, dataPart, textNumber, textPart, endNumber, ending};
+ghost use Rattle.session.specs.Value.{valueOf, over, gave, firstMark, begun, startNumber, starting, dataNumber, dataPart, textNumber, textPart, endNumber, ending};
 ghost use Rattle.session.specs.Structs.{asValue, gives};
 
 // The bytes that the suite does not use are zero.
@@ -29,8 +29,8 @@ fn clean(suite: u8, y: Block) -> Block
 }
 
 // A session of these states, held bytes and totals.
-fn packed(suite: u8, f: Fed, came: usize, text: usize) -> Session
-    ensures { λ r. ⌜ asValue r ≡ valueOf suite (twoOf suite (f .s)) (f .held) came text ⌝ }
+fn packed(suite: u8, f: Fed, ad_total: usize, text_total: usize) -> Session
+    ensures { λ r. ⌜ asValue r ≡ valueOf suite (twoOf suite (f .s)) (f .held) «ad_total» «text_total» ⌝ }
 {
     let s = f.s;
     let y0 = s.y;
@@ -42,8 +42,8 @@ fn packed(suite: u8, f: Fed, came: usize, text: usize) -> Session
         y: y,
         z: z,
         held: held,
-        came: came,
-        text: text,
+        ad_total: ad_total,
+        text_total: text_total,
     }
 }
 
@@ -57,8 +57,8 @@ fn ended() -> Session
         y: zero,
         z: zero,
         held: [0u8; 16],
-        came: 0,
-        text: 0,
+        ad_total: 0,
+        text_total: 0,
     }
 }
 
@@ -75,11 +75,11 @@ pub(crate) fn refused(k: u8) -> Step
 }
 
 // A session that key and nonce start.
-pub(crate) fn started(tb: &[Lent], suite: u8, key: &[u8], nonce: &[u8]) -> Step
-    requires { ⌜ Ready suite (now tb) × (startNumber suite (length (now key)) (length (now nonce)) ≡ 0) ⌝ }
+pub(crate) fn started(lent: &[Lent], suite: u8, key: &[u8], nonce: &[u8]) -> Step
+    requires { ⌜ Ready suite (now lent) × (startNumber suite (length (now key)) (length (now nonce)) ≡ 0) ⌝ }
     ensures { λ r. ⌜ gives r [] [] ≡ starting suite (now (key .entry)) (now (nonce .entry)) ⌝ }
 {
-    let s = step::state::start(tb, suite, key, nonce);
+    let s = step::state::start(lent, suite, key, nonce);
     let z = [0u8; 16];
     let next = packed(suite, Fed { s: s, held: z }, 0, 0);
     Step {
@@ -90,34 +90,34 @@ pub(crate) fn started(tb: &[Lent], suite: u8, key: &[u8], nonce: &[u8]) -> Step
 }
 
 // The mark of the next whole block: m if none has gone in.
-fn first_mark(suite: u8, m: u8, came: usize) -> u8
-    ensures { λ r. ⌜ r ≡ firstMark (cipherOf suite) m came ⌝ }
+fn first_mark(suite: u8, m: u8, total: usize) -> u8
+    ensures { λ r. ⌜ r ≡ firstMark (cipherOf suite) m total ⌝ }
 {
     let n = cipher::size_of(suite);
-    if came < n { m } else { 0 }
+    if total < n { m } else { 0 }
 }
 
 // Associated data goes in.
 pub(crate) fn take_in(s: Session, part: &[u8]) -> Step
-    requires { ⌜ dataNumber (s .suite) (s .came) (s .text) (length (now part)) ≡ 0 ⌝ }
+    requires { ⌜ dataNumber (s .suite) (s .«ad_total») (s .«text_total») (length (now part)) ≡ 0 ⌝ }
     ensures { λ r. ⌜ gives r [] [] ≡ dataPart (asValue s) (now (part .entry)) ⌝ }
 {
     let suite = s.suite;
     let y = s.y;
     let z = s.z;
     let held = s.held;
-    let came = s.came;
-    let text = s.text;
+    let ad_total = s.ad_total;
+    let text_total = s.text_total;
     let n = cipher::size_of(suite);
-    let m = first_mark(suite, 0x08, came);
-    let h = came % n;
+    let m = first_mark(suite, 0x08, ad_total);
+    let h = ad_total % n;
     let two = State {
         y: y,
         z: z,
         calls: 0,
     };
     let f = crate::blocks::absorb_part(suite, two, m, held, h, part);
-    let next = packed(suite, f, came + part.len(), text);
+    let next = packed(suite, f, ad_total + part.len(), text_total);
     Step {
         next: next,
         number: 0,
@@ -131,8 +131,8 @@ fn absorb_last(suite: u8, s: State, m: u8, b: &[u8]) -> State
     ensures { λ r. ⌜ Holds suite r (turned (cipherOf suite) m (twoOf suite s) (messageOf (cipherOf suite) false m (twoOf suite s) (now (b .entry)))) (oneMore (s .calls)) ⌝ }
 {
     if cipher::lends(suite) {
-        let tb = cipher::tables(suite);
-        return absorb_short(&tb, false, suite, s, m, b);
+        let lent = cipher::tables(suite);
+        return absorb_short(&lent, false, suite, s, m, b);
     }
     absorb_short(&[], false, suite, s, m, b)
 }
@@ -146,22 +146,22 @@ fn begin(s: Session) -> State
     let y = s.y;
     let z = s.z;
     let held = s.held;
-    let came = s.came;
-    let text = s.text;
+    let ad_total = s.ad_total;
+    let text_total = s.text_total;
     let two = State {
         y: y,
         z: z,
         calls: 0,
     };
-    if text != 0 {
+    if text_total != 0 {
         return two;
     }
     let n = cipher::size_of(suite);
-    let h = came % n;
+    let h = ad_total % n;
     if h == 0 {
         return two;
     }
-    let m = first_mark(suite, 0x08, came);
+    let m = first_mark(suite, 0x08, ad_total);
     absorb_last(suite, two, m ^ 0x10, &held[0..h])
 }
 
@@ -172,8 +172,8 @@ fn going(s: Session) -> State
 {
     let y = s.y;
     let z = s.z;
-    let text = s.text;
-    if text != 0 {
+    let text_total = s.text_total;
+    if text_total != 0 {
         return State {
             y: y,
             z: z,
@@ -185,21 +185,26 @@ fn going(s: Session) -> State
 
 // Message goes in, at least one byte of it, and the ciphertext of the blocks that it completes out.
 pub(crate) fn seal_in(s: Session, part: &[u8], out: &mut [u8]) -> Step
-    requires { ⌜ (textNumber (s .suite) (s .came) (s .text) (length (now part)) (length (now out)) ≡ 0) × (0 < length (now part)) ⌝ }
+    requires { ⌜ (textNumber (s .suite) (s .«ad_total») (s .«text_total») (length (now part)) (length (now out)) ≡ 0) × (0 < length (now part)) ⌝ }
     ensures { λ r. ⌜ gives r (now (out .exit)) [] ≡ textPart (asValue s) (now (part .entry)) (now (out .entry)) ⌝ }
 {
     let suite = s.suite;
-    let came = s.came;
-    let text = s.text;
+    let ad_total = s.ad_total;
+    let text_total = s.text_total;
     let held = s.held;
     let two = going(s);
     let n = cipher::size_of(suite);
-    let m = first_mark(suite, 0x20, text);
-    let h = text % n;
+    let m = first_mark(suite, 0x20, text_total);
+    let h = text_total % n;
     let f = crate::blocks::crypt_part(suite, two, m, held, h, part, out);
     let u = f.s;
     let g = f.held;
-    let next = packed(suite, Fed { s: u, held: g }, came, text + part.len());
+    let next = packed(
+        suite,
+        Fed { s: u, held: g },
+        ad_total,
+        text_total + part.len(),
+    );
     Step {
         next: next,
         number: 0,
@@ -208,19 +213,19 @@ pub(crate) fn seal_in(s: Session, part: &[u8], out: &mut [u8]) -> Step
 }
 
 // The end's work: the rest of the ciphertext, and the tag.
-pub(crate) fn close(tb: &[Lent], s: Session, out: &mut [u8], tag: &mut [u8]) -> Step
-    requires { ⌜ Ready (s .suite) (now tb) × (endNumber (s .suite) (s .came) (s .text) (length (now out)) (length (now tag)) ≡ 0) ⌝ }
+pub(crate) fn close(lent: &[Lent], s: Session, out: &mut [u8], tag: &mut [u8]) -> Step
+    requires { ⌜ Ready (s .suite) (now lent) × (endNumber (s .suite) (s .«ad_total») (s .«text_total») (length (now out)) (length (now tag)) ≡ 0) ⌝ }
     ensures { λ r. ⌜ gives r (now (out .exit)) (now (tag .exit)) ≡ ending (asValue s) (now (out .entry)) (now (tag .entry)) ⌝ }
 {
     let suite = s.suite;
-    let text = s.text;
+    let text_total = s.text_total;
     let held = s.held;
     let two = begin(s);
     let n = cipher::size_of(suite);
-    let m = first_mark(suite, 0x20, text);
-    let h = text % n;
-    let t = crate::blocks::last_in(tb, suite, two, m, held, h, out);
-    let l = step::tag::tag_of(tb, suite, t);
+    let m = first_mark(suite, 0x20, text_total);
+    let h = text_total % n;
+    let t = crate::blocks::last_in(lent, suite, two, m, held, h, out);
+    let l = step::tag::tag_of(lent, suite, t);
     let g = l.tag;
     words::block::put(g, tag);
     let next = ended();

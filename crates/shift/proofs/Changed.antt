@@ -20,7 +20,7 @@ use Rattle.mode.proofs.Demand3.{same-before, same-behind, data-told}
 use Rattle.mode.proofs.LastBlock.{last-told}
 use Rattle.table.specs.declared.row.Row.{Row}
 use Rattle.table.specs.Part.{stretch}
-use Rattle.table.specs.Format.{widthOf, nonceStart, nonceAt, rowOf, dataOf, textOf, tagOf, bodyEnd}
+use Rattle.table.specs.Format.{rowSizeOf, nonceStart, nonceAt, rowOf, dataOf, textOf, tagOf, bodyEnd}
 use Rattle.table.specs.Inside.{EntryIn}
 use Rattle.table.proofs.Rows.{stretch-length}
 use Rattle.shift.specs.Opening.{ringKey, nonceRead}
@@ -35,13 +35,13 @@ stretch-at f at n k l = getD-take n (drop at f) k 0 l ∙ getD-drop at f k 0
 
 pub nonce-bytes : (f : List ℕ) (i : ℕ) → AllBytes f → AllBytes (nonceRead f i)
 unfolding nonceAt
-nonce-bytes f i h = all-take (nonceOf (rowOf f i .suite)) (nonceAt (widthOf f) f i) (all-stretch f (nonceStart (widthOf f) i) 16 h)
+nonce-bytes f i h = all-take (nonceOf (rowOf f i .suite)) (nonceAt (rowSizeOf f) f i) (all-stretch f (nonceStart (rowSizeOf f) i) 16 h)
 
 -- and the nonce is as long as the mode wants it
-pub nonce-full : (f ring : List ℕ) (i : ℕ) → EntryIn (widthOf f) f i → length ring ≡ 256 → length (nonceRead f i) ≡ nonceSize (cipherOf (rowOf f i .suite))
+pub nonce-full : (f ring : List ℕ) (i : ℕ) → EntryIn (rowSizeOf f) f i → length ring ≡ 256 → length (nonceRead f i) ≡ nonceSize (cipherOf (rowOf f i .suite))
 nonce-full f ring i h full = nonce-long f ring i h full ∙ sym (suite-nonce (rowOf f i .suite))
 
-pub key-block : (f ring : List ℕ) (i : ℕ) → EntryIn (widthOf f) f i → length ring ≡ 256 → AllBytes ring → Block 16 (ringKey ring (rowOf f i .key))
+pub key-block : (f ring : List ℕ) (i : ℕ) → EntryIn (rowSizeOf f) f i → length ring ≡ 256 → AllBytes ring → Block 16 (ringKey ring (rowOf f i .key))
 key-block f ring i h full hr = record { long = key-long f ring i h full; bytes = all-stretch ring (16 * rowOf f i .key) 16 hr }
 
 -- two stretches of files that are alike outside of a to b: every difference lies there
@@ -62,8 +62,8 @@ inside f g at n a b same k ne =
     ]
 
 -- row i stands in both files, with its nonce and its tag
-module _ (f g ring : List ℕ) (i : ℕ) (h : EntryIn (widthOf f) f i) (full : length ring ≡ 256) (hf : AllBytes f) (hg : AllBytes g) (hr : AllBytes ring) (long : length g ≡ length f)
-    (row : rowOf g i ≡ rowOf f i) (nonce : nonceAt (widthOf g) g i ≡ nonceAt (widthOf f) f i) (tag : tagOf g (rowOf f i) ≡ tagOf f (rowOf f i)) (right : entryRight f ring i ≡ true) where
+module _ (f g ring : List ℕ) (i : ℕ) (h : EntryIn (rowSizeOf f) f i) (full : length ring ≡ 256) (hf : AllBytes f) (hg : AllBytes g) (hr : AllBytes ring) (long : length g ≡ length f)
+    (row : rowOf g i ≡ rowOf f i) (nonce : nonceAt (rowSizeOf g) g i ≡ nonceAt (rowSizeOf f) f i) (tag : tagOf g (rowOf f i) ≡ tagOf f (rowOf f i)) (right : entryRight f ring i ≡ true) where
   -- the tag that the opener works out of associated data and text
   abbrev worked : List ℕ → List ℕ → List ℕ
   worked ad text = tagOut (cipherOf (rowOf f i .suite)) true (ringKey ring (rowOf f i .key)) (nonceRead f i) ad text
@@ -86,8 +86,8 @@ module _ (f g ring : List ℕ) (i : ℕ) (h : EntryIn (widthOf f) f i) (full : l
   part-long at n b = stretch-length f at n (omega (arith, h .body-in)) ∙ sym (stretch-length g at n (omega (arith, h .body-in)))
 
   -- changed inside block j of the associated data, of an entry with an empty message
-  pub data-wrong : (j : ℕ) → rowOf f i .len ≡ 0 → (dataOf f (rowOf f i) ≡ dataOf g (rowOf f i) → ⊥)
-      → ((k : ℕ) → (k < rowOf f i .at + j * sizeOf (rowOf f i .suite)) ⊎ (rowOf f i .at + (j * sizeOf (rowOf f i .suite) + sizeOf (rowOf f i .suite)) ≤ k) → getD g k 0 ≡ getD f k 0)
+  pub data-wrong : (j : ℕ) → rowOf f i .«text_len» ≡ 0 → (dataOf f (rowOf f i) ≡ dataOf g (rowOf f i) → ⊥)
+      → ((k : ℕ) → (k < rowOf f i .«ad_at» + j * sizeOf (rowOf f i .suite)) ⊎ (rowOf f i .«ad_at» + (j * sizeOf (rowOf f i .suite) + sizeOf (rowOf f i .suite)) ≤ k) → getD g k 0 ≡ getD f k 0)
       → entryRight g ring i ≡ false
   unfolding bodyEnd
   data-wrong j empty ne same =
@@ -98,31 +98,31 @@ module _ (f g ring : List ℕ) (i : ℕ) (h : EntryIn (widthOf f) f i) (full : l
       let v = nonceRead f i in
       let x = dataOf f r in
       let y = dataOf g r in
-      let l : length x ≡ length y = part-long (r .at) (r .ad) (omega arith) in
-      let only = inside f g (r .at) (r .ad) (j * n) (j * n + n) same in
-      let no-text : (z : List ℕ) → textOf z r ≡ [] = λ z. ap (stretch z (r .at + r .ad)) empty in
+      let l : length x ≡ length y = part-long (r .«ad_at») (r .«ad_len») (omega arith) in
+      let only = inside f g (r .«ad_at») (r .«ad_len») (j * n) (j * n + n) same in
+      let no-text : (z : List ℕ) → textOf z r ≡ [] = λ z. ap (stretch z (r .«ad_at» + r .«ad_len»)) empty in
       wrong-other (λ e. ne
-      (data-told κ (lawful (r .suite)) j x y (all-stretch f (r .at) (r .ad) hf) (all-stretch g (r .at) (r .ad) hg) l
+      (data-told κ (lawful (r .suite)) j x y (all-stretch f (r .«ad_at») (r .«ad_len») hf) (all-stretch g (r .«ad_at») (r .«ad_len») hg) l
       (same-before n j x y l only) (same-behind n j x y l only) key v [] (key-block f ring i h full hr) (nonce-bytes f i hf) (nonce-full f ring i h full) all-nil
       (sym (empty-tag κ key v x) ∙ ap (worked x) (sym (no-text f)) ∙ e ∙ ap (worked y) (no-text g) ∙ empty-tag κ key v y)))
 
   -- changed inside the last block of the ciphertext, which is block j
   pub text-wrong : (j : ℕ) → dataOf g (rowOf f i) ≡ dataOf f (rowOf f i) → (textOf f (rowOf f i) ≡ textOf g (rowOf f i) → ⊥)
-      → j * sizeOf (rowOf f i .suite) < rowOf f i .len → rowOf f i .len ≤ j * sizeOf (rowOf f i .suite) + sizeOf (rowOf f i .suite)
-      → ((k : ℕ) → (k < rowOf f i .at + rowOf f i .ad + j * sizeOf (rowOf f i .suite)) ⊎ (rowOf f i .at + rowOf f i .ad + (j * sizeOf (rowOf f i .suite) + sizeOf (rowOf f i .suite)) ≤ k) → getD g k 0 ≡ getD f k 0)
+      → j * sizeOf (rowOf f i .suite) < rowOf f i .«text_len» → rowOf f i .«text_len» ≤ j * sizeOf (rowOf f i .suite) + sizeOf (rowOf f i .suite)
+      → ((k : ℕ) → (k < rowOf f i .«ad_at» + rowOf f i .«ad_len» + j * sizeOf (rowOf f i .suite)) ⊎ (rowOf f i .«ad_at» + rowOf f i .«ad_len» + (j * sizeOf (rowOf f i .suite) + sizeOf (rowOf f i .suite)) ≤ k) → getD g k 0 ≡ getD f k 0)
       → entryRight g ring i ≡ false
   unfolding bodyEnd
   text-wrong j kept ne from last same =
       let r = rowOf f i in
       let n = sizeOf (r .suite) in
-      let s = r .at + r .ad in
+      let s = r .«ad_at» + r .«ad_len» in
       let x = textOf f r in
       let y = textOf g r in
-      let lx : length x ≡ r .len = stretch-length f s (r .len) (omega (arith, h .body-in)) in
-      let l : length x ≡ length y = part-long s (r .len) (omega arith) in
-      let only = inside f g s (r .len) (j * n) (j * n + n) same in
+      let lx : length x ≡ r .«text_len» = stretch-length f s (r .«text_len») (omega (arith, h .body-in)) in
+      let l : length x ≡ length y = part-long s (r .«text_len») (omega arith) in
+      let only = inside f g s (r .«text_len») (j * n) (j * n + n) same in
       wrong-other (λ e. ne
       (last-told (cipherOf (r .suite)) (lawful (r .suite)) j (ringKey ring (r .key)) (nonceRead f i) (dataOf f r) x y
-      (all-stretch f s (r .len) hf) (all-stretch g s (r .len) hg) l (omega arith) (omega arith) (same-before n j x y l only)
-      (key-block f ring i h full hr) (nonce-bytes f i hf) (nonce-full f ring i h full) (all-stretch f (r .at) (r .ad) hf)
+      (all-stretch f s (r .«text_len») hf) (all-stretch g s (r .«text_len») hg) l (omega arith) (omega arith) (same-before n j x y l only)
+      (key-block f ring i h full hr) (nonce-bytes f i hf) (nonce-full f ring i h full) (all-stretch f (r .«ad_at») (r .«ad_len») hf)
       (e ∙ ap (λ (d : List ℕ). worked d y) kept)))

@@ -8,12 +8,12 @@ use lib.Dec.{eqb}
 use borrow.Author.Tests.{le-ltb, eq-eqb}
 use lib.ListN.{length, take, length-take}
 use Rattle.words.specs.Bytes.{sameBytes}
-use Rattle.cipher.specs.Cipher.{sizeOf, nonceOf, cipherOf}
+use Rattle.cipher.specs.Cipher.{sizeOf, nonceOf, cipherOf, limit}
 use Rattle.cipher.proofs.Suites.{nonce-most}
 use Rattle.mode.specs.Mode.{textOut, tagOut}
 use Rattle.comet.specs.Answers.{refusal, Sealed, sealing, Opened, openedAs, opening, verifying}
 use Rattle.table.specs.declared.row.Row.{Row}
-use Rattle.table.specs.Format.{widthOf, nonceAt, rowOf, dataOf, textOf, tagOf, bodyEnd}
+use Rattle.table.specs.Format.{rowSizeOf, nonceAt, rowOf, dataOf, textOf, tagOf, bodyEnd}
 use Rattle.table.specs.Answers.{answer}
 use Rattle.table.specs.Inside.{EntryIn}
 use Rattle.table.proofs.Rows.{stretch-length, nonce-length}
@@ -22,14 +22,14 @@ use Rattle.shift.specs.Inside.{Lendable}
 
 -- lent the entry's own bytes, the opener gives and leaves what the definition says
 pub lent : (f ring : List ℕ) (i : ℕ) (r : Row) (x : Opened) (key nonce ad text tag out : List ℕ) → x ≡ opening (r .suite) key nonce ad text tag out → r ≡ rowOf f i
-    → key ≡ ringKey ring (r .key) → nonce ≡ take (nonceOf (r .suite)) (nonceAt (widthOf f) f i)
+    → key ≡ ringKey ring (r .key) → nonce ≡ take (nonceOf (r .suite)) (nonceAt (rowSizeOf f) f i)
     → ad ≡ dataOf f r → text ≡ textOf f r → tag ≡ tagOf f r → x ≡ entryOpening f ring i out
 unfolding entryOpening
 lent f ring i r x key nonce ad text tag out e q ek en ea et eg = e ∙ simp (ek, en, ea, et, eg, q)
 
 -- and so does the record's test, whose number is the opener's into an output of the text's length
 pub lent-test : (f ring : List ℕ) (i : ℕ) (r : Row) (x : ℕ) (key nonce ad text tag : List ℕ) → x ≡ verifying (r .suite) key nonce ad text tag → r ≡ rowOf f i
-    → key ≡ ringKey ring (r .key) → nonce ≡ take (nonceOf (r .suite)) (nonceAt (widthOf f) f i)
+    → key ≡ ringKey ring (r .key) → nonce ≡ take (nonceOf (r .suite)) (nonceAt (rowSizeOf f) f i)
     → ad ≡ dataOf f r → text ≡ textOf f r → tag ≡ tagOf f r → x ≡ entryVerifying f ring i
 unfolding entryVerifying
 lent-test f ring i r x key nonce ad text tag e q ek en ea et eg = e ∙ simp (ek, en, ea, et, eg, q)
@@ -40,7 +40,7 @@ test-number f ring i = refl
 
 -- and so does the sealer, of any text under any suite
 pub lent-sealer : (f ring : List ℕ) (i suite : ℕ) (r : Row) (x : Sealed) (key nonce ad text out tag : List ℕ) → x ≡ sealing suite key nonce ad text out tag → r ≡ rowOf f i
-    → key ≡ ringKey ring (r .key) → nonce ≡ take (nonceOf suite) (nonceAt (widthOf f) f i)
+    → key ≡ ringKey ring (r .key) → nonce ≡ take (nonceOf suite) (nonceAt (rowSizeOf f) f i)
     → ad ≡ dataOf f r → x ≡ entrySealingAs f ring i suite text out tag
 lent-sealer f ring i suite r x key nonce ad text out tag e q ek en ea = e ∙ simp (ek, en, ea, q)
 
@@ -55,30 +55,30 @@ entryText f ring i =
     let r = rowOf f i in
     textOut (cipherOf (r .suite)) true (ringKey ring (r .key)) (nonceRead f i) (dataOf f r) (textOf f r)
 
-module _ (f ring : List ℕ) (i : ℕ) (h : EntryIn (widthOf f) f i) (g : length ring ≡ 256) where
+module _ (f ring : List ℕ) (i : ℕ) (h : EntryIn (rowSizeOf f) f i) (g : length ring ≡ 256) where
   pub key-long : length (ringKey ring (rowOf f i .key)) ≡ 16
   key-long = stretch-length ring (16 * rowOf f i .key) 16 (omega (arith, h .key-high))
 
   pub nonce-long : length (nonceRead f i) ≡ nonceOf (rowOf f i .suite)
   nonce-long =
       let s = rowOf f i .suite in
-      length-take (nonceOf s) (nonceAt (widthOf f) f i) ∙ omega (arith, nonce-length (widthOf f) f i (h .row-in), nonce-most s)
+      length-take (nonceOf s) (nonceAt (rowSizeOf f) f i) ∙ omega (arith, nonce-length (rowSizeOf f) f i (h .row-in), nonce-most s)
 
-  pub data-long : length (dataOf f (rowOf f i)) ≡ rowOf f i .ad
+  pub data-long : length (dataOf f (rowOf f i)) ≡ rowOf f i .«ad_len»
   unfolding bodyEnd
-  data-long = stretch-length f (rowOf f i .at) (rowOf f i .ad) (omega (arith, h .body-in))
+  data-long = stretch-length f (rowOf f i .«ad_at») (rowOf f i .«ad_len») (omega (arith, h .body-in))
 
-  pub text-long : length (textOf f (rowOf f i)) ≡ rowOf f i .len
+  pub text-long : length (textOf f (rowOf f i)) ≡ rowOf f i .«text_len»
   unfolding bodyEnd
-  text-long = stretch-length f (rowOf f i .at + rowOf f i .ad) (rowOf f i .len) (omega (arith, h .body-in))
+  text-long = stretch-length f (rowOf f i .«ad_at» + rowOf f i .«ad_len») (rowOf f i .«text_len») (omega (arith, h .body-in))
 
   pub tag-long : length (tagOf f (rowOf f i)) ≡ sizeOf (rowOf f i .suite)
   unfolding bodyEnd
-  tag-long = stretch-length f (rowOf f i .at + rowOf f i .ad + rowOf f i .len) (sizeOf (rowOf f i .suite)) (h .body-in)
+  tag-long = stretch-length f (rowOf f i .«ad_at» + rowOf f i .«ad_len» + rowOf f i .«text_len») (sizeOf (rowOf f i .suite)) (h .body-in)
 
   -- suite and lengths are right but for the output's, which is what it is
   entry-lengths : (out : List ℕ) → refusal true (rowOf f i .suite) (length (ringKey ring (rowOf f i .key))) (length (nonceRead f i)) (length (dataOf f (rowOf f i)))
-      (length (textOf f (rowOf f i))) (length out) (length (tagOf f (rowOf f i))) ≡ cond (not (eqb (length out) (rowOf f i .len))) 6 0
+      (length (textOf f (rowOf f i))) (length out) (length (tagOf f (rowOf f i))) ≡ cond (not (eqb (length out) (rowOf f i .«text_len»))) 6 0
   unfolding refusal
   entry-lengths out =
       simp (
@@ -86,21 +86,21 @@ module _ (f ring : List ℕ) (i : ℕ) (h : EntryIn (widthOf f) f i) (g : length
         key-long,
         eq-eqb _ _ nonce-long,
         data-long,
-        le-ltb 65536 (rowOf f i .ad) (omega (arith, h .data-high)),
+        le-ltb limit (rowOf f i .«ad_len») (omega (arith, h .data-high)),
         text-long,
         le-ltb _ _ (h .text-high),
         eq-eqb _ _ tag-long,
       )
 
   -- so the opener goes by the output's length and the tag alone
-  pub entry-opened : (out : List ℕ) → entryOpening f ring i out ≡ openedAs (cond (not (eqb (length out) (rowOf f i .len))) 6 0) (entryRight f ring i) (entryText f ring i) out
+  pub entry-opened : (out : List ℕ) → entryOpening f ring i out ≡ openedAs (cond (not (eqb (length out) (rowOf f i .«text_len»))) 6 0) (entryRight f ring i) (entryText f ring i) out
   unfolding entryOpening opening
   entry-opened out = ap (λ (n : ℕ). openedAs n (entryRight f ring i) (entryText f ring i) out) (entry-lengths out)
 
   -- and the row's answer is the opener's, 6 among them
   pub row-opens : (out : List ℕ) → left (answer (entryOpening f ring i out .number) 0) (entryOpening f ring i out .out) ≡ rowOpening f ring i out
   unfolding rowOpening
-  row-opens out = simp (eq-eqb _ _ g, entry-opened out) (room-case (eqb (length out) (rowOf f i .len)))
+  row-opens out = simp (eq-eqb _ _ g, entry-opened out) (room-case (eqb (length out) (rowOf f i .«text_len»)))
     where
       opened : Bool → Opened
       opened b = openedAs (cond (not b) 6 0) (entryRight f ring i) (entryText f ring i) out
@@ -114,7 +114,7 @@ module _ (f ring : List ℕ) (i : ℕ) (h : EntryIn (widthOf f) f i) (g : length
   row-told m x out e = ap (λ (y : Opened). left (answer (y .number) 0) (y .out)) e ∙ row-opens out
 
   -- where the output has room, a number above 0 is 8
-  pub row-eight : (m : ℕ) (x out : List ℕ) → length out ≡ rowOf f i .len → _≡_ {A = Opened} (record { number = m; out = x }) (entryOpening f ring i out) → 0 < m → m ≡ 8
+  pub row-eight : (m : ℕ) (x out : List ℕ) → length out ≡ rowOf f i .«text_len» → _≡_ {A = Opened} (record { number = m; out = x }) (entryOpening f ring i out) → 0 < m → m ≡ 8
   row-eight m x out o e l =
       let q : entryOpening f ring i out ≡ openedAs 0 (entryRight f ring i) (entryText f ring i) out = rw (eq-eqb _ _ o) at (entry-opened out) in
       eight (entryRight f ring i) (ap (λ (y : Opened). y .number) (e ∙ q))

@@ -6,7 +6,7 @@ use mathlib.Core.List.{List}
 use mathlib.Core.Logic.{⊎-elim, _↔_}
 use borrow.Author.Tests.{eqb-false, eqb-true}
 use Rattle.table.specs.declared.answers.Answer.{Answer}
-use Rattle.table.specs.Format.{countOf, edition, newest, widthOf, rowOf}
+use Rattle.table.specs.Format.{countOf, firstEdition, newest, rowSizeOf, rowOf}
 use Rattle.table.specs.Answers.{answer}
 use Rattle.table.specs.Check.{checkFile}
 use Rattle.table.proofs.Searches.{first-says}
@@ -17,12 +17,12 @@ use Rattle.shift.specs.Promised.{Has, JobFound}
 use Rattle.shift.proofs.Lookups.{holding}
 
 module _ (f : List ℕ) (job : ℕ) (z : checkFile f .number ≡ 0) where
-  goes : lookupJob f job ≡ findFrom (widthOf f) f (countOf f) job 0
+  goes : lookupJob f job ≡ findFrom (rowSizeOf f) f (countOf f) job 0
   unfolding lookupJob
   goes = simp z
 
   one : (i j : ℕ) → Has f job i → Has f job j → i ≡ j
-  one i j p q = only (widthOf f) f (countOf f) (passes edition newest f z .walk) i j (p .within) (q .within) (p .right ∙ sym (q .right))
+  one i j p q = only (rowSizeOf f) f (countOf f) (passes firstEdition newest f z .walk) i j (p .within) (q .within) (p .right ∙ sym (q .right))
 
   finds-it : (i : ℕ) → Has f job i → lookupJob f job ≡ answer 0 i
   unfolding findFrom
@@ -31,7 +31,7 @@ module _ (f : List ℕ) (job : ℕ) (z : checkFile f .number ≡ 0) where
       ∙ ⊎-elim
       (λ h. sym (h .gives) ∙ ap (answer 0) (one (h .at) i (record { within = omega arith; right = eqb-true _ _ (h .hits) }) p))
       (λ h. absurd (eqb-false _ _ (h .none i (omega arith) (omega (arith, p .within))) (p .right)))
-      (first-says _ _ _ (countOf f - 0) 0 (findFrom (widthOf f) f (countOf f) job 0) refl)
+      (first-says _ _ _ (countOf f - 0) 0 (findFrom (rowSizeOf f) f (countOf f) job 0) refl)
 
   misses-it : ((i : ℕ) → Has f job i → ⊥) → lookupJob f job ≡ answer 32 0
   unfolding findFrom
@@ -40,7 +40,7 @@ module _ (f : List ℕ) (job : ℕ) (z : checkFile f .number ≡ 0) where
       ∙ ⊎-elim
       (λ h. absurd (p (h .at) (record { within = omega arith; right = eqb-true _ _ (h .hits) })))
       (λ h. sym (h .gives))
-      (first-says _ _ _ (countOf f - 0) 0 (findFrom (widthOf f) f (countOf f) job 0) refl)
+      (first-says _ _ _ (countOf f - 0) 0 (findFrom (rowSizeOf f) f (countOf f) job 0) refl)
 
 pub finds : JobFound
 finds f job z =

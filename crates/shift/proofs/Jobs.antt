@@ -9,7 +9,7 @@ use lib.ListN.{length, replicate}
 use lib.Dec.{eqb}
 use borrow.Author.Tests.{eqb-true, eqb-false}
 use Rattle.comet.specs.Answers.{openedAs}
-use Rattle.table.specs.Format.{widthOf, rowOf}
+use Rattle.table.specs.Format.{rowSizeOf, rowOf}
 use Rattle.table.specs.Answers.{answer}
 use Rattle.table.specs.Inside.{EntryIn}
 use Rattle.shift.specs.Lookup.{lookupJob}
@@ -23,7 +23,7 @@ pub opens : OpensEntry
 unfolding jobOpening
 opens f ring job i out q g = simp q (sym (row-opens f ring i (found-in f job i q) g out))
 
-row-answered : (f ring : List ℕ) (i : ℕ) (out₀ : List ℕ) → EntryIn (widthOf f) f i → Answered out₀ (rowOpening f ring i out₀)
+row-answered : (f ring : List ℕ) (i : ℕ) (out₀ : List ℕ) → EntryIn (rowSizeOf f) f i → Answered out₀ (rowOpening f ring i out₀)
 unfolding rowOpening
 row-answered f ring i out₀ h = ring-case (eqb (length ring) 256) refl
   where
@@ -36,7 +36,7 @@ row-answered f ring i out₀ h = ring-case (eqb (length ring) 256) refl
     ring-case true e =
         let g = eqb-true (length ring) 256 e in
         subst (Answered out₀) (row-opens f ring i h g out₀)
-        (rw (entry-opened f ring i h g out₀) (opened-case (not (eqb (length out₀) (rowOf f i .len))) (entryRight f ring i) (entryText f ring i)))
+        (rw (entry-opened f ring i h g out₀) (opened-case (not (eqb (length out₀) (rowOf f i .«text_len»))) (entryRight f ring i) (entryText f ring i)))
     ring-case false e = simp e (record { number = inr (inl refl); row = inl refl; wiped = λ z. absurd (omega arith); kept = λ z y. refl })
 
 pub answered : OpeningAnswers

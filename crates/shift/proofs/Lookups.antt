@@ -8,7 +8,7 @@ use borrow.Author.Tests.{eqb-true}
 use types.Run.{OneOf, miss}
 use denote.Enum.Declared.{tagOf}
 use Rattle.table.specs.declared.answers.Answer.{Answer}
-use Rattle.table.specs.Format.{countOf, edition, newest, widthOf, rowAt, rowOf}
+use Rattle.table.specs.Format.{countOf, firstEdition, newest, rowSizeOf, rowAt, rowOf}
 use Rattle.table.specs.Answers.{answer}
 use Rattle.table.specs.Check.{checkFile}
 use Rattle.table.specs.Inside.{EntryIn}
@@ -23,7 +23,7 @@ use Rattle.shift.proofs.answers.Found.{the-type}
 
 -- row i of a file that passes has the job
 pub record Holding (f : List ℕ) (job i : ℕ) : Type 0 where
-  pub file : Passes edition newest f
+  pub file : Passes firstEdition newest f
   pub within : i < countOf f
   pub right : rowOf f i .job ≡ job
 
@@ -38,13 +38,13 @@ found-says w f n job i q =
 pub holding : (f : List ℕ) (job i : ℕ) → lookupJob f job ≡ answer 0 i → Holding f job i
 unfolding lookupJob
 holding f job i q =
-    let b = both-zero (checkFile f) (findFrom (widthOf f) f (countOf f) job 0) (ap (λ (x : Answer). x .number) q) in
-    let s = found-says (widthOf f) f (countOf f) job i (sym (b .1) ∙ q) in
-    record { file = passes edition newest f (b .0); within = s .0; right = s .1 }
+    let b = both-zero (checkFile f) (findFrom (rowSizeOf f) f (countOf f) job 0) (ap (λ (x : Answer). x .number) q) in
+    let s = found-says (rowSizeOf f) f (countOf f) job i (sym (b .1) ∙ q) in
+    record { file = passes firstEdition newest f (b .0); within = s .0; right = s .1 }
 
 -- a row that a lookup found can be read and opened
-pub found-in : (f : List ℕ) (job i : ℕ) → lookupJob f job ≡ answer 0 i → EntryIn (widthOf f) f i
-found-in f job i q = let h = holding f job i q in entry-in edition newest f (h .file) i (h .within)
+pub found-in : (f : List ℕ) (job i : ℕ) → lookupJob f job ≡ answer 0 i → EntryIn (rowSizeOf f) f i
+found-in f job i q = let h = holding f job i q in entry-in firstEdition newest f (h .file) i (h .within)
 
 -- only a found row has number 0
 pub not-at : (x : Found) → OneOf (1 ∷ 2 ∷ []) (tagOf the-type x) → foundAnswer x .number ≡ 0 → ⊥

@@ -8,9 +8,10 @@ use mathlib.Core.List.{List, [], _∷_, _++_, append-nil}
 use lib.ListN.{length, getD, take, replicate, length-take}
 use lib.Seq.{take-all}
 use Rattle.words.proofs.Lists.{append-inj}
+use Rattle.words.specs.Blocks.{filled}
 use Rattle.cipher.specs.Cipher.{nonceOf}
 use Rattle.cipher.proofs.Suites.{sizes-two, nonce-wide, nonce-narrow}
-use Rattle.table.specs.Format.{editionOf, countOf, widthOf, rowOf, nonceAt, padded}
+use Rattle.table.specs.Format.{editionOf, countOf, rowSizeOf, rowOf, nonceAt}
 use Rattle.table.proofs.Rows.{row-broad, nonce-length}
 use Rattle.table.proofs.Passed.{passes}
 use Rattle.table.proofs.Nonces.{earlier}
@@ -20,9 +21,9 @@ pub nonces-once : NoncesOnce
 nonces-once low high f z i j li lj e =
     let h = passes low high f z .walk in
     elim (decLt i j) [
-      | yes m ↦ absurd (earlier (widthOf f) f (countOf f) h j i lj m (sym (e .suite)) (sym (e .key)) (sym (e .nonce)))
+      | yes m ↦ absurd (earlier (rowSizeOf f) f (countOf f) h j i lj m (sym (e .suite)) (sym (e .key)) (sym (e .nonce)))
       | no m ↦ elim (decLt j i) [
-        | yes k ↦ absurd (earlier (widthOf f) f (countOf f) h i j li k (e .suite) (e .key) (e .nonce))
+        | yes k ↦ absurd (earlier (rowSizeOf f) f (countOf f) h i j li k (e .suite) (e .key) (e .nonce))
         | no k ↦ omega arith
       ]
     ]
@@ -30,7 +31,7 @@ nonces-once low high f z i j li lj e =
 -- ---- sixteen bytes
 
 abbrev Unread : List ℕ → ℕ → Type 0
-Unread l k = (l ≡ padded (take k l) → ⊥) ↔ ((k ≡ 15) × (getD l 15 0 ≡ 0 → ⊥))
+Unread l k = (l ≡ filled (take k l) → ⊥) ↔ ((k ≡ 15) × (getD l 15 0 ≡ 0 → ⊥))
 
 -- all but the last, and the last
 last-of : (n : ℕ) (l : List ℕ) → length l ≡ suc n → l ≡ take n l ++ (getD l n 0 ∷ [])
@@ -45,8 +46,8 @@ all-read l k e q = (λ n. absurd (n (sym whole)), λ h. absurd (omega (arith, h 
     own : take k l ≡ l
     own = take-all k l (omega arith)
 
-    whole : padded (take k l) ≡ l
-    whole = ap padded own ∙ ap (λ (m : ℕ). l ++ replicate (16 - m) 0) e ∙ append-nil l
+    whole : filled (take k l) ≡ l
+    whole = ap filled own ∙ ap (λ (m : ℕ). l ++ replicate (16 - m) 0) e ∙ append-nil l
 
 one-unread : (l : List ℕ) (k : ℕ) → length l ≡ 16 → k ≡ 15 → Unread l k
 one-unread l k e q = (
@@ -57,12 +58,12 @@ one-unread l k e q = (
     long : length (take 15 l) ≡ 15
     long = length-take 15 l ∙ omega arith
 
-    front : padded (take k l) ≡ take 15 l ++ (0 ∷ [])
-    front = ap (λ (m : ℕ). padded (take m l)) q ∙ ap (λ (m : ℕ). take 15 l ++ replicate (16 - m) 0) long
+    front : filled (take k l) ≡ take 15 l ++ (0 ∷ [])
+    front = ap (λ (m : ℕ). filled (take m l)) q ∙ ap (λ (m : ℕ). take 15 l ++ replicate (16 - m) 0) long
 
 pub unread-byte : UnreadByte
 unread-byte f i fits =
-    let w = widthOf f in
+    let w = rowSizeOf f in
     let s = rowOf f i .suite in
     let long = nonce-length w f i (record { broad = row-broad (editionOf f); fits = fits }) in
     ⊎-elim (λ q. all-read (nonceAt w f i) (nonceOf s) long (nonce-wide s q)) (λ q. one-unread (nonceAt w f i) (nonceOf s) long (nonce-narrow s q)) (sizes-two s)

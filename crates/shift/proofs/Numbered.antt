@@ -7,7 +7,7 @@ use mathlib.Core.List.{List}
 use mathlib.Core.Logic.{inl, inr, ⊎-elim}
 use lib.Dec.{eqb, lit≤}
 use Rattle.table.specs.declared.answers.Answer.{Answer}
-use Rattle.table.specs.Format.{countOf, edition, newest, widthOf}
+use Rattle.table.specs.Format.{countOf, firstEdition, newest, rowSizeOf}
 use Rattle.table.specs.Check.{checkFile}
 use Rattle.table.proofs.Searches.{first-says}
 use Rattle.table.proofs.Numbered.{Numbered, check-numbered}
@@ -27,10 +27,10 @@ unfolding lookupJob
 lookup-numbered f job none = lookup-case (eqb (checkFile f .number) 0) none
   where
     found : Answer
-    found = findFrom (widthOf f) f (countOf f) job 0
+    found = findFrom (rowSizeOf f) f (countOf f) job 0
 
     lookup-case : (b : Bool) → (cond b found (checkFile f) .number ≡ 0 → ⊥) → Numbered 32 (cond b found (checkFile f))
-    lookup-case true n = found-numbered (widthOf f) f (countOf f) job 0 n
+    lookup-case true n = found-numbered (rowSizeOf f) f (countOf f) job 0 n
     lookup-case false n =
-        let t = check-numbered edition newest f in
+        let t = check-numbered firstEdition newest f in
         record { number = ⊎-elim inl (λ r. inr (⊎-elim (λ s. inl (omega arith)) inr r)) (t .number); row = t .row }

@@ -12,18 +12,18 @@ use Rattle.shift.specs.Lookup.{lookupJob}
 
 -- where the associated data of the row that a lookup found starts; 0 where it refuses
 unfoldable pub dataStart : List ℕ → Answer → ℕ
-dataStart f x = cond (eqb (x .number) 0) (rowOf f (x .row) .at) 0
+dataStart f x = cond (eqb (x .number) 0) (rowOf f (x .row) .«ad_at») 0
 
 -- and how long it is; the file's first zero bytes where it refuses
 unfoldable pub dataLength : List ℕ → Answer → ℕ
-dataLength f x = cond (eqb (x .number) 0) (rowOf f (x .row) .ad) 0
+dataLength f x = cond (eqb (x .number) 0) (rowOf f (x .row) .«ad_len») 0
 
 -- the text lies behind it
 unfoldable pub textStart : List ℕ → Answer → ℕ
-textStart f x = cond (eqb (x .number) 0) (rowOf f (x .row) .at + rowOf f (x .row) .ad) 0
+textStart f x = cond (eqb (x .number) 0) (rowOf f (x .row) .«ad_at» + rowOf f (x .row) .«ad_len») 0
 
 unfoldable pub textLength : List ℕ → Answer → ℕ
-textLength f x = cond (eqb (x .number) 0) (rowOf f (x .row) .len) 0
+textLength f x = cond (eqb (x .number) 0) (rowOf f (x .row) .«text_len») 0
 
 -- a lookup's number and row, and the places
 abbrev pub entryAt : List ℕ → Answer → Entry

@@ -5,14 +5,14 @@ use mathlib.Core.List.{List}
 use lib.ListN.{length}
 use Rattle.table.specs.declared.answers.Answer.{Answer}
 use Rattle.table.specs.declared.row.Row.{Row}
-use Rattle.table.specs.Format.{widthOf, rowOf, bodyEnd}
+use Rattle.table.specs.Format.{rowSizeOf, rowOf, bodyEnd}
 use Rattle.table.specs.Inside.{RowIn}
 use Rattle.shift.specs.Lookup.{lookupJob}
 
 -- what the opener is lent of row i lies in the file and in the ring
 pub record Lendable (f ring : List ℕ) (i : ℕ) (r : Row) : Type 0 where
   pub is-row : r ≡ rowOf f i
-  pub row-in : RowIn (widthOf f) f i
+  pub row-in : RowIn (rowSizeOf f) f i
   pub key-in : 16 * r .key + 16 ≤ length ring
   pub body-in : bodyEnd r ≤ length f
 

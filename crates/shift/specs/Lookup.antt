@@ -4,7 +4,7 @@ use mathlib.Core.List.{List}
 use lib.Dec.{eqb}
 use Rattle.table.specs.declared.answers.Answer.{Answer}
 use Rattle.table.specs.Search.{firstOf}
-use Rattle.table.specs.Format.{countOf, widthOf, rowAt}
+use Rattle.table.specs.Format.{countOf, rowSizeOf, rowAt}
 use Rattle.table.specs.Answers.{answer}
 use Rattle.table.specs.Check.{andThen, checkFile}
 
@@ -14,4 +14,4 @@ findFrom w f n job i = firstOf (λ j. eqb (rowAt w f j .job) job) (answer 0) (an
 
 -- the full check, then the row
 unfoldable pub lookupJob : List ℕ → ℕ → Answer
-lookupJob f job = andThen (checkFile f) (findFrom (widthOf f) f (countOf f) job 0)
+lookupJob f job = andThen (checkFile f) (findFrom (rowSizeOf f) f (countOf f) job 0)

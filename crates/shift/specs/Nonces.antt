@@ -4,8 +4,9 @@ use mathlib.Core.Path.{_≡_}
 use mathlib.Core.Logic.{_↔_}
 use mathlib.Core.List.{List}
 use lib.ListN.{length, getD}
+use Rattle.words.specs.Blocks.{filled}
 use Rattle.cipher.specs.Cipher.{nonceOf}
-use Rattle.table.specs.Format.{countOf, widthOf, rowStart, rowOf, nonceAt, nonceReadAt, padded}
+use Rattle.table.specs.Format.{countOf, rowSizeOf, rowStart, rowOf, nonceAt, nonceReadAt}
 use Rattle.table.specs.Check.{checkBetween}
 use Rattle.shift.specs.Opening.{nonceRead}
 
@@ -22,5 +23,5 @@ NoncesOnce = (low high : ℕ) (f : List ℕ) → checkBetween low high f .number
 -- of a row that lies in the file: its nonce is not the bytes that are read, and zeros behind them, exactly if the suite's nonce has 15 bytes and the 16th is not 0
 abbrev pub UnreadByte : Type 0
 UnreadByte =
-    (f : List ℕ) (i : ℕ) → rowStart (widthOf f) i + widthOf f ≤ length f
-    → (nonceAt (widthOf f) f i ≡ padded (nonceReadAt (widthOf f) f i) → ⊥) ↔ ((nonceOf (rowOf f i .suite) ≡ 15) × (getD (nonceAt (widthOf f) f i) 15 0 ≡ 0 → ⊥))
+    (f : List ℕ) (i : ℕ) → rowStart (rowSizeOf f) i + rowSizeOf f ≤ length f
+    → (nonceAt (rowSizeOf f) f i ≡ filled (nonceReadAt (rowSizeOf f) f i) → ⊥) ↔ ((nonceOf (rowOf f i .suite) ≡ 15) × (getD (nonceAt (rowSizeOf f) f i) 15 0 ≡ 0 → ⊥))

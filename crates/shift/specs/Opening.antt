@@ -8,7 +8,7 @@ use Rattle.cipher.specs.Cipher.{nonceOf}
 use Rattle.comet.specs.Answers as comet
 use Rattle.table.specs.declared.answers.Answer.{Answer}
 use Rattle.table.specs.Part.{stretch}
-use Rattle.table.specs.Format.{widthOf, nonceAt, nonceReadAt, rowOf, dataOf, textOf, tagOf}
+use Rattle.table.specs.Format.{rowSizeOf, nonceAt, nonceReadAt, rowOf, dataOf, textOf, tagOf}
 use Rattle.table.specs.Answers.{answer}
 use Rattle.shift.specs.Lookup.{lookupJob}
 
@@ -18,13 +18,13 @@ ringKey ring k = stretch ring (16 * k) 16
 
 -- the nonce bytes that the suite of row i reads
 abbrev pub nonceRead : List ℕ → ℕ → List ℕ
-nonceRead f i = nonceReadAt (widthOf f) f i
+nonceRead f i = nonceReadAt (rowSizeOf f) f i
 
 -- what the sealer gives and leaves of a text, with the entry's key, nonce and associated data, under a suite
 abbrev pub entrySealingAs : List ℕ → List ℕ → ℕ → ℕ → List ℕ → List ℕ → List ℕ → comet.Sealed
 entrySealingAs f ring i suite text out₀ tag₀ =
     let r = rowOf f i in
-    comet.sealing suite (ringKey ring (r .key)) (take (nonceOf suite) (nonceAt (widthOf f) f i)) (dataOf f r) text out₀ tag₀
+    comet.sealing suite (ringKey ring (r .key)) (take (nonceOf suite) (nonceAt (rowSizeOf f) f i)) (dataOf f r) text out₀ tag₀
 
 -- what the sealer and the opener give and leave on the entry's own stretch of the file, and its key
 unfoldable pub entrySealing : List ℕ → List ℕ → ℕ → List ℕ → List ℕ → comet.Sealed
@@ -54,7 +54,7 @@ left x out = record { answer = x; out = out }
 unfoldable pub rowOpening : List ℕ → List ℕ → ℕ → List ℕ → JobOpened
 rowOpening f ring i out₀ =
     cond (not (eqb (length ring) 256)) (left (answer 2 0) out₀)
-    (cond (not (eqb (length out₀) (rowOf f i .len))) (left (answer 6 0) out₀)
+    (cond (not (eqb (length out₀) (rowOf f i .«text_len»))) (left (answer 6 0) out₀)
     (left (answer (entryOpening f ring i out₀ .number) 0) (entryOpening f ring i out₀ .out)))
 
 -- a lookup that refuses is the answer, and no key is touched; else the row that it found is opened

@@ -51,5 +51,5 @@ OpeningAnswers = (f ring : List ℕ) (job : ℕ) (out₀ : List ℕ) → Answere
 abbrev pub UnitRefused : Type 0
 UnitRefused =
     (f ring : List ℕ) (job i v : ℕ) → AllBytes f → AllBytes ring → v < 256
-    → lookupJob f job ≡ answer 0 i → rowOf f i .len ≡ 0 → (unitOf f (rowOf f i) ≡ v → ⊥) → jobOpening f ring job [] .answer .number ≡ 0
-    → jobOpening (set f (rowOf f i .at + 4) v) ring job [] ≡ cond (isUnit v) (left (answer 8 0) []) (left (answer 30 i) [])
+    → lookupJob f job ≡ answer 0 i → rowOf f i .«text_len» ≡ 0 → (unitOf f (rowOf f i) ≡ v → ⊥) → jobOpening f ring job [] .answer .number ≡ 0
+    → jobOpening (set f (rowOf f i .«ad_at» + 4) v) ring job [] ≡ cond (isUnit v) (left (answer 8 0) []) (left (answer 30 i) [])

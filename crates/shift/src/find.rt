@@ -6,14 +6,14 @@ ghost use Rattle.table.specs.Inside.{TableIn};
 ghost use Rattle.shift.specs.Answers.{foundAnswer};
 ghost use Rattle.shift.specs.Lookup.{findFrom};
 
-// The row of n that has the job.
-pub(crate) fn find_job(w: usize, f: &[u8], n: usize, job: u32) -> Found
-    requires { ⌜ TableIn w (now f) n ⌝ }
-    ensures { λ r. ⌜ foundAnswer r ≡ findFrom w (now (f .entry)) n job 0 ⌝ }
+// The row that has the job.
+pub(crate) fn find_job(size: usize, file: &[u8], rows: usize, job: u32) -> Found
+    requires { ⌜ TableIn size (now file) rows ⌝ }
+    ensures { λ r. ⌜ foundAnswer r ≡ findFrom size (now (file .entry)) rows job 0 ⌝ }
 {
     let mut i: usize = 0;
-    while i < n {
-        let row = row_at(w, f, i);
+    while i < rows {
+        let row = row_at(size, file, i);
         if row.job == job {
             return Found::At(i);
         }

@@ -31,10 +31,10 @@ pub fn entry_found(file: &[u8], found: Found) -> Entry
     Entry {
         number: 0,
         row: i,
-        ad_at: row.at,
-        ad_len: row.ad as u32,
-        text_at: row.at + row.ad as u32,
-        text_len: row.len,
+        ad_at: row.ad_at,
+        ad_len: row.ad_len as u32,
+        text_at: row.ad_at + row.ad_len as u32,
+        text_len: row.text_len,
     }
 }
 

@@ -6,24 +6,24 @@ use table::body::text_of;
 use table::row::Row;
 use table::row::nonce_at;
 use table::row::row_at;
+use table::row::row_size_of;
 use table::row::stretch;
-use table::row::width;
 ghost use mathlib.Core.Path.{_≡_};
 ghost use Prim.Native.Nat.{_+_, _*_, _≤_};
 ghost use lib.ListN.{length, take};
 ghost use Rattle.cipher.specs.Cipher.{nonceOf};
 ghost use Rattle.comet.specs.Answers.{numberOf, Sealed, Opened};
-ghost use Rattle.table.specs.Format.{widthOf, rowOf, nonceAt};
+ghost use Rattle.table.specs.Format.{rowSizeOf, rowOf, nonceAt};
 ghost use Rattle.table.specs.Inside.{RowIn};
 ghost use Rattle.shift.specs.Opening.{ringKey, entrySealingAs, entryOpening, entryVerifying};
 ghost use Rattle.shift.specs.Inside.{Lendable};
 
-// Row i of a shift file.
-pub fn row_of(f: &[u8], i: usize) -> Row
-    requires { ⌜ RowIn (widthOf (now f)) (now f) i ⌝ }
-    ensures { λ r. ⌜ r ≡ rowOf (now (f .entry)) i ⌝ }
+// A row of a shift file, by its index.
+pub fn row_of(file: &[u8], index: usize) -> Row
+    requires { ⌜ RowIn (rowSizeOf (now file)) (now file) index ⌝ }
+    ensures { λ r. ⌜ r ≡ rowOf (now (file .entry)) index ⌝ }
 {
-    row_at(width(f), f, i)
+    row_at(row_size_of(file), file, index)
 }
 
 // Key k of the ring.
@@ -35,65 +35,65 @@ fn ring_key(ring: &[u8], k: u8) -> &[u8]
     stretch(ring, 16 * k, 16)
 }
 
-// The nonce bytes of row i that its suite reads.
-fn nonce_read(f: &[u8], i: usize, suite: u8) -> &[u8]
-    requires { ⌜ RowIn (widthOf (now f)) (now f) i ⌝ }
-    ensures { λ r. ⌜ now r ≡ take (nonceOf suite) (nonceAt (widthOf (now (f .entry))) (now (f .entry)) i) ⌝ }
+// The nonce bytes of a row that its suite reads.
+fn nonce_read(file: &[u8], index: usize, suite: u8) -> &[u8]
+    requires { ⌜ RowIn (rowSizeOf (now file)) (now file) index ⌝ }
+    ensures { λ r. ⌜ now r ≡ take (nonceOf suite) (nonceAt (rowSizeOf (now (file .entry))) (now (file .entry)) index) ⌝ }
 {
-    let nonce = nonce_at(width(f), f, i);
+    let nonce = nonce_at(row_size_of(file), file, index);
     stretch(nonce, 0, cipher::nonce_size(suite))
 }
 
-// Lends row i to the sealer, under a suite and with a text that the caller names: it is sealed in its place.
+// Lends a row to the sealer, under a suite and with a text that the caller names: it is sealed in its place.
 pub fn seal_as(
-    f: &[u8],
+    file: &[u8],
     ring: &[u8],
-    i: usize,
+    index: usize,
     row: Row,
     suite: u8,
     text: &mut [u8],
     tag: &mut [u8],
 ) -> Verdict
-    requires { ⌜ Lendable (now f) (now ring) i row ⌝ }
+    requires { ⌜ Lendable (now file) (now ring) index row ⌝ }
     ensures { λ r. ⌜ _≡_ {A = Sealed} (record { number = numberOf r; out = now (text .exit); tag = now (tag .exit) })
-        (entrySealingAs (now (f .entry)) (now (ring .entry)) i suite (now (text .entry)) (now (text .entry)) (now (tag .entry))) ⌝ }
+        (entrySealingAs (now (file .entry)) (now (ring .entry)) index suite (now (text .entry)) (now (text .entry)) (now (tag .entry))) ⌝ }
 {
     let key = ring_key(ring, row.key);
-    let nonce = nonce_read(f, i, suite);
-    comet::seal_in_place(suite, key, nonce, data_of(f, row), text, tag)
+    let nonce = nonce_read(file, index, suite);
+    comet::seal_in_place(suite, key, nonce, data_of(file, row), text, tag)
 }
 
-// Lends row i to the opener.
-pub fn open_row(f: &[u8], ring: &[u8], i: usize, row: Row, out: &mut [u8]) -> Verdict
-    requires { ⌜ Lendable (now f) (now ring) i row ⌝ }
-    ensures { λ r. ⌜ _≡_ {A = Opened} (record { number = numberOf r; out = now (out .exit) }) (entryOpening (now (f .entry)) (now (ring .entry)) i (now (out .entry))) ⌝ }
+// Lends a row to the opener.
+pub fn open_row(file: &[u8], ring: &[u8], index: usize, row: Row, out: &mut [u8]) -> Verdict
+    requires { ⌜ Lendable (now file) (now ring) index row ⌝ }
+    ensures { λ r. ⌜ _≡_ {A = Opened} (record { number = numberOf r; out = now (out .exit) }) (entryOpening (now (file .entry)) (now (ring .entry)) index (now (out .entry))) ⌝ }
 {
     let key = ring_key(ring, row.key);
-    let nonce = nonce_read(f, i, row.suite);
+    let nonce = nonce_read(file, index, row.suite);
     comet::unseal(
         row.suite,
         key,
         nonce,
-        data_of(f, row),
-        text_of(f, row),
-        tag_of(f, row),
+        data_of(file, row),
+        text_of(file, row),
+        tag_of(file, row),
         out,
     )
 }
 
-// Lends row i to the record's test: no text is written.
-pub fn verify_row(f: &[u8], ring: &[u8], i: usize, row: Row) -> Verdict
-    requires { ⌜ Lendable (now f) (now ring) i row ⌝ }
-    ensures { λ r. ⌜ numberOf r ≡ entryVerifying (now (f .entry)) (now (ring .entry)) i ⌝ }
+// Lends a row to the record's test: no text is written.
+pub fn verify_row(file: &[u8], ring: &[u8], index: usize, row: Row) -> Verdict
+    requires { ⌜ Lendable (now file) (now ring) index row ⌝ }
+    ensures { λ r. ⌜ numberOf r ≡ entryVerifying (now (file .entry)) (now (ring .entry)) index ⌝ }
 {
     let key = ring_key(ring, row.key);
-    let nonce = nonce_read(f, i, row.suite);
+    let nonce = nonce_read(file, index, row.suite);
     comet::verify(
         row.suite,
         key,
         nonce,
-        data_of(f, row),
-        text_of(f, row),
-        tag_of(f, row),
+        data_of(file, row),
+        text_of(file, row),
+        tag_of(file, row),
     )
 }

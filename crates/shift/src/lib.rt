@@ -11,8 +11,8 @@ use answers::JobAnswer;
 use table::answers::Checked;
 use table::check;
 use table::row::count;
+use table::row::row_size_of;
 use table::row::stretch;
-use table::row::width;
 ghost use mathlib.Core.Path.{_≡_};
 ghost use Rattle.table.specs.Part.{PartOf};
 ghost use Rattle.shift.specs.Answers.{foundAnswer, openedAnswer};
@@ -30,7 +30,7 @@ pub fn lookup(file: &[u8], job: u32) -> Found
         }
         Checked::Passed => {}
     }
-    find::find_job(width(file), file, count(file), job)
+    find::find_job(row_size_of(file), file, count(file), job)
 }
 
 // The lookup, and where in the file the job's associated data and its text lie; 0 where the lookup refuses.

@@ -5,11 +5,11 @@ use mathlib.Core.Bool.{Bool, true, false, cond}
 use mathlib.Core.List.{List}
 use lib.Dec.{lit≤}
 use borrow.Author.Tests.{eqb-true, not-false}
-use Rattle.table.specs.Format.{edition, newest}
+use Rattle.table.specs.Format.{firstEdition, newest}
 use Rattle.table.specs.Answers.{answer}
-use Rattle.table.specs.Check.{checkFile}
+use Rattle.table.specs.Check.{checkFile, refused}
 use Rattle.compare.specs.declared.Finding.{Finding}
-use Rattle.compare.specs.Comparing.{refusedIn, Comparison, stopped, refused, tooLong, listed, comparison}
+use Rattle.compare.specs.Comparing.{refusedIn, Comparison, stopped, tooLong, listed, comparison}
 use Rattle.compare.proofs.Passing.{only-few, differ-few}
 use Rattle.snoekeldraf.proofs.Rows.{check-row}
 
@@ -25,8 +25,8 @@ finding-low f g x y z = on (refused f) (refused g) (tooLong f g x y z) refl refl
   where
     on : (a b c : Bool) → refused f ≡ a → refused g ≡ b
         → Low (cond a (stopped (refusedIn 1 (checkFile f)) x y z) (cond b (stopped (refusedIn 2 (checkFile g)) x y z) (cond c (stopped (refusedIn 0 (answer 36 0)) x y z) (listed f g x y z))) .finding)
-    on true b c p q = record { row = check-row edition newest f; first = lit≤ tt; second = lit≤ tt; differ = lit≤ tt }
-    on false true c p q = record { row = check-row edition newest g; first = lit≤ tt; second = lit≤ tt; differ = lit≤ tt }
+    on true b c p q = record { row = check-row firstEdition newest f; first = lit≤ tt; second = lit≤ tt; differ = lit≤ tt }
+    on false true c p q = record { row = check-row firstEdition newest g; first = lit≤ tt; second = lit≤ tt; differ = lit≤ tt }
     on false false true p q = record { row = lit≤ tt; first = lit≤ tt; second = lit≤ tt; differ = lit≤ tt }
     on false false false p q =
         let a = eqb-true _ _ (not-false _ p) in

@@ -53,6 +53,8 @@ use Rattle.snoekeldraf.proofs.drafts.shift_seal_file.Kinds as seal-file
 use Rattle.snoekeldraf.proofs.drafts.shift_seal_file.Reads as seal-file-reads
 use Rattle.snoekeldraf.proofs.drafts.shift_unseal_file.Kinds as unseal-file-kinds
 use Rattle.snoekeldraf.proofs.drafts.shift_unseal_file.Reads as unseal-file-reads
+use Rattle.snoekeldraf.proofs.moves.shift_moved_length.Kinds as moved-length-kinds
+use Rattle.snoekeldraf.proofs.moves.shift_moved_length.Reads as moved-length-reads
 use Rattle.snoekeldraf.proofs.moves.shift_to_edition2.Kinds as to-edition2-kinds
 use Rattle.snoekeldraf.proofs.moves.shift_to_edition2.Reads as to-edition2-reads
 use Rattle.snoekeldraf.proofs.moves.shift_to_edition1.Kinds as to-edition1-kinds
@@ -146,7 +148,7 @@ session-told : (s t : CometSession) → Words s → Words t → flat s ≡ flat 
 session-told s t p q e =
     let ey = wide-told (record { a = s .y0; b = s .y1 }) (record { a = t .y0; b = t .y1 }) (p .y0) (p .y1) (q .y0) (q .y1) (ap (λ (v : Value). v .Y) e) in
     let ez = wide-told (record { a = s .z0; b = s .z1 }) (record { a = t .z0; b = t .z1 }) (p .z0) (p .z1) (q .z0) (q .z1) (ap (λ (v : Value). v .Z) e) in
-    λ i. record { suite = e i .suite; y0 = ey i .a; y1 = ey i .b; z0 = ez i .a; z1 = ez i .b; held = e i .held; came = e i .came; text = e i .text }
+    λ i. record { suite = e i .suite; y0 = ey i .a; y1 = ey i .b; z0 = ez i .a; z1 = ez i .b; held = e i .held; «ad_total» = e i .«ad_total»; «text_total» = e i .«text_total» }
 
 step-told : (x y : CometStep) (o t o′ t′ : List ℕ) → Words (x .next) → Words (y .next) → flatGives x o t ≡ flatGives y o′ t′ → x ≡ y
 step-told x y o t o′ t′ p q e =
@@ -206,6 +208,9 @@ pub shift-open-amended : OneOutcome open-amended-kinds.ps open-amended-kinds.r o
 shift-open-amended κs a h x y =
     let e = x .ensures ∙ sym (y .ensures) in
     (ap (λ (w : AmendedOpening). w .answer .number) e, ap (λ (w : AmendedOpening). (tt, (tt, (tt, (tt, (w .out, (w .file, (w .answer .row, tt)))))))) e)
+
+pub shift-moved-length : OneOutcome moved-length-kinds.ps moved-length-kinds.r moved-length-reads.Pre moved-length-reads.Post
+shift-moved-length κs a h x y = (x .ensures ∙ sym (y .ensures), refl)
 
 pub shift-to-edition2 : OneOutcome to-edition2-kinds.ps to-edition2-kinds.r to-edition2-reads.Pre to-edition2-reads.Post
 shift-to-edition2 κs a h x y =

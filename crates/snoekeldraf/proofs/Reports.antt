@@ -6,7 +6,7 @@ use mathlib.Core.List.{List}
 use lib.ListN.{length}
 use lib.Dec.{ltb, eqb, lit≤}
 use borrow.Author.Tests.{eqb-true, not-false}
-use Rattle.table.specs.Format.{countOf, edition, newest}
+use Rattle.table.specs.Format.{countOf, firstEdition, newest}
 use Rattle.table.specs.Answers.{answer}
 use Rattle.table.specs.Check.{checkFile}
 use Rattle.table.proofs.Passed.{passes}
@@ -26,10 +26,10 @@ said-small f ring jobs numbers = on (ltb longest (length f)) (not (eqb (checkFil
         → Small (cond a (stopped (answer 20 0) jobs numbers) (cond b (stopped (checkFile f) jobs numbers) (cond c (stopped (answer 2 0) jobs numbers) (cond d (stopped (answer 6 0) jobs numbers)
         (record { said = entries (countOf f); jobs = front (jobOf f) (countOf f) jobs; numbers = front (tagNumber f ring) (countOf f) numbers })))) .said)
     on true b c d p = record { row = lit≤ tt; count = lit≤ tt }
-    on false true c d p = record { row = check-row edition newest f; count = lit≤ tt }
+    on false true c d p = record { row = check-row firstEdition newest f; count = lit≤ tt }
     on false false true d p = record { row = lit≤ tt; count = lit≤ tt }
     on false false false true p = record { row = lit≤ tt; count = lit≤ tt }
-    on false false false false p = record { row = lit≤ tt; count = passes edition newest f (eqb-true _ _ (not-false _ p)) .head .few }
+    on false false false false p = record { row = lit≤ tt; count = passes firstEdition newest f (eqb-true _ _ (not-false _ p)) .head .few }
 
 -- what is said of a report
 pub small : (s : Said) (r : Report) (f ring jobs numbers : List ℕ) → s ≡ r .said → r ≡ reporting f ring jobs numbers → Small s

@@ -10,7 +10,7 @@ use lib.Dec.{eqb, ltb}
 use borrow.Author.Tests.{eqb-true}
 use Rattle.table.specs.declared.answers.Answer.{Answer}
 use Rattle.table.specs.Search.{firstOf}
-use Rattle.table.specs.Format.{countOf, edition, newest, widthOf, rowOf, stationOf}
+use Rattle.table.specs.Format.{countOf, firstEdition, newest, rowSizeOf, rowOf, stationOf}
 use Rattle.table.specs.Answers.{answer}
 use Rattle.table.specs.Check.{bodyStart, endAnswer, rowsFrom, headNumber, andThen, checkBetween, checkAs, checkFile}
 use Rattle.table.proofs.Searches.{first-says}
@@ -61,18 +61,18 @@ find-row w f n job = first-row _ _ (answer 32 0) n (omega arith)
 pub check-row : (low high : ℕ) (f : List ℕ) → checkBetween low high f .row ≤ 512
 unfolding checkBetween
 check-row low high f =
-    then-row (answer (headNumber low high f) 0) (rowsFrom (widthOf f) f (countOf f) 0) 512 (omega arith)
-    (λ z. omega (arith, headed low high f z .few, rows-row (widthOf f) f (countOf f)))
+    then-row (answer (headNumber low high f) 0) (rowsFrom (rowSizeOf f) f (countOf f) 0) 512 (omega arith)
+    (λ z. omega (arith, headed low high f z .few, rows-row (rowSizeOf f) f (countOf f)))
 
 pub lookup-row : (f : List ℕ) (job : ℕ) → lookupJob f job .row ≤ 512
 unfolding lookupJob
 lookup-row f job =
-    then-row (checkFile f) (findFrom (widthOf f) f (countOf f) job 0) 512 (check-row edition newest f)
-    (λ z. omega (arith, passes edition newest f z .head .few, find-row (widthOf f) f (countOf f) job))
+    then-row (checkFile f) (findFrom (rowSizeOf f) f (countOf f) job 0) 512 (check-row firstEdition newest f)
+    (λ z. omega (arith, passes firstEdition newest f z .head .few, find-row (rowSizeOf f) f (countOf f) job))
 
 opened-row : (f ring : List ℕ) (i : ℕ) (out₀ : List ℕ) → rowOpening f ring i out₀ .answer .row ≡ 0
 unfolding rowOpening
-opened-row f ring i out₀ = go (not (eqb (length ring) 256)) (not (eqb (length out₀) (rowOf f i .len)))
+opened-row f ring i out₀ = go (not (eqb (length ring) 256)) (not (eqb (length out₀) (rowOf f i .«text_len»)))
   where
     go : (b c : Bool)
         → cond b (left (answer 2 0) out₀) (cond c (left (answer 6 0) out₀) (left (answer (entryOpening f ring i out₀ .number) 0) (entryOpening f ring i out₀ .out))) .answer .row ≡ 0
@@ -115,9 +115,9 @@ pub unsealed-row : (file ring out₀ : List ℕ) → fileUnsealing file ring out
 unfolding fileUnsealing unsealAnswer openAnswer wrongFrom
 unsealed-row file ring out₀ =
     let lent = lentAnswer (length file) (length ring) (length out₀) in
-    then-row (andThen (checkAs edition file) lent) (wrongFrom file ring (countOf file) 0) 512
-    (then-row (checkAs edition file) lent 512 (check-row edition edition file) (λ z. lent-row (length file) (length ring) (length out₀)))
-    (λ z. omega (arith, passes edition edition file (both-zero (checkAs edition file) lent z .0) .head .few, first-row (λ j. not (tagRight file ring j)) (λ j. 8) (answer 0 0) (countOf file) (omega arith)))
+    then-row (andThen (checkAs firstEdition file) lent) (wrongFrom file ring (countOf file) 0) 512
+    (then-row (checkAs firstEdition file) lent 512 (check-row firstEdition firstEdition file) (λ z. lent-row (length file) (length ring) (length out₀)))
+    (λ z. omega (arith, passes firstEdition firstEdition file (both-zero (checkAs firstEdition file) lent z .0) .head .few, first-row (λ j. not (tagRight file ring j)) (λ j. 8) (answer 0 0) (countOf file) (omega arith)))
 
 -- the reseal pass's
 pub resealed-row : (file ring out₀ : List ℕ) → fileResealing file ring out₀ .answer .row ≤ 512
@@ -125,12 +125,12 @@ unfolding fileResealing resealAnswer takeAnswer seenFrom wrongAgainFrom
 resealed-row file ring out₀ =
     let lent = lentAnswer (length file) (length ring) (length out₀) in
     let seen = seenFrom (retabled file) (countOf file) 0 in
-    then-row (andThen (checkAs edition file) (andThen seen lent)) (wrongAgainFrom file ring (countOf file) 0) 512
-    (then-row (checkAs edition file) (andThen seen lent) 512 (check-row edition edition file)
+    then-row (andThen (checkAs firstEdition file) (andThen seen lent)) (wrongAgainFrom file ring (countOf file) 0) 512
+    (then-row (checkAs firstEdition file) (andThen seen lent) 512 (check-row firstEdition firstEdition file)
     (λ z. then-row seen lent 512
-    (omega (arith, passes edition edition file z .head .few, first-row (nonceSeen (widthOf (retabled file)) (retabled file)) (λ j. 29) (answer 0 0) (countOf file) (omega arith)))
+    (omega (arith, passes firstEdition firstEdition file z .head .few, first-row (nonceSeen (rowSizeOf (retabled file)) (retabled file)) (λ j. 29) (answer 0 0) (countOf file) (omega arith)))
     (λ y. lent-row (length file) (length ring) (length out₀))))
-    (λ z. omega (arith, passes edition edition file (both-zero (checkAs edition file) (andThen seen lent) z .0) .head .few, first-row (wrongAgain file ring) (λ j. 8) (answer 0 0) (countOf file) (omega arith)))
+    (λ z. omega (arith, passes firstEdition firstEdition file (both-zero (checkAs firstEdition file) (andThen seen lent) z .0) .head .few, first-row (wrongAgain file ring) (λ j. 8) (answer 0 0) (countOf file) (omega arith)))
 
 -- the moves' answers
 length-row : (new out : ℕ) → lengthAnswer new out .row ≤ 512
@@ -146,13 +146,13 @@ pub up-row : (file out₀ : List ℕ) → toEdition2 file out₀ .answer .row �
 unfolding toEdition2 upAnswer
 up-row file out₀ =
     let new = lengthAnswer (length (moved newest file)) (length out₀) in
-    then-row (checkAs edition file) new 512 (check-row edition edition file) (λ z. length-row (length (moved newest file)) (length out₀))
+    then-row (checkAs firstEdition file) new 512 (check-row firstEdition firstEdition file) (λ z. length-row (length (moved newest file)) (length out₀))
 
 pub back-row : (file out₀ : List ℕ) → toEdition1 file out₀ .answer .row ≤ 512
 unfolding toEdition1 backAnswer stationsFrom
 back-row file out₀ =
-    let new = lengthAnswer (length (moved edition file)) (length out₀) in
+    let new = lengthAnswer (length (moved firstEdition file)) (length out₀) in
     then-row (checkAs newest file) (andThen (stationsFrom file (countOf file) 0) new) 512 (check-row newest newest file)
     (λ z. then-row (stationsFrom file (countOf file) 0) new 512
     (omega (arith, passes newest newest file z .head .few, first-row (λ j. not (eqb (stationOf file j) 0)) (λ j. 35) (answer 0 0) (countOf file) (omega arith)))
-    (λ y. length-row (length (moved edition file)) (length out₀)))
+    (λ y. length-row (length (moved firstEdition file)) (length out₀)))

@@ -14,8 +14,8 @@ flat s =
       Y = bytes 8 (s .y0) ++ bytes 8 (s .y1);
       Z = bytes 8 (s .z0) ++ bytes 8 (s .z1);
       held = s .held;
-      came = s .came;
-      text = s .text;
+      «ad_total» = s .«ad_total»;
+      «text_total» = s .«text_total»;
     }
 
 -- what a call gave, with the buffers that it was lent

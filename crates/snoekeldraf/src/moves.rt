@@ -1,8 +1,16 @@
-// The moves between editions 1 and 2.
+// The length of a moved file, and the moves between editions 1 and 2.
 use crate::file::say;
 ghost use mathlib.Core.Path.{_≡_};
 ghost use Rattle.table.specs.Answers.{answer};
-ghost use Rattle.editions.specs.Answers.{FileMoved, toEdition2, toEdition1};
+ghost use Rattle.editions.specs.Answers.{movedLength, FileMoved, toEdition2, toEdition1};
+
+// How long the file is once it is moved; 0 where one of 20 to 24 applies.
+#[no_mangle]
+pub extern "C" fn shift_moved_length(file: &[u8]) -> usize
+    ensures { λ r. ⌜ r ≡ movedLength (now (file .entry)) ⌝ }
+{
+    editions::moved_length(file)
+}
 
 // Writes a file of edition 1 in edition 2 into out: the checks, 20, 6.
 #[no_mangle]

@@ -17,8 +17,8 @@ pub struct CometSession {
     pub z0: u64,
     pub z1: u64,
     pub held: [u8; 16],
-    pub came: usize,
-    pub text: usize,
+    pub ad_total: usize,
+    pub text_total: usize,
 }
 
 // The C struct comet_step.
@@ -39,8 +39,8 @@ fn raised(s: CometSession) -> Session
         y: Block { a: s.y0, b: s.y1 },
         z: Block { a: s.z0, b: s.z1 },
         held: held,
-        came: s.came,
-        text: s.text,
+        ad_total: s.ad_total,
+        text_total: s.text_total,
     }
 }
 
@@ -58,8 +58,8 @@ fn flattened(s: Session) -> CometSession
         z0: z.a,
         z1: z.b,
         held: held,
-        came: s.came,
-        text: s.text,
+        ad_total: s.ad_total,
+        text_total: s.text_total,
     }
 }
 
@@ -89,27 +89,31 @@ pub extern "C" fn comet_session_start(suite: u8, key: &[u8], nonce: &[u8]) -> Co
 
 // A part of the associated data.
 #[no_mangle]
-pub extern "C" fn comet_session_data(s: CometSession, ad: &[u8]) -> CometStep
-    ensures { λ r. ⌜ flatGives r [] [] ≡ dataPart (flat s) (now (ad .entry)) ⌝ }
+pub extern "C" fn comet_session_data(session: CometSession, ad: &[u8]) -> CometStep
+    ensures { λ r. ⌜ flatGives r [] [] ≡ dataPart (flat session) (now (ad .entry)) ⌝ }
 {
-    let r = raised(s).associated(ad);
+    let r = raised(session).associated(ad);
     handed(r)
 }
 
 // A part of the message.
 #[no_mangle]
-pub extern "C" fn comet_session_part(s: CometSession, msg: &[u8], out: &mut [u8]) -> CometStep
-    ensures { λ r. ⌜ flatGives r (now (out .exit)) [] ≡ textPart (flat s) (now (msg .entry)) (now (out .entry)) ⌝ }
+pub extern "C" fn comet_session_part(session: CometSession, msg: &[u8], out: &mut [u8]) -> CometStep
+    ensures { λ r. ⌜ flatGives r (now (out .exit)) [] ≡ textPart (flat session) (now (msg .entry)) (now (out .entry)) ⌝ }
 {
-    let r = raised(s).message(msg, out);
+    let r = raised(session).message(msg, out);
     handed(r)
 }
 
 // The end: the rest of the ciphertext into out, and the tag.
 #[no_mangle]
-pub extern "C" fn comet_session_end(s: CometSession, out: &mut [u8], tag: &mut [u8]) -> CometStep
-    ensures { λ r. ⌜ flatGives r (now (out .exit)) (now (tag .exit)) ≡ ending (flat s) (now (out .entry)) (now (tag .entry)) ⌝ }
+pub extern "C" fn comet_session_end(
+    session: CometSession,
+    out: &mut [u8],
+    tag: &mut [u8],
+) -> CometStep
+    ensures { λ r. ⌜ flatGives r (now (out .exit)) (now (tag .exit)) ≡ ending (flat session) (now (out .entry)) (now (tag .entry)) ⌝ }
 {
-    let r = raised(s).finish(out, tag);
+    let r = raised(session).finish(out, tag);
     handed(r)
 }

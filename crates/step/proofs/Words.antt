@@ -1,7 +1,7 @@
 -- The mode's work on bytes, done on two numbers of 64 bits: mark, shuffle, padding and mask.
 use mathlib.Core.Path.{_≡_, refl, sym, ap, ap₂, _∙_}
-use Prim.Native.Nat.{ℕ, zero, suc, _+_, _-_, _*_, _/_, _%_, _^_, _≤_, _<_}
-use native.Mathlib.Nat.{le-of-suc-le-suc, not-suc-le-zero, le-of-eq, mod-lt, mod-eq-of-lt, mul-one, pow-le-pow-right}
+use Prim.Native.Nat.{ℕ, suc, _+_, _-_, _*_, _/_, _%_, _^_, _≤_, _<_}
+use native.Mathlib.Nat.{le-of-eq, mod-lt, mod-eq-of-lt, mul-one, pow-le-pow-right}
 use native.Mathlib.Omega.{arith}
 use mathlib.Core.List.{List, [], _∷_, _++_, append-assoc}
 use lib.ListN.{length, take, drop, replicate, length-append, length-drop, take-append-drop, replicate-append-replicate}
@@ -10,7 +10,7 @@ use Rattle.words.specs.Words.{xor, rotr}
 use Rattle.words.specs.Bytes.{value, bytes, word}
 use Rattle.words.specs.Xors.{xors}
 use Rattle.words.proofs.Xor.{zero-r}
-use Rattle.words.proofs.Lists.{part-take}
+use Rattle.words.proofs.Lists.{part-take, take-replicate, drop-replicate}
 use Rattle.words.proofs.Bytes.{length-bytes, value-low, bytes-join, bytes-mod, bytes-split, bytes-zeros, reach}
 use Rattle.words.proofs.Xors.{bytes-xor, take-xors, xors-take, xors-append}
 use Rattle.mode.specs.Words.{Four, four, fourOf, bytesOf, shuffleWords, shuffle, pad}
@@ -104,11 +104,6 @@ join-fits a t h k =
 
 -- ---- padding
 
-take-replicate : (j n a : ℕ) → j ≤ n → take j (replicate n a) ≡ replicate j a
-take-replicate zero n a h = refl
-take-replicate (suc j) zero a h = absurd (not-suc-le-zero h)
-take-replicate (suc j) (suc n) a h = ap (λ (r : List ℕ). a ∷ r) (take-replicate j n a (le-of-suc-le-suc h))
-
 -- the first n of b, 01 and some zeros
 short-zeros : (n j : ℕ) (b : List ℕ) → length b < n → n ≤ length b + suc j → take n (b ++ (1 ∷ replicate j 0)) ≡ b ++ (1 ∷ replicate (n - suc (length b)) 0)
 short-zeros n j b h k =
@@ -172,28 +167,18 @@ pad-kept n b r e q = ap (take n) q ∙ take-at b (replicate (16 - length b) 0) n
 
 -- ---- zeros behind a block
 
-zeros : ℕ → List ℕ
-zeros n = replicate n 0
-
-drop-zeros : (j n : ℕ) → drop j (zeros n) ≡ zeros (n - j)
-unfolding zeros
-drop-zeros zero n = let e : n ≡ n - 0 = omega arith in ap zeros e
-drop-zeros (suc j) zero = let e : 0 ≡ 0 - suc j = omega arith in ap zeros e
-drop-zeros (suc j) (suc n) = let e : n - j ≡ suc n - suc j = omega arith in drop-zeros j n ∙ ap zeros e
-
 pub zeros-kept : (n : ℕ) (b r : List ℕ) → length b ≡ n → r ≡ b ++ replicate (16 - length b) 0 → drop n r ≡ replicate (16 - n) 0
 zeros-kept n b r e q = ap (drop n) q ∙ drop-at b (replicate (16 - length b) 0) n e ∙ ap (λ (k : ℕ). replicate (16 - k) 0) e
 
 pub zeros-cut : (n : ℕ) (b : List ℕ) → length b < n → n ≤ 16 → drop n (pad 16 b) ≡ replicate (16 - n) 0
-unfolding zeros
 zeros-cut n b h k =
     let j = n - suc (length b) in
     let e : n ≡ length b + suc j = omega arith in
     let z : 16 - suc (length b) - j ≡ 16 - n = omega arith in
     ap₂ drop e (pad-short 16 b (omega arith))
     ∙ drop-append-add b (1 ∷ replicate (16 - suc (length b)) 0) (suc j)
-    ∙ drop-zeros j (16 - suc (length b))
-    ∙ ap zeros z
+    ∙ drop-replicate j (16 - suc (length b)) 0
+    ∙ ap (λ (i : ℕ). replicate i 0) z
 
 -- ---- a nonce of fifteen bytes, and a zero behind it
 

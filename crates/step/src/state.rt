@@ -17,14 +17,14 @@ pub struct State {
 }
 
 // The state that key and nonce start, by one call.
-pub fn start(tb: &[Lent], suite: u8, key: &[u8], nonce: &[u8]) -> State
-    requires { ⌜ Ready suite (now tb) × IsSuite suite × (length (now key) ≡ 16) × (length (now nonce) ≡ nonceOf suite) ⌝ }
+pub fn start(lent: &[Lent], suite: u8, key: &[u8], nonce: &[u8]) -> State
+    requires { ⌜ Ready suite (now lent) × IsSuite suite × (length (now key) ≡ 16) × (length (now nonce) ≡ nonceOf suite) ⌝ }
     ensures { λ r. ⌜ Holds suite r (origin (cipherOf suite) (now (key .entry)) (now (nonce .entry))) 1 ⌝ }
 {
     let k = words::block::sixteen(key);
     if cipher::size_of(suite) == 16 {
         let v = words::block::sixteen(nonce);
-        let z = cipher::encipher16(tb, suite, k, v);
+        let z = cipher::encipher16(lent, suite, k, v);
         return State {
             y: k,
             z: z,
@@ -33,7 +33,7 @@ pub fn start(tb: &[Lent], suite: u8, key: &[u8], nonce: &[u8]) -> State
     }
     let v = words::block::fifteen(nonce);
     let zero = Block { a: 0, b: 0 };
-    let y = cipher::encipher(tb, suite, k, zero);
+    let y = cipher::encipher(lent, suite, k, zero);
     let z = words::block::xor(k, v);
     State {
         y: y,
@@ -43,13 +43,13 @@ pub fn start(tb: &[Lent], suite: u8, key: &[u8], nonce: &[u8]) -> State
 }
 
 // The cipher's image of a block, by its size n: a loop over blocks tests that one number, whatever else it tests of it.
-pub(crate) fn image(tb: &[Lent], suite: u8, n: usize, key: Block, block: Block) -> Block
-    requires { ⌜ Ready suite (now tb) × IsSuite suite × (n ≡ sizeOf suite) ⌝ }
+pub(crate) fn image(lent: &[Lent], suite: u8, n: usize, key: Block, block: Block) -> Block
+    requires { ⌜ Ready suite (now lent) × IsSuite suite × (n ≡ sizeOf suite) ⌝ }
     ensures image { λ r. ⌜ take (sizeOf suite) (wide r) ≡ cipherOf suite .E (wide key) (take (sizeOf suite) (wide block)) ⌝ }
     ensures rest { λ r. ⌜ Clean suite r ⌝ }
 {
     if n == 16 {
-        return cipher::encipher16(tb, suite, key, block);
+        return cipher::encipher16(lent, suite, key, block);
     }
     Block {
         a: cipher::encipher8(suite, key.a, key.b, block.a),
@@ -58,8 +58,8 @@ pub(crate) fn image(tb: &[Lent], suite: u8, n: usize, key: Block, block: Block) 
 }
 
 // The key of a block of n bytes with the mark m; X, the image of Y under it, by one call; and the Z that is kept behind the block.
-pub(crate) fn turn(tb: &[Lent], suite: u8, s: State, m: u8, n: usize) -> State
-    requires { ⌜ Ready suite (now tb) × IsSuite suite × (n ≡ sizeOf suite) ⌝ }
+pub(crate) fn turn(lent: &[Lent], suite: u8, s: State, m: u8, n: usize) -> State
+    requires { ⌜ Ready suite (now lent) × IsSuite suite × (n ≡ sizeOf suite) ⌝ }
     ensures { λ r. ⌜ Holds suite r (imaged suite m (twoOf suite s)) (oneMore (s .calls)) ⌝ }
 {
     let y = s.y;
@@ -67,7 +67,7 @@ pub(crate) fn turn(tb: &[Lent], suite: u8, s: State, m: u8, n: usize) -> State
     let b = crate::key::block_key(suite, z0, m);
     let k = b.key;
     let z = b.z;
-    let x = image(tb, suite, n, k, y);
+    let x = image(lent, suite, n, k, y);
     State {
         y: x,
         z: z,

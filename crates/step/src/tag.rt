@@ -19,27 +19,27 @@ pub struct Last {
 }
 
 // The tag of a state: the last call, under the last mark.
-pub fn tag_of(tb: &[Lent], suite: u8, s: State) -> Last
-    requires { ⌜ Ready suite (now tb) × IsSuite suite ⌝ }
-    ensures tag { λ r. ⌜ take (sizeOf suite) (wide (r .tag)) ≡ tagged (cipherOf suite) (twoOf suite s) ⌝ }
-    ensures rest { λ r. ⌜ Clean suite (r .tag) × (r .calls ≡ oneMore (s .calls)) ⌝ }
+pub fn tag_of(lent: &[Lent], suite: u8, state: State) -> Last
+    requires { ⌜ Ready suite (now lent) × IsSuite suite ⌝ }
+    ensures tag { λ r. ⌜ take (sizeOf suite) (wide (r .tag)) ≡ tagged (cipherOf suite) (twoOf suite state) ⌝ }
+    ensures rest { λ r. ⌜ Clean suite (r .tag) × (r .calls ≡ oneMore (state .calls)) ⌝ }
 {
-    let y = s.y;
-    let z = s.z;
+    let y = state.y;
+    let z = state.z;
     let k = crate::key::next_key(suite, z, 0x80);
     let n = cipher::size_of(suite);
-    let t = crate::state::image(tb, suite, n, k, y);
+    let t = crate::state::image(lent, suite, n, k, y);
     Last {
         tag: t,
-        calls: std::num::wrapping_add_u64(s.calls, 1),
+        calls: std::num::wrapping_add_u64(state.calls, 1),
     }
 }
 
-// Whether the first bytes of t are those of tag, where zeros follow: every difference counts before the one test.
-pub fn same(t: Block, tag: &[u8]) -> bool
-    requires { ⌜ ((length (now tag) ≡ 16) ⊎ (length (now tag) ≡ 8)) × (drop (length (now tag)) (wide t) ≡ replicate (16 - length (now tag)) 0) ⌝ }
-    ensures { λ r. ⌜ r ≡ sameBytes (take (length (now (tag .entry))) (wide t)) (now (tag .entry)) ⌝ }
+// Whether the first bytes of the tag that was made are those of the given one, where zeros follow: every difference counts before the one test.
+pub fn same(made: Block, tag: &[u8]) -> bool
+    requires { ⌜ ((length (now tag) ≡ 16) ⊎ (length (now tag) ≡ 8)) × (drop (length (now tag)) (wide made) ≡ replicate (16 - length (now tag)) 0) ⌝ }
+    ensures { λ r. ⌜ r ≡ sameBytes (take (length (now (tag .entry))) (wide made)) (now (tag .entry)) ⌝ }
 {
     let given = words::block::whole(tag);
-    words::block::same(t, given)
+    words::block::same(made, given)
 }

@@ -8,11 +8,12 @@ use mathlib.Core.List.{List, _∷_}
 use lib.ListN.{length, getD, take, drop, length-take, length-drop}
 use lib.Seq.{ext-getD, getD-take, getD-drop}
 use Rattle.words.specs.Bytes.{value, part, word, sameBytes}
+use Rattle.words.specs.Blocks.{filled}
 use Rattle.cipher.specs.Cipher.{nonceOf}
 use Rattle.table.specs.declared.row.Row.{Row}
 use Rattle.table.specs.Search.{anyBelow}
 use Rattle.table.specs.Part.{stretch}
-use Rattle.table.specs.Format.{editionOf, countOf, totalOf, widthOf, rowStart, restStart, rowAt, nonceStart, nonceAt, nonceReadAt, padded, bodyEnd}
+use Rattle.table.specs.Format.{editionOf, countOf, totalOf, rowSizeOf, rowStart, restStart, rowAt, nonceStart, nonceAt, nonceReadAt, bodyEnd}
 use Rattle.table.specs.Check.{outside, notAbove, badSuite, badLength, bodyStart, misplaced, unreadSet, clash, nonceSeen, badData, bodyNumber, rowNumber, headNumber}
 use Rattle.table.proofs.Rows.{row-below, row-late}
 
@@ -76,7 +77,7 @@ module _ (f g : List ℕ) where
           let ad = word-same 2 (q + 2) (agree (q + 2) 2 (omega arith) (omega arith)) in
           let at = word-same 4 (q + 4) (agree (q + 4) 4 (omega arith) (omega arith)) in
           let len = word-same 4 (q + 8) (agree (q + 8) 4 (omega arith) (omega arith)) in
-          λ t. record { job = job t; suite = suite t; key = key t; ad = ad t; at = at t; len = len t }
+          λ t. record { job = job t; suite = suite t; key = key t; «ad_len» = ad t; «ad_at» = at t; «text_len» = len t }
 
       pub nonce-same : (i : ℕ) → i < n → nonceAt w f i ≡ nonceAt w g i
       unfolding nonceAt nonceStart restStart
@@ -87,7 +88,7 @@ module _ (f g : List ℕ) where
 
       unread-same : (i : ℕ) → i < n → unreadSet w f i ≡ unreadSet w g i
       unfolding unreadSet
-      unread-same i h = ap₂ (λ (s t : List ℕ). not (sameBytes s (padded t))) (nonce-same i h) (read-same i h)
+      unread-same i h = ap₂ (λ (s t : List ℕ). not (sameBytes s (filled t))) (nonce-same i h) (read-same i h)
 
       pub start-same : (i : ℕ) → i ≤ n → bodyStart w f n i ≡ bodyStart w g n i
       unfolding bodyStart
@@ -127,6 +128,6 @@ module _ (f g : List ℕ) where
       total-same = word-same 4 4 (agree 4 4 (omega arith) (omega arith))
 
       -- 20 to 24, where both editions are taken or neither, and their rows are of one size
-      pub head-same : (a b c d : ℕ) → outside a b (editionOf f) ≡ outside c d (editionOf g) → widthOf f ≡ widthOf g → headNumber a b f ≡ headNumber c d g
+      pub head-same : (a b c d : ℕ) → outside a b (editionOf f) ≡ outside c d (editionOf g) → rowSizeOf f ≡ rowSizeOf g → headNumber a b f ≡ headNumber c d g
       unfolding headNumber
       head-same a b c d o q = simp (long, o, count-same, total-same, q)

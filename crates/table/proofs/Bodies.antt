@@ -9,7 +9,7 @@ use lib.ListN.{length, take, drop, take-append-drop, drop-of-length-le}
 use lib.Seq.{drop-drop}
 use lib.Dec.{eqb·suc-zero}
 use Rattle.table.specs.Part.{stretch}
-use Rattle.table.specs.Format.{countOf, edition, newest, widthOf, rowStart, rowAt, rowOf, bodyEnd}
+use Rattle.table.specs.Format.{countOf, firstEdition, newest, rowSizeOf, rowStart, rowAt, rowOf, bodyEnd}
 use Rattle.table.specs.Check.{bodyStart}
 use Rattle.table.specs.Laid.{bodyAt, bodies, BodiesLaid}
 use Rattle.table.proofs.Passed.{Walked, passes}
@@ -24,16 +24,16 @@ module _ (w : ℕ) (f : List ℕ) (n : ℕ) where
   unfolding bodyStart
   start-first = refl
 
-  start-low : (i : ℕ) → rowAt w f i .at ≤ bodyEnd (rowAt w f i)
+  start-low : (i : ℕ) → rowAt w f i .«ad_at» ≤ bodyEnd (rowAt w f i)
   unfolding bodyEnd
   start-low i = omega arith
 
   module _ (h : Walked w f n) where
     -- a later body starts where this one ends, or after
-    pub apart : (i j : ℕ) → i < j → j < n → bodyEnd (rowAt w f i) ≤ rowAt w f j .at
+    pub apart : (i j : ℕ) → i < j → j < n → bodyEnd (rowAt w f i) ≤ rowAt w f j .«ad_at»
     apart i zero l m = absurd (not-suc-le-zero l)
     apart i (suc j) l m =
-        let s : rowAt w f (suc j) .at ≡ bodyEnd (rowAt w f j) = h .rows (suc j) m .place .starts ∙ start-next j in
+        let s : rowAt w f (suc j) .«ad_at» ≡ bodyEnd (rowAt w f j) = h .rows (suc j) m .place .starts ∙ start-next j in
         ⊎-elim
         (λ q. let t : bodyEnd (rowAt w f i) ≡ bodyEnd (rowAt w f j) = ap (λ (k : ℕ). bodyEnd (rowAt w f k)) q in omega arith)
         (λ b. omega (arith, apart i j b (omega arith), start-low j))
@@ -51,7 +51,7 @@ module _ (w : ℕ) (f : List ℕ) (n : ℕ) where
         let e : bodyStart w f n i ≡ length f = rw s (h .ends) in
         drop-of-length-le f {i = bodyStart w f n i} (omega arith)
     tiles (suc k) i q =
-        let a = rowAt w f i .at in
+        let a = rowAt w f i .«ad_at» in
         let e = bodyEnd (rowAt w f i) in
         let s : a ≡ bodyStart w f n i = h .rows i (omega arith) .place .starts in
         let t : a + (e - a) ≡ bodyStart w f n (suc i) = rw (start-next i) (omega (arith, start-low i)) in
@@ -61,9 +61,9 @@ module _ (w : ℕ) (f : List ℕ) (n : ℕ) where
 
 pub laid : BodiesLaid
 laid f z =
-    let w = widthOf f in
+    let w = rowSizeOf f in
     let n = countOf f in
-    let h = passes edition newest f z .walk in
+    let h = passes firstEdition newest f z .walk in
     record {
       first = λ l. h .rows 0 l .place .starts ∙ start-first w f n;
       next = λ i l. h .rows (suc i) l .place .starts ∙ start-next w f n i;

@@ -11,7 +11,7 @@ use lib.Dec.{eqb}
 use borrow.Author.Tests.{eq-eqb, le-ltb}
 use Rattle.table.specs.declared.answers.Answer.{Answer}
 use Rattle.table.specs.Search.{firstOf}
-use Rattle.table.specs.Format.{editionOf, countOf, edition, newest, rowSize, widthOf, rowStart, rowAt, bodyEnd}
+use Rattle.table.specs.Format.{editionOf, countOf, firstEdition, newest, rowSize, rowSizeOf, rowStart, rowAt, bodyEnd}
 use Rattle.table.specs.Answers.{answer}
 use Rattle.table.specs.Check.{outside, badData, rowNumber, endAnswer, rowsFrom, headNumber, checkBetween, checkAs, checkFile}
 use Rattle.table.proofs.Searches.{first-same, first-only}
@@ -25,11 +25,11 @@ abbrev pub badFrom : ℕ → List ℕ → List ℕ → ℕ → Answer
 badFrom w f g n = firstOf (λ j. badData g (rowAt w f j)) (answer 30) (answer 0 0) 0 (n - 0)
 
 -- job number and unit are as they were
-pub data-held : (f g : List ℕ) (w j : ℕ) → badData f (rowAt w f j) ≡ false → Agree g f (rowAt w f j .at) 5 → badData g (rowAt w f j) ≡ false
+pub data-held : (f g : List ℕ) (w j : ℕ) → badData f (rowAt w f j) ≡ false → Agree g f (rowAt w f j .«ad_at») 5 → badData g (rowAt w f j) ≡ false
 unfolding badData
 data-held f g w j h near =
     let r = rowAt w f j in
-    simp (word-same g f 4 (r .at) (λ k a b. near k a (omega arith)), near (r .at + 4) (omega arith) (omega arith)) h
+    simp (word-same g f 4 (r .«ad_at») (λ k a b. near k a (omega arith)), near (r .«ad_at» + 4) (omega arith) (omega arith)) h
 
 -- an edition that is taken
 pub taken : (low high x : ℕ) → low ≤ x → x ≤ high → outside low high x ≡ false
@@ -61,11 +61,11 @@ module _ (f g : List ℕ) (long : length g ≡ length f) where
         thirty false m q e = absurd (let z : _≡_ {A = ℕ} 0 1 = ap (λ (b : Bool). cond b 1 0) (sym (ap (λ (k : ℕ). not (eqb k 0)) q) ∙ e) in omega arith)
 
   -- of an edition that is taken and whose rows are as long
-  pub check-kept : (a b low high : ℕ) → Passes low high f → outside a b (editionOf g) ≡ false → widthOf g ≡ widthOf f → AgreeTable g f long (widthOf f) (countOf f)
-      → checkBetween a b g ≡ badFrom (widthOf f) f g (countOf f)
+  pub check-kept : (a b low high : ℕ) → Passes low high f → outside a b (editionOf g) ≡ false → rowSizeOf g ≡ rowSizeOf f → AgreeTable g f long (rowSizeOf f) (countOf f)
+      → checkBetween a b g ≡ badFrom (rowSizeOf f) f g (countOf f)
   unfolding checkBetween
   check-kept a b low high p o q table =
-      let w = widthOf f in
+      let w = rowSizeOf f in
       let n = countOf f in
       let broad = row-broad (editionOf f) in
       let z : headNumber a b g ≡ 0 = head-same g f long w n broad table a b low high (o ∙ sym (taken low high _ (p .head .from) (p .head .to))) q ∙ p .zero in
@@ -74,12 +74,12 @@ module _ (f g : List ℕ) (long : length g ≡ length f) where
 -- ---- a file that differs from one that passes inside the body of one row alone
 
 module _ (f g : List ℕ) (long : length g ≡ length f) (low high : ℕ) (p : Passes low high f) (i : ℕ) (within : i < countOf f)
-    (same : (k : ℕ) → (k < rowAt (widthOf f) f i .at) ⊎ (bodyEnd (rowAt (widthOf f) f i) ≤ k) → getD g k 0 ≡ getD f k 0) where
+    (same : (k : ℕ) → (k < rowAt (rowSizeOf f) f i .«ad_at») ⊎ (bodyEnd (rowAt (rowSizeOf f) f i) ≤ k) → getD g k 0 ≡ getD f k 0) where
   abbrev w : ℕ
-  w = widthOf f
+  w = rowSizeOf f
 
   -- the body lies behind the table
-  behind : rowStart w (countOf f) ≤ rowAt w f i .at
+  behind : rowStart w (countOf f) ≤ rowAt w f i .«ad_at»
   behind = omega (arith, after-table w f (countOf f) (p .walk) i (omega arith), p .walk .rows i within .place .starts)
 
   pub body-table : AgreeTable g f long w (countOf f)
@@ -89,7 +89,7 @@ module _ (f g : List ℕ) (long : length g ≡ length f) (low high : ℕ) (p : P
   body-edition = word-same g f 2 0 (λ k a b. same k (inl (omega (arith, behind, row-late w (countOf f)))))
 
   -- every other body is kept
-  pub body-other : (j : ℕ) → j < countOf f → (j ≡ i → ⊥) → (k : ℕ) → rowAt w f j .at ≤ k → k < bodyEnd (rowAt w f j) → getD g k 0 ≡ getD f k 0
+  pub body-other : (j : ℕ) → j < countOf f → (j ≡ i → ⊥) → (k : ℕ) → rowAt w f j .«ad_at» ≤ k → k < bodyEnd (rowAt w f j) → getD g k 0 ≡ getD f k 0
   body-other j l ne k a b =
       elim (decLt j i) [
         | yes m ↦ same k (inl (omega (arith, apart w f (countOf f) (p .walk) j i m within)))
@@ -109,14 +109,14 @@ module _ (f g : List ℕ) (long : length g ≡ length f) (low high : ℕ) (p : P
 -- ---- the editions that readers take
 
 -- both editions are taken
-same-head : (e : ℕ) (f : List ℕ) → outside edition newest (editionOf f) ≡ false → outside e e (editionOf f) ≡ false → headNumber edition newest f ≡ headNumber e e f
+same-head : (e : ℕ) (f : List ℕ) → outside firstEdition newest (editionOf f) ≡ false → outside e e (editionOf f) ≡ false → headNumber firstEdition newest f ≡ headNumber e e f
 unfolding headNumber
 same-head e f a b = simp (a, b)
 
 -- a file that passes at its own edition passes the readers' check, if readers take that
-pub wider : (e : ℕ) (f : List ℕ) → edition ≤ e → e ≤ newest → checkAs e f .number ≡ 0 → checkFile f .number ≡ 0
+pub wider : (e : ℕ) (f : List ℕ) → firstEdition ≤ e → e ≤ newest → checkAs e f .number ≡ 0 → checkFile f .number ≡ 0
 unfolding checkBetween
 wider e f low high z =
     let p = passes e e f z in
     let q = own-edition e f p in
-    rw (same-head e f (taken edition newest (editionOf f) (omega arith) (omega arith)) (taken e e (editionOf f) (omega arith) (omega arith))) z
+    rw (same-head e f (taken firstEdition newest (editionOf f) (omega arith) (omega arith)) (taken e e (editionOf f) (omega arith) (omega arith))) z

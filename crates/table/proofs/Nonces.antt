@@ -12,11 +12,12 @@ use lib.Dec.{eqb}
 use borrow.Author.Tests.{eq-eqb, eqb-true, not-false}
 use Rattle.words.specs.Bytes.{sameBytes}
 use Rattle.words.proofs.Same.{same-refl, same-true}
+use Rattle.words.specs.Blocks.{filled}
 use Rattle.cipher.specs.Cipher.{nonceOf}
 use Rattle.cipher.proofs.Suites.{nonce-most}
 use Rattle.table.specs.declared.row.Row.{Row}
 use Rattle.table.specs.Part.{stretch}
-use Rattle.table.specs.Format.{rowAt, nonceStart, nonceAt, nonceReadAt, padded}
+use Rattle.table.specs.Format.{rowAt, nonceStart, nonceAt, nonceReadAt}
 use Rattle.table.specs.Check.{unreadSet, clash, nonceSeen}
 use Rattle.table.specs.Inside.{RowIn, Spared}
 use Rattle.table.proofs.Searches.{any-hit}
@@ -35,20 +36,20 @@ unfolding nonceAt
 read-bytes w f i s = sym (take-take (nonceOf s) 16 (drop (nonceStart w i) f) (nonce-most s))
 
 -- filled up, bytes of one length are told apart as before
-padded-same : (s t : List ℕ) → length s ≡ length t → sameBytes (padded s) (padded t) ≡ sameBytes s t
-padded-same s t l = same-case (sameBytes (padded s) (padded t)) (sameBytes s t) refl refl
+filled-same : (s t : List ℕ) → length s ≡ length t → sameBytes (filled s) (filled t) ≡ sameBytes s t
+filled-same s t l = same-case (sameBytes (filled s) (filled t)) (sameBytes s t) refl refl
   where
-    same-case : (a b : Bool) → sameBytes (padded s) (padded t) ≡ a → sameBytes s t ≡ b → a ≡ b
+    same-case : (a b : Bool) → sameBytes (filled s) (filled t) ≡ a → sameBytes s t ≡ b → a ≡ b
     same-case true true p q = refl
     same-case false false p q = refl
     same-case true false p q =
-        let e : s ≡ t = sym (take-append-seam s (replicate (16 - length s) 0)) ∙ ap₂ take l (same-true (padded s) (padded t) p) ∙ take-append-seam t (replicate (16 - length t) 0) in
+        let e : s ≡ t = sym (take-append-seam s (replicate (16 - length s) 0)) ∙ ap₂ take l (same-true (filled s) (filled t) p) ∙ take-append-seam t (replicate (16 - length t) 0) in
         sym (same-refl t) ∙ ap (λ (u : List ℕ). sameBytes u t) (sym e) ∙ q
     same-case false true p q =
-        sym p ∙ ap (λ (u : List ℕ). sameBytes (padded u) (padded t)) (same-true s t q) ∙ same-refl (padded t)
+        sym p ∙ ap (λ (u : List ℕ). sameBytes (filled u) (filled t)) (same-true s t q) ∙ same-refl (filled t)
 
 -- 34 does not apply: the nonce is what is read, and zeros
-pub spare-nonce : (w : ℕ) (f : List ℕ) (i : ℕ) → unreadSet w f i ≡ false → nonceAt w f i ≡ padded (nonceReadAt w f i)
+pub spare-nonce : (w : ℕ) (f : List ℕ) (i : ℕ) → unreadSet w f i ≡ false → nonceAt w f i ≡ filled (nonceReadAt w f i)
 unfolding unreadSet
 spare-nonce w f i e = same-true _ _ (not-false _ e)
 
@@ -63,7 +64,7 @@ module _ (w : ℕ) (f : List ℕ) (i j : ℕ) (hi : RowIn w f i) (hj : RowIn w f
   reads-same s =
       let l : length (nonceReadAt w f i) ≡ length (nonceReadAt w f j) =
       read-length w f i (rowAt w f i .suite) hi ∙ ap nonceOf s ∙ sym (read-length w f j (rowAt w f j .suite) hj) in
-      sym (padded-same (nonceReadAt w f i) (nonceReadAt w f j) l) ∙ sym (ap₂ sameBytes (spare-nonce w f i si) (spare-nonce w f j sj))
+      sym (filled-same (nonceReadAt w f i) (nonceReadAt w f j) l) ∙ sym (ap₂ sameBytes (spare-nonce w f i si) (spare-nonce w f j sj))
 
   clash-whole : clash w f i j ≡ (keys (rowAt w f i) (rowAt w f j) && sameBytes (nonceAt w f i) (nonceAt w f j))
   unfolding clash

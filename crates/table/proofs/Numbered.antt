@@ -10,7 +10,7 @@ use lib.Dec.{eqb, ltb, lit≤}
 use borrow.Author.Tests.{eqb-false, not-true, ne-eqb}
 use Rattle.words.proofs.Ladder.{rung}
 use Rattle.table.specs.declared.answers.Answer.{Answer}
-use Rattle.table.specs.Format.{editionOf, countOf, totalOf, widthOf, rowStart, rowAt}
+use Rattle.table.specs.Format.{editionOf, countOf, totalOf, rowSizeOf, rowStart, rowAt}
 use Rattle.table.specs.Answers.{answer, Ranged}
 use Rattle.table.specs.Check.{outside, notAbove, badSuite, badLength, misplaced, unreadSet, nonceSeen, badData, bodyStart, rowNumber, bodyNumber, headNumber, endAnswer, rowsFrom, checkBetween}
 use Rattle.table.proofs.Searches.{first-says}
@@ -37,7 +37,7 @@ head-among low high f =
     (rung (Among 20 24) (outside low high (editionOf f)) 21 _ (inr (inl (lit≤ tt, lit≤ tt)))
     (rung (Among 20 24) (ltb 512 (countOf f)) 22 _ (inr (inl (lit≤ tt, lit≤ tt)))
     (rung (Among 20 24) (not (eqb (totalOf f) (length f))) 23 _ (inr (inl (lit≤ tt, lit≤ tt)))
-    (rung (Among 20 24) (ltb (length f) (rowStart (widthOf f) (countOf f))) 24 0 (inr (inl (lit≤ tt, lit≤ tt))) (inl refl)))))
+    (rung (Among 20 24) (ltb (length f) (rowStart (rowSizeOf f) (countOf f))) 24 0 (inr (inl (lit≤ tt, lit≤ tt))) (inl refl)))))
 
 -- an answer of 0, 20 to `most` or 34, with a row only where that is 25 to 30 or 34
 pub record Numbered (most : ℕ) (x : Answer) : Type 0 where
@@ -68,7 +68,7 @@ pub check-numbered : (low high : ℕ) (f : List ℕ) → Numbered 31 (checkBetwe
 unfolding checkBetween
 check-numbered low high f =
     ⊎-elim
-    (λ (z : headNumber low high f ≡ 0). simp z (rows-numbered (widthOf f) f (countOf f) 0))
+    (λ (z : headNumber low high f ≡ 0). simp z (rows-numbered (rowSizeOf f) f (countOf f) 0))
     (λ (r : Ranged 20 24 (headNumber low high f)).
     let n : headNumber low high f ≡ 0 → ⊥ = λ z. ⊎-elim (λ s. omega arith) (λ s. omega arith) r in
     simp (ne-eqb _ _ n) (record { number = inr (⊎-elim (λ s. inl (s .0, omega arith)) inr r); row = inl refl }))

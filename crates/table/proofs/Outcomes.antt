@@ -32,8 +32,8 @@ use Rattle.table.proofs.row.count.Kinds as count-kinds
 use Rattle.table.proofs.row.count.Reads as count-reads
 use Rattle.table.proofs.row.row_size.Kinds as row-size-kinds
 use Rattle.table.proofs.row.row_size.Reads as row-size-reads
-use Rattle.table.proofs.row.width.Kinds as width-kinds
-use Rattle.table.proofs.row.width.Reads as width-reads
+use Rattle.table.proofs.row.row_size_of.Kinds as row-size-of-kinds
+use Rattle.table.proofs.row.row_size_of.Reads as row-size-of-reads
 use Rattle.table.proofs.row.station_of.Kinds as station-of-kinds
 use Rattle.table.proofs.row.station_of.Reads as station-of-reads
 use Rattle.table.proofs.row.row_start.Kinds as row-start-kinds
@@ -148,8 +148,8 @@ count κs a h x y = (x .ensures ∙ sym (y .ensures), refl)
 pub row-size : OneOutcome row-size-kinds.ps row-size-kinds.r row-size-reads.Pre row-size-reads.Post
 row-size κs a h x y = (x .ensures ∙ sym (y .ensures), refl)
 
-pub width : OneOutcome width-kinds.ps width-kinds.r width-reads.Pre width-reads.Post
-width κs a h x y = (x .ensures ∙ sym (y .ensures), refl)
+pub row-size-of : OneOutcome row-size-of-kinds.ps row-size-of-kinds.r row-size-of-reads.Pre row-size-of-reads.Post
+row-size-of κs a h x y = (x .ensures ∙ sym (y .ensures), refl)
 
 pub station-of : OneOutcome station-of-kinds.ps station-of-kinds.r station-of-reads.Pre station-of-reads.Post
 station-of κs a h x y = (x .ensures ∙ sym (y .ensures), refl)

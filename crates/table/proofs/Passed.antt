@@ -13,7 +13,7 @@ use Rattle.table.specs.declared.answers.Fault.{Fault}
 use Rattle.table.specs.declared.answers.Refusal.{Refusal}
 use Rattle.table.specs.declared.answers.Checked.{Checked}
 use Rattle.table.specs.declared.answers.Checked.the-variants.{Passed, Refused}
-use Rattle.table.specs.Format.{editionOf, countOf, widthOf}
+use Rattle.table.specs.Format.{editionOf, countOf, rowSizeOf}
 use Rattle.table.specs.Answers.{answer, faultNumber, refusalAnswer, checkedAnswer}
 use Rattle.table.specs.Inside.{EntryIn}
 use Rattle.table.specs.Check.{bodyStart, rowNumber, endAnswer, rowsFrom, headNumber, andThen, checkBetween}
@@ -95,24 +95,24 @@ walked w f n z =
 pub record Passes (low high : ℕ) (f : List ℕ) : Type 0 where
   pub zero : headNumber low high f ≡ 0
   pub head : Headed low high f
-  pub walk : Walked (widthOf f) f (countOf f)
+  pub walk : Walked (rowSizeOf f) f (countOf f)
 
 pub passes : (low high : ℕ) (f : List ℕ) → checkBetween low high f .number ≡ 0 → Passes low high f
 unfolding checkBetween
 passes low high f z =
-    let b = both-zero (answer (headNumber low high f) 0) (rowsFrom (widthOf f) f (countOf f) 0) z in
-    record { zero = b .0; head = headed low high f (b .0); walk = walked (widthOf f) f (countOf f) (rw (b .1) at z) }
+    let b = both-zero (answer (headNumber low high f) 0) (rowsFrom (rowSizeOf f) f (countOf f) 0) z in
+    record { zero = b .0; head = headed low high f (b .0); walk = walked (rowSizeOf f) f (countOf f) (rw (b .1) at z) }
 
 -- of one edition alone, it has that
 pub own-edition : (e : ℕ) (f : List ℕ) → Passes e e f → editionOf f ≡ e
 own-edition e f p = omega (arith, p .head .from, p .head .to)
 
 -- each row of such a file can be read and opened
-pub entry-in : (low high : ℕ) (f : List ℕ) → Passes low high f → (i : ℕ) → i < countOf f → EntryIn (widthOf f) f i
+pub entry-in : (low high : ℕ) (f : List ℕ) → Passes low high f → (i : ℕ) → i < countOf f → EntryIn (rowSizeOf f) f i
 entry-in low high f h i l =
     let s = h .walk .rows i l in
     record {
-      row-in = row-in (widthOf f) f (countOf f) i (h .head .table) l;
+      row-in = row-in (rowSizeOf f) f (countOf f) i (h .head .table) l;
       suite-is = s .suit .suite-is;
       key-high = s .suit .key-high;
       data-high = s .size .ad-high;

@@ -4,17 +4,12 @@ use native.Mathlib.Nat.{not-suc-le-zero, le-of-suc-le-suc, eq-or-lt-of-le}
 use native.Mathlib.Numerals.{add-one}
 use native.Mathlib.Omega.{arith}
 use mathlib.Core.Path.{_≡_, refl, sym, ap, _∙_}
-use mathlib.Core.Bool.{Bool, true, false, _||_, cond, or-true, true≢false}
+use mathlib.Core.Bool.{Bool, true, false, cond, or-true, or-false, true≢false}
 use mathlib.Core.Logic.{_⊎_, inl, inr, ⊎-elim}
 use lib.Dec.{eqb}
 use borrow.Author.Tests.{eqb-true, eqb-false}
+use Rattle.words.proofs.Tests.{either-true}
 use Rattle.table.specs.Search.{anyBelow, firstOf}
-
--- ---- tests
-
-pub or-false : (a b : Bool) → a || b ≡ false → (a ≡ false) × (b ≡ false)
-or-false true b e = absurd (true≢false e)
-or-false false b e = (refl, e)
 
 -- numbers that cannot differ are equal
 pub same-number : (i j : ℕ) → ((i ≡ j → ⊥) → ⊥) → i ≡ j
@@ -46,6 +41,23 @@ any-hit p j (suc n) h e =
     (λ q. let here : p n ≡ true = rw q at e in simp here)
     (λ l. simp (any-hit p j n l e, or-true))
     (eq-or-lt-of-le (le-of-suc-le-suc h))
+
+-- some number below n passes: which
+pub any-some : (p : ℕ → Bool) (n : ℕ) → anyBelow p n ≡ true → (k : ℕ) × ((k < n) × (p k ≡ true))
+unfolding anyBelow
+any-some p zero q = absurd (true≢false (sym q))
+any-some p (suc n) q =
+    ⊎-elim (λ (h : p n ≡ true). (n, (omega arith, h))) (λ h. let r = any-some p n h in (r .0, (omega arith, r .1 .1))) (either-true (p n) (anyBelow p n) q)
+
+-- no other than j passes
+pub any-only : (p : ℕ → Bool) (n j : ℕ) → j < n → ((k : ℕ) → k < n → (k ≡ j → ⊥) → p k ≡ false) → anyBelow p n ≡ p j
+unfolding anyBelow
+any-only p zero j l h = absurd (omega arith)
+any-only p (suc n) j l h =
+    ⊎-elim
+    (λ (e : j ≡ n). simp (any-none p n (λ k m. h k (omega arith) (λ q. omega arith)), or-false) (ap p (sym e)))
+    (λ (m : j < n). simp (h n (omega arith) (λ q. omega arith)) (any-only p n j m (λ k z. h k (omega arith))))
+    (eq-or-lt-of-le (omega arith))
 
 -- ---- the first number that passes
 

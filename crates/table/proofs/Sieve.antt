@@ -14,12 +14,13 @@ use lib.Pow.{shl-exact, low}
 use lib.Seq.{getD-set-same, getD-set-other}
 use borrow.Author.Tests.{eq-eqb, eqb-true, eqb-false}
 use Rattle.words.specs.Bytes.{value}
-use Rattle.words.specs.Blocks.{wide}
+use Rattle.words.specs.Blocks.{wide, filled}
 use Rattle.words.specs.declared.block.Block.{Block}
 use Rattle.words.proofs.Bytes.{value-bytes}
 use Rattle.words.proofs.Blocks.{first-eight, last-eight}
-use Rattle.words.proofs.Same.{and-true, same-true}
-use Rattle.table.specs.Format.{rowAt, nonceAt, nonceReadAt, padded}
+use Rattle.words.proofs.Tests.{both-true}
+use Rattle.words.proofs.Same.{same-true}
+use Rattle.table.specs.Format.{rowAt, nonceAt, nonceReadAt}
 use Rattle.table.specs.Check.{unreadSet, clash, nonceSeen}
 use Rattle.table.specs.Inside.{Spared}
 use Rattle.table.specs.Marks.{folded, mixed, markOf, wordOf, bitsOf, has, with, Sieved}
@@ -125,9 +126,9 @@ block-word x s p q e =
 clash-marks : (w : ℕ) (f : List ℕ) (i j : ℕ) → unreadSet w f i ≡ false → unreadSet w f j ≡ false → clash w f i j ≡ true → markOf w f i ≡ markOf w f j
 unfolding clash markOf
 clash-marks w f i j si sj e =
-    let p = and-true (eqb (rowAt w f i .suite) (rowAt w f j .suite)) _ e in
-    let q = and-true (eqb (rowAt w f i .key) (rowAt w f j .key)) _ (p .1) in
-    let n : nonceAt w f i ≡ nonceAt w f j = spare-nonce w f i si ∙ ap padded (same-true (nonceReadAt w f i) (nonceReadAt w f j) (q .1)) ∙ sym (spare-nonce w f j sj) in
+    let p = both-true (eqb (rowAt w f i .suite) (rowAt w f j .suite)) _ e in
+    let q = both-true (eqb (rowAt w f i .key) (rowAt w f j .key)) _ (p .1) in
+    let n : nonceAt w f i ≡ nonceAt w f j = spare-nonce w f i si ∙ ap filled (same-true (nonceReadAt w f i) (nonceReadAt w f j) (q .1)) ∙ sym (spare-nonce w f j sj) in
     ap₂ (λ (s k : ℕ). mixed s k (nonceWord (nonceAt w f i))) (eqb-true _ _ (p .0)) (eqb-true _ _ (q .0))
     ∙ ap (λ (s : List ℕ). mixed (rowAt w f j .suite) (rowAt w f j .key) (nonceWord s)) n
 

@@ -7,13 +7,13 @@ use mathlib.Core.List.{List}
 use lib.ListN.{length}
 use lib.Dec.{ltb, eqb, lit<}
 use borrow.Author.Tests.{ltb-false, eqb-true, not-false}
+use Rattle.words.proofs.Tests.{both-false}
 use Rattle.words.proofs.Ladder.{not-taken}
-use Rattle.cipher.specs.Cipher.{isSuite, IsSuite}
+use Rattle.cipher.specs.Cipher.{isSuite, IsSuite, limit}
 use Rattle.table.specs.declared.row.Row.{Row}
-use Rattle.table.specs.Format.{editionOf, countOf, totalOf, widthOf, rowStart, rowAt, bodyEnd}
+use Rattle.table.specs.Format.{editionOf, countOf, totalOf, rowSizeOf, rowStart, rowAt, bodyEnd}
 use Rattle.table.specs.Check.{notAbove, outside, badSuite, badLength, bodyStart, misplaced, unreadSet, nonceSeen, badData, bodyNumber, rowNumber, headNumber}
 use Rattle.table.specs.Inside.{TableIn}
-use Rattle.table.proofs.Searches.{or-false}
 use Rattle.table.proofs.Rows.{row-broad}
 
 -- ---- a row
@@ -21,8 +21,8 @@ use Rattle.table.proofs.Rows.{row-broad}
 -- a number lies in its range, and another is small enough: the form of 27
 range : (a x b y d : ℕ) → outside a b x || ltb d y ≡ false → (a ≤ x) × (x ≤ b) × (y ≤ d)
 range a x b y d h =
-    let o = or-false (outside a b x) (ltb d y) h in
-    let r = or-false (ltb x a) (ltb b x) (o .0) in
+    let o = both-false (outside a b x) (ltb d y) h in
+    let r = both-false (ltb x a) (ltb b x) (o .0) in
     (ltb-false _ _ (r .0), ltb-false _ _ (r .1), ltb-false _ _ (o .1))
 
 pub record Suited (r : Row) : Type 0 where
@@ -32,30 +32,30 @@ pub record Suited (r : Row) : Type 0 where
 suited : (r : Row) → badSuite r ≡ false → Suited r
 unfolding badSuite
 suited r h =
-    let o = or-false (not (isSuite (r .suite))) (ltb 15 (r .key)) h in
+    let o = both-false (not (isSuite (r .suite))) (ltb 15 (r .key)) h in
     record { suite-is = not-false _ (o .0); key-high = ltb-false _ _ (o .1) }
 
 pub record Sized (r : Row) : Type 0 where
-  pub ad-low : 5 ≤ r .ad
-  pub ad-high : r .ad ≤ 1024
-  pub len-high : r .len ≤ 65536
+  pub ad-low : 5 ≤ r .«ad_len»
+  pub ad-high : r .«ad_len» ≤ 1024
+  pub len-high : r .«text_len» ≤ limit
 
 sized : (r : Row) → badLength r ≡ false → Sized r
 unfolding badLength
-sized r h = let q = range 5 (r .ad) 1024 (r .len) 65536 h in record { ad-low = q .0; ad-high = q .1; len-high = q .2 }
+sized r h = let q = range 5 (r .«ad_len») 1024 (r .«text_len») limit h in record { ad-low = q .0; ad-high = q .1; len-high = q .2 }
 
 pub record Placed (w : ℕ) (f : List ℕ) (n i : ℕ) : Type 0 where
-  pub starts : rowAt w f i .at ≡ bodyStart w f n i
+  pub starts : rowAt w f i .«ad_at» ≡ bodyStart w f n i
   pub ends : bodyEnd (rowAt w f i) ≤ length f
 
 placed : (w : ℕ) (f : List ℕ) (n i : ℕ) → misplaced w f n i ≡ false → Placed w f n i
 unfolding misplaced
 placed w f n i h =
-    let o = or-false (not (eqb (rowAt w f i .at) (bodyStart w f n i))) (ltb (length f) (bodyEnd (rowAt w f i))) h in
+    let o = both-false (not (eqb (rowAt w f i .«ad_at») (bodyStart w f n i))) (ltb (length f) (bodyEnd (rowAt w f i))) h in
     record { starts = eqb-true _ _ (not-false _ (o .0)); ends = ltb-false _ _ (o .1) }
 
 -- after 27 and 28, the associated data's first five bytes are in the file
-pub head-in : (w : ℕ) (f : List ℕ) (n i : ℕ) → badLength (rowAt w f i) ≡ false → misplaced w f n i ≡ false → rowAt w f i .at + 5 ≤ length f
+pub head-in : (w : ℕ) (f : List ℕ) (n i : ℕ) → badLength (rowAt w f i) ≡ false → misplaced w f n i ≡ false → rowAt w f i .«ad_at» + 5 ≤ length f
 unfolding bodyEnd
 head-in w f n i s p = omega (arith, sized (rowAt w f i) s .ad-low, placed w f n i p .ends)
 
@@ -97,7 +97,7 @@ pub record Headed (low high : ℕ) (f : List ℕ) : Type 0 where
   pub to : editionOf f ≤ high
   pub few : countOf f ≤ 512
   pub total : totalOf f ≡ length f
-  pub table : TableIn (widthOf f) f (countOf f)
+  pub table : TableIn (rowSizeOf f) f (countOf f)
 
 pub headed : (low high : ℕ) (f : List ℕ) → headNumber low high f ≡ 0 → Headed low high f
 unfolding headNumber
@@ -106,9 +106,9 @@ headed low high f h =
     let p21 = not-taken (outside low high (editionOf f)) 21 _ (lit< tt) (p20 .1) in
     let p22 = not-taken (ltb 512 (countOf f)) 22 _ (lit< tt) (p21 .1) in
     let p23 = not-taken (not (eqb (totalOf f) (length f))) 23 _ (lit< tt) (p22 .1) in
-    let p24 = not-taken (ltb (length f) (rowStart (widthOf f) (countOf f))) 24 _ (lit< tt) (p23 .1) in
-    let len = or-false (ltb (length f) 8) (ltb 1048576 (length f)) (p20 .0) in
-    let taken = or-false (ltb (editionOf f) low) (ltb high (editionOf f)) (p21 .0) in
+    let p24 = not-taken (ltb (length f) (rowStart (rowSizeOf f) (countOf f))) 24 _ (lit< tt) (p23 .1) in
+    let len = both-false (ltb (length f) 8) (ltb 1048576 (length f)) (p20 .0) in
+    let taken = both-false (ltb (editionOf f) low) (ltb high (editionOf f)) (p21 .0) in
     record {
       long = ltb-false _ _ (len .0);
       short = ltb-false _ _ (len .1);

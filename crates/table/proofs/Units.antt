@@ -9,10 +9,10 @@ use lib.ListN.{length, getD, set, length-set}
 use lib.Seq.{getD-set-same, getD-set-other}
 use lib.Dec.{eqb}
 use borrow.Author.Tests.{not-false}
-use Rattle.table.specs.Format.{countOf, widthOf, rowAt, bodyEnd, dataJob, unitOf, isUnit}
+use Rattle.words.proofs.Tests.{both-false}
+use Rattle.table.specs.Format.{countOf, rowSizeOf, rowAt, bodyEnd, dataJob, unitOf, isUnit}
 use Rattle.table.specs.Answers.{answer}
 use Rattle.table.specs.Check.{badData, checkBetween}
-use Rattle.table.proofs.Searches.{or-false}
 use Rattle.table.proofs.Passed.{Passes}
 use Rattle.table.proofs.Alike.{word-same}
 use Rattle.table.proofs.Kept.{body-check}
@@ -20,31 +20,31 @@ use Rattle.table.proofs.Kept.{body-check}
 module _ (low high : ℕ) (f : List ℕ) (p : Passes low high f) (i v : ℕ) (within : i < countOf f) where
   -- the file with v for the unit of entry i
   abbrev altered : List ℕ
-  altered = set f (rowAt (widthOf f) f i .at + 4) v
+  altered = set f (rowAt (rowSizeOf f) f i .«ad_at» + 4) v
 
   pub unit-long : length altered ≡ length f
-  unit-long = length-set f (rowAt (widthOf f) f i .at + 4) v
+  unit-long = length-set f (rowAt (rowSizeOf f) f i .«ad_at» + 4) v
 
-  byte-other : (k : ℕ) → (k ≡ rowAt (widthOf f) f i .at + 4 → ⊥) → getD altered k 0 ≡ getD f k 0
-  byte-other k ne = getD-set-other f (rowAt (widthOf f) f i .at + 4) k v 0 ne
+  byte-other : (k : ℕ) → (k ≡ rowAt (rowSizeOf f) f i .«ad_at» + 4 → ⊥) → getD altered k 0 ≡ getD f k 0
+  byte-other k ne = getD-set-other f (rowAt (rowSizeOf f) f i .«ad_at» + 4) k v 0 ne
 
   -- the unit lies in the body
-  unit-in : rowAt (widthOf f) f i .at + 5 ≤ bodyEnd (rowAt (widthOf f) f i)
+  unit-in : rowAt (rowSizeOf f) f i .«ad_at» + 5 ≤ bodyEnd (rowAt (rowSizeOf f) f i)
   unfolding bodyEnd
   unit-in = omega (arith, p .walk .rows i within .size .ad-low)
 
-  pub unit-outside : (k : ℕ) → (k < rowAt (widthOf f) f i .at) ⊎ (bodyEnd (rowAt (widthOf f) f i) ≤ k) → getD altered k 0 ≡ getD f k 0
+  pub unit-outside : (k : ℕ) → (k < rowAt (rowSizeOf f) f i .«ad_at») ⊎ (bodyEnd (rowAt (rowSizeOf f) f i) ≤ k) → getD altered k 0 ≡ getD f k 0
   unit-outside k = ⊎-elim (λ a. byte-other k (λ q. omega arith)) (λ a. byte-other k (λ q. omega (arith, unit-in)))
 
   -- the job number is as it was
-  data-unit : badData altered (rowAt (widthOf f) f i) ≡ not (isUnit v)
+  data-unit : badData altered (rowAt (rowSizeOf f) f i) ≡ not (isUnit v)
   unfolding badData
   data-unit =
-      let r = rowAt (widthOf f) f i in
+      let r = rowAt (rowSizeOf f) f i in
       let s = p .walk .rows i within in
-      let job = or-false (not (eqb (dataJob f r) (r .job))) (not (isUnit (unitOf f r))) (s .held) .0 in
-      let unit : getD altered (r .at + 4) 0 ≡ v = getD-set-same f (r .at + 4) v 0 (omega (arith, unit-in, s .place .ends)) in
-      simp (word-same altered f 4 (r .at) (λ k a b. byte-other k (λ q. omega arith)), not-false (eqb (dataJob f r) (r .job)) job, unit)
+      let job = both-false (not (eqb (dataJob f r) (r .job))) (not (isUnit (unitOf f r))) (s .held) .0 in
+      let unit : getD altered (r .«ad_at» + 4) 0 ≡ v = getD-set-same f (r .«ad_at» + 4) v 0 (omega (arith, unit-in, s .place .ends)) in
+      simp (word-same altered f 4 (r .«ad_at») (λ k a b. byte-other k (λ q. omega arith)), not-false (eqb (dataJob f r) (r .job)) job, unit)
 
   pub unit-check : checkBetween low high altered ≡ cond (not (isUnit v)) (answer 30 i) (answer 0 0)
   unit-check = rw (sym data-unit) (body-check f altered unit-long low high p i within unit-outside)

@@ -5,11 +5,12 @@ use mathlib.Core.Bool.{Bool, _||_, _&&_, not, cond}
 use lib.ListN.{length}
 use lib.Dec.{ltb, leb, eqb}
 use Rattle.words.specs.Bytes.{sameBytes}
-use Rattle.cipher.specs.Cipher.{isSuite}
+use Rattle.words.specs.Blocks.{filled}
+use Rattle.cipher.specs.Cipher.{isSuite, limit}
 use Rattle.table.specs.declared.row.Row.{Row}
 use Rattle.table.specs.declared.answers.Answer.{Answer}
 use Rattle.table.specs.Search.{anyBelow, firstOf}
-use Rattle.table.specs.Format.{editionOf, countOf, totalOf, edition, newest, widthOf, rowStart, rowAt, nonceAt, nonceReadAt, padded, bodyEnd, dataJob, unitOf, isUnit}
+use Rattle.table.specs.Format.{editionOf, countOf, totalOf, firstEdition, newest, rowSizeOf, rowStart, rowAt, nonceAt, nonceReadAt, bodyEnd, dataJob, unitOf, isUnit}
 use Rattle.table.specs.Answers.{answer}
 
 -- 25: job number not above the row before (row 0: any)
@@ -24,9 +25,9 @@ outside low high x = ltb x low || ltb high x
 unfoldable pub badSuite : Row → Bool
 badSuite r = not (isSuite (r .suite)) || ltb 15 (r .key)
 
--- 27: associated data length outside 5 to 1,024, or message over 65,536
+-- 27: associated data length outside 5 to 1,024, or message over the limit of 65,536
 unfoldable pub badLength : Row → Bool
-badLength r = outside 5 1024 (r .ad) || ltb 65536 (r .len)
+badLength r = outside 5 1024 (r .«ad_len») || ltb limit (r .«text_len»)
 
 -- where the body of row i of n has to start: after the table (row 0), or at the previous body's end
 unfoldable pub bodyStart : ℕ → List ℕ → ℕ → ℕ → ℕ
@@ -34,11 +35,11 @@ bodyStart w f n i = cond (eqb i 0) (rowStart w n) (bodyEnd (rowAt w f (i - 1)))
 
 -- 28: offset not there, or the body ends past the file
 unfoldable pub misplaced : ℕ → List ℕ → ℕ → ℕ → Bool
-misplaced w f n i = not (eqb (rowAt w f i .at) (bodyStart w f n i)) || ltb (length f) (bodyEnd (rowAt w f i))
+misplaced w f n i = not (eqb (rowAt w f i .«ad_at») (bodyStart w f n i)) || ltb (length f) (bodyEnd (rowAt w f i))
 
 -- 34: a nonce byte that the suite leaves unread is not 0: the nonce is not the bytes that are read, and zeros behind them
 unfoldable pub unreadSet : ℕ → List ℕ → ℕ → Bool
-unreadSet w f i = not (sameBytes (nonceAt w f i) (padded (nonceReadAt w f i)))
+unreadSet w f i = not (sameBytes (nonceAt w f i) (filled (nonceReadAt w f i)))
 
 -- two rows clash: suite, key number and the nonce bytes that the suite reads are all equal
 unfoldable pub clash : ℕ → List ℕ → ℕ → ℕ → Bool
@@ -87,7 +88,7 @@ headNumber low high f =
     (cond (outside low high (editionOf f)) 21
     (cond (ltb 512 (countOf f)) 22
     (cond (not (eqb (totalOf f) (length f))) 23
-    (cond (ltb (length f) (rowStart (widthOf f) (countOf f))) 24
+    (cond (ltb (length f) (rowStart (rowSizeOf f) (countOf f))) 24
     0))))
 
 -- after number 0 the next answer; any other stands
@@ -96,7 +97,7 @@ andThen x next = cond (eqb (x .number) 0) next x
 
 -- 20 to 24 first, then each row from row 0 with its numbers in order, then 31
 unfoldable pub checkBetween : ℕ → ℕ → List ℕ → Answer
-checkBetween low high f = andThen (answer (headNumber low high f) 0) (rowsFrom (widthOf f) f (countOf f) 0)
+checkBetween low high f = andThen (answer (headNumber low high f) 0) (rowsFrom (rowSizeOf f) f (countOf f) 0)
 
 -- one edition alone
 abbrev pub checkAs : ℕ → List ℕ → Answer
@@ -104,4 +105,8 @@ checkAs e f = checkBetween e e f
 
 -- the full check of a shift file, whichever its edition
 abbrev pub checkFile : List ℕ → Answer
-checkFile f = checkBetween edition newest f
+checkFile f = checkBetween firstEdition newest f
+
+-- it gives a number but 0
+abbrev pub refused : List ℕ → Bool
+refused f = not (eqb (checkFile f .number) 0)

@@ -1,9 +1,9 @@
 -- The shift file's format (document 01, "The shift file"; document 02, W10: edition 2): header, table of contents, bodies. Numbers are little-endian.
 use Prim.Native.Nat.{ℕ, _+_, _-_, _*_}
 use mathlib.Core.Bool.{Bool, _||_, cond}
-use mathlib.Core.List.{List, _++_}
+use mathlib.Core.List.{List}
 use lib.Dec.{eqb}
-use lib.ListN.{length, getD, take, replicate}
+use lib.ListN.{getD, take}
 use Rattle.words.specs.Bytes.{word}
 use Rattle.cipher.specs.Cipher.{sizeOf, nonceOf}
 use Rattle.table.specs.declared.row.Row.{Row}
@@ -22,8 +22,8 @@ abbrev pub totalOf : List ℕ → ℕ
 totalOf f = word 4 f 4
 
 -- the first edition of a shift file, which the writer makes
-abbrev pub edition : ℕ
-edition = 1
+abbrev pub firstEdition : ℕ
+firstEdition = 1
 
 -- the newest; readers take both
 abbrev pub newest : ℕ
@@ -34,8 +34,8 @@ unfoldable pub rowSize : ℕ → ℕ
 rowSize e = cond (eqb e newest) 36 32
 
 -- the bytes of a row, in the file's own edition
-abbrev pub widthOf : List ℕ → ℕ
-widthOf f = rowSize (editionOf f)
+abbrev pub rowSizeOf : List ℕ → ℕ
+rowSizeOf f = rowSize (editionOf f)
 
 -- where row i starts, rows being w bytes long; the bodies start where row n would
 unfoldable pub rowStart : ℕ → ℕ → ℕ
@@ -51,9 +51,9 @@ rowAt w f i = record {
   job = word 4 f (rowStart w i);
   suite = getD f (restStart w i) 0;
   key = getD f (restStart w i + 1) 0;
-  ad = word 2 f (restStart w i + 2);
-  at = word 4 f (restStart w i + 4);
-  len = word 4 f (restStart w i + 8);
+  «ad_len» = word 2 f (restStart w i + 2);
+  «ad_at» = word 4 f (restStart w i + 4);
+  «text_len» = word 4 f (restStart w i + 8);
 }
 
 -- its station number, between the job number and the rest: 4 bytes in edition 2; in edition 1 none, so it is 0
@@ -71,40 +71,36 @@ nonceAt w f i = stretch f (nonceStart w i) 16
 abbrev pub nonceReadAt : ℕ → List ℕ → ℕ → List ℕ
 nonceReadAt w f i = take (nonceOf (rowAt w f i .suite)) (nonceAt w f i)
 
--- bytes, and zero bytes behind them up to sixteen
-abbrev pub padded : List ℕ → List ℕ
-padded s = s ++ replicate (16 - length s) 0
-
 -- row i of a shift file, and its station
 abbrev pub rowOf : List ℕ → ℕ → Row
-rowOf f i = rowAt (widthOf f) f i
+rowOf f i = rowAt (rowSizeOf f) f i
 
 abbrev pub stationOf : List ℕ → ℕ → ℕ
-stationOf f i = stationAt (widthOf f) f i
+stationOf f i = stationAt (rowSizeOf f) f i
 
 -- a body is associated data
 abbrev pub dataOf : List ℕ → Row → List ℕ
-dataOf f r = stretch f (r .at) (r .ad)
+dataOf f r = stretch f (r .«ad_at») (r .«ad_len»)
 
 -- ciphertext
 abbrev pub textOf : List ℕ → Row → List ℕ
-textOf f r = stretch f (r .at + r .ad) (r .len)
+textOf f r = stretch f (r .«ad_at» + r .«ad_len») (r .«text_len»)
 
 -- and tag, which is one block of the suite's cipher
 abbrev pub tagOf : List ℕ → Row → List ℕ
-tagOf f r = stretch f (r .at + r .ad + r .len) (sizeOf (r .suite))
+tagOf f r = stretch f (r .«ad_at» + r .«ad_len» + r .«text_len») (sizeOf (r .suite))
 
 -- where it ends
 unfoldable pub bodyEnd : Row → ℕ
-bodyEnd r = r .at + r .ad + r .len + sizeOf (r .suite)
+bodyEnd r = r .«ad_at» + r .«ad_len» + r .«text_len» + sizeOf (r .suite)
 
 -- associated data starts with the job number (4 bytes)
 abbrev pub dataJob : List ℕ → Row → ℕ
-dataJob f r = word 4 f (r .at)
+dataJob f r = word 4 f (r .«ad_at»)
 
 -- and a unit code (1 byte): 1 newton-metres, 2 inch-pounds
 abbrev pub unitOf : List ℕ → Row → ℕ
-unitOf f r = getD f (r .at + 4) 0
+unitOf f r = getD f (r .«ad_at» + 4) 0
 
 -- a unit is 1 or 2
 abbrev pub isUnit : ℕ → Bool

@@ -4,7 +4,7 @@ use mathlib.Core.Path.{_≡_}
 use mathlib.Core.Bool.{false}
 use mathlib.Core.List.{List}
 use lib.ListN.{length}
-use Rattle.cipher.specs.Cipher.{IsSuite}
+use Rattle.cipher.specs.Cipher.{IsSuite, limit}
 use Rattle.table.specs.Format.{rowStart, rowAt, bodyEnd}
 use Rattle.table.specs.Check.{unreadSet}
 
@@ -27,6 +27,6 @@ pub record EntryIn (w : ℕ) (f : List ℕ) (i : ℕ) : Type 0 where
   pub row-in : RowIn w f i
   pub suite-is : IsSuite (rowAt w f i .suite)
   pub key-high : rowAt w f i .key ≤ 15
-  pub data-high : rowAt w f i .ad ≤ 1024
-  pub text-high : rowAt w f i .len ≤ 65536
+  pub data-high : rowAt w f i .«ad_len» ≤ 1024
+  pub text-high : rowAt w f i .«text_len» ≤ limit
   pub body-in : bodyEnd (rowAt w f i) ≤ length f

@@ -10,34 +10,34 @@ ghost use Rattle.table.specs.Format.{bodyEnd};
 
 // Where a row's text starts, behind its associated data.
 pub fn text_start(row: Row) -> usize
-    ensures { λ r. ⌜ r ≡ row .at + row .ad ⌝ }
+    ensures { λ r. ⌜ r ≡ row .«ad_at» + row .«ad_len» ⌝ }
 {
-    let at = row.at as usize;
-    let ad = row.ad as usize;
+    let at = row.ad_at as usize;
+    let ad = row.ad_len as usize;
     at + ad
 }
 
 // A row's associated data.
-pub fn data_of(f: &[u8], row: Row) -> &[u8]
-    requires { ⌜ bodyEnd row ≤ length (now f) ⌝ }
-    ensures { λ r. ⌜ PartOf (f .entry) r (row .at) (row .ad) ⌝ }
+pub fn data_of(file: &[u8], row: Row) -> &[u8]
+    requires { ⌜ bodyEnd row ≤ length (now file) ⌝ }
+    ensures { λ r. ⌜ PartOf (file .entry) r (row .«ad_at») (row .«ad_len») ⌝ }
 {
-    stretch(f, row.at as usize, row.ad as usize)
+    stretch(file, row.ad_at as usize, row.ad_len as usize)
 }
 
 // A row's text.
-pub fn text_of(f: &[u8], row: Row) -> &[u8]
-    requires { ⌜ bodyEnd row ≤ length (now f) ⌝ }
-    ensures { λ r. ⌜ PartOf (f .entry) r (row .at + row .ad) (row .len) ⌝ }
+pub fn text_of(file: &[u8], row: Row) -> &[u8]
+    requires { ⌜ bodyEnd row ≤ length (now file) ⌝ }
+    ensures { λ r. ⌜ PartOf (file .entry) r (row .«ad_at» + row .«ad_len») (row .«text_len») ⌝ }
 {
-    stretch(f, text_start(row), row.len as usize)
+    stretch(file, text_start(row), row.text_len as usize)
 }
 
 // A row's tag.
-pub fn tag_of(f: &[u8], row: Row) -> &[u8]
-    requires { ⌜ bodyEnd row ≤ length (now f) ⌝ }
-    ensures { λ r. ⌜ PartOf (f .entry) r (row .at + row .ad + row .len) (sizeOf (row .suite)) ⌝ }
+pub fn tag_of(file: &[u8], row: Row) -> &[u8]
+    requires { ⌜ bodyEnd row ≤ length (now file) ⌝ }
+    ensures { λ r. ⌜ PartOf (file .entry) r (row .«ad_at» + row .«ad_len» + row .«text_len») (sizeOf (row .suite)) ⌝ }
 {
-    let len = row.len as usize;
-    stretch(f, text_start(row) + len, cipher::size_of(row.suite))
+    let len = row.text_len as usize;
+    stretch(file, text_start(row) + len, cipher::size_of(row.suite))
 }

@@ -21,13 +21,13 @@ fn mix(suite: u8, key: u8, x: u64) -> u64
     (x % 0x1_0000_0000) * 0x71E5_4147 + (x >> 32) * 0x7764_E943 + k * 0x4045_02D3
 }
 
-// What row i is marked by.
-pub(crate) fn mark(w: usize, f: &[u8], i: usize) -> u64
-    requires { ⌜ RowIn w (now f) i ⌝ }
-    ensures { λ r. ⌜ r ≡ markOf w (now (f .entry)) i ⌝ }
+// What a row is marked by.
+pub(crate) fn mark(size: usize, file: &[u8], index: usize) -> u64
+    requires { ⌜ RowIn size (now file) index ⌝ }
+    ensures { λ r. ⌜ r ≡ markOf size (now (file .entry)) index ⌝ }
 {
-    let row = row_at(w, f, i);
-    let nonce = nonce_block(w, f, i);
+    let row = row_at(size, file, index);
+    let nonce = nonce_block(size, file, index);
     mix(row.suite, row.key, fold(nonce.a, nonce.b))
 }
 

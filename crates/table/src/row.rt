@@ -1,168 +1,168 @@
-// The table of contents: numbers, rows and nonces as they lie in the file. Rows are w bytes long.
+// The table of contents: numbers, rows and nonces as they lie in the file. A row's size is its bytes in the file's edition.
 use words::block::Block;
 ghost use mathlib.Core.Path.{_≡_};
 ghost use Prim.Native.Nat.{_+_, _≤_, _<_};
 ghost use lib.ListN.{length, take, set};
 ghost use Rattle.words.specs.Bytes.{word};
-ghost use Rattle.words.specs.Blocks.{wide};
+ghost use Rattle.words.specs.Blocks.{wide, filled};
 ghost use Rattle.cipher.specs.Cipher.{nonceOf};
 ghost use Rattle.table.specs.Part.{PartOf};
-ghost use Rattle.table.specs.Format.{countOf, rowSize, widthOf, rowStart, restStart, rowAt, stationOf, nonceStart, nonceAt, padded, bodyEnd};
+ghost use Rattle.table.specs.Format.{countOf, rowSize, rowSizeOf, rowStart, restStart, rowAt, stationOf, nonceStart, nonceAt, bodyEnd};
 ghost use Rattle.table.specs.Inside.{RowIn};
 
-// A row without its nonce: ad, at and len are associated data length, body offset and message length.
+// A row without its nonce. The body starts with the associated data, at `ad_at`.
 pub struct Row {
     pub job: u32,
     pub suite: u8,
     pub key: u8,
-    pub ad: u16,
-    pub at: u32,
-    pub len: u32,
+    pub ad_len: u16,
+    pub ad_at: u32,
+    pub text_len: u32,
 }
 
 // The two bytes from `at` as a number.
-pub(crate) fn get16(f: &[u8], at: usize) -> u16
-    requires { ⌜ at + 2 ≤ length (now f) ⌝ }
-    ensures { λ r. ⌜ r ≡ word 2 (now (f .entry)) at ⌝ }
+pub(crate) fn get16(file: &[u8], at: usize) -> u16
+    requires { ⌜ at + 2 ≤ length (now file) ⌝ }
+    ensures { λ r. ⌜ r ≡ word 2 (now (file .entry)) at ⌝ }
 {
-    words::arx::le16(f[at], f[at + 1])
+    words::arx::le16(file[at], file[at + 1])
 }
 
 // The four bytes from `at` as a number.
-pub(crate) fn get32(f: &[u8], at: usize) -> u32
-    requires { ⌜ at + 4 ≤ length (now f) ⌝ }
-    ensures { λ r. ⌜ r ≡ word 4 (now (f .entry)) at ⌝ }
+pub(crate) fn get32(file: &[u8], at: usize) -> u32
+    requires { ⌜ at + 4 ≤ length (now file) ⌝ }
+    ensures { λ r. ⌜ r ≡ word 4 (now (file .entry)) at ⌝ }
 {
-    words::arx::le32(f[at], f[at + 1], f[at + 2], f[at + 3])
+    words::arx::le32(file[at], file[at + 1], file[at + 2], file[at + 3])
 }
 
 // How many rows the header says that there are.
-pub fn count(f: &[u8]) -> usize
-    requires { ⌜ 8 ≤ length (now f) ⌝ }
-    ensures { λ r. ⌜ r ≡ countOf (now (f .entry)) ⌝ }
+pub fn count(file: &[u8]) -> usize
+    requires { ⌜ 8 ≤ length (now file) ⌝ }
+    ensures { λ r. ⌜ r ≡ countOf (now (file .entry)) ⌝ }
 {
-    get16(f, 2) as usize
+    get16(file, 2) as usize
 }
 
 // The first edition of a shift file, which the writer makes, and the newest; readers take both.
-pub const EDITION: u16 = 1;
+pub const FIRST_EDITION: u16 = 1;
 
 pub const NEWEST: u16 = 2;
 
-// The bytes of a row, in edition e.
-pub fn row_size(e: u16) -> usize
-    ensures { λ r. ⌜ r ≡ rowSize e ⌝ }
+// The bytes of a row, in an edition.
+pub fn row_size(edition: u16) -> usize
+    ensures { λ r. ⌜ r ≡ rowSize edition ⌝ }
 {
-    if e == NEWEST { 36 } else { 32 }
+    if edition == NEWEST { 36 } else { 32 }
 }
 
 // The bytes of a row, in the file's own edition.
-pub fn width(f: &[u8]) -> usize
-    requires { ⌜ 8 ≤ length (now f) ⌝ }
-    ensures { λ r. ⌜ r ≡ widthOf (now (f .entry)) ⌝ }
+pub fn row_size_of(file: &[u8]) -> usize
+    requires { ⌜ 8 ≤ length (now file) ⌝ }
+    ensures { λ r. ⌜ r ≡ rowSizeOf (now (file .entry)) ⌝ }
 {
-    row_size(get16(f, 0))
+    row_size(get16(file, 0))
 }
 
-// Where row i starts; of n rows, where the bodies do: row_start(w, n).
-pub fn row_start(w: usize, i: usize) -> usize
-    requires { ⌜ rowStart w i < 0x1_0000_0000_0000_0000 ⌝ }
-    ensures { λ r. ⌜ r ≡ rowStart w i ⌝ }
+// Where a row starts, by its index; where the index is their number, where the bodies do.
+pub fn row_start(size: usize, index: usize) -> usize
+    requires { ⌜ rowStart size index < 0x1_0000_0000_0000_0000 ⌝ }
+    ensures { λ r. ⌜ r ≡ rowStart size index ⌝ }
 {
-    8 + w * i
+    8 + size * index
 }
 
-// Where the rest of row i starts, after job number and station.
-pub fn rest_start(w: usize, i: usize) -> usize
-    requires { ⌜ (28 ≤ w) × (rowStart w i + w < 0x1_0000_0000_0000_0000) ⌝ }
-    ensures { λ r. ⌜ (r ≡ restStart w i) × (r + 28 ≡ rowStart w i + w) ⌝ }
+// Where the rest of a row starts, after job number and station.
+pub fn rest_start(size: usize, index: usize) -> usize
+    requires { ⌜ (28 ≤ size) × (rowStart size index + size < 0x1_0000_0000_0000_0000) ⌝ }
+    ensures { λ r. ⌜ (r ≡ restStart size index) × (r + 28 ≡ rowStart size index + size) ⌝ }
 {
-    row_start(w, i) + (w - 28)
+    row_start(size, index) + (size - 28)
 }
 
-// Where the nonce of row i starts: in its last sixteen bytes.
-pub fn nonce_start(w: usize, i: usize) -> usize
-    requires { ⌜ (28 ≤ w) × (rowStart w i + w < 0x1_0000_0000_0000_0000) ⌝ }
-    ensures { λ r. ⌜ (r ≡ nonceStart w i) × (r + 16 ≡ rowStart w i + w) ⌝ }
+// Where the nonce of a row starts: in its last sixteen bytes.
+pub fn nonce_start(size: usize, index: usize) -> usize
+    requires { ⌜ (28 ≤ size) × (rowStart size index + size < 0x1_0000_0000_0000_0000) ⌝ }
+    ensures { λ r. ⌜ (r ≡ nonceStart size index) × (r + 16 ≡ rowStart size index + size) ⌝ }
 {
-    rest_start(w, i) + 12
+    rest_start(size, index) + 12
 }
 
-// Row i of the table.
-pub fn row_at(w: usize, f: &[u8], i: usize) -> Row
-    requires { ⌜ RowIn w (now f) i ⌝ }
-    ensures { λ r. ⌜ r ≡ rowAt w (now (f .entry)) i ⌝ }
+// A row of the table.
+pub fn row_at(size: usize, file: &[u8], index: usize) -> Row
+    requires { ⌜ RowIn size (now file) index ⌝ }
+    ensures { λ r. ⌜ r ≡ rowAt size (now (file .entry)) index ⌝ }
 {
-    let p = row_start(w, i);
-    let q = rest_start(w, i);
+    let p = row_start(size, index);
+    let q = rest_start(size, index);
     Row {
-        job: get32(f, p),
-        suite: f[q],
-        key: f[q + 1],
-        ad: get16(f, q + 2),
-        at: get32(f, q + 4),
-        len: get32(f, q + 8),
+        job: get32(file, p),
+        suite: file[q],
+        key: file[q + 1],
+        ad_len: get16(file, q + 2),
+        ad_at: get32(file, q + 4),
+        text_len: get32(file, q + 8),
     }
 }
 
-// The station of row i of a shift file; 0 where its edition has none.
-pub fn station_of(f: &[u8], i: usize) -> u32
-    requires { ⌜ RowIn (widthOf (now f)) (now f) i ⌝ }
-    ensures { λ r. ⌜ r ≡ stationOf (now (f .entry)) i ⌝ }
+// The station of a row of a shift file; 0 where its edition has none.
+pub fn station_of(file: &[u8], index: usize) -> u32
+    requires { ⌜ RowIn (rowSizeOf (now file)) (now file) index ⌝ }
+    ensures { λ r. ⌜ r ≡ stationOf (now (file .entry)) index ⌝ }
 {
-    let w = width(f);
-    if w == 32 {
+    let size = row_size_of(file);
+    if size == 32 {
         return 0;
     }
-    get32(f, row_start(w, i) + 4)
+    get32(file, row_start(size, index) + 4)
 }
 
-// Another suite for row i.
-pub fn set_suite(w: usize, f: &mut [u8], i: usize, suite: u8)
-    requires { ⌜ RowIn w (now f) i ⌝ }
-    ensures { λ _. ⌜ now (f .exit) ≡ set (now (f .entry)) (restStart w i) suite ⌝ }
+// Another suite for a row.
+pub fn set_suite(size: usize, file: &mut [u8], index: usize, suite: u8)
+    requires { ⌜ RowIn size (now file) index ⌝ }
+    ensures { λ _. ⌜ now (file .exit) ≡ set (now (file .entry)) (restStart size index) suite ⌝ }
 {
-    f[rest_start(w, i)] = suite;
+    file[rest_start(size, index)] = suite;
 }
 
 // The len bytes from `at`, as a part of the file.
-pub fn stretch(f: &[u8], at: usize, len: usize) -> &[u8]
-    requires { ⌜ at + len ≤ length (now f) ⌝ }
-    ensures { λ r. ⌜ PartOf (f .entry) r at len × (length (now r) ≡ len) ⌝ }
+pub fn stretch(file: &[u8], at: usize, len: usize) -> &[u8]
+    requires { ⌜ at + len ≤ length (now file) ⌝ }
+    ensures { λ r. ⌜ PartOf (file .entry) r at len × (length (now r) ≡ len) ⌝ }
 {
-    &f[at..at + len]
+    &file[at..at + len]
 }
 
-// The nonce of row i, as a part of the file.
-pub fn nonce_at(w: usize, f: &[u8], i: usize) -> &[u8]
-    requires { ⌜ RowIn w (now f) i ⌝ }
-    ensures { λ r. ⌜ PartOf (f .entry) r (nonceStart w i) 16 × (length (now r) ≡ 16) ⌝ }
+// The nonce of a row, as a part of the file.
+pub fn nonce_at(size: usize, file: &[u8], index: usize) -> &[u8]
+    requires { ⌜ RowIn size (now file) index ⌝ }
+    ensures { λ r. ⌜ PartOf (file .entry) r (nonceStart size index) 16 × (length (now r) ≡ 16) ⌝ }
 {
-    stretch(f, nonce_start(w, i), 16)
+    stretch(file, nonce_start(size, index), 16)
 }
 
-// The nonce of row i as a block.
-pub(crate) fn nonce_block(w: usize, f: &[u8], i: usize) -> Block
-    requires { ⌜ RowIn w (now f) i ⌝ }
-    ensures { λ r. ⌜ wide r ≡ nonceAt w (now (f .entry)) i ⌝ }
+// The nonce of a row as a block.
+pub(crate) fn nonce_block(size: usize, file: &[u8], index: usize) -> Block
+    requires { ⌜ RowIn size (now file) index ⌝ }
+    ensures { λ r. ⌜ wide r ≡ nonceAt size (now (file .entry)) index ⌝ }
 {
-    words::block::filled(nonce_at(w, f, i))
+    words::block::filled(nonce_at(size, file, index))
 }
 
-// The nonce bytes of row i that its suite reads as a block, zeros behind them.
-pub(crate) fn read_block(w: usize, f: &[u8], i: usize, suite: u8) -> Block
-    requires { ⌜ RowIn w (now f) i ⌝ }
-    ensures { λ r. ⌜ wide r ≡ padded (take (nonceOf suite) (nonceAt w (now (f .entry)) i)) ⌝ }
+// The nonce bytes of a row that its suite reads as a block, zeros behind them.
+pub(crate) fn read_block(size: usize, file: &[u8], index: usize, suite: u8) -> Block
+    requires { ⌜ RowIn size (now file) index ⌝ }
+    ensures { λ r. ⌜ wide r ≡ filled (take (nonceOf suite) (nonceAt size (now (file .entry)) index)) ⌝ }
 {
-    words::block::filled(stretch(f, nonce_start(w, i), cipher::nonce_size(suite)))
+    words::block::filled(stretch(file, nonce_start(size, index), cipher::nonce_size(suite)))
 }
 
 // Where a row's body ends.
 pub fn body_end(row: Row) -> usize
     ensures { λ r. ⌜ r ≡ bodyEnd row ⌝ }
 {
-    let at = row.at as usize;
-    let ad = row.ad as usize;
-    let len = row.len as usize;
+    let at = row.ad_at as usize;
+    let ad = row.ad_len as usize;
+    let len = row.text_len as usize;
     at + ad + len + cipher::size_of(row.suite)
 }

@@ -8,6 +8,7 @@ use crate::row::nonce_block;
 use crate::row::read_block;
 use crate::row::row_at;
 use crate::row::row_start;
+use cipher::LIMIT;
 ghost use mathlib.Core.Path.{_≡_};
 ghost use mathlib.Core.Bool.{false, _&&_};
 ghost use lib.Dec.{eqb};
@@ -20,15 +21,15 @@ ghost use Rattle.table.specs.Inside.{RowIn, TableIn, Spared};
 ghost use Rattle.table.specs.Marks.{Sieved};
 
 // 25: the job number is not above the row before's.
-fn not_above(w: usize, f: &[u8], n: usize, i: usize) -> bool
-    requires { ⌜ TableIn w (now f) n × (i < n) ⌝ }
-    ensures { λ r. ⌜ r ≡ notAbove w (now (f .entry)) i ⌝ }
+fn not_above(size: usize, file: &[u8], rows: usize, index: usize) -> bool
+    requires { ⌜ TableIn size (now file) rows × (index < rows) ⌝ }
+    ensures { λ r. ⌜ r ≡ notAbove size (now (file .entry)) index ⌝ }
 {
-    if i == 0 {
+    if index == 0 {
         return false;
     }
-    let row = row_at(w, f, i);
-    let before = row_at(w, f, i - 1);
+    let row = row_at(size, file, index);
+    let before = row_at(size, file, index - 1);
     row.job <= before.job
 }
 
@@ -56,42 +57,45 @@ fn bad_suite(row: Row) -> bool
 fn bad_length(row: Row) -> bool
     ensures { λ r. ⌜ r ≡ badLength row ⌝ }
 {
-    if outside(5, 1024, row.ad) {
+    if outside(5, 1024, row.ad_len) {
         return true;
     }
-    65536 < row.len
+    let len = row.text_len as usize;
+    LIMIT < len
 }
 
-// Where the body of row i of n has to start; at i = n, where the last body ends.
-pub(crate) fn body_start(w: usize, f: &[u8], n: usize, i: usize) -> usize
-    requires { ⌜ TableIn w (now f) n × (i ≤ n) ⌝ }
-    ensures { λ r. ⌜ r ≡ bodyStart w (now (f .entry)) n i ⌝ }
+// Where the body of a row has to start; where the index is the number of rows, where the last body ends.
+pub(crate) fn body_start(size: usize, file: &[u8], rows: usize, index: usize) -> usize
+    requires { ⌜ TableIn size (now file) rows × (index ≤ rows) ⌝ }
+    ensures { λ r. ⌜ r ≡ bodyStart size (now (file .entry)) rows index ⌝ }
 {
-    if i == 0 {
-        return row_start(w, n);
+    if index == 0 {
+        return row_start(size, rows);
     }
-    body_end(row_at(w, f, i - 1))
+    body_end(row_at(size, file, index - 1))
 }
 
 // 28: the body does not start where it has to, or ends past the file.
-fn misplaced(w: usize, f: &[u8], n: usize, i: usize, start: usize) -> bool
-    requires { ⌜ TableIn w (now f) n × ((i < n) × (start ≡ bodyStart w (now f) n i)) ⌝ }
-    ensures { λ r. ⌜ r ≡ misplaced w (now (f .entry)) n i ⌝ }
+fn misplaced(size: usize, file: &[u8], rows: usize, index: usize, start: usize) -> bool
+    requires { ⌜ TableIn size (now file) rows × ((index < rows) × (start ≡ bodyStart size (now file) rows index)) ⌝ }
+    ensures { λ r. ⌜ r ≡ misplaced size (now (file .entry)) rows index ⌝ }
 {
-    let row = row_at(w, f, i);
-    let at = row.at as usize;
+    let row = row_at(size, file, index);
+    let at = row.ad_at as usize;
     if at != start {
         return true;
     }
-    f.len() < body_end(row)
+    file.len() < body_end(row)
 }
 
 // 34: a nonce byte that the suite leaves unread is not 0.
-fn unread_set(w: usize, f: &[u8], i: usize, row: Row) -> bool
-    requires { ⌜ RowIn w (now f) i × (row ≡ rowAt w (now f) i) ⌝ }
-    ensures { λ r. ⌜ r ≡ unreadSet w (now (f .entry)) i ⌝ }
+fn unread_set(size: usize, file: &[u8], index: usize, row: Row) -> bool
+    requires { ⌜ RowIn size (now file) index × (row ≡ rowAt size (now file) index) ⌝ }
+    ensures { λ r. ⌜ r ≡ unreadSet size (now (file .entry)) index ⌝ }
 {
-    !words::block::same(nonce_block(w, f, i), read_block(w, f, i, row.suite))
+    let stored = nonce_block(size, file, index);
+    let read = read_block(size, file, index, row.suite);
+    !words::block::same(stored, read)
 }
 
 // Two rows have the same suite and the same key number.
@@ -104,25 +108,27 @@ fn same_key(a: Row, b: Row) -> bool
     a.key == b.key
 }
 
-// Rows i and j clash. Zeros stand where a suite does not read (34), so all sixteen bytes tell what it reads.
-fn clashes(w: usize, f: &[u8], n: usize, i: usize, j: usize) -> bool
-    requires { ⌜ TableIn w (now f) n × ((i < n) × ((j < n) × ((unreadSet w (now f) i ≡ false) × (unreadSet w (now f) j ≡ false)))) ⌝ }
-    ensures { λ r. ⌜ r ≡ clash w (now (f .entry)) i j ⌝ }
+// Two rows clash. Zeros stand where a suite does not read (34), so all sixteen bytes tell what it reads.
+fn clashes(size: usize, file: &[u8], rows: usize, index: usize, other: usize) -> bool
+    requires { ⌜ TableIn size (now file) rows × ((index < rows) × ((other < rows) × ((unreadSet size (now file) index ≡ false) × (unreadSet size (now file) other ≡ false)))) ⌝ }
+    ensures { λ r. ⌜ r ≡ clash size (now (file .entry)) index other ⌝ }
 {
-    if words::block::same(nonce_block(w, f, i), nonce_block(w, f, j)) {
-        return same_key(row_at(w, f, i), row_at(w, f, j));
+    let this = nonce_block(size, file, index);
+    let earlier = nonce_block(size, file, other);
+    if words::block::same(this, earlier) {
+        return same_key(row_at(size, file, index), row_at(size, file, other));
     }
     false
 }
 
 // 29: the row clashes with an earlier one.
-pub fn nonce_seen(w: usize, f: &[u8], n: usize, i: usize) -> bool
-    requires { ⌜ TableIn w (now f) n × ((i < n) × Spared w (now f) (i + 1)) ⌝ }
-    ensures { λ r. ⌜ r ≡ nonceSeen w (now (f .entry)) i ⌝ }
+pub fn nonce_seen(size: usize, file: &[u8], rows: usize, index: usize) -> bool
+    requires { ⌜ TableIn size (now file) rows × ((index < rows) × Spared size (now file) (index + 1)) ⌝ }
+    ensures { λ r. ⌜ r ≡ nonceSeen size (now (file .entry)) index ⌝ }
 {
     let mut j: usize = 0;
-    while j < i {
-        if clashes(w, f, n, i, j) {
+    while j < index {
+        if clashes(size, file, rows, index, j) {
             return true;
         }
         j += 1;
@@ -131,75 +137,75 @@ pub fn nonce_seen(w: usize, f: &[u8], n: usize, i: usize) -> bool
 }
 
 // 29, where the filter was asked first: a row whose mark is not there need not be compared.
-fn seen_before(w: usize, f: &[u8], n: usize, i: usize, marked: bool) -> bool
-    requires { ⌜ TableIn w (now f) n × ((i < n) × (Spared w (now f) (i + 1) × Sieved w (now f) i marked)) ⌝ }
-    ensures { λ r. ⌜ r ≡ nonceSeen w (now (f .entry)) i ⌝ }
+fn seen_before(size: usize, file: &[u8], rows: usize, index: usize, marked: bool) -> bool
+    requires { ⌜ TableIn size (now file) rows × ((index < rows) × (Spared size (now file) (index + 1) × Sieved size (now file) index marked)) ⌝ }
+    ensures { λ r. ⌜ r ≡ nonceSeen size (now (file .entry)) index ⌝ }
 {
     if marked {
-        return nonce_seen(w, f, n, i);
+        return nonce_seen(size, file, rows, index);
     }
     false
 }
 
 // 30: the associated data has another job number, or no unit.
-fn bad_data(f: &[u8], row: Row) -> bool
-    requires { ⌜ row .at + 5 ≤ length (now f) ⌝ }
-    ensures { λ r. ⌜ r ≡ badData (now (f .entry)) row ⌝ }
+fn bad_data(file: &[u8], row: Row) -> bool
+    requires { ⌜ row .«ad_at» + 5 ≤ length (now file) ⌝ }
+    ensures { λ r. ⌜ r ≡ badData (now (file .entry)) row ⌝ }
 {
-    let at = row.at as usize;
+    let at = row.ad_at as usize;
     let job = row.job;
-    if get32(f, at) != job {
+    if get32(file, at) != job {
         return true;
     }
-    let unit = f[at + 4];
+    let unit = file[at + 4];
     if unit == 1 {
         return false;
     }
     unit != 2
 }
 
-// 28, 34, 29 and 30, of row i of n.
+// 28, 34, 29 and 30, of a row.
 fn check_body(
-    w: usize,
-    f: &[u8],
-    n: usize,
-    i: usize,
+    size: usize,
+    file: &[u8],
+    rows: usize,
+    index: usize,
     row: Row,
     marked: bool,
     start: usize,
 ) -> RowCheck
-    requires { ⌜ TableIn w (now f) n × ((i < n) × ((row ≡ rowAt w (now f) i) × ((badLength row ≡ false) × (Spared w (now f) i × (Sieved w (now f) i marked × (start ≡ bodyStart w (now f) n i)))))) ⌝ }
-    ensures { λ r. ⌜ rowNumberOf r ≡ bodyNumber w (now (f .entry)) n i ⌝ }
+    requires { ⌜ TableIn size (now file) rows × ((index < rows) × ((row ≡ rowAt size (now file) index) × ((badLength row ≡ false) × (Spared size (now file) index × (Sieved size (now file) index marked × (start ≡ bodyStart size (now file) rows index)))))) ⌝ }
+    ensures { λ r. ⌜ rowNumberOf r ≡ bodyNumber size (now (file .entry)) rows index ⌝ }
 {
-    if misplaced(w, f, n, i, start) {
+    if misplaced(size, file, rows, index, start) {
         return RowCheck::Bad(Fault::Place);
     }
-    if unread_set(w, f, i, row) {
+    if unread_set(size, file, index, row) {
         return RowCheck::Bad(Fault::Unread);
     }
-    if seen_before(w, f, n, i, marked) {
+    if seen_before(size, file, rows, index, marked) {
         return RowCheck::Bad(Fault::Nonce);
     }
-    if bad_data(f, row) {
+    if bad_data(file, row) {
         return RowCheck::Bad(Fault::Data);
     }
     RowCheck::Sound
 }
 
-// 25 to 28, 34, 29 and 30, of row i of n.
+// 25 to 28, 34, 29 and 30, of a row.
 pub(crate) fn check_row(
-    w: usize,
-    f: &[u8],
-    n: usize,
-    i: usize,
+    size: usize,
+    file: &[u8],
+    rows: usize,
+    index: usize,
     marked: bool,
     start: usize,
 ) -> RowCheck
-    requires { ⌜ TableIn w (now f) n × ((i < n) × (Spared w (now f) i × (Sieved w (now f) i marked × (start ≡ bodyStart w (now f) n i)))) ⌝ }
-    ensures { λ r. ⌜ rowNumberOf r ≡ rowNumber w (now (f .entry)) n i ⌝ }
+    requires { ⌜ TableIn size (now file) rows × ((index < rows) × (Spared size (now file) index × (Sieved size (now file) index marked × (start ≡ bodyStart size (now file) rows index)))) ⌝ }
+    ensures { λ r. ⌜ rowNumberOf r ≡ rowNumber size (now (file .entry)) rows index ⌝ }
 {
-    let row = row_at(w, f, i);
-    if not_above(w, f, n, i) {
+    let row = row_at(size, file, index);
+    if not_above(size, file, rows, index) {
         return RowCheck::Bad(Fault::Order);
     }
     if bad_suite(row) {
@@ -208,5 +214,5 @@ pub(crate) fn check_row(
     if bad_length(row) {
         return RowCheck::Bad(Fault::Length);
     }
-    check_body(w, f, n, i, row, marked, start)
+    check_body(size, file, rows, index, row, marked, start)
 }

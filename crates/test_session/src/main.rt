@@ -25,8 +25,8 @@ fn over() -> Session {
         y: zero,
         z: zero,
         held: [0u8; 16],
-        came: 0,
-        text: 0,
+        ad_total: 0,
+        text_total: 0,
     }
 }
 
@@ -131,8 +131,8 @@ fn forge(s: Session, c: Call) -> After {
         y: y,
         z: z,
         held: held,
-        came: c.second,
-        text: c.third,
+        ad_total: c.second,
+        text_total: c.third,
     };
     After {
         next: next,

@@ -22,8 +22,8 @@ pub struct Behind {
 }
 
 // Whole blocks of associated data.
-fn absorb_blocks(tb: &[Lent], suite: u8, s: State, m: u8, b: &[u8]) -> Behind
-    requires { ⌜ Ready suite (now tb) × IsSuite suite ⌝ }
+fn absorb_blocks(lent: &[Lent], suite: u8, s: State, m: u8, b: &[u8]) -> Behind
+    requires { ⌜ Ready suite (now lent) × IsSuite suite ⌝ }
     ensures { λ r. ⌜ Passed suite false m s (now (b .entry)) r ⌝ }
 {
     let n = cipher::size_of(suite);
@@ -40,7 +40,7 @@ fn absorb_blocks(tb: &[Lent], suite: u8, s: State, m: u8, b: &[u8]) -> Behind
     let mut i: usize = 0;
     while i <= last {
         let e = i + n;
-        t = absorb_full(tb, suite, t, k, &b[i..e]);
+        t = absorb_full(lent, suite, t, k, &b[i..e]);
         k = 0;
         i = e;
     }
@@ -52,8 +52,8 @@ fn absorb_blocks(tb: &[Lent], suite: u8, s: State, m: u8, b: &[u8]) -> Behind
 }
 
 // Whole blocks of ciphertext, whose message goes in.
-fn verify_blocks(tb: &[Lent], suite: u8, s: State, m: u8, b: &[u8]) -> Behind
-    requires { ⌜ Ready suite (now tb) × IsSuite suite ⌝ }
+fn verify_blocks(lent: &[Lent], suite: u8, s: State, m: u8, b: &[u8]) -> Behind
+    requires { ⌜ Ready suite (now lent) × IsSuite suite ⌝ }
     ensures { λ r. ⌜ Passed suite true m s (now (b .entry)) r ⌝ }
 {
     let n = cipher::size_of(suite);
@@ -70,7 +70,7 @@ fn verify_blocks(tb: &[Lent], suite: u8, s: State, m: u8, b: &[u8]) -> Behind
     let mut i: usize = 0;
     while i <= last {
         let e = i + n;
-        t = verify_full(tb, suite, t, k, &b[i..e]);
+        t = verify_full(lent, suite, t, k, &b[i..e]);
         k = 0;
         i = e;
     }
@@ -81,20 +81,27 @@ fn verify_blocks(tb: &[Lent], suite: u8, s: State, m: u8, b: &[u8]) -> Behind
     }
 }
 
-// The whole blocks of b go in, the first under the mark m, and nothing is written: of associated data as they are, of ciphertext that is opened the message's.
-pub fn absorb(tb: &[Lent], opening: bool, suite: u8, s: State, m: u8, b: &[u8]) -> Behind
-    requires { ⌜ Ready suite (now tb) × IsSuite suite ⌝ }
-    ensures { λ r. ⌜ Passed suite opening m s (now (b .entry)) r ⌝ }
+// The whole blocks go in, the first under the mark, and nothing is written: of associated data as they are, of ciphertext that is opened the message's.
+pub fn absorb(
+    lent: &[Lent],
+    opening: bool,
+    suite: u8,
+    state: State,
+    mark: u8,
+    bytes: &[u8],
+) -> Behind
+    requires { ⌜ Ready suite (now lent) × IsSuite suite ⌝ }
+    ensures { λ r. ⌜ Passed suite opening mark state (now (bytes .entry)) r ⌝ }
 {
     if opening {
-        return verify_blocks(tb, suite, s, m, b);
+        return verify_blocks(lent, suite, state, mark, bytes);
     }
-    absorb_blocks(tb, suite, s, m, b)
+    absorb_blocks(lent, suite, state, mark, bytes)
 }
 
 // Whole blocks of a message, sealed.
-fn seal_blocks(tb: &[Lent], suite: u8, s: State, m: u8, text: &mut [u8]) -> Behind
-    requires { ⌜ Ready suite (now tb) × IsSuite suite ⌝ }
+fn seal_blocks(lent: &[Lent], suite: u8, s: State, m: u8, text: &mut [u8]) -> Behind
+    requires { ⌜ Ready suite (now lent) × IsSuite suite ⌝ }
     ensures text { λ _. ⌜ ((short : ℕ) → now (text .exit) ≡ covered (cipherOf suite) false m short (twoOf suite s) (wholes (sizeOf suite) (now (text .entry))) ++ rest (sizeOf suite) (now (text .entry))) ⌝ }
     ensures state { λ r. ⌜ Passed suite false m s (now (text .entry)) r ⌝ }
 {
@@ -112,7 +119,7 @@ fn seal_blocks(tb: &[Lent], suite: u8, s: State, m: u8, text: &mut [u8]) -> Behi
     let mut i: usize = 0;
     while i <= last {
         let e = i + n;
-        t = seal_full(tb, suite, t, k, &mut text[i..e]);
+        t = seal_full(lent, suite, t, k, &mut text[i..e]);
         k = 0;
         i = e;
     }
@@ -124,8 +131,8 @@ fn seal_blocks(tb: &[Lent], suite: u8, s: State, m: u8, text: &mut [u8]) -> Behi
 }
 
 // Whole blocks of ciphertext, opened.
-fn open_blocks(tb: &[Lent], suite: u8, s: State, m: u8, text: &mut [u8]) -> Behind
-    requires { ⌜ Ready suite (now tb) × IsSuite suite ⌝ }
+fn open_blocks(lent: &[Lent], suite: u8, s: State, m: u8, text: &mut [u8]) -> Behind
+    requires { ⌜ Ready suite (now lent) × IsSuite suite ⌝ }
     ensures text { λ _. ⌜ ((short : ℕ) → now (text .exit) ≡ covered (cipherOf suite) true m short (twoOf suite s) (wholes (sizeOf suite) (now (text .entry))) ++ rest (sizeOf suite) (now (text .entry))) ⌝ }
     ensures state { λ r. ⌜ Passed suite true m s (now (text .entry)) r ⌝ }
 {
@@ -143,7 +150,7 @@ fn open_blocks(tb: &[Lent], suite: u8, s: State, m: u8, text: &mut [u8]) -> Behi
     let mut i: usize = 0;
     while i <= last {
         let e = i + n;
-        t = open_full(tb, suite, t, k, &mut text[i..e]);
+        t = open_full(lent, suite, t, k, &mut text[i..e]);
         k = 0;
         i = e;
     }
@@ -154,14 +161,21 @@ fn open_blocks(tb: &[Lent], suite: u8, s: State, m: u8, text: &mut [u8]) -> Behi
     }
 }
 
-// The whole blocks of a text go in, the first under the mark m, and what goes out for them takes their place; what lies behind them stays.
-pub fn crypt(tb: &[Lent], opening: bool, suite: u8, s: State, m: u8, text: &mut [u8]) -> Behind
-    requires { ⌜ Ready suite (now tb) × IsSuite suite ⌝ }
-    ensures text { λ _. ⌜ ((short : ℕ) → now (text .exit) ≡ covered (cipherOf suite) opening m short (twoOf suite s) (wholes (sizeOf suite) (now (text .entry))) ++ rest (sizeOf suite) (now (text .entry))) ⌝ }
-    ensures state { λ r. ⌜ Passed suite opening m s (now (text .entry)) r ⌝ }
+// The whole blocks of a text go in, the first under the mark, and what goes out for them takes their place; what lies behind them stays.
+pub fn crypt(
+    lent: &[Lent],
+    opening: bool,
+    suite: u8,
+    state: State,
+    mark: u8,
+    text: &mut [u8],
+) -> Behind
+    requires { ⌜ Ready suite (now lent) × IsSuite suite ⌝ }
+    ensures text { λ _. ⌜ ((short : ℕ) → now (text .exit) ≡ covered (cipherOf suite) opening mark short (twoOf suite state) (wholes (sizeOf suite) (now (text .entry))) ++ rest (sizeOf suite) (now (text .entry))) ⌝ }
+    ensures state { λ r. ⌜ Passed suite opening mark state (now (text .entry)) r ⌝ }
 {
     if opening {
-        return open_blocks(tb, suite, s, m, text);
+        return open_blocks(lent, suite, state, mark, text);
     }
-    seal_blocks(tb, suite, s, m, text)
+    seal_blocks(lent, suite, state, mark, text)
 }

@@ -16,7 +16,8 @@ use Rattle.words.specs.declared.block.Block.{Block}
 use Rattle.words.specs.Blocks.{wide}
 use Rattle.words.proofs.Xor.{self, none-gathered}
 use Rattle.words.proofs.Lists.{append-inj}
-use Rattle.words.proofs.Same.{same-refl, same-true, test-iff}
+use Rattle.words.proofs.Tests.{test-iff}
+use Rattle.words.proofs.Same.{same-refl, same-true}
 use Rattle.words.proofs.Bytes.{length-bytes, bytes-inj}
 use Rattle.words.proofs.Xors.{bytes-xor, xors-append}
 

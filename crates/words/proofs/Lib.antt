@@ -8,5 +8,6 @@ pub mod Fill
 pub mod Table
 pub mod Blocks
 pub mod Outcomes
+pub mod Tests
 pub mod Same
 pub mod Ladder

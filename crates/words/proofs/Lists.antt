@@ -2,6 +2,7 @@
 use mathlib.Core.Path.{_≡_, refl, sym, ap, ap₂, _∙_}
 use mathlib.Core.List.{List, [], _∷_, _++_, append-nil}
 use Prim.Native.Nat.{ℕ, zero, suc, _+_, _-_, _≤_, _<_}
+use native.Mathlib.Nat.{not-suc-le-zero, le-of-suc-le-suc}
 use native.Mathlib.Numerals.{add-one}
 use native.Mathlib.Omega.{arith}
 use lib.ListN.{length, getD, set, take, drop, replicate, drop-of-length-le, take-append-drop, length-drop}
@@ -97,3 +98,14 @@ append-inj p q s t n e = (
 -- a list is told by its first part and the rest
 pub parts-told : (n : ℕ) (s t : List ℕ) → take n s ≡ take n t → drop n s ≡ drop n t → s ≡ t
 parts-told n s t p q = sym (take-append-drop n s) ∙ ap₂ (λ (l m : List ℕ). l ++ m) p q ∙ take-append-drop n t
+
+-- of a value n times: the first j, and all but the first j
+pub take-replicate : (j n a : ℕ) → j ≤ n → take j (replicate n a) ≡ replicate j a
+take-replicate zero n a h = refl
+take-replicate (suc j) zero a h = absurd (not-suc-le-zero h)
+take-replicate (suc j) (suc n) a h = ap (λ (r : List ℕ). a ∷ r) (take-replicate j n a (le-of-suc-le-suc h))
+
+pub drop-replicate : (j n a : ℕ) → drop j (replicate n a) ≡ replicate (n - j) a
+drop-replicate zero n a = let e : n ≡ n - 0 = omega arith in ap (λ (k : ℕ). replicate k a) e
+drop-replicate (suc j) zero a = let e : 0 ≡ 0 - suc j = omega arith in ap (λ (k : ℕ). replicate k a) e
+drop-replicate (suc j) (suc n) a = let e : n - j ≡ suc n - suc j = omega arith in drop-replicate j n a ∙ ap (λ (k : ℕ). replicate k a) e

@@ -1,21 +1,14 @@
 -- Comparing all bytes tells whether two strings are equal.
 use mathlib.Core.Path.{_≡_, refl, sym, ap, ap₂}
-use mathlib.Core.Bool.{Bool, true, false, _&&_}
+use mathlib.Core.Bool.{Bool, true, _&&_, false≢true}
 use mathlib.Core.List.{List, [], _∷_, _++_}
 use Prim.Native.Nat.{ℕ}
 use native.Mathlib.Nat.{suc-inj, suc-ne-zero}
-use native.Mathlib.Omega.{arith}
 use lib.Dec.{eqb}
 use lib.ListN.{length}
 use borrow.Author.Tests.{eq-eqb, eqb-true}
 use Rattle.words.specs.Bytes.{sameBytes}
-
-no-truth : false ≡ true → ⊥
-no-truth e = let z : _≡_ {A = ℕ} 0 1 = cc in omega arith
-
-pub and-true : (a b : Bool) → a && b ≡ true → (a ≡ true) × (b ≡ true)
-and-true true b e = (refl, e)
-and-true false b e = absurd (no-truth e)
+use Rattle.words.proofs.Tests.{both-true}
 
 pub same-refl : (s : List ℕ) → sameBytes s s ≡ true
 same-refl [] = refl
@@ -23,10 +16,10 @@ same-refl (x ∷ s) = ap₂ (λ (a b : Bool). a && b) (eq-eqb x x refl) (same-re
 
 pub same-true : (s t : List ℕ) → sameBytes s t ≡ true → s ≡ t
 same-true [] [] e = refl
-same-true [] (y ∷ t) e = absurd (no-truth e)
-same-true (x ∷ s) [] e = absurd (no-truth e)
+same-true [] (y ∷ t) e = absurd (false≢true e)
+same-true (x ∷ s) [] e = absurd (false≢true e)
 same-true (x ∷ s) (y ∷ t) e =
-    let b = and-true (eqb x y) (sameBytes s t) e in
+    let b = both-true (eqb x y) (sameBytes s t) e in
     ap₂ (λ (a : ℕ) (l : List ℕ). a ∷ l) (eqb-true x y (b .0)) (same-true s t (b .1))
 
 -- what stands behind both does not matter
@@ -35,9 +28,3 @@ same-behind [] [] u e = same-refl u
 same-behind [] (y ∷ t) u e = absurd (suc-ne-zero (length t) (sym e))
 same-behind (x ∷ s) [] u e = absurd (suc-ne-zero (length s) e)
 same-behind (x ∷ s) (y ∷ t) u e = ap (λ (b : Bool). eqb x y && b) (same-behind s t u (suc-inj e))
-
--- two tests are one if each gives the other
-pub test-iff : (a b : Bool) → (a ≡ true → b ≡ true) → (b ≡ true → a ≡ true) → a ≡ b
-test-iff true b f g = sym (f refl)
-test-iff false true f g = absurd (no-truth (g refl))
-test-iff false false f g = refl

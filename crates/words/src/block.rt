@@ -2,11 +2,11 @@
 ghost use mathlib.Core.Path.{_≡_};
 ghost use mathlib.Core.List.{[], _∷_, _++_};
 ghost use mathlib.Core.Logic.{_⊎_};
-ghost use Prim.Native.Nat.{_-_, _≤_};
-ghost use lib.ListN.{length, take, replicate};
+ghost use Prim.Native.Nat.{_≤_};
+ghost use lib.ListN.{length, take};
 ghost use Rattle.words.specs.Bytes.{value, bytes, sameBytes};
 ghost use Rattle.words.specs.Xors.{xors};
-ghost use Rattle.words.specs.Blocks.{wide};
+ghost use Rattle.words.specs.Blocks.{wide, filled};
 
 // Bytes 0 to 7 and 8 to 15, the least first.
 pub struct Block {
@@ -15,49 +15,67 @@ pub struct Block {
 }
 
 // The XOR of two blocks.
-pub fn xor(x: Block, y: Block) -> Block
-    ensures { λ r. ⌜ wide r ≡ xors (wide x) (wide y) ⌝ }
+pub fn xor(left: Block, right: Block) -> Block
+    ensures { λ r. ⌜ wide r ≡ xors (wide left) (wide right) ⌝ }
 {
     Block {
-        a: x.a ^ y.a,
-        b: x.b ^ y.b,
+        a: left.a ^ right.a,
+        b: left.b ^ right.b,
     }
 }
 
 // Whether two blocks are the same: their differences gathered, and one test.
-pub fn same(x: Block, y: Block) -> bool
-    ensures { λ r. ⌜ r ≡ sameBytes (wide x) (wide y) ⌝ }
+pub fn same(left: Block, right: Block) -> bool
+    ensures { λ r. ⌜ r ≡ sameBytes (wide left) (wide right) ⌝ }
 {
-    ((x.a ^ y.a) | (x.b ^ y.b)) == 0
+    ((left.a ^ right.a) | (left.b ^ right.b)) == 0
 }
 
 // Eight bytes as a number.
-fn le64(a: u8, b: u8, c: u8, d: u8, e: u8, f: u8, g: u8, h: u8) -> u64
-    ensures { λ r. ⌜ r ≡ value (a ∷ b ∷ c ∷ d ∷ e ∷ f ∷ g ∷ h ∷ []) ⌝ }
+fn le64(
+    byte0: u8,
+    byte1: u8,
+    byte2: u8,
+    byte3: u8,
+    byte4: u8,
+    byte5: u8,
+    byte6: u8,
+    byte7: u8,
+) -> u64
+    ensures { λ r. ⌜ r ≡ value (byte0 ∷ byte1 ∷ byte2 ∷ byte3 ∷ byte4 ∷ byte5 ∷ byte6 ∷ byte7 ∷ []) ⌝ }
 {
-    a as u64
-        + ((b as u64) << 8)
-        + ((c as u64) << 16)
-        + ((d as u64) << 24)
-        + ((e as u64) << 32)
-        + ((f as u64) << 40)
-        + ((g as u64) << 48)
-        + ((h as u64) << 56)
+    byte0 as u64
+        + ((byte1 as u64) << 8)
+        + ((byte2 as u64) << 16)
+        + ((byte3 as u64) << 24)
+        + ((byte4 as u64) << 32)
+        + ((byte5 as u64) << 40)
+        + ((byte6 as u64) << 48)
+        + ((byte7 as u64) << 56)
 }
 
 // The number in eight bytes.
-fn load8(b: &[u8]) -> u64
-    requires { ⌜ length (now b) ≡ 8 ⌝ }
-    ensures { λ r. ⌜ bytes 8 r ≡ now (b .entry) ⌝ }
+fn load8(eight: &[u8]) -> u64
+    requires { ⌜ length (now eight) ≡ 8 ⌝ }
+    ensures { λ r. ⌜ bytes 8 r ≡ now (eight .entry) ⌝ }
 {
-    le64(b[0], b[1], b[2], b[3], b[4], b[5], b[6], b[7])
+    le64(
+        eight[0],
+        eight[1],
+        eight[2],
+        eight[3],
+        eight[4],
+        eight[5],
+        eight[6],
+        eight[7],
+    )
 }
 
 // The eight bytes of a number.
-pub fn bytes8(x: u64) -> [u8; 8]
-    ensures { λ r. ⌜ r ≡ bytes 8 x ⌝ }
+pub fn bytes8(number: u64) -> [u8; 8]
+    ensures { λ r. ⌜ r ≡ bytes 8 number ⌝ }
 {
-    let x1 = x >> 8;
+    let x1 = number >> 8;
     let x2 = x1 >> 8;
     let x3 = x2 >> 8;
     let x4 = x3 >> 8;
@@ -65,7 +83,7 @@ pub fn bytes8(x: u64) -> [u8; 8]
     let x6 = x5 >> 8;
     let x7 = x6 >> 8;
     [
-        (x % 256) as u8,
+        (number % 256) as u8,
         (x1 % 256) as u8,
         (x2 % 256) as u8,
         (x3 % 256) as u8,
@@ -77,11 +95,11 @@ pub fn bytes8(x: u64) -> [u8; 8]
 }
 
 // The number, into eight bytes.
-fn put8(x: u64, out: &mut [u8])
+fn put8(number: u64, out: &mut [u8])
     requires { ⌜ length (now out) ≡ 8 ⌝ }
-    ensures { λ _. ⌜ now (out .exit) ≡ bytes 8 x ⌝ }
+    ensures { λ _. ⌜ now (out .exit) ≡ bytes 8 number ⌝ }
 {
-    let r = bytes8(x);
+    let r = bytes8(number);
     out[0] = r[0];
     out[1] = r[1];
     out[2] = r[2];
@@ -93,128 +111,128 @@ fn put8(x: u64, out: &mut [u8])
 }
 
 // Sixteen bytes, by whole words.
-pub fn sixteen(b: &[u8]) -> Block
-    requires { ⌜ length (now b) ≡ 16 ⌝ }
-    ensures { λ r. ⌜ wide r ≡ now (b .entry) ⌝ }
+pub fn sixteen(block: &[u8]) -> Block
+    requires { ⌜ length (now block) ≡ 16 ⌝ }
+    ensures { λ r. ⌜ wide r ≡ now (block .entry) ⌝ }
 {
-    let lo = load8(&b[0..8]);
-    let hi = load8(&b[8..16]);
+    let lo = load8(&block[0..8]);
+    let hi = load8(&block[8..16]);
     Block { a: lo, b: hi }
 }
 
 // A full block of 16 or 8 bytes, by whole words; zeros behind the eight.
-pub fn whole(b: &[u8]) -> Block
-    requires { ⌜ (length (now b) ≡ 16) ⊎ (length (now b) ≡ 8) ⌝ }
-    ensures { λ r. ⌜ wide r ≡ now (b .entry) ++ replicate (16 - length (now (b .entry))) 0 ⌝ }
+pub fn whole(block: &[u8]) -> Block
+    requires { ⌜ (length (now block) ≡ 16) ⊎ (length (now block) ≡ 8) ⌝ }
+    ensures { λ r. ⌜ wide r ≡ filled (now (block .entry)) ⌝ }
 {
-    if b.len() == 16 {
-        return sixteen(b);
+    if block.len() == 16 {
+        return sixteen(block);
     }
-    let lo = load8(b);
+    let lo = load8(block);
     Block { a: lo, b: 0 }
 }
 
-// Writes the first 16 or 8 bytes of x, by whole words.
-pub fn put_whole(x: Block, out: &mut [u8])
+// Writes the first 16 or 8 bytes of a block, by whole words.
+pub fn put_whole(block: Block, out: &mut [u8])
     requires { ⌜ (length (now out) ≡ 16) ⊎ (length (now out) ≡ 8) ⌝ }
-    ensures { λ _. ⌜ now (out .exit) ≡ take (length (now (out .entry))) (wide x) ⌝ }
+    ensures { λ _. ⌜ now (out .exit) ≡ take (length (now (out .entry))) (wide block) ⌝ }
 {
     if out.len() == 16 {
-        put8(x.a, &mut out[0..8]);
-        put8(x.b, &mut out[8..16]);
+        put8(block.a, &mut out[0..8]);
+        put8(block.b, &mut out[8..16]);
         return;
     }
-    put8(x.a, out);
+    put8(block.a, out);
 }
 
 // The bytes of a block.
-pub fn bytes_of(x: Block) -> [u8; 16]
-    ensures { λ r. ⌜ r ≡ wide x ⌝ }
+pub fn bytes_of(block: Block) -> [u8; 16]
+    ensures { λ r. ⌜ r ≡ wide block ⌝ }
 {
     let mut r = [0u8; 16];
-    put_whole(x, &mut r[0..16]);
+    put_whole(block, &mut r[0..16]);
     r
 }
 
 // The block of these bytes.
-pub fn block_of(s: [u8; 16]) -> Block
-    ensures { λ r. ⌜ wide r ≡ s ⌝ }
+pub fn block_of(sixteen: [u8; 16]) -> Block
+    ensures { λ r. ⌜ wide r ≡ sixteen ⌝ }
 {
-    whole(&s[0..16])
+    whole(&sixteen[0..16])
 }
 
 // The number of these bytes.
-pub fn number8(s: [u8; 8]) -> u64
-    ensures { λ r. ⌜ bytes 8 r ≡ s ⌝ }
+pub fn number8(eight: [u8; 8]) -> u64
+    ensures { λ r. ⌜ bytes 8 r ≡ eight ⌝ }
 {
-    load8(&s[0..8])
+    load8(&eight[0..8])
 }
 
 // Fifteen bytes and a zero: the last eight are read as one number, which loses the byte that was read before.
-pub fn fifteen(b: &[u8]) -> Block
-    requires { ⌜ length (now b) ≡ 15 ⌝ }
-    ensures { λ r. ⌜ wide r ≡ now (b .entry) ++ (0 ∷ []) ⌝ }
+pub fn fifteen(front: &[u8]) -> Block
+    requires { ⌜ length (now front) ≡ 15 ⌝ }
+    ensures { λ r. ⌜ wide r ≡ now (front .entry) ++ (0 ∷ []) ⌝ }
 {
-    let lo = load8(&b[0..8]);
-    let hi = load8(&b[7..15]);
+    let lo = load8(&front[0..8]);
+    let hi = load8(&front[7..15]);
     Block { a: lo, b: hi >> 8 }
 }
 
 // At most sixteen bytes, and zeros behind them, one by one.
-pub fn filled_bytes(b: &[u8]) -> [u8; 16]
-    requires { ⌜ length (now b) ≤ 16 ⌝ }
-    ensures { λ r. ⌜ r ≡ now (b .entry) ++ replicate (16 - length (now (b .entry))) 0 ⌝ }
+pub fn filled_bytes(front: &[u8]) -> [u8; 16]
+    requires { ⌜ length (now front) ≤ 16 ⌝ }
+    ensures { λ r. ⌜ r ≡ filled (now (front .entry)) ⌝ }
 {
     let mut r = [0u8; 16];
     let mut i: usize = 0;
-    while i < b.len() {
-        r[i] = b[i];
+    while i < front.len() {
+        r[i] = front[i];
         i += 1;
     }
     r
 }
 
 // At most sixteen bytes, and zeros behind them.
-pub fn filled(b: &[u8]) -> Block
-    requires { ⌜ length (now b) ≤ 16 ⌝ }
-    ensures { λ r. ⌜ wide r ≡ now (b .entry) ++ replicate (16 - length (now (b .entry))) 0 ⌝ }
+pub fn filled(front: &[u8]) -> Block
+    requires { ⌜ length (now front) ≤ 16 ⌝ }
+    ensures { λ r. ⌜ wide r ≡ filled (now (front .entry)) ⌝ }
 {
-    if b.len() == 16 {
-        return whole(b);
+    if front.len() == 16 {
+        return whole(front);
     }
-    if b.len() == 8 {
-        return whole(b);
+    if front.len() == 8 {
+        return whole(front);
     }
-    if b.len() == 15 {
-        return fifteen(b);
+    if front.len() == 15 {
+        return fifteen(front);
     }
-    block_of(filled_bytes(b))
+    block_of(filled_bytes(front))
 }
 
-// Writes the first bytes of t, one by one.
-fn put_bytes(t: [u8; 16], out: &mut [u8])
+// Writes the first bytes of sixteen, one by one.
+fn put_bytes(sixteen: [u8; 16], out: &mut [u8])
     requires { ⌜ length (now out) ≤ 16 ⌝ }
-    ensures { λ _. ⌜ now (out .exit) ≡ take (length (now (out .entry))) t ⌝ }
+    ensures { λ _. ⌜ now (out .exit) ≡ take (length (now (out .entry))) sixteen ⌝ }
 {
     let mut i: usize = 0;
     while i < out.len() {
-        out[i] = t[i];
+        out[i] = sixteen[i];
         i += 1;
     }
 }
 
-// Writes the first bytes of x.
-pub fn put(x: Block, out: &mut [u8])
+// Writes the first bytes of a block.
+pub fn put(block: Block, out: &mut [u8])
     requires { ⌜ length (now out) ≤ 16 ⌝ }
-    ensures { λ _. ⌜ now (out .exit) ≡ take (length (now (out .entry))) (wide x) ⌝ }
+    ensures { λ _. ⌜ now (out .exit) ≡ take (length (now (out .entry))) (wide block) ⌝ }
 {
     if out.len() == 16 {
-        put_whole(x, out);
+        put_whole(block, out);
         return;
     }
     if out.len() == 8 {
-        put_whole(x, out);
+        put_whole(block, out);
         return;
     }
-    put_bytes(bytes_of(x), out);
+    put_bytes(bytes_of(block), out);
 }

@@ -16,12 +16,12 @@ pub fn copy(from: &[u8], to: &mut [u8])
 }
 
 // Whether every byte is 0.
-pub fn all_zero(b: &[u8]) -> bool
-    ensures { λ r. ⌜ r ≡ sameBytes (now (b .entry)) (replicate (length (now (b .entry))) 0) ⌝ }
+pub fn all_zero(bytes: &[u8]) -> bool
+    ensures { λ r. ⌜ r ≡ sameBytes (now (bytes .entry)) (replicate (length (now (bytes .entry))) 0) ⌝ }
 {
     let mut i: usize = 0;
-    while i < b.len() {
-        if b[i] != 0 {
+    while i < bytes.len() {
+        if bytes[i] != 0 {
             return false;
         }
         i += 1;

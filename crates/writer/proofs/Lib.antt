@@ -1,3 +1,3 @@
-pub mod Lent
+pub mod Lending
 pub mod Done
 pub mod Outcomes

@@ -12,7 +12,7 @@ use rows::unseal_rows;
 use suites::first_retired;
 use table::answers::Checked;
 use table::check_as;
-use table::row::EDITION;
+use table::row::FIRST_EDITION;
 use table::row::count;
 use tags::first_set;
 use words::runs::copy;
@@ -62,7 +62,7 @@ fn seal_refused(draft: &[u8], ring: usize, out: usize) -> Written
 fn unseal_refused(file: &[u8], ring: usize, out: usize) -> Written
     ensures { λ r. ⌜ writtenAnswer r ≡ openAnswer (now (file .entry)) ring out ⌝ }
 {
-    match check_as(EDITION, file) {
+    match check_as(FIRST_EDITION, file) {
         Checked::Refused(x) => {
             return Written::Refused(x);
         }
@@ -80,7 +80,7 @@ pub fn seal_file(draft: &[u8], ring: &[u8], out: &mut [u8]) -> Written
         return refused;
     };
     copy(draft, out);
-    put_edition(EDITION, out);
+    put_edition(FIRST_EDITION, out);
     seal_rows(draft, count(draft), ring, out);
     Written::Done
 }

@@ -21,55 +21,55 @@ ghost use Rattle.writer.specs.Answers.{writtenAnswer};
 ghost use Rattle.writer.specs.Inside.{RowsSeal, Writable, RowWritable};
 
 // The edition, in the first two bytes.
-pub(crate) fn put_edition(e: u16, out: &mut [u8])
+pub(crate) fn put_edition(edition: u16, out: &mut [u8])
     requires { ⌜ 2 ≤ length (now out) ⌝ }
-    ensures { λ _. ⌜ now (out .exit) ≡ inEdition e (now (out .entry)) ⌝ }
+    ensures { λ _. ⌜ now (out .exit) ≡ inEdition edition (now (out .entry)) ⌝ }
 {
-    let h = e / 256;
-    out[0] = (e % 256) as u8;
+    let h = edition / 256;
+    out[0] = (edition % 256) as u8;
     out[1] = (h % 256) as u8;
 }
 
 // Seals row i of a draft in its place in the output; its text is put there first, whatever stood there.
-fn seal_entry(f: &[u8], ring: &[u8], i: usize, out: &mut [u8])
-    requires { ⌜ RowWritable (now f) i (now ring) (now out) × Seals (rowOf (now f) i .suite) ⌝ }
-    ensures { λ _. ⌜ now (out .exit) ≡ put (now (out .entry)) (pieceStart (now (f .entry)) i) (sealedPiece (now (f .entry)) (now (ring .entry)) i) ⌝ }
+fn seal_entry(file: &[u8], ring: &[u8], index: usize, out: &mut [u8])
+    requires { ⌜ RowWritable (now file) index (now ring) (now out) × Seals (rowOf (now file) index .suite) ⌝ }
+    ensures { λ _. ⌜ now (out .exit) ≡ put (now (out .entry)) (pieceStart (now (file .entry)) index) (sealedPiece (now (file .entry)) (now (ring .entry)) index) ⌝ }
 {
-    let row = row_of(f, i);
-    let len = row.len as usize;
+    let row = row_of(file, index);
+    let len = row.text_len as usize;
     let n = cipher::size_of(row.suite);
     let a = text_start(row);
     let b = a + len;
     let e = b + n;
-    copy(text_of(f, row), &mut out[a..b]);
-    seal_into(f, ring, i, row, row.suite, &mut out[a..e]);
+    copy(text_of(file, row), &mut out[a..b]);
+    seal_into(file, ring, index, row, row.suite, &mut out[a..e]);
 }
 
 // Seals the n rows of a draft into the output.
-pub(crate) fn seal_rows(f: &[u8], n: usize, ring: &[u8], out: &mut [u8])
-    requires { ⌜ Writable (now f) n (now ring) (now out) × RowsSeal (now f) n ⌝ }
-    ensures { λ _. ⌜ now (out .exit) ≡ putAll (pieceStart (now (f .entry))) (sealedPiece (now (f .entry)) (now (ring .entry))) n (now (out .entry)) ⌝ }
+pub(crate) fn seal_rows(file: &[u8], rows: usize, ring: &[u8], out: &mut [u8])
+    requires { ⌜ Writable (now file) rows (now ring) (now out) × RowsSeal (now file) rows ⌝ }
+    ensures { λ _. ⌜ now (out .exit) ≡ putAll (pieceStart (now (file .entry))) (sealedPiece (now (file .entry)) (now (ring .entry))) rows (now (out .entry)) ⌝ }
 {
     let mut i: usize = 0;
-    while i < n {
-        seal_entry(f, ring, i, out);
+    while i < rows {
+        seal_entry(file, ring, i, out);
         i += 1;
     }
 }
 
 // Opens row i of a file into the output, and zeros its tag there; false where the tag is wrong.
-fn unseal_entry(f: &[u8], ring: &[u8], i: usize, out: &mut [u8]) -> bool
-    requires { ⌜ RowWritable (now f) i (now ring) (now out) ⌝ }
-    ensures right { λ r. ⌜ r ≡ tagRight (now (f .entry)) (now (ring .entry)) i ⌝ }
-    ensures text { λ r. ⌜ (r ≡ true → now (out .exit) ≡ put (now (out .entry)) (pieceStart (now (f .entry)) i) (draftPiece (now (f .entry)) (now (ring .entry)) i)) ⌝ }
+fn unseal_entry(file: &[u8], ring: &[u8], index: usize, out: &mut [u8]) -> bool
+    requires { ⌜ RowWritable (now file) index (now ring) (now out) ⌝ }
+    ensures right { λ r. ⌜ r ≡ tagRight (now (file .entry)) (now (ring .entry)) index ⌝ }
+    ensures text { λ r. ⌜ (r ≡ true → now (out .exit) ≡ put (now (out .entry)) (pieceStart (now (file .entry)) index) (draftPiece (now (file .entry)) (now (ring .entry)) index)) ⌝ }
 {
-    let row = row_of(f, i);
-    let len = row.len as usize;
+    let row = row_of(file, index);
+    let len = row.text_len as usize;
     let n = cipher::size_of(row.suite);
     let a = text_start(row);
     let b = a + len;
     let e = b + n;
-    let opened = open_row(f, ring, i, row, &mut out[a..b]);
+    let opened = open_row(file, ring, index, row, &mut out[a..b]);
     let Verdict::Done = opened else {
         return false;
     };
@@ -78,14 +78,14 @@ fn unseal_entry(f: &[u8], ring: &[u8], i: usize, out: &mut [u8]) -> bool
 }
 
 // Opens the n rows of a file into the output; the first whose tag is wrong leaves zeros all over.
-pub(crate) fn unseal_rows(f: &[u8], n: usize, ring: &[u8], out: &mut [u8]) -> Written
-    requires { ⌜ Writable (now f) n (now ring) (now out) ⌝ }
+pub(crate) fn unseal_rows(file: &[u8], rows: usize, ring: &[u8], out: &mut [u8]) -> Written
+    requires { ⌜ Writable (now file) rows (now ring) (now out) ⌝ }
     ensures { λ r. ⌜ _≡_ {A = FileWritten} (record { answer = writtenAnswer r; out = now (out .exit) })
-        (leaves (wrongFrom (now (f .entry)) (now (ring .entry)) n 0) (putAll (pieceStart (now (f .entry))) (draftPiece (now (f .entry)) (now (ring .entry))) n (now (out .entry))) (now (out .entry))) ⌝ }
+        (leaves (wrongFrom (now (file .entry)) (now (ring .entry)) rows 0) (putAll (pieceStart (now (file .entry))) (draftPiece (now (file .entry)) (now (ring .entry))) rows (now (out .entry))) (now (out .entry))) ⌝ }
 {
     let mut i: usize = 0;
-    while i < n {
-        if !unseal_entry(f, ring, i, out) {
+    while i < rows {
+        if !unseal_entry(file, ring, i, out) {
             wipe(out);
             return Written::Forged(i);
         }

@@ -3,29 +3,29 @@ use crate::answers::Written;
 use shift::lend::row_of;
 ghost use mathlib.Core.Path.{_≡_};
 ghost use mathlib.Core.Bool.{not};
-ghost use Rattle.table.specs.Format.{widthOf};
+ghost use Rattle.table.specs.Format.{rowSizeOf};
 ghost use Rattle.table.specs.Inside.{EntryIn};
 ghost use Rattle.draft.specs.Answers.{rowRetired, retiredFrom};
 ghost use Rattle.writer.specs.Answers.{writtenAnswer};
 ghost use Rattle.writer.specs.Inside.{RowsIn};
 
 // Whether the suite of row i seals.
-fn row_seals(f: &[u8], i: usize) -> bool
-    requires { ⌜ EntryIn (widthOf (now f)) (now f) i ⌝ }
-    ensures { λ r. ⌜ not r ≡ rowRetired (now (f .entry)) i ⌝ }
+fn row_seals(file: &[u8], index: usize) -> bool
+    requires { ⌜ EntryIn (rowSizeOf (now file)) (now file) index ⌝ }
+    ensures { λ r. ⌜ not r ≡ rowRetired (now (file .entry)) index ⌝ }
 {
-    let row = row_of(f, i);
+    let row = row_of(file, index);
     cipher::seals(row.suite)
 }
 
 // The first of n rows whose suite seals no more.
-pub(crate) fn first_retired(f: &[u8], n: usize) -> Written
-    requires { ⌜ RowsIn (now f) n ⌝ }
-    ensures { λ r. ⌜ writtenAnswer r ≡ retiredFrom (now (f .entry)) n 0 ⌝ }
+pub(crate) fn first_retired(file: &[u8], rows: usize) -> Written
+    requires { ⌜ RowsIn (now file) rows ⌝ }
+    ensures { λ r. ⌜ writtenAnswer r ≡ retiredFrom (now (file .entry)) rows 0 ⌝ }
 {
     let mut i: usize = 0;
-    while i < n {
-        if !row_seals(f, i) {
+    while i < rows {
+        if !row_seals(file, i) {
             return Written::Retired(i);
         }
         i += 1;

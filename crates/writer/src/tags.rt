@@ -5,28 +5,28 @@ use table::body::tag_of;
 use words::runs::all_zero;
 ghost use mathlib.Core.Path.{_≡_};
 ghost use mathlib.Core.Bool.{not};
-ghost use Rattle.table.specs.Format.{widthOf};
+ghost use Rattle.table.specs.Format.{rowSizeOf};
 ghost use Rattle.table.specs.Inside.{EntryIn};
 ghost use Rattle.draft.specs.Answers.{tagSet, setFrom};
 ghost use Rattle.writer.specs.Answers.{writtenAnswer};
 ghost use Rattle.writer.specs.Inside.{RowsIn};
 
 // Whether the tag of row i is all zero.
-fn tag_zero(f: &[u8], i: usize) -> bool
-    requires { ⌜ EntryIn (widthOf (now f)) (now f) i ⌝ }
-    ensures { λ r. ⌜ not r ≡ tagSet (now (f .entry)) i ⌝ }
+fn tag_zero(file: &[u8], index: usize) -> bool
+    requires { ⌜ EntryIn (rowSizeOf (now file)) (now file) index ⌝ }
+    ensures { λ r. ⌜ not r ≡ tagSet (now (file .entry)) index ⌝ }
 {
-    all_zero(tag_of(f, row_of(f, i)))
+    all_zero(tag_of(file, row_of(file, index)))
 }
 
 // The first of n rows whose tag has a byte that is not zero.
-pub(crate) fn first_set(f: &[u8], n: usize) -> Written
-    requires { ⌜ RowsIn (now f) n ⌝ }
-    ensures { λ r. ⌜ writtenAnswer r ≡ setFrom (now (f .entry)) n 0 ⌝ }
+pub(crate) fn first_set(file: &[u8], rows: usize) -> Written
+    requires { ⌜ RowsIn (now file) rows ⌝ }
+    ensures { λ r. ⌜ writtenAnswer r ≡ setFrom (now (file .entry)) rows 0 ⌝ }
 {
     let mut i: usize = 0;
-    while i < n {
-        if !tag_zero(f, i) {
+    while i < rows {
+        if !tag_zero(file, i) {
             return Written::TagSet(i);
         }
         i += 1;

@@ -9,7 +9,7 @@ use crate::shift::{self, fields_at, row_at, rows};
 use crate::show::shown;
 use crate::trials::edit;
 
-/// A file moved to an edition.
+/// A file moved to an edition; its length there is asked, too.
 #[derive(Clone)]
 pub struct MoveCall {
     pub to: usize,
@@ -19,6 +19,7 @@ pub struct MoveCall {
 
 #[derive(PartialEq, Debug)]
 pub struct MoveOutcome {
+    pub length: usize,
     pub answer: shift::Answer,
     pub out: Vec<u8>,
 }
@@ -29,7 +30,7 @@ impl Case for MoveCall {
     fn answer(&self, by: &Library) -> MoveOutcome {
         let mut out = vec![FILLER; self.out];
         let pass = if self.to == 2 { by.to_edition2 } else { by.to_edition1 };
-        MoveOutcome { answer: pass(&self.file, &mut out), out }
+        MoveOutcome { length: (by.moved_length)(&self.file), answer: pass(&self.file, &mut out), out }
     }
 
     fn record(&self) -> Vec<u8> {
@@ -38,7 +39,7 @@ impl Case for MoveCall {
     }
 
     fn lines(&self, by: &Library) -> String {
-        let MoveOutcome { answer: (number, row), out } = self.answer(by);
+        let MoveOutcome { answer: (number, row), out, .. } = self.answer(by);
         format!("{number} {row} {}\n", shown(&out))
     }
 }
@@ -61,8 +62,8 @@ fn both_ways(plan: &Plan) -> [MoveCall; 2] {
     let [one, two] = [1, 2].map(|edition| plan.in_edition(edition).file(&samples::ring()));
     let rows = plan.entries.len();
     let (there, back) = (call(2, rows, one.clone()), call(1, rows, two.clone()));
-    assert_eq!(there.answer(&REFERENCE), MoveOutcome { answer: (0, 0), out: two });
-    assert_eq!(back.answer(&REFERENCE), MoveOutcome { answer: (0, 0), out: one });
+    assert_eq!(there.answer(&REFERENCE), MoveOutcome { length: two.len(), answer: (0, 0), out: two });
+    assert_eq!(back.answer(&REFERENCE), MoveOutcome { length: one.len(), answer: (0, 0), out: one });
     [there, back]
 }
 

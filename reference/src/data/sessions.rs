@@ -14,7 +14,7 @@ pub enum SessionCall {
     Data(Vec<u8>),
     Part { msg: Vec<u8>, out: usize },
     End { out: usize, tag: usize },
-    Forge { suite: u8, data: usize, text: usize },
+    Forge { suite: u8, ad_total: usize, text_total: usize },
 }
 
 use SessionCall::{Data, End, Forge, Start};
@@ -56,8 +56,9 @@ impl SessionCall {
                 tag.resize(*tag_length, FILLER);
                 (by.session_end)(session, &mut out, &mut tag)
             }
-            Forge { suite, data, text } => {
-                Step { next: Session { suite: *suite, data: *data, text: *text, ..session }, number: 0, count: 0 }
+            Forge { suite, ad_total, text_total } => {
+                let next = Session { suite: *suite, ad_total: *ad_total, text_total: *text_total, ..session };
+                Step { next, number: 0, count: 0 }
             }
         };
         let is_as_it_was = next == session;
@@ -70,7 +71,7 @@ impl SessionCall {
             Data(ad) => (1, 0, [ad.len(), 0, 0], [ad, &[]]),
             SessionCall::Part { msg, out } => (2, 0, [msg.len(), *out, 0], [msg, &[]]),
             End { out, tag } => (3, 0, [0, *out, *tag], [&[], &[]]),
-            Forge { suite, data, text } => (4, *suite, [0, *data, *text], [&[], &[]]),
+            Forge { suite, ad_total, text_total } => (4, *suite, [0, *ad_total, *text_total], [&[], &[]]),
         };
         [&head(op, suite, 0, &lengths)[..], parts[0], parts[1]].concat()
     }
@@ -256,7 +257,7 @@ fn limits(random: &mut Random) -> Vec<Run> {
         let start = start(random, suite);
         let near = LIMIT - 3;
         let held = Data(zeros(near % block_size(suite)));
-        let raise = |data: usize, text: usize| Forge { suite, data, text };
+        let raise = |ad_total: usize, text_total: usize| Forge { suite, ad_total, text_total };
         let narrow = |length: usize| SessionCall::Part { msg: zeros(length), out: 0 };
         runs.push(Run(vec![
             start.clone(),
@@ -312,10 +313,11 @@ fn forged(random: &mut Random) -> Vec<Run> {
             (suite, u32::MAX as usize, 0),
             (suite, 0, u32::MAX as usize),
         ];
-        for (forged, data, text) in values {
-            let mut calls = vec![start(random, suite), Data(b"abc".to_vec()), Forge { suite: forged, data, text }];
+        for (forged, ad_total, text_total) in values {
+            let forge = Forge { suite: forged, ad_total, text_total };
+            let mut calls = vec![start(random, suite), Data(b"abc".to_vec()), forge];
             calls.extend(probes(suite));
-            calls.extend([Forge { suite, data: 3, text: 0 }, part(suite, b"message"), end(suite)]);
+            calls.extend([Forge { suite, ad_total: 3, text_total: 0 }, part(suite, b"message"), end(suite)]);
             runs.push(Run(calls));
         }
     }
@@ -393,9 +395,10 @@ pub fn forged_values(random: &mut Random, count: usize, mut each: impl FnMut(&Fo
             2 => usize::MAX - random.below(20),
             _ => random.below(60),
         };
-        let (data, text) = (total(random), total(random));
+        let (ad_total, text_total) = (total(random), total(random));
         let suite = random.below(9) as u8;
-        let session = Session { suite, y: random.array(), z: random.array(), held: random.array(), data, text };
+        let (y, z, held) = (random.array(), random.array(), random.array());
+        let session = Session { suite, y, z, held, ad_total, text_total };
         let calls = probes([1, 3][random.below(2)]);
         each(&Forged(session, calls[random.below(calls.len())].clone()));
     }

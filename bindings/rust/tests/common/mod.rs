@@ -221,6 +221,7 @@ pub const CRATE: Library = Library {
     search,
     reseal: |file, ring, out| rewrite(snoekeldraf::reseal, file, ring, out),
     compare,
+    moved_length: snoekeldraf::moved_len,
     to_edition2: |file, out| answer(snoekeldraf::to_edition2(file, out)),
     to_edition1: |file, out| answer(snoekeldraf::to_edition1(file, out)),
     amended,

@@ -9,7 +9,7 @@ returns : tie.Need-returns
 unfolding addRoundKey xor
 returns c =
     let a = c .before .before .before .before .before .before .before .before .args in
-    four-xor (a .s .a) (a .s .b) (a .s .c) (a .s .d) (a .k .a) (a .k .b) (a .k .c) (a .k .d)
+    four-xor (a .state .a) (a .state .b) (a .state .c) (a .state .d) (a .key .a) (a .key .b) (a .key .c) (a .key .d)
 
 pub add-round-key-spec : {M : Type 1} → statement M
 add-round-key-spec = tie.close (tie.spec returns)

@@ -10,7 +10,7 @@ mul-result c = search needs
 
 returns : tie.Need-returns
 unfolding xor
-returns c = next-is (c .args .rc) (c .pre)
+returns c = next-is (c .args .rcon) (c .pre)
 
 pub next-rcon-spec : {M : Type 1} → statement M
 next-rcon-spec = tie.close (tie.spec mul-result returns)

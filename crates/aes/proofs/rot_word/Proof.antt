@@ -8,7 +8,7 @@ add-result : tie.Need-add-result
 add-result c = search needs
 
 returns : tie.Need-returns
-returns c = turned (c .args .x) (c .fits .x .fits)
+returns c = turned (c .args .column) (c .fits .column .fits)
 
 pub rot-word-spec : {M : Type 1} → statement M
 rot-word-spec = tie.close (tie.spec add-result returns)

@@ -1,64 +1,71 @@
--- The file without its old table, and the new table.
-use Prim.Native.Nat.{_<_}
-use mathlib.Core.Path.{_≡_, _∙_}
-use native.Mathlib.Omega.{arith}
+-- A refused header has no length; else it is that in the other edition, which the row's size tells.
+use mathlib.Core.Path.{sym, ap, _∙_}
 use denote.Ref.{now}
-use Rattle.table.specs.Format.{editionOf, countOf, rowSize, widthOf, rowStart}
-use Rattle.table.proofs.Rows.{rows-small}
-use Rattle.editions.specs.Files.{carried}
-use Rattle.editions.proofs.Done.{table-small, length-is}
+use Rattle.table.specs.Format.{firstEdition, newest}
+use Rattle.table.specs.Answers.{checkedAnswer}
+use Rattle.table.proofs.Passed.{passed-zero}
+use Rattle.editions.proofs.Done.{tabled, length-none, length-back, length-up}
 use borrow.Author.Needs.{needs}
 use Rattle.editions.proofs.moved_length.Statement.{statement}
 use Rattle.editions.proofs.moved_length.Tie as tie
 
-count-requires : tie.Need-count-requires
-count-requires c κs = search needs
+check-head-requires : tie.Need-check-head-requires
+check-head-requires c κs = search needs
 
-width-requires : tie.Need-width-requires
-width-requires c κs = search needs
+enum-told : tie.Need-enum-told
+enum-told c = search needs
 
-row-start-requires : tie.Need-row-start-requires
-row-start-requires c κs = let s = c .before .before .before in rw (c .width .ensures, c .before .count .ensures) (rows-small (editionOf (now (s .args .f))) _ (s .pre .few))
+returns : tie.Need-returns
+returns c = sym (length-none _ (c .enum-told .given .0 .0) (sym (c .before .before .check-head .ensures) ∙ ap checkedAnswer (c .enum-told .given .1)))
 
-sub-result : tie.Need-sub-result
-sub-result c =
-    let s = c .before .before .before .before in
-    rw (c .row-start .ensures, c .before .width .ensures, c .before .before .count .ensures) (s .pre .table .fits)
+enum-told-2 : tie.Need-enum-told-2
+enum-told-2 c = search needs
+
+row-size-of-requires : tie.Need-row-size-of-requires
+row-size-of-requires c κs =
+    let k = c .before .before in
+    tabled firstEdition newest (now (k .before .before .args .file)) (passed-zero _ _ (c .enum-told2 .given .1) (k .check-head .ensures)) .long
 
 row-size-requires : tie.Need-row-size-requires
 row-size-requires c κs = search needs
 
-row-start-requires-2 : tie.Need-row-start-requires-2
-row-start-requires-2 c κs =
-    let s = c .before .before .before .before .before in
-    rw (c .row-size .ensures, c .before .before .before .count .ensures) (rows-small (s .args .e) _ (s .pre .few))
+length-in-requires : tie.Need-length-in-requires
+length-in-requires c κs =
+    let t = c .before .before .before in
+    let k = t .before .before in
+    tabled firstEdition newest (now (k .before .before .args .file)) (passed-zero _ _ (t .enum-told2 .given .1) (k .check-head .ensures))
 
-add-result : tie.Need-add-result
-add-result c =
-    let s = c .before .before .before .before .before .before in
-    let new : c .row-start2 .result < 1048576 =
-    rw (c .row-start2 .ensures, c .before .row-size .ensures, c .before .before .before .before .count .ensures) (table-small (s .args .e) _ (s .pre .few)) in
-    omega (arith, new, s .pre .short)
+returns-2 : tie.Need-returns-2
+returns-2 c =
+    let i = c .before in
+    let t = i .before .before .before in
+    let z = passed-zero _ _ (t .enum-told2 .given .1) (t .before .before .check-head .ensures) in
+    c .length-in .ensures ∙ sym (length-back _ z (sym (i .before .before .row-size-of .ensures) ∙ i .if1 .taken ∙ i .before .row-size .ensures))
 
-returns : tie.Need-returns
-unfolding carried
-returns c =
-    let s = c .before .before .before .before .before .before in
-    let f = now (s .args .f) in
-    let n = c .before .before .before .before .count .ensures in
-    let old : c .before .before .row-start .result ≡ rowStart (widthOf f) (countOf f) = c .before .before .row-start .ensures ∙ (λ t. rowStart (c .before .before .before .width .ensures t) (n t)) in
-    let new : c .row-start2 .result ≡ rowStart (rowSize (s .args .e)) (countOf f) = c .row-start2 .ensures ∙ (λ t. rowStart (c .before .row-size .ensures t) (n t)) in
-    omega (arith, old, new, length-is f (s .args .e) (s .pre))
+length-in-requires-2 : tie.Need-length-in-requires-2
+length-in-requires-2 c κs =
+    let t = c .before .before .before in
+    let k = t .before .before in
+    tabled firstEdition newest (now (k .before .before .args .file)) (passed-zero _ _ (t .enum-told2 .given .1) (k .check-head .ensures))
+
+returns-3 : tie.Need-returns-3
+returns-3 c =
+    let i = c .before in
+    let t = i .before .before .before in
+    let z = passed-zero _ _ (t .enum-told2 .given .1) (t .before .before .check-head .ensures) in
+    c .length-in2 .ensures ∙ sym (length-up _ z (λ e. i .if1 .left (i .before .before .row-size-of .ensures ∙ e ∙ sym (i .before .row-size .ensures))))
 
 pub moved-length-spec : {M : Type 1} → statement M
 moved-length-spec =
     tie.close
     (tie.spec
-    count-requires
-    width-requires
-    row-start-requires
-    sub-result
+    check-head-requires
+    enum-told
+    returns
+    enum-told-2
+    row-size-of-requires
     row-size-requires
-    row-start-requires-2
-    add-result
-    returns)
+    length-in-requires
+    returns-2
+    length-in-requires-2
+    returns-3)

@@ -53,8 +53,8 @@ returns c =
     let head = rows .before .before .before .before in
     let s = head .before .before .before .before in
     let x = s .args in
-    let f = now (x .f) in
-    file-put f (head .put-header .last .0) (rows .put-rows .last .0) (body .put-part .last .0) (x .e) (x .w) (x .v) (x .n) (a .result) (b .result) (length f - b .result) (length (now (x .out)))
+    let f = now (x .file) in
+    file-put f (head .put-header .last .0) (rows .put-rows .last .0) (body .put-part .last .0) (x .edition) (x .from) (x .to) (x .rows) (a .result) (b .result) (length f - b .result) (length (now (x .out)))
     (a .ensures) (b .ensures) (ap (λ (t : ℕ). length f - t) (b .ensures))
     (omega (arith, body .put-part .kept .0, rows .put-rows .kept .0, head .put-header .kept .0, a .ensures, b .ensures, s .pre .1 .1)) (s .pre .1 .1)
     (head .put-header .ensures) (rows .put-rows .ensures) (body .put-part .ensures)

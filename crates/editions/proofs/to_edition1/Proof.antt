@@ -2,7 +2,7 @@
 use mathlib.Core.Path.{sym, ap, _∙_}
 use lib.ListN.{length}
 use denote.Ref.{now}
-use Rattle.table.specs.Format.{edition, newest}
+use Rattle.table.specs.Format.{firstEdition, newest}
 use Rattle.editions.specs.Files.{moved}
 use Rattle.editions.specs.Answers.{toEdition1}
 use Rattle.editions.specs.Promised.{done}
@@ -22,7 +22,7 @@ unfolding toEdition1
 returns c =
     let a = c .before .before .before .before .args in
     let told = c .before .back-refused in
-    refused-moves _ _ (moved edition (now (a .file))) (now (a .out)) (told .ensures) (not-done (told .result) (c .match .keys2))
+    refused-moves _ _ (moved firstEdition (now (a .file))) (now (a .out)) (told .ensures) (not-done (told .result) (c .match .keys2))
 
 write-requires : tie.Need-write-requires
 write-requires c κs =

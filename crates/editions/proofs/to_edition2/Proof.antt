@@ -2,7 +2,7 @@
 use mathlib.Core.Path.{sym, ap, _∙_}
 use lib.ListN.{length}
 use denote.Ref.{now}
-use Rattle.table.specs.Format.{edition, newest}
+use Rattle.table.specs.Format.{firstEdition, newest}
 use Rattle.editions.specs.Files.{moved}
 use Rattle.editions.specs.Answers.{toEdition2}
 use Rattle.editions.specs.Promised.{done}
@@ -29,7 +29,7 @@ write-requires c κs =
     let told = c .before .before .before .up-refused in
     let a = c .before .before .before .before .before .before .args in
     let d = up-goes (now (a .file)) (length (now (a .out))) (told-zero _ _ (told .ensures) (c .before .enum-told .given .1)) in
-    (source edition (now (a .file)) (d .passed), d .room)
+    (source firstEdition (now (a .file)) (d .passed), d .room)
 
 same-length : tie.Need-same-length
 same-length c = search needs

@@ -2,7 +2,7 @@
 use native.Mathlib.Omega.{arith}
 use mathlib.Core.Path.{sym, ap, _∙_}
 use denote.Ref.{now}
-use Rattle.table.specs.Format.{edition, newest}
+use Rattle.table.specs.Format.{firstEdition, newest}
 use Rattle.table.specs.Answers.{checkedAnswer}
 use Rattle.table.proofs.Passed.{passed-zero, passes}
 use Rattle.reader.proofs.Fronts.{too-long, file-refused, ring-wrong, jobs-short, numbers-short, all-listed}
@@ -35,7 +35,7 @@ returns-3 c =
 count-requires : tie.Need-count-requires
 count-requires c κs =
     let t = c .before in
-    passes edition newest (now (t .before .before .before .before .before .before .before .before .args .file)) (passed-zero _ _ (t .enum-told .given .1) (t .before .before .check .ensures)) .head .long
+    passes firstEdition newest (now (t .before .before .before .before .before .before .before .before .args .file)) (passed-zero _ _ (t .enum-told .given .1) (t .before .before .check .ensures)) .head .long
 
 returns-4 : tie.Need-returns-4
 returns-4 c =

@@ -3,7 +3,7 @@ use borrow.Author.Needs.{needs}
 use denote.Ref.{now}
 use mathlib.Core.Path.{_≡_, sym, ap, _∙_}
 use Prim.Native.Nat.{ℕ}
-use Rattle.table.specs.Format.{countOf, edition}
+use Rattle.table.specs.Format.{countOf, firstEdition}
 use Rattle.table.specs.Answers.{answer}
 use Rattle.table.proofs.Passed.{passed-zero, refused-stands}
 use Rattle.draft.proofs.Back.{plain-file}
@@ -29,7 +29,7 @@ enum-told : tie.Need-enum-told
 enum-told c = search needs
 
 count-requires : tie.Need-count-requires
-count-requires c κs = header-in edition (now (c .before .before .before .before .args .file)) plain-file (passed-zero _ _ (c .enum-told .given .1) (c .before .before .check-as .ensures))
+count-requires c κs = header-in firstEdition (now (c .before .before .before .before .args .file)) plain-file (passed-zero _ _ (c .enum-told .given .1) (c .before .before .check-as .ensures))
 
 first-clash-requires : tie.Need-first-clash-requires
 first-clash-requires c κs = record { passed = passed-zero _ _ (c .before .enum-told .given .1) (c .before .before .before .check-as .ensures); rows = c .count .ensures }

@@ -3,7 +3,7 @@ use borrow.Author.Needs.{needs}
 use denote.Ref.{now}
 use mathlib.Core.Path.{sym, ap, ap₂, _∙_}
 use Rattle.table.specs.declared.answers.Answer.{Answer}
-use Rattle.table.specs.Format.{edition}
+use Rattle.table.specs.Format.{firstEdition}
 use Rattle.draft.specs.Put.{putAll}
 use Rattle.draft.specs.Files.{pieceStart}
 use Rattle.draft.specs.Answers.{leaves}
@@ -13,7 +13,7 @@ use Rattle.writer.proofs.Done.{not-done, header-in, writable}
 use Rattle.reseal.specs.Files.{resuited, againPiece, resealedFile}
 use Rattle.reseal.specs.Answers.{wrongAgainFrom}
 use Rattle.reseal.proofs.Answers.{again-leaves, resealing-kept, resealing-tags}
-use Rattle.reseal.proofs.Lent.{take-can, both-tables}
+use Rattle.reseal.proofs.Lending.{take-can, both-tables}
 use Rattle.reseal.proofs.reseal.Statement.{statement}
 use Rattle.reseal.proofs.reseal.Tie as tie
 
@@ -35,7 +35,7 @@ copy-requires c κs = take-can (now (c .before .before .before .before .before .
 count-requires : tie.Need-count-requires
 count-requires c κs =
     let s = c .before .before .before .before .before .before .before .before .before .before .args in
-    header-in edition (now (s .file)) plain-file (take-can (now (s .file)) _ _ _ (c .before .before .before .before .before .before .refused .ensures) (c .before .before .before .before .enum-told .given .1) .calm .checked)
+    header-in firstEdition (now (s .file)) plain-file (take-can (now (s .file)) _ _ _ (c .before .before .before .before .before .before .refused .ensures) (c .before .before .before .before .enum-told .given .1) .calm .checked)
 
 put-suites-requires : tie.Need-put-suites-requires
 put-suites-requires c κs =
@@ -47,7 +47,7 @@ reseal-rows-requires : tie.Need-reseal-rows-requires
 reseal-rows-requires c κs =
     let s = c .before .before .before .before .before .before .before .before .before .before .before .before .before .before .before .before .args in
     let q = take-can (now (s .file)) _ _ _ (c .before .before .before .before .before .before .before .before .before .before .before .before .refused .ensures) (c .before .before .before .before .before .before .before .before .before .before .enum-told .given .1) in
-    writable edition (now (s .file)) plain-file (q .calm .checked) _ _ _ (c .before .before .before .before .before .count .ensures) (q .room .ring-long)
+    writable firstEdition (now (s .file)) plain-file (q .calm .checked) _ _ _ (c .before .before .before .before .before .count .ensures) (q .room .ring-long)
     (c .before .before .before .put-suites .kept .1 .1 .0 ∙ c .before .before .before .before .before .before .before .before .copy .kept .1 .0 ∙ q .room .out-long)
 
 same-length : tie.Need-same-length

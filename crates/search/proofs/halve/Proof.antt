@@ -21,7 +21,7 @@ abbrev jobOf : Row → ℕ
 jobOf r = r .job
 
 loop-holds : tie.Need-loop-holds Inv-loop μ-loop
-loop-holds c = let a = c .before .args in halfway-start (jobsOf (a .w) (now (a .f))) (a .job) (a .n)
+loop-holds c = let a = c .before .args in halfway-start (jobsOf (a .size) (now (a .file))) (a .job) (a .rows)
 
 add-m : tie.Need-add-m Inv-loop μ-loop
 add-m c = omega (arith, c .before .loop .inv .within)
@@ -37,7 +37,7 @@ returns c =
     let p = c .before .before in
     let a = p .before .before .before .args in
     let l = p .before .loop in
-    halfway-hit (jobsOf (a .w) (now (a .f))) (a .job) (a .n) (l .s) (l .c) (l .looked) (p .loop-test .taken) (l .inv) (ap jobOf (sym (c .before .row-at .ensures)) ∙ c .if1 .taken)
+    halfway-hit (jobsOf (a .size) (now (a .file))) (a .job) (a .rows) (l .s) (l .c) (l .looked) (p .loop-test .taken) (l .inv) (ap jobOf (sym (c .before .row-at .ensures)) ∙ c .if1 .taken)
 
 add-s : tie.Need-add-s Inv-loop μ-loop
 add-s c = omega (arith, c .before .before .before .before .loop .inv .within)
@@ -56,7 +56,7 @@ loop-again c =
     let p = c .before .before .before in
     let a = p .before .before .before .args in
     let l = p .before .loop in
-    halfway-up (jobsOf (a .w) (now (a .f))) (a .job) (a .n) (l .s) (l .c) (l .looked) (p .loop-test .taken) (l .inv) (omega (arith, ap jobOf (c .before .before .row-at .ensures), c .if2 .taken))
+    halfway-up (jobsOf (a .size) (now (a .file))) (a .job) (a .rows) (l .s) (l .c) (l .looked) (p .loop-test .taken) (l .inv) (omega (arith, ap jobOf (c .before .before .row-at .ensures), c .if2 .taken))
 
 loop-less-2 : tie.Need-loop-less-2 Inv-loop μ-loop
 loop-less-2 c = omega arith
@@ -66,14 +66,14 @@ loop-again-2 c =
     let p = c .before .before .before in
     let a = p .before .before .before .args in
     let l = p .before .loop in
-    halfway-down (jobsOf (a .w) (now (a .f))) (a .job) (a .n) (l .s) (l .c) (l .looked) (p .loop-test .taken) (l .inv)
+    halfway-down (jobsOf (a .size) (now (a .file))) (a .job) (a .rows) (l .s) (l .c) (l .looked) (p .loop-test .taken) (l .inv)
     (omega (arith, ap jobOf (c .before .before .row-at .ensures), c .before .if1 .left, c .if2 .left))
 
 returns-2 : tie.Need-returns-2 Inv-loop μ-loop
 returns-2 c =
     let a = c .before .before .before .args in
     let l = c .before .loop in
-    halfway-end (jobsOf (a .w) (now (a .f))) (a .job) (a .n) (l .s) (l .c) (l .looked) (c .loop-test .left) (l .inv)
+    halfway-end (jobsOf (a .size) (now (a .file))) (a .job) (a .rows) (l .s) (l .c) (l .looked) (c .loop-test .left) (l .inv)
 
 pub halve-spec : {M : Type 1} → statement M
 halve-spec =

@@ -2,7 +2,7 @@
 use mathlib.Core.Path.{sym, ap, _∙_}
 use denote.Ref.{now}
 use lib.ListN.{length}
-use Rattle.table.specs.Format.{edition, newest}
+use Rattle.table.specs.Format.{firstEdition, newest}
 use Rattle.table.specs.Answers.{checkedAnswer}
 use Rattle.table.proofs.Sound.{headed}
 use Rattle.table.proofs.Passed.{passed-zero}
@@ -28,20 +28,20 @@ returns c =
 enum-told : tie.Need-enum-told
 enum-told c = search needs
 
-width-requires : tie.Need-width-requires
-width-requires c κs =
+row-size-of-requires : tie.Need-row-size-of-requires
+row-size-of-requires c κs =
     let h = c .before .before in
-    headed edition newest (now (h .before .before .args .file)) (passed-zero _ _ (c .enum-told .given .1) (h .check-head .ensures)) .long
+    headed firstEdition newest (now (h .before .before .args .file)) (passed-zero _ _ (c .enum-told .given .1) (h .check-head .ensures)) .long
 
 count-requires : tie.Need-count-requires
 count-requires c κs =
     let h = c .before .before .before in
-    headed edition newest (now (h .before .before .args .file)) (passed-zero _ _ (c .before .enum-told .given .1) (h .check-head .ensures)) .long
+    headed firstEdition newest (now (h .before .before .args .file)) (passed-zero _ _ (c .before .enum-told .given .1) (h .check-head .ensures)) .long
 
 halve-requires : tie.Need-halve-requires
 halve-requires c κs =
     let h = c .before .before .before .before in
-    rw (c .count .ensures, c .before .width .ensures) (headed edition newest (now (h .before .before .args .file)) (passed-zero _ _ (c .before .before .enum-told .given .1) (h .check-head .ensures)) .table)
+    rw (c .count .ensures, c .before .row-size-of .ensures) (headed firstEdition newest (now (h .before .before .args .file)) (passed-zero _ _ (c .before .before .enum-told .given .1) (h .check-head .ensures)) .table)
 
 returns-2 : tie.Need-returns-2
 returns-2 c =
@@ -49,7 +49,7 @@ returns-2 c =
     let h = t .before .before in
     let a = h .before .before .args in
     let g = goes (now (a .file)) (a .job) (passed-zero _ _ (t .enum-told .given .1) (h .check-head .ensures)) in
-    rw (g, ← c .before .count .ensures, ← c .before .before .width .ensures) (c .halve .ensures)
+    rw (g, ← c .before .count .ensures, ← c .before .before .row-size-of .ensures) (c .halve .ensures)
 
 pub search-spec : {M : Type 1} → statement M
 search-spec =
@@ -59,7 +59,7 @@ search-spec =
     enum-known-x
     returns
     enum-told
-    width-requires
+    row-size-of-requires
     count-requires
     halve-requires
     returns-2)

@@ -3,7 +3,7 @@ use mathlib.Core.Path.{sym}
 use native.Mathlib.Omega.{arith}
 use denote.Ref.{now}
 use Rattle.shift.specs.Lookup.{lookupJob}
-use Rattle.table.specs.Format.{edition, newest}
+use Rattle.table.specs.Format.{firstEdition, newest}
 use Rattle.table.proofs.Passed.{passes, passed-zero, refused-stands}
 use borrow.Author.Needs.{needs}
 use Rattle.shift.proofs.lookup.Statement.{statement}
@@ -22,31 +22,31 @@ returns c = sym (refused-stands _ _ _ _ (c .before .x .given .1) (c .before .bef
 enum-told : tie.Need-enum-told
 enum-told c = search needs
 
-width-requires : tie.Need-width-requires
-width-requires c κs =
+row-size-of-requires : tie.Need-row-size-of-requires
+row-size-of-requires c κs =
     let h = c .before .before in
     let f = now (h .before .before .args .file) in
-    passes edition newest f (passed-zero _ _ (c .enum-told .given .1) (h .check .ensures)) .head .long
+    passes firstEdition newest f (passed-zero _ _ (c .enum-told .given .1) (h .check .ensures)) .head .long
 
 count-requires : tie.Need-count-requires
 count-requires c κs =
     let h = c .before .before .before in
     let f = now (h .before .before .args .file) in
-    let k = passes edition newest f (passed-zero _ _ (c .before .enum-told .given .1) (h .check .ensures)) .head .long in
+    let k = passes firstEdition newest f (passed-zero _ _ (c .before .enum-told .given .1) (h .check .ensures)) .head .long in
     omega arith
 
 find-job-requires : tie.Need-find-job-requires
 find-job-requires c κs =
     let h = c .before .before .before .before in
     let f = now (h .before .before .args .file) in
-    let k = passes edition newest f (passed-zero _ _ (c .before .before .enum-told .given .1) (h .check .ensures)) in
-    rw (c .count .ensures, c .before .width .ensures) (k .head .table)
+    let k = passes firstEdition newest f (passed-zero _ _ (c .before .before .enum-told .given .1) (h .check .ensures)) in
+    rw (c .count .ensures, c .before .row-size-of .ensures) (k .head .table)
 
 returns-2 : tie.Need-returns-2
 unfolding lookupJob
 returns-2 c =
     let z = passed-zero _ _ (c .before .before .before .enum-told .given .1) (c .before .before .before .before .before .check .ensures) in
-    simp (z, ← c .before .count .ensures, ← c .before .before .width .ensures, c .find-job .ensures)
+    simp (z, ← c .before .count .ensures, ← c .before .before .row-size-of .ensures, c .find-job .ensures)
 
 pub lookup-spec : {M : Type 1} → statement M
 lookup-spec =
@@ -56,7 +56,7 @@ lookup-spec =
     enum-known-x
     returns
     enum-told
-    width-requires
+    row-size-of-requires
     count-requires
     find-job-requires
     returns-2)

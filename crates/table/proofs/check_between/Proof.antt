@@ -23,31 +23,31 @@ returns : tie.Need-returns
 unfolding checkBetween
 returns c = ap checkedAnswer (c .enum-told2 .given .1) ∙ sym (refused-stands _ _ _ _ (c .enum-told2 .given .1) (c .before .before .check-head .ensures))
 
-width-requires : tie.Need-width-requires
-width-requires c κs =
+row-size-of-requires : tie.Need-row-size-of-requires
+row-size-of-requires c κs =
     let h = c .before .before in
     let a = h .before .before .args in
-    headed (a .low) (a .high) (now (a .f)) (passed-zero _ _ (c .enum-told .given .1) (h .check-head .ensures)) .long
+    headed (a .low) (a .high) (now (a .file)) (passed-zero _ _ (c .enum-told .given .1) (h .check-head .ensures)) .long
 
 count-requires : tie.Need-count-requires
 count-requires c κs =
     let h = c .before .before .before in
     let a = h .before .before .args in
-    let k = headed (a .low) (a .high) (now (a .f)) (passed-zero _ _ (c .before .enum-told .given .1) (h .check-head .ensures)) in
+    let k = headed (a .low) (a .high) (now (a .file)) (passed-zero _ _ (c .before .enum-told .given .1) (h .check-head .ensures)) in
     omega arith
 
 check-rows-requires : tie.Need-check-rows-requires
 check-rows-requires c κs =
     let h = c .before .before .before .before in
     let a = h .before .before .args in
-    let k = headed (a .low) (a .high) (now (a .f)) (passed-zero _ _ (c .before .before .enum-told .given .1) (h .check-head .ensures)) in
-    rw (c .count .ensures, c .before .width .ensures) (k .table)
+    let k = headed (a .low) (a .high) (now (a .file)) (passed-zero _ _ (c .before .before .enum-told .given .1) (h .check-head .ensures)) in
+    rw (c .count .ensures, c .before .row-size-of .ensures) (k .table)
 
 returns-2 : tie.Need-returns-2
 unfolding checkBetween
 returns-2 c =
     let z = passed-zero _ _ (c .before .before .before .enum-told .given .1) (c .before .before .before .before .before .check-head .ensures) in
-    simp (z, ← c .before .count .ensures, ← c .before .before .width .ensures, c .check-rows .ensures)
+    simp (z, ← c .before .count .ensures, ← c .before .before .row-size-of .ensures, c .check-rows .ensures)
 
 pub check-between-spec : {M : Type 1} → statement M
 check-between-spec =
@@ -57,7 +57,7 @@ check-between-spec =
     enum-told
     enum-told-2
     returns
-    width-requires
+    row-size-of-requires
     count-requires
     check-rows-requires
     returns-2)

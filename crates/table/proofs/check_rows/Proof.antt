@@ -44,7 +44,7 @@ check-row-requires c κs =
     let s = t .before .before .before .before in
     let h = l .inv .1 .1 in
     let q = c .has .ensures ∙ ap (has (l .seen)) (m .mark .ensures) in
-    (s .pre, (t .loop-test .taken, (h .0, (subst (Sieved (s .args .w) (now (s .args .f)) (l .i)) (sym q) (sieved (s .args .w) (now (s .args .f)) (l .i) (l .seen) (h .1 .0) (h .0)), h .1 .1))))
+    (s .pre, (t .loop-test .taken, (h .0, (subst (Sieved (s .args .size) (now (s .args .file)) (l .i)) (sym q) (sieved (s .args .size) (now (s .args .file)) (l .i) (l .seen) (h .1 .0) (h .0)), h .1 .1))))
 
 enum-known-fault : tie.Need-enum-known-fault Inv-loop μ-loop
 enum-known-fault c = search needs
@@ -54,7 +54,7 @@ returns c =
     let p = c .before .before .before in
     let t = p .before .before .before .before in
     let a = t .before .before .before .before .args in
-    rows-bad (a .w) (now (a .f)) (a .n) _ (c .before .fault .given .0 .0) (t .loop-test .taken) (ap rowNumberOf (sym (c .before .fault .given .1)) ∙ p .check-row .ensures)
+    rows-bad (a .size) (now (a .file)) (a .rows) _ (c .before .fault .given .0 .0) (t .loop-test .taken) (ap rowNumberOf (sym (c .before .fault .given .1)) ∙ p .check-row .ensures)
     ∙ sym (t .before .loop .inv .1 .0)
 
 enum-told : tie.Need-enum-told Inv-loop μ-loop
@@ -88,10 +88,10 @@ loop-again c =
     let q = u .put .ensures ∙ ap (with (l .seen)) (m .mark .ensures) in (
       omega arith,
       (
-        h .0 ∙ rows-sound (a .w) (now (a .f)) (a .n) _ (t .loop-test .taken) z,
+        h .0 ∙ rows-sound (a .size) (now (a .file)) (a .rows) _ (t .loop-test .taken) z,
         (
-          spared-more (a .w) (now (a .f)) _ (h .1 .0) (sound (a .w) (now (a .f)) (a .n) _ (sym z) .spare),
-          (subst (Left (a .w) (now (a .f)) (l .i + 1)) (sym q) (left-more (a .w) (now (a .f)) (l .i) (l .seen) (h .1 .1 .0)), c .body-start2 .ensures),
+          spared-more (a .size) (now (a .file)) _ (h .1 .0) (sound (a .size) (now (a .file)) (a .rows) _ (sym z) .spare),
+          (subst (Left (a .size) (now (a .file)) (l .i + 1)) (sym q) (left-more (a .size) (now (a .file)) (l .i) (l .seen) (h .1 .1 .0)), c .body-start2 .ensures),
         ),
       ),
     )
@@ -106,8 +106,8 @@ returns-2 c =
     let t = c .before in
     let l = t .before .loop in
     let a = t .before .before .before .before .args in
-    let e = ended (a .w) (now (a .f)) (a .n) (l .i) (l .start) (l .inv .1 .1 .1 .1) (l .inv .0) (t .loop-test .left) in
-    rw (l .inv .1 .0, rows-end (a .w) (now (a .f)) (a .n) _ (t .loop-test .left)) (simp (← e, ne-eqb _ _ (c .if1 .taken)))
+    let e = ended (a .size) (now (a .file)) (a .rows) (l .i) (l .start) (l .inv .1 .1 .1 .1) (l .inv .0) (t .loop-test .left) in
+    rw (l .inv .1 .0, rows-end (a .size) (now (a .file)) (a .rows) _ (t .loop-test .left)) (simp (← e, ne-eqb _ _ (c .if1 .taken)))
 
 returns-3 : tie.Need-returns-3 Inv-loop μ-loop
 unfolding endAnswer
@@ -115,8 +115,8 @@ returns-3 c =
     let t = c .before in
     let l = t .before .loop in
     let a = t .before .before .before .before .args in
-    let e = ended (a .w) (now (a .f)) (a .n) (l .i) (l .start) (l .inv .1 .1 .1 .1) (l .inv .0) (t .loop-test .left) in
-    rw (l .inv .1 .0, rows-end (a .w) (now (a .f)) (a .n) _ (t .loop-test .left)) (simp (← e, eq-eqb _ _ (c .if1 .left)))
+    let e = ended (a .size) (now (a .file)) (a .rows) (l .i) (l .start) (l .inv .1 .1 .1 .1) (l .inv .0) (t .loop-test .left) in
+    rw (l .inv .1 .0, rows-end (a .size) (now (a .file)) (a .rows) _ (t .loop-test .left)) (simp (← e, eq-eqb _ _ (c .if1 .left)))
 
 pub check-rows-spec : {M : Type 1} → statement M
 check-rows-spec =

@@ -6,7 +6,7 @@ use mathlib.Core.Path.{sym, ap, ap₂, _∙_}
 use native.Mathlib.Omega.{arith}
 use Prim.Native.Nat.{ℕ}
 use Rattle.table.specs.Answers.{answer}
-use Rattle.table.specs.Format.{edition}
+use Rattle.table.specs.Format.{firstEdition}
 use Rattle.draft.specs.Put.{putAll}
 use Rattle.draft.specs.Files.{draftEdition, inEdition, pieceStart, sealedPiece, sealedFile}
 use Rattle.draft.specs.Answers.{writes}
@@ -63,7 +63,7 @@ returns-2 c =
     let f = now (s .draft) in
     let ring = now (s .ring) in
     let done = sym (ap writtenAnswer (c .before .before .before .before .before .before .before .before .before .before .before .before .before .enum-told .given .1)) ∙ c .before .before .before .before .before .before .before .before .before .before .before .before .before .before .before .seal-refused .ensures in
-    let base = c .before .before .before .before .before .before .before .put-edition .ensures ∙ ap (inEdition edition) (c .before .before .before .before .before .before .before .before .before .before .before .copy .ensures) in
+    let base = c .before .before .before .before .before .before .before .put-edition .ensures ∙ ap (inEdition firstEdition) (c .before .before .before .before .before .before .before .before .before .before .before .copy .ensures) in
     ap (writes (answer 0 0)) (c .before .before .seal-rows .ensures ∙ ap₂ (λ (k : ℕ) (l : List ℕ). putAll (pieceStart f) (sealedPiece f ring) k l) (c .before .before .before .before .count .ensures) base)
     ∙ sym (sealing-is f ring (now (s .out)) (answer 0 0) done)
 

@@ -4,7 +4,7 @@ use denote.Ref.{now}
 use mathlib.Core.Path.{sym, ap, _∙_}
 use native.Mathlib.Omega.{arith}
 use Rattle.table.specs.declared.answers.Answer.{Answer}
-use Rattle.table.specs.Format.{edition}
+use Rattle.table.specs.Format.{firstEdition}
 use Rattle.draft.specs.Put.{putAll}
 use Rattle.draft.specs.Files.{draftEdition, inEdition, pieceStart, draftPiece, draftFile}
 use Rattle.draft.specs.Answers.{wrongFrom, leaves}
@@ -34,18 +34,18 @@ put-edition-requires : tie.Need-put-edition-requires
 put-edition-requires c κs =
     let s = c .before .before .before .before .before .before .before .before .before .before .before .args in
     let q = open-can (now (s .file)) _ _ _ (c .before .before .before .before .before .before .before .unseal-refused .ensures) (c .before .before .before .before .before .enum-told .given .1) in
-    omega (arith, c .before .before .before .copy .kept .1 .0, q .room .out-long, header-in edition (now (s .file)) plain-file (q .passed))
+    omega (arith, c .before .before .before .copy .kept .1 .0, q .room .out-long, header-in firstEdition (now (s .file)) plain-file (q .passed))
 
 count-requires : tie.Need-count-requires
 count-requires c κs =
     let s = c .before .before .before .before .before .before .before .before .before .before .before .before .before .before .args in
-    header-in edition (now (s .file)) plain-file (open-can (now (s .file)) _ _ _ (c .before .before .before .before .before .before .before .before .before .before .unseal-refused .ensures) (c .before .before .before .before .before .before .before .before .enum-told .given .1) .passed)
+    header-in firstEdition (now (s .file)) plain-file (open-can (now (s .file)) _ _ _ (c .before .before .before .before .before .before .before .before .before .before .unseal-refused .ensures) (c .before .before .before .before .before .before .before .before .enum-told .given .1) .passed)
 
 unseal-rows-requires : tie.Need-unseal-rows-requires
 unseal-rows-requires c κs =
     let s = c .before .before .before .before .before .before .before .before .before .before .before .before .before .before .before .before .args in
     let q = open-can (now (s .file)) _ _ _ (c .before .before .before .before .before .before .before .before .before .before .before .before .unseal-refused .ensures) (c .before .before .before .before .before .before .before .before .before .before .enum-told .given .1) in
-    writable edition (now (s .file)) plain-file (q .passed) _ _ _ (c .before .count .ensures) (q .room .ring-long)
+    writable firstEdition (now (s .file)) plain-file (q .passed) _ _ _ (c .before .count .ensures) (q .room .ring-long)
     (c .before .before .before .before .put-edition .kept .1 .0 ∙ c .before .before .before .before .before .before .before .before .copy .kept .1 .0 ∙ q .room .out-long)
 
 same-length : tie.Need-same-length

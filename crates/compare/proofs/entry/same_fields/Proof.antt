@@ -15,7 +15,7 @@ returns-2 : tie.Need-returns-2
 unfolding sameFields
 returns-2 c = simp (eq-eqb _ _ (c .before .before .before .if1 .left), ne-eqb _ _ (c .if2 .taken))
 
-last-test : (x y : Row) → x .suite ≡ y .suite → x .key ≡ y .key → eqb (x .ad) (y .ad) ≡ sameFields x y
+last-test : (x y : Row) → x .suite ≡ y .suite → x .key ≡ y .key → eqb (x .«ad_len») (y .«ad_len») ≡ sameFields x y
 unfolding sameFields
 last-test x y s k = simp (eq-eqb _ _ s, eq-eqb _ _ k)
 

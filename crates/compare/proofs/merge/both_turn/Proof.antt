@@ -1,7 +1,7 @@
 -- The lower job is in its file alone; equal jobs are in both, and their entries are compared.
 use native.Mathlib.Omega.{arith}
 use denote.Ref.{now}
-use Rattle.table.specs.Format.{edition, newest}
+use Rattle.table.specs.Format.{firstEdition, newest}
 use Rattle.table.proofs.Passed.{passes, entry-in}
 use Rattle.compare.proofs.Passing.{few-rows}
 use Rattle.compare.proofs.Turns.{first-case, second-case, both-case}
@@ -43,7 +43,7 @@ same-entry-requires : tie.Need-same-entry-requires
 same-entry-requires c κs =
     let p = c .before .before .before .before .before .before in
     let s = p .pre .0 .sound in
-    (entry-in edition newest _ (passes edition newest _ (s .first)) _ (p .pre .1), entry-in edition newest _ (passes edition newest _ (s .second)) _ (p .pre .2))
+    (entry-in firstEdition newest _ (passes firstEdition newest _ (s .first)) _ (p .pre .1), entry-in firstEdition newest _ (passes firstEdition newest _ (s .second)) _ (p .pre .2))
 
 add-t9 : tie.Need-add-t9
 add-t9 c =

@@ -31,8 +31,8 @@ returns c =
     let u = c .before .before in
     let b = u .before .before .before .before in
     let a = b .before .before .args in
-    let q = ap (take 4) (b .store2-32 .ensures) ∙ take-bytes (a .x) 0 in
-    front-is (now (a .out)) (u .put .last .0) _ _ (a .at) 4 (u .put .ensures) q (ap length q ∙ length-bytes 4 (a .x))
+    let q = ap (take 4) (b .store2-32 .ensures) ∙ take-bytes (a .number) 0 in
+    front-is (now (a .out)) (u .put .last .0) _ _ (a .at) 4 (u .put .ensures) q (ap length q ∙ length-bytes 4 (a .number))
 
 pub put32-spec : {M : Type 1} → statement M
 put32-spec =

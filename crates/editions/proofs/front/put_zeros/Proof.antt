@@ -4,7 +4,8 @@ use mathlib.Core.Path.{_≡_, ap, _∙_}
 use native.Mathlib.Omega.{arith}
 use lib.ListN.{length, take, replicate, length-replicate}
 use denote.Ref.{now}
-use Rattle.editions.proofs.Fronts.{front-is, take-zeros}
+use Rattle.words.proofs.Lists.{take-replicate}
+use Rattle.editions.proofs.Fronts.{front-is}
 use borrow.Author.Needs.{needs}
 use Rattle.editions.proofs.front.put_zeros.Statement.{statement}
 use Rattle.editions.proofs.front.put_zeros.Tie as tie
@@ -30,7 +31,7 @@ returns c =
     let a = u .before .before .before .before .before .args in
     let z : a .len - 0 ≡ a .len = omega arith in
     let q : take (a .len - 0) (replicate {A = ℕ} 4 0) ≡ replicate (a .len) 0 =
-    ap (λ (k : ℕ). take k (replicate {A = ℕ} 4 0)) z ∙ take-zeros (a .len) 4 (u .before .before .before .before .before .pre .1) in
+    ap (λ (k : ℕ). take k (replicate {A = ℕ} 4 0)) z ∙ take-replicate (a .len) 4 0 (u .before .before .before .before .before .pre .1) in
     front-is (now (a .out)) (u .put .last .0) _ _ (a .at) (a .len) (u .put .ensures) q (ap length q ∙ length-replicate (a .len) 0)
 
 pub put-zeros-spec : {M : Type 1} → statement M

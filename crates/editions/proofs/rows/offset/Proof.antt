@@ -10,7 +10,7 @@ use Rattle.editions.proofs.rows.offset.Statement.{statement}
 use Rattle.editions.proofs.rows.offset.Tie as tie
 
 abbrev atOf : Row → ℕ
-atOf r = r .at
+atOf r = r .«ad_at»
 
 row-at-requires : tie.Need-row-at-requires
 row-at-requires c κs = row-in _ _ _ _ (c .before .pre .0 .table) (c .before .pre .1)
@@ -28,7 +28,7 @@ sub-result : tie.Need-sub-result
 sub-result c =
     let r = c .before .before .before in
     let s = r .before .before in
-    omega (arith, c .before .row-start .ensures, ap atOf (r .row-at .ensures), s .pre .0 .behind (s .args .i) (s .pre .1))
+    omega (arith, c .before .row-start .ensures, ap atOf (r .row-at .ensures), s .pre .0 .behind (s .args .index) (s .pre .1))
 
 add-result : tie.Need-add-result
 add-result c = search needs
@@ -38,7 +38,7 @@ unfolding carried
 cast-result c =
     let r = c .before .before .before in
     let s = r .before .before in
-    omega (arith, c .before .row-start .ensures, c .row-start2 .ensures, ap atOf (r .row-at .ensures), s .pre .0 .behind (s .args .i) (s .pre .1), s .pre .0 .within (s .args .i) (s .pre .1), s .pre .0 .small)
+    omega (arith, c .before .row-start .ensures, c .row-start2 .ensures, ap atOf (r .row-at .ensures), s .pre .0 .behind (s .args .index) (s .pre .1), s .pre .0 .within (s .args .index) (s .pre .1), s .pre .0 .small)
 
 returns : tie.Need-returns
 unfolding carried

@@ -9,27 +9,27 @@ use Rattle.editions.proofs.rows.put_job.Tie as tie
 row-start-requires : tie.Need-row-start-requires
 row-start-requires c κs =
     let s = c .before .before in
-    let new = new-row (s .args .w) (s .args .v) (now (s .args .f)) (s .args .n) (s .args .i) (s .pre .0) (s .pre .1 .0) in
+    let new = new-row (s .args .from) (s .args .to) (now (s .args .file)) (s .args .rows) (s .args .index) (s .pre .0) (s .pre .1 .0) in
     omega (arith, new .1)
 
 row-start-requires-2 : tie.Need-row-start-requires-2
 row-start-requires-2 c κs =
     let s = c .before .before .before in
-    let old = old-row (s .args .w) (s .args .v) (now (s .args .f)) (s .args .n) (s .args .i) (s .pre .0) (s .pre .1 .0) in
+    let old = old-row (s .args .from) (s .args .to) (now (s .args .file)) (s .args .rows) (s .args .index) (s .pre .0) (s .pre .1 .0) in
     omega (arith, old .0)
 
 put-part-requires : tie.Need-put-part-requires
 put-part-requires c κs =
     let s = c .before .before .before .before .before in
-    let new = new-row (s .args .w) (s .args .v) (now (s .args .f)) (s .args .n) (s .args .i) (s .pre .0) (s .pre .1 .0) in
-    let old = old-row (s .args .w) (s .args .v) (now (s .args .f)) (s .args .n) (s .args .i) (s .pre .0) (s .pre .1 .0) in
+    let new = new-row (s .args .from) (s .args .to) (now (s .args .file)) (s .args .rows) (s .args .index) (s .pre .0) (s .pre .1 .0) in
+    let old = old-row (s .args .from) (s .args .to) (now (s .args .file)) (s .args .rows) (s .args .index) (s .pre .0) (s .pre .1 .0) in
     (omega (arith, c .before .before .row-start .ensures, new .0, s .pre .1 .1, s .pre .0 .broad), omega (arith, c .before .row-start2 .ensures, old))
 
 add-put-zeros : tie.Need-add-put-zeros
 add-put-zeros c =
     let r = c .before .before .before .before .before .before in
     let s = r .before .before .before in
-    let new = new-row (s .args .w) (s .args .v) (now (s .args .f)) (s .args .n) (s .args .i) (s .pre .0) (s .pre .1 .0) in
+    let new = new-row (s .args .from) (s .args .to) (now (s .args .file)) (s .args .rows) (s .args .index) (s .pre .0) (s .pre .1 .0) in
     omega (arith, r .row-start .ensures, new .1)
 
 sub-put-zeros : tie.Need-sub-put-zeros
@@ -40,7 +40,7 @@ put-zeros-requires c κs =
     let p = c .before .before .before in
     let r = p .before .before .before in
     let s = r .before .before .before in
-    let new = new-row (s .args .w) (s .args .v) (now (s .args .f)) (s .args .n) (s .args .i) (s .pre .0) (s .pre .1 .0) in
+    let new = new-row (s .args .from) (s .args .to) (now (s .args .file)) (s .args .rows) (s .args .index) (s .pre .0) (s .pre .1 .0) in
     (omega (arith, p .put-part .kept .0, r .row-start .ensures, new .0, s .pre .1 .1, s .pre .0 .broad), omega (arith, s .pre .0 .narrow))
 
 same-length : tie.Need-same-length
@@ -53,7 +53,7 @@ returns c =
     let r = t .before .before .before in
     let s = r .before .before .before in
     let a = s .args in
-    job-put (now (a .f)) (now (a .out)) (t .put-part .last .0) (u .put-zeros .last .0) (a .w) (a .v) (a .i) _ _ (s .pre .0 .broad) (r .row-start .ensures) (t .before .before .row-start2 .ensures)
+    job-put (now (a .file)) (now (a .out)) (t .put-part .last .0) (u .put-zeros .last .0) (a .from) (a .to) (a .index) _ _ (s .pre .0 .broad) (r .row-start .ensures) (t .before .before .row-start2 .ensures)
     (t .put-part .ensures) (u .put-zeros .ensures)
 
 pub put-job-spec : {M : Type 1} → statement M

@@ -19,7 +19,7 @@ abbrev μ-loop : tie.MeasureT-loop
 μ-loop out₀ w v f n i₀ out i = n - i
 
 loop-holds : tie.Need-loop-holds Inv-loop μ-loop
-loop-holds c = let a = c .before .before .args in (omega arith, refl, rows-start (now (a .f)) (now (a .out)) (a .w) (a .v) (a .n))
+loop-holds c = let a = c .before .before .args in (omega arith, refl, rows-start (now (a .file)) (now (a .out)) (a .from) (a .to) (a .rows))
 
 put-row-requires : tie.Need-put-row-requires Inv-loop μ-loop
 put-row-requires c κs = let s = c .before .before .before .before .before in (s .pre .0, (c .before .loop-test .taken, omega (arith, c .before .before .loop .inv .1, s .pre .1)))
@@ -35,7 +35,7 @@ loop-again c =
     let u = c .before .before in
     let l = c .before .before .before .before .before .loop in
     let a = c .before .before .before .before .before .before .before .before .args in
-    (omega arith, u .put-row .kept .0 ∙ l .inv .1, rows-put (now (a .f)) (now (a .out)) (l .out) (u .put-row .last .0) (a .w) (a .v) (a .n) (l .i) (l .inv .2) (u .put-row .ensures))
+    (omega arith, u .put-row .kept .0 ∙ l .inv .1, rows-put (now (a .file)) (now (a .out)) (l .out) (u .put-row .last .0) (a .from) (a .to) (a .rows) (l .i) (l .inv .2) (u .put-row .ensures))
 
 same-length : tie.Need-same-length Inv-loop μ-loop
 same-length c = c .before .loop .inv .1
@@ -44,7 +44,7 @@ returns : tie.Need-returns Inv-loop μ-loop
 returns c =
     let a = c .before .before .before .before .args in
     let l = c .before .loop in
-    let e : l .i ≡ a .n = omega arith in
+    let e : l .i ≡ a .rows = omega arith in
     rw e at (l .inv .2)
 
 pub put-rows-spec : {M : Type 1} → statement M

@@ -1,7 +1,7 @@
 -- A refused header lays no rows down; else it says how many.
 use mathlib.Core.Path.{sym, ap, _∙_}
 use denote.Ref.{now}
-use Rattle.table.specs.Format.{edition, newest}
+use Rattle.table.specs.Format.{firstEdition, newest}
 use Rattle.table.specs.Answers.{checkedAnswer}
 use Rattle.table.proofs.Sound.{headed}
 use Rattle.table.proofs.Passed.{passed-zero}
@@ -25,7 +25,7 @@ enum-told-2 c = search needs
 count-requires : tie.Need-count-requires
 count-requires c κs =
     let k = c .before .before in
-    headed edition newest (now (k .before .before .args .file)) (passed-zero _ _ (c .enum-told2 .given .1) (k .check-head .ensures)) .long
+    headed firstEdition newest (now (k .before .before .args .file)) (passed-zero _ _ (c .enum-told2 .given .1) (k .check-head .ensures)) .long
 
 returns-2 : tie.Need-returns-2
 returns-2 c = c .count .ensures ∙ sym (laid-all _ (passed-zero _ _ (c .before .enum-told2 .given .1) (c .before .before .before .check-head .ensures)))

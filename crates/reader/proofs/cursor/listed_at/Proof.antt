@@ -11,19 +11,19 @@ row-of-requires c κs = search needs
 station-of-requires : tie.Need-station-of-requires
 station-of-requires c κs = search needs
 
-width-requires : tie.Need-width-requires
-width-requires c κs = search needs
+row-size-of-requires : tie.Need-row-size-of-requires
+row-size-of-requires c κs = search needs
 
 nonce-start-requires : tie.Need-nonce-start-requires
 nonce-start-requires c κs =
     let s = c .before .before .before .before in
-    let p : RowIn (c .width .result) (now (s .args .f)) (s .args .i) = rw (c .width .ensures) (s .pre) in
+    let p : RowIn (c .row-size-of .result) (now (s .args .file)) (s .args .index) = rw (c .row-size-of .ensures) (s .pre) in
     search (needs, p)
 
 returns : tie.Need-returns
 returns c =
     let w = c .before in
-    rw (w .before .before .row-of .ensures, w .before .station-of .ensures, c .nonce-start .ensures .0, w .width .ensures)
+    rw (w .before .before .row-of .ensures, w .before .station-of .ensures, c .nonce-start .ensures .0, w .row-size-of .ensures)
 
 pub listed-at-spec : {M : Type 1} → statement M
 listed-at-spec =
@@ -31,6 +31,6 @@ listed-at-spec =
     (tie.spec
     row-of-requires
     station-of-requires
-    width-requires
+    row-size-of-requires
     nonce-start-requires
     returns)

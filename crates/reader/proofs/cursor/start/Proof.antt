@@ -1,7 +1,7 @@
 -- A refused file has no rows; one that passes has its header.
 use mathlib.Core.Path.{sym, ap, _∙_}
 use denote.Ref.{now}
-use Rattle.table.specs.Format.{edition, newest}
+use Rattle.table.specs.Format.{firstEdition, newest}
 use Rattle.table.specs.Answers.{checkedAnswer}
 use Rattle.table.proofs.Passed.{passed-zero, passes}
 use Rattle.reader.proofs.Asking.{rows-none, rows-all}
@@ -24,7 +24,7 @@ enum-told-2 c = search needs
 count-requires : tie.Need-count-requires
 count-requires c κs =
     let k = c .before .before in
-    passes edition newest (now (k .before .before .args .file)) (passed-zero _ _ (c .enum-told2 .given .1) (k .check .ensures)) .head .long
+    passes firstEdition newest (now (k .before .before .args .file)) (passed-zero _ _ (c .enum-told2 .given .1) (k .check .ensures)) .head .long
 
 returns-2 : tie.Need-returns-2
 returns-2 c = rw (c .count .ensures, rows-all _ (passed-zero _ _ (c .before .enum-told2 .given .1) (c .before .before .before .check .ensures)))

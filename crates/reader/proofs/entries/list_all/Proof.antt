@@ -5,7 +5,7 @@ use mathlib.Core.Path.{_≡_, ap}
 use denote.Ref.{now}
 use borrow.Author.Needs.{needs}
 use Rattle.table.specs.declared.row.Row.{Row}
-use Rattle.table.specs.Format.{edition, newest, countOf}
+use Rattle.table.specs.Format.{firstEdition, newest, countOf}
 use Rattle.table.proofs.Passed.{passes, entry-in}
 use Rattle.reader.specs.Reporting.{jobOf, tagNumber, front}
 use Rattle.reader.proofs.Fronts.{front-none, front-step, front-length}
@@ -24,9 +24,9 @@ loop-holds c = (omega arith, front-none _ _, front-none _ _)
 row-of-requires : tie.Need-row-of-requires Inv-loop μ-loop
 row-of-requires c κs =
     let p = c .before .before .before .before .before .before in
-    let f = now (p .args .f) in
+    let f = now (p .args .file) in
     let l : c .before .loop .i < countOf f = omega (arith, p .pre .all, c .loop-test .taken) in
-    entry-in edition newest f (passes edition newest f (p .pre .passed)) _ l .row-in
+    entry-in firstEdition newest f (passes firstEdition newest f (p .pre .passed)) _ l .row-in
 
 mul-jobs : tie.Need-mul-jobs Inv-loop μ-loop
 mul-jobs c =
@@ -43,9 +43,9 @@ slice-write-jobs c =
 tag-number-requires : tie.Need-tag-number-requires Inv-loop μ-loop
 tag-number-requires c κs =
     let p = c .before .before .before .before .before .before .before in
-    let f = now (p .args .f) in
+    let f = now (p .args .file) in
     let l : c .before .before .loop .i < countOf f = omega (arith, p .pre .all, c .before .loop-test .taken) in
-    let e = entry-in edition newest f (passes edition newest f (p .pre .passed)) _ l in
+    let e = entry-in firstEdition newest f (passes firstEdition newest f (p .pre .passed)) _ l in
     record { is-row = c .row-of .ensures; entry = e; ring-long = p .pre .ring-long }
 
 slice-write-numbers : tie.Need-slice-write-numbers Inv-loop μ-loop
@@ -68,8 +68,8 @@ loop-again c =
     let h = t .before .loop .inv in
     let job = ap (λ (r : Row). r .job) (c .before .row-of .ensures) in (
       omega arith,
-      front-step (jobOf (now (p .args .f))) _ _ _ _ (omega (arith, p .pre .jobs-room, t .loop-test .taken)) (h .1) job,
-      front-step (tagNumber (now (p .args .f)) (now (p .args .ring))) _ _ _ _ (omega (arith, p .pre .numbers-room, t .loop-test .taken)) (h .2) (c .tag-number .ensures),
+      front-step (jobOf (now (p .args .file))) _ _ _ _ (omega (arith, p .pre .jobs-room, t .loop-test .taken)) (h .1) job,
+      front-step (tagNumber (now (p .args .file)) (now (p .args .ring))) _ _ _ _ (omega (arith, p .pre .numbers-room, t .loop-test .taken)) (h .2) (c .tag-number .ensures),
     )
 
 same-length : tie.Need-same-length Inv-loop μ-loop
@@ -85,7 +85,7 @@ same-length-2 c =
 returns : tie.Need-returns Inv-loop μ-loop
 returns c =
     let h = c .before .loop .inv in
-    let e : c .before .loop .i ≡ c .before .before .before .before .before .before .args .n = omega (arith, h .0, c .loop-test .left) in
+    let e : c .before .loop .i ≡ c .before .before .before .before .before .before .args .rows = omega (arith, h .0, c .loop-test .left) in
     (rw e at (h .1), rw e at (h .2))
 
 pub list-all-spec : {M : Type 1} → statement M

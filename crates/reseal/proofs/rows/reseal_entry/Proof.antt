@@ -10,8 +10,8 @@ use Rattle.comet.specs.Answers.{numberOf}
 use Rattle.comet.proofs.Refuse.{other-some}
 use Rattle.shift.proofs.Entries.{lendable}
 use Rattle.draft.specs.Put.{put}
-use Rattle.writer.proofs.Lent.{open-told, put-over}
-use Rattle.reseal.proofs.Lent.{piece-in, text-in, text-own, opened-long, opened-in, piece-long, opened-is, can-seal, piece-four}
+use Rattle.writer.proofs.Lending.{open-told, put-over}
+use Rattle.reseal.proofs.Lending.{piece-in, text-in, text-own, opened-long, opened-in, piece-long, opened-is, can-seal, piece-four}
 use Rattle.reseal.proofs.rows.reseal_entry.Statement.{statement}
 use Rattle.reseal.proofs.rows.reseal_entry.Tie as tie
 
@@ -42,12 +42,12 @@ part-open-row-start c = search needs
 part-open-row-end : tie.Need-part-open-row-end
 part-open-row-end c =
     let s = c .before .before .before .before .before .before in
-    text-in (now (s .args .f)) (s .args .i) (s .args .row) (now (s .args .ring)) (now (s .args .out)) (s .pre) _ (c .text-start .ensures)
+    text-in (now (s .args .file)) (s .args .index) (s .args .row) (now (s .args .ring)) (now (s .args .out)) (s .pre) _ (c .text-start .ensures)
 
 open-row-requires : tie.Need-open-row-requires
 open-row-requires c κs =
     let s = c .before .before .before .before .before .before .before in
-    lendable (now (s .args .f)) (now (s .args .ring)) (s .args .i) (s .pre .row .entry) (s .pre .row .ring-long) _ (s .pre .is-row)
+    lendable (now (s .args .file)) (now (s .args .ring)) (s .args .index) (s .pre .row .entry) (s .pre .row .ring-long) _ (s .pre .is-row)
 
 enum-told : tie.Need-enum-told
 enum-told c = search needs
@@ -60,8 +60,8 @@ returns c =
     let s = c .before .before .before .before .before .before .before .before .before .before .before in
     let start = c .before .before .before .before .before .text-start in
     let call = c .before .before .before .open-row in
-    let lo = text-own (now (s .args .f)) (s .args .i) (s .args .row) (now (s .args .ring)) (now (s .args .out)) (s .pre) _ (start .ensures) in
-    let t = open-told (now (s .args .f)) (now (s .args .ring)) (s .args .i) (s .pre .row .entry) (s .pre .row .ring-long) _ _ _ lo (call .ensures) in
+    let lo = text-own (now (s .args .file)) (s .args .index) (s .args .row) (now (s .args .ring)) (now (s .args .out)) (s .pre) _ (start .ensures) in
+    let t = open-told (now (s .args .file)) (now (s .args .ring)) (s .args .index) (s .pre .row .entry) (s .pre .row .ring-long) _ _ _ lo (call .ensures) in
     (t .wrong (other-some (call .result) (c .match .keys2)), λ e. absurd (true≢false (sym e)))
 
 sub-seal-into : tie.Need-sub-seal-into
@@ -76,7 +76,7 @@ part-seal-into-end c =
     let start = c .before .before .before .before .before .before .text-start in
     let size = c .before .before .before .before .before .before .before .size-of in
     let call = c .before .before .before .before .open-row in
-    omega (arith, opened-in (now (s .args .f)) (s .args .i) (s .args .row) (now (s .args .ring)) (now (s .args .out)) (s .pre) _ (start .ensures) (call .last .1 .1 .1 .1 .0) (call .kept .1 .1 .1 .1 .0) _ (size .ensures .0))
+    omega (arith, opened-in (now (s .args .file)) (s .args .index) (s .args .row) (now (s .args .ring)) (now (s .args .out)) (s .pre) _ (start .ensures) (call .last .1 .1 .1 .1 .0) (call .kept .1 .1 .1 .1 .0) _ (size .ensures .0))
 
 seal-into-requires : tie.Need-seal-into-requires
 seal-into-requires c κs =
@@ -84,7 +84,7 @@ seal-into-requires c κs =
     let start = c .before .before .before .before .before .before .before .text-start in
     let size = c .before .before .before .before .before .before .before .before .size-of in
     let call = c .before .before .before .before .before .open-row in
-    can-seal (now (s .args .f)) (s .args .i) (s .args .row) (now (s .args .ring)) (now (s .args .out)) (s .pre) _ (start .ensures) (call .last .1 .1 .1 .1 .0) (call .kept .1 .1 .1 .1 .0) _ (size .ensures .0)
+    can-seal (now (s .args .file)) (s .args .index) (s .args .row) (now (s .args .ring)) (now (s .args .out)) (s .pre) _ (start .ensures) (call .last .1 .1 .1 .1 .0) (call .kept .1 .1 .1 .1 .0) _ (size .ensures .0)
 
 same-length-2 : tie.Need-same-length-2
 same-length-2 c =
@@ -92,8 +92,8 @@ same-length-2 c =
     let call = c .before .before .before .before .before .before .before .before .open-row in
     let seal = c .before .before .seal-into in
     let a = c .before .before .before .before .before .before .before .before .before .before .text-start .result in
-    let b = a + s .args .row .len in
-    let e = a + (s .args .row .len + c .before .before .before .before .before .before .before .before .before .before .before .size-of .result) in
+    let b = a + s .args .row .«text_len» in
+    let e = a + (s .args .row .«text_len» + c .before .before .before .before .before .before .before .before .before .before .before .size-of .result) in
     let out = now (s .args .out) in
     let x = call .last .1 .1 .1 .1 .0 in
     same-len-mid a (e - a) (putMid a (b - a) out x) (seal .last .1 .1 .1 .1 .1 .0) (seal .kept .1 .1 .1 .1 .1 .0) ∙ same-len-mid a (b - a) out x (call .kept .1 .1 .1 .1 .0)
@@ -105,9 +105,9 @@ returns-2 c =
     let size = c .before .before .before .before .before .before .before .before .before .before .before .size-of in
     let call = c .before .before .before .before .before .before .before .before .open-row in
     let seal = c .before .before .seal-into in
-    let f = now (s .args .f) in
+    let f = now (s .args .file) in
     let ring = now (s .args .ring) in
-    let i = s .args .i in
+    let i = s .args .index in
     let r = s .args .row in
     let out = now (s .args .out) in
     let a = start .result in
@@ -119,7 +119,7 @@ returns-2 c =
     let t = open-told f ring i (s .pre .row .entry) (s .pre .row .ring-long) _ _ _ (text-own f i r ring out (s .pre) a (start .ensures)) (call .ensures) .done (ap numberOf (c .before .before .before .before .enum-told .given .1)) in (
       t .0,
       λ e.
-          put-over out x y a (a + r .len) (a + (r .len + n)) (omega arith) (omega arith) (piece-in f i r ring out (s .pre) a n (start .ensures) (size .ensures .0)) (opened-long f i r ring out (s .pre) a (start .ensures) x k) ly
+          put-over out x y a (a + r .«text_len») (a + (r .«text_len» + n)) (omega arith) (omega arith) (piece-in f i r ring out (s .pre) a n (start .ensures) (size .ensures .0)) (opened-long f i r ring out (s .pre) a (start .ensures) x k) ly
           ∙ ap₂ (put out) (start .ensures) (seal .ensures)
           ∙ piece-four f ring i r (s .pre .is-row) (s .pre .four) _ out (opened-is f i r ring out (s .pre) a (start .ensures) x k n (size .ensures .0) ∙ t .1),
     )

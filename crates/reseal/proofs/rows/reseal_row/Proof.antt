@@ -1,7 +1,7 @@
 -- A row of another suite is left; a suite 4 entry goes by its tag.
 use borrow.Author.Needs.{needs}
 use denote.Ref.{now}
-use Rattle.reseal.proofs.Lent.{wrong-four, wrong-other, piece-other}
+use Rattle.reseal.proofs.Lending.{wrong-four, wrong-other, piece-other}
 use Rattle.reseal.proofs.rows.reseal_row.Statement.{statement}
 use Rattle.reseal.proofs.rows.reseal_row.Tie as tie
 
@@ -13,7 +13,7 @@ returns c =
     let a = c .before .before .before .before .before .before .args in
     let row = c .before .before .row-of in
     let n = c .if1 .taken in
-    (wrong-other (now (a .f)) (now (a .ring)) (a .i) (row .result) (row .ensures) n, λ e. piece-other (now (a .f)) (now (a .ring)) (a .i) (row .result) (row .ensures) n (now (a .out)))
+    (wrong-other (now (a .file)) (now (a .ring)) (a .index) (row .result) (row .ensures) n, λ e. piece-other (now (a .file)) (now (a .ring)) (a .index) (row .result) (row .ensures) n (now (a .out)))
 
 reseal-entry-requires : tie.Need-reseal-entry-requires
 reseal-entry-requires c κs = search needs
@@ -26,7 +26,7 @@ returns-2 c =
     let a = c .before .before .before .before .before .before .before .before .before .before .args in
     let row = c .before .before .before .before .before .before .row-of in
     let call = c .before .before .reseal-entry in
-    (wrong-four (now (a .f)) (now (a .ring)) (a .i) (row .result) (row .ensures) (c .before .before .before .before .if1 .left) (call .result) (call .ensures .0), call .ensures .1)
+    (wrong-four (now (a .file)) (now (a .ring)) (a .index) (row .result) (row .ensures) (c .before .before .before .before .if1 .left) (call .result) (call .ensures .0), call .ensures .1)
 
 pub reseal-row-spec : {M : Type 1} → statement M
 reseal-row-spec =

@@ -45,14 +45,14 @@ returns : tie.Need-returns Inv-loop μ-loop
 unfolding wrongAgainFrom
 returns c =
     let a = c .before .before .before .before .before .before .before .before .before .before .before .before .before .before .args in
-    let f = now (a .f) in
+    let f = now (a .file) in
     let ring = now (a .ring) in
     let out = now (a .out) in
     let at = c .before .before .before .before .before .before .before .before .before .before .loop in
     let hit : wrongAgain f ring (at .i) ≡ true = sym (c .before .before .before .before .before .before .before .reseal-row .ensures .0) ∙ c .before .before .before .before .if1 .taken in
-    let w : wrongAgainFrom f ring (a .n) 0 ≡ answer 8 (at .i) = at .inv .3 ∙ first-hit _ _ _ _ _ (c .before .before .before .before .before .before .before .before .before .loop-test .taken) hit in
+    let w : wrongAgainFrom f ring (a .rows) 0 ≡ answer 8 (at .i) = at .inv .3 ∙ first-hit _ _ _ _ _ (c .before .before .before .before .before .before .before .before .before .loop-test .taken) hit in
     ap (writes (answer 8 (at .i))) (c .before .before .wipe .ensures ∙ ap (λ (k : ℕ). replicate k 0) (c .before .before .before .before .before .before .before .reseal-row .kept .1 .1 .1 .0 ∙ at .inv .1))
-    ∙ ap (λ (x : Answer). leaves x (putAll (pieceStart f) (againPiece f ring) (a .n) out) out) (sym w)
+    ∙ ap (λ (x : Answer). leaves x (putAll (pieceStart f) (againPiece f ring) (a .rows) out) out) (sym w)
 
 add-i : tie.Need-add-i Inv-loop μ-loop
 add-i c = search needs
@@ -66,7 +66,7 @@ loop-again c =
     let a = c .before .before .before .before .before .before .before .before .before .before .args in
     let at = c .before .before .before .before .before .before .loop in
     let call = c .before .before .before .reseal-row in
-    let f = now (a .f) in
+    let f = now (a .file) in
     let ring = now (a .ring) in
     let went : call .result ≡ true = not-false _ (c .if1 .left) in
     let right : wrongAgain f ring (at .i) ≡ false = sym (call .ensures .0) ∙ c .if1 .left in (
@@ -83,14 +83,14 @@ returns-2 : tie.Need-returns-2 Inv-loop μ-loop
 unfolding wrongAgainFrom
 returns-2 c =
     let a = c .before .before .before .before .before .args in
-    let f = now (a .f) in
+    let f = now (a .file) in
     let ring = now (a .ring) in
     let out = now (a .out) in
     let at = c .before .loop in
-    let q : at .i ≡ a .n = omega arith in
-    let w : wrongAgainFrom f ring (a .n) 0 ≡ answer 0 0 = at .inv .3 ∙ first-end _ _ _ _ _ (c .loop-test .left) in
+    let q : at .i ≡ a .rows = omega arith in
+    let w : wrongAgainFrom f ring (a .rows) 0 ≡ answer 0 0 = at .inv .3 ∙ first-end _ _ _ _ _ (c .loop-test .left) in
     ap (writes (answer 0 0)) (at .inv .2 ∙ ap (λ (k : ℕ). putAll (pieceStart f) (againPiece f ring) k out) q)
-    ∙ ap (λ (x : Answer). leaves x (putAll (pieceStart f) (againPiece f ring) (a .n) out) out) (sym w)
+    ∙ ap (λ (x : Answer). leaves x (putAll (pieceStart f) (againPiece f ring) (a .rows) out) out) (sym w)
 
 pub reseal-rows-spec : {M : Type 1} → statement M
 reseal-rows-spec =

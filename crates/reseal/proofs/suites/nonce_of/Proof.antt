@@ -8,11 +8,11 @@ use borrow.Author.Needs.{needs}
 use Rattle.reseal.proofs.suites.nonce_of.Statement.{statement}
 use Rattle.reseal.proofs.suites.nonce_of.Tie as tie
 
-width-requires : tie.Need-width-requires
-width-requires c κs = search needs
+row-size-of-requires : tie.Need-row-size-of-requires
+row-size-of-requires c κs = search needs
 
 nonce-at-requires : tie.Need-nonce-at-requires
-nonce-at-requires c κs = rw (c .width .ensures) (c .before .before .pre)
+nonce-at-requires c κs = rw (c .row-size-of .ensures) (c .before .before .pre)
 
 filled-requires : tie.Need-filled-requires
 filled-requires c κs = search needs
@@ -24,7 +24,7 @@ returns c =
     c .filled .ensures
     ∙ full-zeros _ (c .before .nonce-at .ensures .1)
     ∙ c .before .nonce-at .ensures .0 .bytes
-    ∙ ap (λ (w : ℕ). nonceAt w (now (s .args .f)) (s .args .i)) (c .before .before .width .ensures)
+    ∙ ap (λ (w : ℕ). nonceAt w (now (s .args .file)) (s .args .index)) (c .before .before .row-size-of .ensures)
 
 pub nonce-of-spec : {M : Type 1} → statement M
-nonce-of-spec = tie.close (tie.spec width-requires nonce-at-requires filled-requires returns)
+nonce-of-spec = tie.close (tie.spec row-size-of-requires nonce-at-requires filled-requires returns)

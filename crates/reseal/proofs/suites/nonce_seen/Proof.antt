@@ -6,7 +6,7 @@ use native.Mathlib.Omega.{arith}
 use borrow.Author.Needs.{needs}
 use denote.Ref.{now}
 use Rattle.table.specs.Search.{anyBelow}
-use Rattle.table.specs.Format.{widthOf}
+use Rattle.table.specs.Format.{rowSizeOf}
 use Rattle.table.specs.Check.{clash, nonceSeen}
 use Rattle.table.proofs.Searches.{any-more, any-hit}
 use Rattle.reseal.specs.Files.{retabled}
@@ -14,7 +14,7 @@ use Rattle.reseal.proofs.suites.nonce_seen.Statement.{statement}
 use Rattle.reseal.proofs.suites.nonce_seen.Tie as tie
 
 abbrev Inv-loop : tie.InvT-loop
-Inv-loop f n i j₀ j = (j ≤ i) × (anyBelow (clash (widthOf (retabled f)) (retabled f) i) j ≡ false)
+Inv-loop f n i j₀ j = (j ≤ i) × (anyBelow (clash (rowSizeOf (retabled f)) (retabled f) i) j ≡ false)
 
 abbrev μ-loop : tie.MeasureT-loop
 μ-loop f n i j₀ j = i - j
@@ -32,8 +32,8 @@ returns : tie.Need-returns Inv-loop μ-loop
 unfolding nonceSeen
 returns c =
     let a = c .before .before .before .before .before .args in
-    let t = retabled (now (a .f)) in
-    simp (any-hit (clash (widthOf t) t (a .i)) (c .before .before .before .loop .j) (a .i) (c .before .before .loop-test .taken) (cc))
+    let t = retabled (now (a .file)) in
+    simp (any-hit (clash (rowSizeOf t) t (a .index)) (c .before .before .before .loop .j) (a .index) (c .before .before .loop-test .taken) (cc))
 
 add-j : tie.Need-add-j Inv-loop μ-loop
 add-j c = search needs
@@ -47,7 +47,7 @@ loop-again c = (omega arith, any-more _ _ (c .before .before .before .loop .inv 
 returns-2 : tie.Need-returns-2 Inv-loop μ-loop
 unfolding nonceSeen
 returns-2 c =
-    let q : c .before .loop .j ≡ c .before .before .before .args .i = omega arith in
+    let q : c .before .loop .j ≡ c .before .before .before .args .index = omega arith in
     simp (rw q at (c .before .loop .inv .1))
 
 pub nonce-seen-spec : {M : Type 1} → statement M

@@ -8,7 +8,7 @@ use Prim.Native.Nat.{ℕ, _≤_, _-_}
 use Rattle.table.proofs.Rows.{row-in}
 use Rattle.draft.specs.Put.{putAll}
 use Rattle.reseal.specs.Files.{resuited}
-use Rattle.reseal.proofs.Lent.{head-fits, table-row, suite-step}
+use Rattle.reseal.proofs.Lending.{head-fits, table-row, suite-step}
 use Rattle.reseal.proofs.suites.put_suites.Statement.{statement}
 use Rattle.reseal.proofs.suites.put_suites.Tie as tie
 
@@ -25,14 +25,14 @@ loop-holds c = (omega arith, refl, refl)
 row-of-requires : tie.Need-row-of-requires Inv-loop μ-loop
 row-of-requires c κs = row-in _ _ _ _ (c .before .before .before .before .pre .0) (c .loop-test .taken)
 
-width-requires : tie.Need-width-requires Inv-loop μ-loop
-width-requires c κs = head-fits _ _ _ (c .before .before .before .before .before .pre .0)
+row-size-of-requires : tie.Need-row-size-of-requires Inv-loop μ-loop
+row-size-of-requires c κs = head-fits _ _ _ (c .before .before .before .before .before .pre .0)
 
 new-suite-requires : tie.Need-new-suite-requires Inv-loop μ-loop
 new-suite-requires c κs = search needs
 
 set-suite-requires : tie.Need-set-suite-requires Inv-loop μ-loop
-set-suite-requires c κs = rw (c .before .before .width .ensures) (table-row _ _ _ _ (c .before .before .before .before .before .before .before .before .pre .1) (c .before .before .before .before .before .loop .inv .1) (c .before .before .before .before .loop-test .taken))
+set-suite-requires c κs = rw (c .before .before .row-size-of .ensures) (table-row _ _ _ _ (c .before .before .before .before .before .before .before .before .pre .1) (c .before .before .before .before .before .loop .inv .1) (c .before .before .before .before .loop-test .taken))
 
 add-i : tie.Need-add-i Inv-loop μ-loop
 add-i c = search needs
@@ -47,8 +47,8 @@ loop-again c =
     let call = c .before .before .set-suite in (
       omega arith,
       call .kept .1 .0 ∙ at .inv .1,
-      suite-step (now (a .args .f)) _ (now (a .args .out)) _ (at .i) _ _ _ (table-row _ _ _ _ (a .pre .1) (at .inv .1) (c .before .before .before .before .before .before .before .loop-test .taken))
-          (c .before .before .before .before .before .width .ensures) (c .before .before .before .new-suite .ensures) (c .before .before .before .before .before .before .row-of .ensures) (at .inv .2) (call .ensures),
+      suite-step (now (a .args .file)) _ (now (a .args .out)) _ (at .i) _ _ _ (table-row _ _ _ _ (a .pre .1) (at .inv .1) (c .before .before .before .before .before .before .before .loop-test .taken))
+          (c .before .before .before .before .before .row-size-of .ensures) (c .before .before .before .new-suite .ensures) (c .before .before .before .before .before .before .row-of .ensures) (at .inv .2) (call .ensures),
     )
 
 same-length : tie.Need-same-length Inv-loop μ-loop
@@ -58,8 +58,8 @@ returns : tie.Need-returns Inv-loop μ-loop
 returns c =
     let a = c .before .before .before .before .args in
     let at = c .before .loop in
-    let q : at .i ≡ a .n = omega arith in
-    at .inv .2 ∙ ap (λ (k : ℕ). resuited (now (a .f)) k (now (a .out))) q
+    let q : at .i ≡ a .rows = omega arith in
+    at .inv .2 ∙ ap (λ (k : ℕ). resuited (now (a .file)) k (now (a .out))) q
 
 pub put-suites-spec : {M : Type 1} → statement M
 put-suites-spec =
@@ -69,7 +69,7 @@ put-suites-spec =
     μ-loop
     loop-holds
     row-of-requires
-    width-requires
+    row-size-of-requires
     new-suite-requires
     set-suite-requires
     add-i

@@ -22,7 +22,7 @@ returns c =
     let v = asValue (x .self) in
     let o = now (x .out) in
     let t = now (x .tag) in
-    answer-kept (c .before .end-number .result) (endNumber (v .suite) (v .came) (v .text) (length o) (length t)) (endDone v o) v o t (c .if1 .taken) (c .before .end-number .ensures)
+    answer-kept (c .before .end-number .result) (endNumber (v .suite) (v .«ad_total») (v .«text_total») (length o) (length t)) (endDone v o) v o t (c .if1 .taken) (c .before .end-number .ensures)
 
 lends-requires : tie.Need-lends-requires
 lends-requires c κs = search needs

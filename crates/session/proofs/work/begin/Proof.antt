@@ -45,7 +45,7 @@ part-absorb-last-end : tie.Need-part-absorb-last-end
 part-absorb-last-end c =
     let s = c .before .before .before .before .before .before .before .before .args .s in
     let n = c .before .before .before .size-of in
-    let lh : s .came % n .result < n .result = mod-lt (s .came) (n .ensures .1 .0) in
+    let lh : s .«ad_total» % n .result < n .result = mod-lt (s .«ad_total») (n .ensures .1 .0) in
     let l16 : length (s .held) ≡ 16 = search needs in
     omega (arith, n .ensures .1 .1)
 
@@ -54,8 +54,8 @@ absorb-last-requires c κs =
     let st = c .before .before .before .before .before .before .before .before .before in
     let s = st .args .s in
     let n = c .before .before .before .before .size-of in
-    let h = s .came % n .result in
-    let lh : h < n .result = mod-lt (s .came) (n .ensures .1 .0) in
+    let h = s .«ad_total» % n .result in
+    let lh : h < n .result = mod-lt (s .«ad_total») (n .ensures .1 .0) in
     (st .pre, omega (arith, n .ensures .0, lh, length-take (h - 0) (s .held)))
 
 returns-3 : tie.Need-returns-3

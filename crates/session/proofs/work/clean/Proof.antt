@@ -4,10 +4,9 @@ use mathlib.Core.Path.{_≡_, sym, ap, _∙_}
 use Prim.Native.Nat.{ℕ}
 use lib.ListN.{take}
 use Rattle.words.specs.Bytes.{bytes}
-use Rattle.words.specs.Blocks.{wide}
+use Rattle.words.specs.Blocks.{wide, filled}
 use Rattle.cipher.specs.Cipher.{sizeOf}
 use Rattle.cipher.proofs.Suites.{size-other}
-use Rattle.session.specs.Value.{filled}
 use Rattle.session.proofs.work.clean.Statement.{statement}
 use Rattle.session.proofs.work.clean.Tie as tie
 

@@ -20,7 +20,7 @@ begin-requires : tie.Need-begin-requires
 begin-requires c κs =
     let st = c .before .before .before in
     let s = st .args .s in
-    end-passed (s .suite) (s .came) (s .text) (length (now (st .args .out))) (length (now (st .args .tag))) (st .pre .1) .0 .known
+    end-passed (s .suite) (s .«ad_total») (s .«text_total») (length (now (st .args .out))) (length (now (st .args .tag))) (st .pre .1) .0 .known
 
 size-of-requires : tie.Need-size-of-requires
 size-of-requires c κs = search needs
@@ -36,20 +36,20 @@ last-in-requires c κs =
     let st = c .before .before .before .before .before .before .before in
     let s = st .args .s in
     let n = c .before .before .size-of in
-    let p = end-passed (s .suite) (s .came) (s .text) (length (now (st .args .out))) (length (now (st .args .tag))) (st .pre .1) in
-    (st .pre .0, p .0 .known, subst (λ (k : ℕ). s .text % n .result < k) (n .ensures .0) (mod-lt (s .text) (n .ensures .1 .0)), p .1)
+    let p = end-passed (s .suite) (s .«ad_total») (s .«text_total») (length (now (st .args .out))) (length (now (st .args .tag))) (st .pre .1) in
+    (st .pre .0, p .0 .known, subst (λ (k : ℕ). s .«text_total» % n .result < k) (n .ensures .0) (mod-lt (s .«text_total») (n .ensures .1 .0)), p .1)
 
 tag-of-requires : tie.Need-tag-of-requires
 tag-of-requires c κs =
     let st = c .before .before .before .before .before .before .before .before .before .before in
     let s = st .args .s in
-    (st .pre .0, end-passed (s .suite) (s .came) (s .text) (length (now (st .args .out))) (length (now (st .args .tag))) (st .pre .1) .0 .known)
+    (st .pre .0, end-passed (s .suite) (s .«ad_total») (s .«text_total») (length (now (st .args .out))) (length (now (st .args .tag))) (st .pre .1) .0 .known)
 
 put-requires : tie.Need-put-requires
 put-requires c κs =
     let st = c .before .before .before .before .before .before .before .before .before .before .before .before .before in
     let s = st .args .s in
-    let p = end-passed (s .suite) (s .came) (s .text) (length (now (st .args .out))) (length (now (st .args .tag))) (st .pre .1) in
+    let p = end-passed (s .suite) (s .«ad_total») (s .«text_total») (length (now (st .args .out))) (length (now (st .args .tag))) (st .pre .1) in
     omega (arith, p .2, size-most (s .suite))
 
 ended-requires : tie.Need-ended-requires
@@ -69,7 +69,7 @@ returns c =
     let v = asValue s in
     let o = now (st .args .out) in
     let t = now (st .args .tag) in
-    let p = end-passed (s .suite) (s .came) (s .text) (length o) (length t) (st .pre .1) in
+    let p = end-passed (s .suite) (s .«ad_total») (s .«text_total») (length o) (length t) (st .pre .1) in
     let two = c .before .before .before .before .before .before .before .before .before .before .before .before .before .begin in
     let n = c .before .before .before .before .before .before .before .before .before .before .before .before .size-of in
     let m = c .before .before .before .before .before .before .before .before .before .before .before .first-mark in
@@ -77,7 +77,7 @@ returns c =
     let g = c .before .before .before .before .before .before .tag-of in
     end-given v (twoOf (s .suite) (two .result)) (n .result) (m .result) (two .ensures) (n .ensures .0) (m .ensures) o _ _ _ _ (twoOf (s .suite) (f .result)) (f .ensures .0) (f .ensures .1 .0) (c .ended .ensures) (f .ensures .1 .1)
     (c .before .before .before .put .ensures ∙ ap (λ (k : ℕ). take k (wide (g .result .tag))) (p .2) ∙ g .ensures .0)
-    ∙ answer-done 0 (endNumber (v .suite) (v .came) (v .text) (length o) (length t)) (endDone v o) v o t refl (sym (st .pre .1))
+    ∙ answer-done 0 (endNumber (v .suite) (v .«ad_total») (v .«text_total») (length o) (length t)) (endDone v o) v o t refl (sym (st .pre .1))
 
 pub close-spec : {M : Type 1} → statement M
 close-spec = tie.close (tie.spec begin-requires size-of-requires first-mark-requires rem-h last-in-requires tag-of-requires put-requires ended-requires same-length same-length-2 returns)

@@ -19,7 +19,7 @@ going-requires : tie.Need-going-requires
 going-requires c κs =
     let st = c .before .before .before in
     let s = st .args .s in
-    text-passed (s .suite) (s .came) (s .text) (length (now (st .args .part))) (length (now (st .args .out))) (st .pre .0) .0 .known
+    text-passed (s .suite) (s .«ad_total») (s .«text_total») (length (now (st .args .part))) (length (now (st .args .out))) (st .pre .0) .0 .known
 
 size-of-requires : tie.Need-size-of-requires
 size-of-requires c κs = search needs
@@ -35,14 +35,14 @@ crypt-part-requires c κs =
     let st = c .before .before .before .before .before .before .before in
     let s = st .args .s in
     let n = c .before .before .size-of in
-    let p = text-passed (s .suite) (s .came) (s .text) (length (now (st .args .part))) (length (now (st .args .out))) (st .pre .0) in
-    (p .0 .known, subst (λ (k : ℕ). s .text % n .result < k) (n .ensures .0) (mod-lt (s .text) (n .ensures .1 .0)), p .2)
+    let p = text-passed (s .suite) (s .«ad_total») (s .«text_total») (length (now (st .args .part))) (length (now (st .args .out))) (st .pre .0) in
+    (p .0 .known, subst (λ (k : ℕ). s .«text_total» % n .result < k) (n .ensures .0) (mod-lt (s .«text_total») (n .ensures .1 .0)), p .2)
 
 add-packed : tie.Need-add-packed
 add-packed c =
     let st = c .before .before .before .before .before .before .before .before .before .before .before .before in
     let s = st .args .s in
-    let p = text-passed (s .suite) (s .came) (s .text) (length (now (st .args .part))) (length (now (st .args .out))) (st .pre .0) in
+    let p = text-passed (s .suite) (s .«ad_total») (s .«text_total») (length (now (st .args .part))) (length (now (st .args .out))) (st .pre .0) in
     omega (arith, p .0 .text-most, p .1)
 
 packed-requires : tie.Need-packed-requires
@@ -65,7 +65,7 @@ returns c =
     let f = c .before .before .before .before .before .crypt-part in
     part-given v (twoOf (s .suite) (two .result)) (n .result) (m .result) (two .ensures) (n .ensures .0) (m .ensures) p o _ (f .result .count) _ (twoOf (s .suite) (f .result .s)) (f .result .held) (f .ensures .0) (f .ensures .1 .0) (c .packed .ensures) (f .ensures .1 .1 .0) (f .ensures .1 .1 .1)
     ∙ done-more v p o (λ e. omega (arith, st .pre .1))
-    ∙ answer-done 0 (textNumber (v .suite) (v .came) (v .text) (length p) (length o)) (textDone v p o) v o [] refl (sym (st .pre .0))
+    ∙ answer-done 0 (textNumber (v .suite) (v .«ad_total») (v .«text_total») (length p) (length o)) (textDone v p o) v o [] refl (sym (st .pre .0))
 
 pub seal-in-spec : {M : Type 1} → statement M
 seal-in-spec = tie.close (tie.spec going-requires size-of-requires first-mark-requires rem-h crypt-part-requires add-packed packed-requires same-length returns)

@@ -8,10 +8,11 @@ use mathlib.Core.Path.{refl, sym, ap, ap₂, _∙_, subst}
 use native.Mathlib.Nat.{mod-lt}
 use native.Mathlib.Omega.{arith}
 use Prim.Native.Nat.{ℕ, _+_, _%_, _<_}
+use Rattle.words.specs.Blocks.{filled}
 use Rattle.cipher.specs.Cipher.{sizeOf, cipherOf}
 use Rattle.mode.specs.Blocks.{blocks}
 use Rattle.mode.specs.Walk.{States, whole, rest, walked}
-use Rattle.session.specs.Value.{Value, valueOf, filled, gave, states, dataNumber, dataStates, dataIn, dataPart}
+use Rattle.session.specs.Value.{Value, valueOf, gave, states, dataNumber, dataStates, dataIn, dataPart}
 use Rattle.session.specs.Structs.{asValue}
 use Rattle.session.proofs.Refuse.{data-passed, answer-done}
 use Rattle.session.proofs.work.take_in.Statement.{statement}
@@ -31,14 +32,14 @@ absorb-part-requires c κs =
     let st = c .before .before .before .before .before .before in
     let s = st .args .s in
     let n = c .before .size-of in
-    let p = data-passed (s .suite) (s .came) (s .text) (length (now (st .args .part))) (st .pre) in
-    (p .0 .known, subst (λ (k : ℕ). s .came % n .result < k) (n .ensures .0) (mod-lt (s .came) (n .ensures .1 .0)))
+    let p = data-passed (s .suite) (s .«ad_total») (s .«text_total») (length (now (st .args .part))) (st .pre) in
+    (p .0 .known, subst (λ (k : ℕ). s .«ad_total» % n .result < k) (n .ensures .0) (mod-lt (s .«ad_total») (n .ensures .1 .0)))
 
 add-packed : tie.Need-add-packed
 add-packed c =
     let st = c .before .before .before .before .before .before .before in
     let s = st .args .s in
-    let p = data-passed (s .suite) (s .came) (s .text) (length (now (st .args .part))) (st .pre) in
+    let p = data-passed (s .suite) (s .«ad_total») (s .«text_total») (length (now (st .args .part))) (st .pre) in
     omega (arith, p .0 .data-most, p .2)
 
 packed-requires : tie.Need-packed-requires
@@ -53,13 +54,13 @@ returns c =
     let n = sizeOf (st .args .s .suite) in
     let size = c .before .before .before .size-of in
     let p = now (st .args .part) in
-    let x : ℕ → List ℕ = λ j. take (v .came % j) (v .held) ++ p in
+    let x : ℕ → List ℕ = λ j. take (v .«ad_total» % j) (v .held) ++ p in
     let f = c .before .absorb-part in
     let es = f .ensures .0
     ∙ ap₂ (λ (m j : ℕ). walked k false m 0x10 (states k v) (blocks n (whole n (x j)))) (c .before .before .first-mark .ensures) (size .ensures .0) in
     let eh = f .ensures .1 ∙ ap (λ (j : ℕ). filled (rest n (x j))) (size .ensures .0) in
-    ap (λ (w : Value). gave 0 0 w [] []) (c .packed .ensures ∙ ap₂ (λ (s : States) (h : List ℕ). valueOf (v .suite) s h (v .came + length p) (v .text)) es eh)
-    ∙ answer-done 0 (dataNumber (v .suite) (v .came) (v .text) (length p)) (gave 0 0 (dataIn k v p) [] []) v [] [] refl (sym (st .pre))
+    ap (λ (w : Value). gave 0 0 w [] []) (c .packed .ensures ∙ ap₂ (λ (s : States) (h : List ℕ). valueOf (v .suite) s h (v .«ad_total» + length p) (v .«text_total»)) es eh)
+    ∙ answer-done 0 (dataNumber (v .suite) (v .«ad_total») (v .«text_total») (length p)) (gave 0 0 (dataIn k v p) [] []) v [] [] refl (sym (st .pre))
 
 pub take-in-spec : {M : Type 1} → statement M
 take-in-spec = tie.close (tie.spec size-of-requires first-mark-requires rem-h absorb-part-requires add-packed packed-requires returns)

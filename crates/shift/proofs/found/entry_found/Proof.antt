@@ -37,7 +37,7 @@ add-t8 c =
     let r = c .before .before .before in
     let s = r .before .before .before .before .before in
     let t = text-low (now (s .args .file)) (s .pre .job) _ (sym (s .pre .gives) ∙ ap foundAnswer (r .before .before .found .given .1)) in
-    let u : r .row-of .result .at + r .row-of .result .ad ≤ 1048576 = rw (r .row-of .ensures) t in
+    let u : r .row-of .result .«ad_at» + r .row-of .result .«ad_len» ≤ 1048576 = rw (r .row-of .ensures) t in
     omega arith
 
 returns-2 : tie.Need-returns-2

@@ -6,11 +6,11 @@ use borrow.Author.Needs.{needs}
 use Rattle.shift.proofs.lend.nonce_read.Statement.{statement}
 use Rattle.shift.proofs.lend.nonce_read.Tie as tie
 
-width-requires : tie.Need-width-requires
-width-requires c κs = search needs
+row-size-of-requires : tie.Need-row-size-of-requires
+row-size-of-requires c κs = search needs
 
 nonce-at-requires : tie.Need-nonce-at-requires
-nonce-at-requires c κs = rw (c .width .ensures) (c .before .before .pre)
+nonce-at-requires c κs = rw (c .row-size-of .ensures) (c .before .before .pre)
 
 nonce-size-requires : tie.Need-nonce-size-requires
 nonce-size-requires c κs = search needs
@@ -20,9 +20,9 @@ stretch-requires c κs = omega (arith, c .before .nonce-at .ensures .1, c .nonce
 
 returns : tie.Need-returns
 unfolding nonceAt
-returns c = rw (← c .before .before .before .width .ensures, ← c .before .nonce-size .ensures, ← c .before .before .nonce-at .ensures .0 .bytes) (c .stretch .ensures .0 .bytes)
+returns c = rw (← c .before .before .before .row-size-of .ensures, ← c .before .nonce-size .ensures, ← c .before .before .nonce-at .ensures .0 .bytes) (c .stretch .ensures .0 .bytes)
 
 pub nonce-read-spec : {M : Type 1} → statement M
 nonce-read-spec =
     tie.close
-    (tie.spec width-requires nonce-at-requires nonce-size-requires stretch-requires returns)
+    (tie.spec row-size-of-requires nonce-at-requires nonce-size-requires stretch-requires returns)

@@ -30,7 +30,7 @@ open-row-requires : tie.Need-open-row-requires
 open-row-requires c κs =
     let row = c .before .before .before in
     let s = row .before .before .before .before .before in
-    lendable (now (s .args .f)) (now (s .args .ring)) (s .args .i) (s .pre) (row .before .if1 .left) _ (row .row-of .ensures)
+    lendable (now (s .args .file)) (now (s .args .ring)) (s .args .index) (s .pre) (row .before .if1 .left) _ (row .row-of .ensures)
 
 enum-told : tie.Need-enum-told
 enum-told c = search needs
@@ -43,13 +43,13 @@ returns-3 c =
     let u = c .before .before .before in
     let row = u .before .before .before .before in
     let s = row .before .before .before .before .before in
-    let f = now (s .args .f) in
+    let f = now (s .args .file) in
     let ring = now (s .args .ring) in
     let out = now (s .args .out) in
-    let o = u .before .before .if2 .left ∙ ap (λ (r : Row). r .len) (row .row-of .ensures) in
+    let o = u .before .before .if2 .left ∙ ap (λ (r : Row). r .«text_len») (row .row-of .ensures) in
     let some = other-some (u .open-row .result) (c .match .keys2) in
-    let m = row-eight f ring (s .args .i) (s .pre) (row .before .if1 .left) _ _ out o (u .open-row .ensures) some in
-    row-told f ring (s .args .i) (s .pre) (row .before .if1 .left) 8 _ out (rw m at (u .open-row .ensures))
+    let m = row-eight f ring (s .args .index) (s .pre) (row .before .if1 .left) _ _ out o (u .open-row .ensures) some in
+    row-told f ring (s .args .index) (s .pre) (row .before .if1 .left) 8 _ out (rw m at (u .open-row .ensures))
 
 same-length-2 : tie.Need-same-length-2
 same-length-2 c = search needs
@@ -59,7 +59,7 @@ returns-4 c =
     let u = c .before .before .before .before in
     let row = u .before .before .before .before in
     let s = row .before .before .before .before .before in
-    row-told (now (s .args .f)) (now (s .args .ring)) (s .args .i) (s .pre) (row .before .if1 .left) 0 _ (now (s .args .out)) (rw (c .enum-told .given .1) at (u .open-row .ensures))
+    row-told (now (s .args .file)) (now (s .args .ring)) (s .args .index) (s .pre) (row .before .if1 .left) 0 _ (now (s .args .out)) (rw (c .enum-told .given .1) at (u .open-row .ensures))
 
 pub open-entry-spec : {M : Type 1} → statement M
 open-entry-spec =

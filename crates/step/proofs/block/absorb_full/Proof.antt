@@ -21,8 +21,8 @@ returns c =
     let x = st .args in
     let t = c .before .before .turn in
     let p = c .before .whole in
-    put-in (x .suite) (x .m) (x .s) (t .result) (t .ensures) (now (x .b)) (p .result) (c .mix .result)
-    (full-goes (x .suite) (now (x .b)) (p .result) (st .pre .2) (p .ensures)) (c .mix .ensures .0) (c .mix .ensures .1)
+    put-in (x .suite) (x .mark) (x .state) (t .result) (t .ensures) (now (x .block)) (p .result) (c .mix .result)
+    (full-goes (x .suite) (now (x .block)) (p .result) (st .pre .2) (p .ensures)) (c .mix .ensures .0) (c .mix .ensures .1)
 
 pub absorb-full-spec : {M : Type 1} → statement M
 absorb-full-spec = tie.close (tie.spec turn-requires whole-requires mix-requires returns)

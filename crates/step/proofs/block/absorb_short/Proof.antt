@@ -32,15 +32,15 @@ returns : tie.Need-returns
 returns c =
     let st = c .before .before .before .before .before .before .before .before .before .before in
     let a = st .args in
-    let b = now (a .b) in
+    let b = now (a .block) in
     let t = c .before .before .before .before .before .before .before .turn in
     let p = c .before .before .before .before .before .before .filled in
     let x = c .before .before .before .shuffled in
     let w = c .before .before .xor in
     let q = c .before .padded in
-    let out = goes-out (a .suite) (a .m) (a .s) (t .result) (t .ensures) b (p .result) (x .result) (w .result) (p .ensures) (x .ensures) (w .ensures) (le-of-lt (st .pre .2)) in
+    let out = goes-out (a .suite) (a .mark) (a .state) (t .result) (t .ensures) b (p .result) (x .result) (w .result) (p .ensures) (x .ensures) (w .ensures) (le-of-lt (st .pre .2)) in
     rw (c .before .before .before .before .before .if1 .taken)
-    (put-in (a .suite) (a .m) (a .s) (t .result) (t .ensures) _ (q .result) (c .mix .result)
+    (put-in (a .suite) (a .mark) (a .state) (t .result) (t .ensures) _ (q .result) (c .mix .result)
     (cut-goes (a .suite) _ (length b) (w .result) (q .result) out (st .pre .2) (q .ensures)) (c .mix .ensures .0) (c .mix .ensures .1))
 
 padded-requires-2 : tie.Need-padded-requires-2
@@ -53,12 +53,12 @@ returns-2 : tie.Need-returns-2
 returns-2 c =
     let st = c .before .before .before .before .before .before .before in
     let a = st .args in
-    let b = now (a .b) in
+    let b = now (a .block) in
     let t = c .before .before .before .before .turn in
     let p = c .before .before .before .filled in
     let q = c .before .padded2 in
     rw (c .before .before .if1 .left)
-    (put-in (a .suite) (a .m) (a .s) (t .result) (t .ensures) b (q .result) (c .mix2 .result)
+    (put-in (a .suite) (a .mark) (a .state) (t .result) (t .ensures) b (q .result) (c .mix2 .result)
     (cut-goes (a .suite) b (length b) (p .result) (q .result) (cut-in b (p .result) (p .ensures)) (st .pre .2) (q .ensures)) (c .mix2 .ensures .0) (c .mix2 .ensures .1))
 
 pub absorb-short-spec : {M : Type 1} → statement M

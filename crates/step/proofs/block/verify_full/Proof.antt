@@ -27,13 +27,13 @@ returns : tie.Need-returns
 returns c =
     let st = c .before .before .before .before .before .before .before in
     let a = st .args in
-    let b = now (a .b) in
+    let b = now (a .block) in
     let t = c .before .before .before .before .before .turn in
     let p = c .before .before .before .whole in
     let x = c .before .before .shuffled in
     let w = c .before .xor in
-    put-in (a .suite) (a .m) (a .s) (t .result) (t .ensures) _ (w .result) (c .mix .result)
-    (out-goes (a .suite) (a .m) (a .s) (t .result) (t .ensures) b (p .result) (x .result) (w .result) (p .ensures) (x .ensures) (w .ensures) (st .pre .2)) (c .mix .ensures .0) (c .mix .ensures .1)
+    put-in (a .suite) (a .mark) (a .state) (t .result) (t .ensures) _ (w .result) (c .mix .result)
+    (out-goes (a .suite) (a .mark) (a .state) (t .result) (t .ensures) b (p .result) (x .result) (w .result) (p .ensures) (x .ensures) (w .ensures) (st .pre .2)) (c .mix .ensures .0) (c .mix .ensures .1)
 
 pub verify-full-spec : {M : Type 1} → statement M
 verify-full-spec = tie.close (tie.spec turn-requires whole-requires shuffled-requires xor-requires mix-requires returns)

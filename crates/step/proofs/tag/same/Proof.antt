@@ -24,7 +24,7 @@ same-requires c κs = search needs
 returns : tie.Need-returns
 returns c =
     let st = c .before .before .before in
-    let t = st .args .t in
+    let t = st .args .made in
     let tag = now (st .args .tag) in
     let k = length tag in
     let most : k ≤ 16 = ⊎-elim (λ e. omega arith) (λ e. omega arith) (st .pre .0) in

@@ -30,7 +30,7 @@ returns c =
     let x = c .before .before .before .before .before .before .args in
     let n = sizeOf (x .suite) in
     let t = c .before .image in (
-      t .ensures .0 ∙ ap (λ (k : List ℕ). cipherOf (x .suite) .E k (take n (wide (x .s .y)))) (c .before .before .before .next-key .ensures),
+      t .ensures .0 ∙ ap (λ (k : List ℕ). cipherOf (x .suite) .E k (take n (wide (x .state .y)))) (c .before .before .before .next-key .ensures),
       (t .ensures .1, c .wrapping-add-u64 .ensures),
     )
 

@@ -26,7 +26,7 @@ stretch-requires c κs = omega (arith, c .before .before .before .before .pre, c
 
 returns : tie.Need-returns
 returns c =
-    let len = c .before .before .before .before .before .args .row .len in
+    let len = c .before .before .before .before .before .args .row .«text_len» in
     part-at (c .stretch .ensures .0) (ap (λ (k : ℕ). k + len) (c .before .before .text-start .ensures)) (c .before .size-of .ensures .0)
 
 pub tag-of-spec : {M : Type 1} → statement M

@@ -3,9 +3,9 @@ use native.Mathlib.Omega.{arith}
 use mathlib.Core.Path.{ap, ap₂, _∙_}
 use Prim.Native.Nat.{ℕ}
 use denote.Ref.{now}
+use Rattle.words.specs.Blocks.{filled}
 use Rattle.table.specs.Part.{stretch}
 use Rattle.cipher.proofs.Suites.{nonce-most}
-use Rattle.table.specs.Format.{padded}
 use Rattle.table.proofs.Nonces.{read-bytes}
 use borrow.Author.Needs.{needs}
 use Rattle.table.proofs.row.read_block.Statement.{statement}
@@ -29,9 +29,9 @@ returns : tie.Need-returns
 returns c =
     let n = c .before .before in
     let a = n .before .before .before .args in
-    let f = now (a .f) in
+    let f = now (a .file) in
     c .filled .ensures
-    ∙ ap padded (c .before .stretch .ensures .0 .bytes ∙ ap₂ (λ (p k : ℕ). stretch f p k) (n .before .nonce-start .ensures .0) (n .nonce-size .ensures) ∙ read-bytes (a .w) f (a .i) (a .suite))
+    ∙ ap filled (c .before .stretch .ensures .0 .bytes ∙ ap₂ (λ (p k : ℕ). stretch f p k) (n .before .nonce-start .ensures .0) (n .nonce-size .ensures) ∙ read-bytes (a .size) f (a .index) (a .suite))
 
 pub read-block-spec : {M : Type 1} → statement M
 read-block-spec = tie.close (tie.spec nonce-start-requires nonce-size-requires stretch-requires filled-requires returns)

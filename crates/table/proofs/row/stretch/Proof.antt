@@ -22,7 +22,7 @@ part-result-end c = search needs
 returns : tie.Need-returns
 returns c =
     let a = c .before .args in
-    (record { bytes = simp add-sub-cancel-left; place = refl }, simp add-sub-cancel-left (stretch-length (now (a .f)) (a .at) (a .len) (c .before .pre)))
+    (record { bytes = simp add-sub-cancel-left; place = refl }, simp add-sub-cancel-left (stretch-length (now (a .file)) (a .at) (a .len) (c .before .pre)))
 
 pub stretch-spec : {M : Type 1} → statement M
 stretch-spec = tie.close (tie.spec add-result sub-result part-result-start part-result-end returns)

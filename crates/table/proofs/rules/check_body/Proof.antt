@@ -28,7 +28,7 @@ seen-before-requires : tie.Need-seen-before-requires
 seen-before-requires c κs =
     let s = c .before .before .before .before .before in
     let e = sym (c .before .unread-set .ensures) ∙ c .if2 .left in
-    (s .pre .0, (s .pre .1 .0, (spared-more (s .args .w) (now (s .args .f)) (s .args .i) (s .pre .1 .1 .1 .1 .0) e, s .pre .1 .1 .1 .1 .1 .0)))
+    (s .pre .0, (s .pre .1 .0, (spared-more (s .args .size) (now (s .args .file)) (s .args .index) (s .pre .1 .1 .1 .1 .0) e, s .pre .1 .1 .1 .1 .1 .0)))
 
 returns-3 : tie.Need-returns-3
 unfolding bodyNumber
@@ -42,7 +42,7 @@ bad-data-requires c κs =
     let p28 = c .before .before .before .before in
     let s = p28 .before .before .before in
     let q = s .pre .1 .1 .0 in
-    rw q (head-in (s .args .w) (now (s .args .f)) (s .args .n) (s .args .i) (rw q at (s .pre .1 .1 .1 .0)) (sym (p28 .before .misplaced .ensures) ∙ p28 .if1 .left))
+    rw q (head-in (s .args .size) (now (s .args .file)) (s .args .rows) (s .args .index) (rw q at (s .pre .1 .1 .1 .0)) (sym (p28 .before .misplaced .ensures) ∙ p28 .if1 .left))
 
 returns-4 : tie.Need-returns-4
 unfolding bodyNumber

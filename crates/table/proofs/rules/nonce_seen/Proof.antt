@@ -25,13 +25,13 @@ clashes-requires : tie.Need-clashes-requires Inv-loop μ-loop
 clashes-requires c κs =
     let s = c .before .before .before in
     let l = c .loop-test .taken in
-    (s .pre .0, (s .pre .1 .0, (omega (arith, l, s .pre .1 .0), (s .pre .1 .1 .spare (s .args .i) (omega arith), s .pre .1 .1 .spare (c .before .loop .j) (omega (arith, l))))))
+    (s .pre .0, (s .pre .1 .0, (omega (arith, l, s .pre .1 .0), (s .pre .1 .1 .spare (s .args .index) (omega arith), s .pre .1 .1 .spare (c .before .loop .j) (omega (arith, l))))))
 
 returns : tie.Need-returns Inv-loop μ-loop
 unfolding nonceSeen
 returns c =
     let a = c .before .before .before .before .before .args in
-    simp (any-hit (clash (a .w) (now (a .f)) (a .i)) (c .before .before .before .loop .j) (a .i) (c .before .before .loop-test .taken) (cc))
+    simp (any-hit (clash (a .size) (now (a .file)) (a .index)) (c .before .before .before .loop .j) (a .index) (c .before .before .loop-test .taken) (cc))
 
 add-j : tie.Need-add-j Inv-loop μ-loop
 add-j c = search needs
@@ -45,7 +45,7 @@ loop-again c = (omega arith, any-more _ _ (c .before .before .before .loop .inv 
 returns-2 : tie.Need-returns-2 Inv-loop μ-loop
 unfolding nonceSeen
 returns-2 c =
-    let q : c .before .loop .j ≡ c .before .before .before .args .i = omega arith in
+    let q : c .before .loop .j ≡ c .before .before .before .args .index = omega arith in
     simp (rw q at (c .before .loop .inv .1))
 
 pub nonce-seen-spec : {M : Type 1} → statement M

@@ -11,7 +11,7 @@ returns : tie.Need-returns
 returns c = c .nonce-seen .ensures
 
 returns-2 : tie.Need-returns-2
-returns-2 c = let s = c .before .before in sym (s .pre .1 .1 .1 .clear (c .if1 .left) (s .pre .1 .1 .0 .spare (s .args .i) (omega arith)))
+returns-2 c = let s = c .before .before in sym (s .pre .1 .1 .1 .clear (c .if1 .left) (s .pre .1 .1 .0 .spare (s .args .index) (omega arith)))
 
 pub seen-before-spec : {M : Type 1} → statement M
 seen-before-spec = tie.close (tie.spec nonce-seen-requires returns returns-2)

@@ -17,8 +17,8 @@ bytes8-requires c κs = search needs
 returns : tie.Need-returns
 returns c =
     let x = c .before .before .args in
-    let h : x .x < 256 ^ 4 = omega arith in
-    c .bytes8 .ensures ∙ ap (bytes 8) (c .before .join32 .ensures) ∙ bytes-join 4 4 (x .x) (x .y) h
+    let h : x .low < 256 ^ 4 = omega arith in
+    c .bytes8 .ensures ∙ ap (bytes 8) (c .before .join32 .ensures) ∙ bytes-join 4 4 (x .low) (x .high) h
 
 pub store2-32-spec : {M : Type 1} → statement M
 store2-32-spec = tie.close (tie.spec join32-requires bytes8-requires returns)

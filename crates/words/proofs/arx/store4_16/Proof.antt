@@ -26,13 +26,13 @@ returns c =
     let x = c .before .before .before .before .args in
     let lo = c .before .before .before .join16 in
     let hi = c .before .before .join162 in
-    let hx : x .x < 256 ^ 2 = omega arith in
-    let hz : x .z < 256 ^ 2 = omega arith in
+    let hx : x .word0 < 256 ^ 2 = omega arith in
+    let hz : x .word2 < 256 ^ 2 = omega arith in
     let h : lo .result < 256 ^ 4 = omega arith in
     c .bytes8 .ensures ∙ ap (bytes 8) (c .before .join32 .ensures) ∙ bytes-join 4 4 (lo .result) (hi .result) h
     ∙ ap₂ (λ (p q : List ℕ). p ++ q)
-    (ap (bytes 4) (lo .ensures) ∙ bytes-join 2 2 (x .x) (x .y) hx) (ap (bytes 4) (hi .ensures) ∙ bytes-join 2 2 (x .z) (x .u) hz)
-    ∙ sym (append-assoc (bytes 2 (x .x) ++ bytes 2 (x .y)) (bytes 2 (x .z)) (bytes 2 (x .u)))
+    (ap (bytes 4) (lo .ensures) ∙ bytes-join 2 2 (x .word0) (x .word1) hx) (ap (bytes 4) (hi .ensures) ∙ bytes-join 2 2 (x .word2) (x .word3) hz)
+    ∙ sym (append-assoc (bytes 2 (x .word0) ++ bytes 2 (x .word1)) (bytes 2 (x .word2)) (bytes 2 (x .word3)))
 
 pub store4-16-spec : {M : Type 1} → statement M
 store4-16-spec =

@@ -21,12 +21,12 @@ bytes-of-requires c κs = search needs
 returns : tie.Need-returns
 returns c =
     let x = c .before .before .before .args in
-    let hx : x .x < 256 ^ 4 = omega arith in
-    let hz : x .z < 256 ^ 4 = omega arith in
+    let hx : x .word0 < 256 ^ 4 = omega arith in
+    let hz : x .word2 < 256 ^ 4 = omega arith in
     c .bytes-of .ensures
     ∙ ap₂ (λ (p q : List ℕ). p ++ q)
-    (ap (bytes 8) (c .before .before .join32 .ensures) ∙ bytes-join 4 4 (x .x) (x .y) hx) (ap (bytes 8) (c .before .join322 .ensures) ∙ bytes-join 4 4 (x .z) (x .u) hz)
-    ∙ sym (append-assoc (bytes 4 (x .x) ++ bytes 4 (x .y)) (bytes 4 (x .z)) (bytes 4 (x .u)))
+    (ap (bytes 8) (c .before .before .join32 .ensures) ∙ bytes-join 4 4 (x .word0) (x .word1) hx) (ap (bytes 8) (c .before .join322 .ensures) ∙ bytes-join 4 4 (x .word2) (x .word3) hz)
+    ∙ sym (append-assoc (bytes 4 (x .word0) ++ bytes 4 (x .word1)) (bytes 4 (x .word2)) (bytes 4 (x .word3)))
 
 pub store4-32-spec : {M : Type 1} → statement M
 store4-32-spec = tie.close (tie.spec join32-requires join32-requires-2 bytes-of-requires returns)

@@ -25,7 +25,7 @@ put-whole-requires c κs = inl refl
 
 returns : tie.Need-returns
 returns c =
-    let x = c .before .before .before .args .x in
+    let x = c .before .before .before .args .block in
     append-nil _ ∙ c .before .put-whole .ensures ∙ take-all 16 (wide x) (omega (arith, length-wide (x .a) (x .b)))
 
 pub bytes-of-spec : {M : Type 1} → statement M

@@ -35,7 +35,7 @@ returns : tie.Need-returns
 returns c =
     let st = c .before .before .before .before .before in
     let l = c .before .before .load8 in
-    fifteen-joined (now (st .args .b)) (l .result) (c .load82 .result) (st .pre) (l .ensures) (c .load82 .ensures) (omega arith)
+    fifteen-joined (now (st .args .front)) (l .result) (c .load82 .result) (st .pre) (l .ensures) (c .load82 .ensures) (omega arith)
 
 pub fifteen-spec : {M : Type 1} → statement M
 fifteen-spec =

@@ -27,7 +27,7 @@ fifteen-requires c κs = c .if3 .taken
 
 returns-3 : tie.Need-returns-3
 returns-3 c =
-    let b = now (c .before .before .before .before .before .args .b) in
+    let b = now (c .before .before .before .before .before .args .front) in
     let e : 1 ≡ 16 - length b = omega arith in
     c .fifteen .ensures ∙ ap (λ (k : ℕ). b ++ replicate k 0) e
 

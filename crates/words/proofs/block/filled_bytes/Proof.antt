@@ -34,13 +34,13 @@ loop-less c = search needs
 
 loop-again : tie.Need-loop-again Inv-loop μ-loop
 loop-again c =
-    let b = now (c .before .before .before .args .b) in
+    let b = now (c .before .before .before .args .front) in
     let i = c .before .before .loop .i in
     (omega arith, fill-zeros b (c .before .before .loop .r) i (omega arith) (omega arith) (c .before .before .loop .inv .1))
 
 returns : tie.Need-returns Inv-loop μ-loop
 returns c =
-    let b = now (c .before .before .args .b) in
+    let b = now (c .before .before .args .front) in
     let i = c .before .loop .i in
     let e : i ≡ length b = omega arith in
     c .before .loop .inv .1 ∙ ap (λ (k : ℕ). take k b ++ replicate (16 - k) 0) e ∙ ap (λ (l : List ℕ). l ++ replicate (16 - length b) 0) (take-length b)

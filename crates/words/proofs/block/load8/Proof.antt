@@ -42,7 +42,7 @@ le64-requires c κs = search needs
 returns : tie.Need-returns
 returns c =
     let st = c .before .before .before .before .before .before .before .before .before .before in
-    let b = now (st .args .b) in
+    let b = now (st .args .eight) in
     let lb : length b ≡ 8 = st .pre in
     let hb : AllBytes b = λ i. (c .before .before .before .before .before .before .before .before .before .shared-slice-known .given i) .fits in
     ap (bytes 8) (c .le64 .ensures) ∙ unpack 8 b 0 hb (omega arith) ∙ take-all 8 b (omega arith)

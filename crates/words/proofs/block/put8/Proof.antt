@@ -68,7 +68,7 @@ same-length c = simp length-set
 returns : tie.Need-returns
 returns c =
     let r = c .bytes8 .result in
-    let lr : length r ≡ 8 = ap length (c .bytes8 .ensures) ∙ length-bytes 8 (c .before .before .args .x) in
+    let lr : length r ≡ 8 = ap length (c .bytes8 .ensures) ∙ length-bytes 8 (c .before .before .args .number) in
     overwrite (part 8 r 0) (now (c .before .before .args .out)) (c .before .before .pre) ∙ part-whole 8 r lr ∙ c .bytes8 .ensures
 
 pub put8-spec : {M : Type 1} → statement M

@@ -44,7 +44,7 @@ same-length c = search needs
 returns : tie.Need-returns
 returns c =
     let st = c .before .before .before .before .before .before .before .before .before .before in
-    let x = st .args .x in
+    let x = st .args .block in
     let out = now (st .args .out) in
     let lo : length out ≡ 16 = omega arith in
     let p = c .before .before .before .before .before .before .put8 .last .1 .0 in
@@ -64,7 +64,7 @@ same-length-2 c = search needs
 returns-2 : tie.Need-returns-2
 returns-2 c =
     let st = c .before .before .before .before .before .before in
-    let x = st .args .x in
+    let x = st .args .block in
     let out = now (st .args .out) in
     let lo : length out ≡ 8 = is-eight (st .pre) (c .before .before .before .before .if1 .left) in
     c .before .before .put83 .ensures ∙ sym (take-at (bytes 8 (x .a)) (bytes 8 (x .b)) (length out) (length-bytes 8 (x .a) ∙ sym lo))

@@ -9,7 +9,7 @@ returns : tie.Need-returns
 unfolding xor
 returns c =
     let a = c .before .before .before .before .args in
-    same-gathered (a .x) (a .y) (omega arith) (omega arith) (omega arith) (omega arith)
+    same-gathered (a .left) (a .right) (omega arith) (omega arith) (omega arith) (omega arith)
 
 pub same-spec : {M : Type 1} → statement M
 same-spec = tie.close (tie.spec returns)

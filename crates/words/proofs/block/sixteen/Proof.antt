@@ -35,7 +35,7 @@ load8-requires-2 c κs = search needs
 returns : tie.Need-returns
 returns c =
     let st = c .before .before .before .before .before in
-    ap₂ (λ (s t : List ℕ). s ++ t) (c .before .before .load8 .ensures) (c .load82 .ensures) ∙ two-takes 8 (now (st .args .b)) (st .pre)
+    ap₂ (λ (s t : List ℕ). s ++ t) (c .before .before .load8 .ensures) (c .load82 .ensures) ∙ two-takes 8 (now (st .args .block)) (st .pre)
 
 pub sixteen-spec : {M : Type 1} → statement M
 sixteen-spec =

@@ -16,7 +16,7 @@ sixteen-requires : tie.Need-sixteen-requires
 sixteen-requires c κs = c .if1 .taken
 
 returns : tie.Need-returns
-returns c = c .sixteen .ensures ∙ sym (full-zeros (now (c .before .before .before .args .b)) (c .before .if1 .taken))
+returns c = c .sixteen .ensures ∙ sym (full-zeros (now (c .before .before .before .args .block)) (c .before .if1 .taken))
 
 load8-requires : tie.Need-load8-requires
 load8-requires c κs = is-eight (c .before .before .pre) (c .if1 .left)
@@ -24,7 +24,7 @@ load8-requires c κs = is-eight (c .before .before .pre) (c .if1 .left)
 returns-2 : tie.Need-returns-2
 unfolding bytes
 returns-2 c =
-    let b = now (c .before .before .before .args .b) in
+    let b = now (c .before .before .before .args .block) in
     let lb : length b ≡ 8 = is-eight (c .before .before .before .pre) (c .before .if1 .left) in
     let lz : 8 ≡ 16 - length b = omega arith in
     ap₂ (λ (s : List ℕ) (k : ℕ). s ++ replicate k 0) (c .load8 .ensures) lz

@@ -8,8 +8,8 @@ use Rattle.words.proofs.block.xor.Tie as tie
 returns : tie.Need-returns
 unfolding xor
 returns c =
-    let x = c .before .before .before .before .args .x in
-    let y = c .before .before .before .before .args .y in
+    let x = c .before .before .before .before .args .left in
+    let y = c .before .before .before .before .args .right in
     wide-xor (x .a) (x .b) (y .a) (y .b)
 
 pub xor-spec : {M : Type 1} → statement M

@@ -39,7 +39,7 @@ shared-slice-read-if1 c = search needs
 returns : tie.Need-returns Inv-loop μ-loop
 returns c =
     let at = c .before .before .before .loop in
-    let b = now (c .before .before .before .before .args .b) in
+    let b = now (c .before .before .before .before .args .bytes) in
     sym (sym (at .inv .1) ∙ zero-turn b (at .i) (c .before .before .loop-test .taken) false (ne-eqb _ _ (c .if1 .taken)))
 
 add-i : tie.Need-add-i Inv-loop μ-loop
@@ -51,13 +51,13 @@ loop-less c = search needs
 loop-again : tie.Need-loop-again Inv-loop μ-loop
 loop-again c =
     let at = c .before .before .before .loop in
-    let b = now (c .before .before .before .before .args .b) in
+    let b = now (c .before .before .before .before .args .bytes) in
     (omega arith, sym (zero-turn b (at .i) (c .before .before .loop-test .taken) true (eq-eqb _ _ (c .if1 .left))) ∙ at .inv .1)
 
 returns-2 : tie.Need-returns-2 Inv-loop μ-loop
 returns-2 c =
     let at = c .before .loop in
-    let b = now (c .before .before .args .b) in
+    let b = now (c .before .before .args .bytes) in
     let l : length (replicate {A = ℕ} (length b) 0) ≡ length b = length-replicate (length b) 0 in
     sym (ap₂ sameBytes (drop-of-length-le b {i = at .i} (omega arith)) (drop-of-length-le (replicate (length b) 0) {i = at .i} (omega arith))) ∙ at .inv .1
 

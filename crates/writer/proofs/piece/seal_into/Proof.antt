@@ -7,11 +7,12 @@ use mathlib.Core.Path.{_≡_, refl, ap, ap₂, _∙_}
 use native.Mathlib.Omega.{arith}
 use Prim.Native.Nat.{ℕ, _+_, _-_, _≤_}
 use borrow.Rule.Slice.PartMut.{same-len-mid}
+use Rattle.cipher.specs.Cipher.{limit}
 use Rattle.table.specs.Part.{stretch}
 use Rattle.table.proofs.Rows.{stretch-length}
 use Rattle.shift.proofs.Entries.{lendable}
 use Rattle.draft.specs.Files.{pieceAs}
-use Rattle.writer.proofs.Lent.{seal-told, part-is, put-both}
+use Rattle.writer.proofs.Lending.{seal-told, part-is, put-both}
 use Rattle.writer.proofs.piece.seal_into.Statement.{statement}
 use Rattle.writer.proofs.piece.seal_into.Tie as tie
 
@@ -45,7 +46,7 @@ part-tag-end c = search needs
 seal-as-requires : tie.Need-seal-as-requires
 seal-as-requires c κs =
     let s = c .before .before .before .before .before .before .before in
-    lendable (now (s .args .f)) (now (s .args .ring)) (s .args .i) (s .pre .entry) (s .pre .ring-long) _ (s .pre .is-row)
+    lendable (now (s .args .file)) (now (s .args .ring)) (s .args .index) (s .pre .entry) (s .pre .ring-long) _ (s .pre .is-row)
 
 sub-copy : tie.Need-sub-copy
 sub-copy c = search needs
@@ -80,11 +81,11 @@ returns c =
     let call = c .before .before .before .before .before .before .before .before .before .seal-as in
     let size = c .before .before .before .before .before .before .before .before .before .before .before .before .size-of in
     let copy = c .before .before .copy in
-    let f = now (s .args .f) in
+    let f = now (s .args .file) in
     let ring = now (s .args .ring) in
     let out = now (s .args .out) in
     let r = s .args .row in
-    let len = r .len in
+    let len = r .«text_len» in
     let n = size .result in
     let e = len + n in
     let x = call .last .1 .1 .1 .1 .1 .0 in
@@ -96,14 +97,14 @@ returns c =
     let lz : length z ≡ n = length-take (n - 0) (replicate 16 0) ∙ omega (arith, size .ensures .1 .1) in
     let ly : length y ≡ n = call .kept .1 .1 .1 .1 .1 .1 .0 ∙ lz in
     let lx : length x ≡ len - 0 = call .kept .1 .1 .1 .1 .1 .0 ∙ lo ∙ omega arith in
-    let high : len ≤ 65536 = rw (s .pre .is-row) (s .pre .entry .text-high) in
+    let high : len ≤ limit = rw (s .pre .is-row) (s .pre .entry .text-high) in
     let front : o ≡ take len out = ap (λ (k : ℕ). take k out) (let w : len - 0 ≡ len = omega arith in w) in
-    let q = seal-told f ring (s .args .i) (s .pre .entry) (s .pre .ring-long) (s .args .suite) _ x y o o z (s .pre .still) (omega (arith, lo, high)) refl (lz ∙ size .ensures .0) (call .ensures) in
+    let q = seal-told f ring (s .args .index) (s .pre .entry) (s .pre .ring-long) (s .args .suite) _ x y o o z (s .pre .still) (omega (arith, lo, high)) refl (lz ∙ size .ensures .0) (call .ensures) in
     let t = copy .ensures ∙ part-is (replicate 16 0) y 0 n (omega arith) (ly ∙ omega arith) in
     let lt : length (copy .last .1 .0) ≡ e - len = ap length t ∙ ly ∙ omega arith in
     put-both out x (copy .last .1 .0) len e (omega arith) inside lx lt
     ∙ ap₂ (λ (u v : List ℕ). u ++ v) (q .0) (t ∙ q .1)
-    ∙ ap (λ (l : List ℕ). pieceAs f ring (s .args .i) (s .args .suite) l) front
+    ∙ ap (λ (l : List ℕ). pieceAs f ring (s .args .index) (s .args .suite) l) front
 
 pub seal-into-spec : {M : Type 1} → statement M
 seal-into-spec =

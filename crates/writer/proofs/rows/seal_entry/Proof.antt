@@ -10,7 +10,7 @@ use borrow.Rule.Slice.PartMut.{putMid, same-len-mid}
 use Rattle.table.specs.Part.{stretch}
 use Rattle.table.proofs.Rows.{stretch-length}
 use Rattle.draft.specs.Put.{put}
-use Rattle.writer.proofs.Lent.{body-fits, front-is, put-over, row-sealed}
+use Rattle.writer.proofs.Lending.{body-fits, front-is, put-over, row-sealed}
 use Rattle.writer.proofs.rows.seal_entry.Statement.{statement}
 use Rattle.writer.proofs.rows.seal_entry.Tie as tie
 
@@ -41,13 +41,13 @@ module _ (d : tie.After-text-of) where
   s = d .before .before .before .before .before .before .before .before
 
   abbrev f : List ℕ
-  f = now (s .args .f)
+  f = now (s .args .file)
 
   abbrev out : List ℕ
   out = now (s .args .out)
 
   abbrev len : ℕ
-  len = d .before .before .before .before .row-of .result .len
+  len = d .before .before .before .before .row-of .result .«text_len»
 
   abbrev a : ℕ
   a = d .before .text-start .result
@@ -57,13 +57,13 @@ module _ (d : tie.After-text-of) where
 
   -- the piece lies in the output
   inside : e ≤ length out
-  inside = omega (arith, body-fits f (s .args .i) _ (s .pre .0 .entry) (d .before .before .before .before .row-of .ensures), s .pre .0 .out-long, d .before .before .size-of .ensures .0, d .before .text-start .ensures)
+  inside = omega (arith, body-fits f (s .args .index) _ (s .pre .0 .entry) (d .before .before .before .before .row-of .ensures), s .pre .0 .out-long, d .before .before .size-of .ensures .0, d .before .text-start .ensures)
 
   -- and the text in the file
   text-long : length (now (d .text-of .result)) ≡ len
   text-long =
       let r = d .before .before .before .before .row-of .result in
-      ap length (d .text-of .ensures .bytes) ∙ stretch-length f (r .at + r .ad) len (omega (arith, body-fits f (s .args .i) r (s .pre .0 .entry) (d .before .before .before .before .row-of .ensures)))
+      ap length (d .text-of .ensures .bytes) ∙ stretch-length f (r .«ad_at» + r .«ad_len») len (omega (arith, body-fits f (s .args .index) r (s .pre .0 .entry) (d .before .before .before .before .row-of .ensures)))
 
   place-long : length (stretch out a (a + len - a)) ≡ len
   place-long = stretch-length out a (a + len - a) (omega (arith, inside)) ∙ omega arith
@@ -138,7 +138,7 @@ returns c =
     let front = front-is (out d) t (a d) (len d) (e d) (omega arith) (omega (arith, inside d)) lt in
     put-over (out d) t x (a d) (a d + len d) (e d) (omega arith) (omega arith) (inside d) (lt ∙ omega arith) lx
     ∙ ap₂ (put (out d)) (start .ensures) (call .ensures)
-    ∙ row-sealed (f d) (now (s d .args .ring)) (s d .args .i) (row .result) (row .ensures) (out d) (take (len d) (stretch (m d t k) (a d) (e d - a d))) (front ∙ copy .ensures ∙ d .text-of .ensures .bytes)
+    ∙ row-sealed (f d) (now (s d .args .ring)) (s d .args .index) (row .result) (row .ensures) (out d) (take (len d) (stretch (m d t k) (a d) (e d - a d))) (front ∙ copy .ensures ∙ d .text-of .ensures .bytes)
 
 pub seal-entry-spec : {M : Type 1} → statement M
 seal-entry-spec =

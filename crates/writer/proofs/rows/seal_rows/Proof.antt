@@ -39,7 +39,7 @@ loop-again c =
     let a = c .before .before .before .before .before .before .before .before .before .args in
     let at = c .before .before .before .before .before .loop in
     let call = c .before .before .seal-entry in
-    let f = now (a .f) in
+    let f = now (a .file) in
     let ring = now (a .ring) in (
       omega arith,
       call .kept .1 .1 .1 .0 ∙ at .inv .1,
@@ -53,8 +53,8 @@ returns : tie.Need-returns Inv-loop μ-loop
 returns c =
     let a = c .before .before .before .before .before .args in
     let at = c .before .loop in
-    let q : at .i ≡ a .n = omega arith in
-    at .inv .2 ∙ ap (λ (k : ℕ). putAll (pieceStart (now (a .f))) (sealedPiece (now (a .f)) (now (a .ring))) k (now (a .out))) q
+    let q : at .i ≡ a .rows = omega arith in
+    at .inv .2 ∙ ap (λ (k : ℕ). putAll (pieceStart (now (a .file))) (sealedPiece (now (a .file)) (now (a .ring))) k (now (a .out))) q
 
 pub seal-rows-spec : {M : Type 1} → statement M
 seal-rows-spec =

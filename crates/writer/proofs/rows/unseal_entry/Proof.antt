@@ -16,7 +16,7 @@ use Rattle.draft.specs.Put.{put}
 use Rattle.shift.proofs.Entries.{lendable}
 use Rattle.comet.specs.Answers.{numberOf}
 use Rattle.comet.proofs.Refuse.{other-some}
-use Rattle.writer.proofs.Lent.{body-fits, open-told, put-two, row-opened}
+use Rattle.writer.proofs.Lending.{body-fits, open-told, put-two, row-opened}
 use Rattle.writer.proofs.rows.unseal_entry.Statement.{statement}
 use Rattle.writer.proofs.rows.unseal_entry.Tie as tie
 
@@ -45,12 +45,12 @@ part-open-row-start : tie.Need-part-open-row-start
 part-open-row-start c = search needs
 
 part-open-row-end : tie.Need-part-open-row-end
-part-open-row-end c = omega (arith, body-fits (now (c .before .before .before .before .before .before .before .args .f)) (c .before .before .before .before .before .before .before .args .i) _ (c .before .before .before .before .before .before .before .pre .entry) (c .before .before .before .row-of .ensures), c .before .before .before .before .before .before .before .pre .out-long, c .text-start .ensures)
+part-open-row-end c = omega (arith, body-fits (now (c .before .before .before .before .before .before .before .args .file)) (c .before .before .before .before .before .before .before .args .index) _ (c .before .before .before .before .before .before .before .pre .entry) (c .before .before .before .row-of .ensures), c .before .before .before .before .before .before .before .pre .out-long, c .text-start .ensures)
 
 open-row-requires : tie.Need-open-row-requires
 open-row-requires c κs =
     let s = c .before .before .before .before .before .before .before .before in
-    lendable (now (s .args .f)) (now (s .args .ring)) (s .args .i) (s .pre .entry) (s .pre .ring-long) _ (c .before .before .before .before .row-of .ensures)
+    lendable (now (s .args .file)) (now (s .args .ring)) (s .args .index) (s .pre .entry) (s .pre .ring-long) _ (c .before .before .before .before .row-of .ensures)
 
 enum-told : tie.Need-enum-told
 enum-told c = search needs
@@ -65,12 +65,12 @@ returns c =
     let row = c .before .before .before .before .before .before .before .before .row-of in
     let r = row .result in
     let a = c .before .before .before .before .before .text-start .result in
-    let b = a + r .len in
+    let b = a + r .«text_len» in
     let out = now (s .args .out) in
-    let fits = body-fits (now (s .args .f)) (s .args .i) r (s .pre .entry) (row .ensures) in
-    let lo : length (stretch out a (b - a)) ≡ r .len = stretch-length out a (b - a) (omega (arith, fits, s .pre .out-long, c .before .before .before .before .before .text-start .ensures)) ∙ omega arith in
+    let fits = body-fits (now (s .args .file)) (s .args .index) r (s .pre .entry) (row .ensures) in
+    let lo : length (stretch out a (b - a)) ≡ r .«text_len» = stretch-length out a (b - a) (omega (arith, fits, s .pre .out-long, c .before .before .before .before .before .text-start .ensures)) ∙ omega arith in
     let some = other-some (call .result) (c .match .keys2) in
-    let t = open-told (now (s .args .f)) (now (s .args .ring)) (s .args .i) (s .pre .entry) (s .pre .ring-long) _ _ (stretch out a (b - a)) (lo ∙ ap (λ (q : Row). q .len) (row .ensures)) (call .ensures) in
+    let t = open-told (now (s .args .file)) (now (s .args .ring)) (s .args .index) (s .pre .entry) (s .pre .ring-long) _ _ (stretch out a (b - a)) (lo ∙ ap (λ (q : Row). q .«text_len») (row .ensures)) (call .ensures) in
     (t .wrong some, λ e. absurd (true≢false (sym e)))
 
 sub-wipe : tie.Need-sub-wipe
@@ -84,9 +84,9 @@ part-wipe-end c =
     let s = c .before .before .before .before .before .before .before .before .before .before .before .before .before in
     let a = c .before .before .before .before .before .before .text-start .result in
     let call = c .before .before .before .before .open-row in
-    let b = a + c .before .before .before .before .before .before .before .before .before .row-of .result .len in
+    let b = a + c .before .before .before .before .before .before .before .before .before .row-of .result .«text_len» in
     let l = same-len-mid a (b - a) (now (s .args .out)) (call .last .1 .1 .1 .1 .0) (call .kept .1 .1 .1 .1 .0) in
-    omega (arith, l, body-fits (now (c .before .before .before .before .before .before .before .before .before .before .before .before .before .args .f)) (c .before .before .before .before .before .before .before .before .before .before .before .before .before .args .i) _ (c .before .before .before .before .before .before .before .before .before .before .before .before .before .pre .entry) (c .before .before .before .before .before .before .before .before .before .row-of .ensures), s .pre .out-long, c .before .before .before .before .before .before .before .size-of .ensures .0, c .before .before .before .before .before .before .text-start .ensures)
+    omega (arith, l, body-fits (now (c .before .before .before .before .before .before .before .before .before .before .before .before .before .args .file)) (c .before .before .before .before .before .before .before .before .before .before .before .before .before .args .index) _ (c .before .before .before .before .before .before .before .before .before .before .before .before .before .pre .entry) (c .before .before .before .before .before .before .before .before .before .row-of .ensures), s .pre .out-long, c .before .before .before .before .before .before .before .size-of .ensures .0, c .before .before .before .before .before .before .text-start .ensures)
 
 wipe-requires : tie.Need-wipe-requires
 wipe-requires c κs = search needs
@@ -102,28 +102,28 @@ returns-2 c =
     let size = c .before .before .before .before .before .before .before .before .before .before .before .size-of in
     let start = c .before .before .before .before .before .before .before .before .before .before .text-start in
     let call = c .before .before .before .before .before .before .before .before .open-row in
-    let f = now (s .args .f) in
+    let f = now (s .args .file) in
     let ring = now (s .args .ring) in
     let out = now (s .args .out) in
-    let fits = body-fits f (s .args .i) r (s .pre .entry) rq in
+    let fits = body-fits f (s .args .index) r (s .pre .entry) rq in
     let a = start .result in
-    let b = a + r .len in
+    let b = a + r .«text_len» in
     let e = b + size .result in
     let inside : e ≤ length out = omega (arith, fits, s .pre .out-long, size .ensures .0, start .ensures) in
     let x = call .last .1 .1 .1 .1 .0 in
-    let lo : length (stretch out a (b - a)) ≡ r .len = stretch-length out a (b - a) (omega (arith, inside)) ∙ omega arith in
+    let lo : length (stretch out a (b - a)) ≡ r .«text_len» = stretch-length out a (b - a) (omega (arith, inside)) ∙ omega arith in
     let lx : length x ≡ b - a = call .kept .1 .1 .1 .1 .0 ∙ lo ∙ omega arith in
     let m = putMid a (b - a) out x in
     let lm : length m ≡ length out = same-len-mid a (b - a) out x (call .kept .1 .1 .1 .1 .0) in
     let lt : length (stretch m b (e - b)) ≡ e - b = stretch-length m b (e - b) (omega (arith, lm, inside)) in
     let n : e - b ≡ sizeOf (r .suite) = omega (arith, size .ensures .0) in
     let y = c .before .before .wipe .last .0 in
-    let t = open-told f ring (s .args .i) (s .pre .entry) (s .pre .ring-long) _ _ (stretch out a (b - a)) (lo ∙ ap (λ (q : Row). q .len) rq) (call .ensures) .done (ap numberOf (c .before .before .before .before .enum-told .given .1)) in (
+    let t = open-told f ring (s .args .index) (s .pre .entry) (s .pre .ring-long) _ _ (stretch out a (b - a)) (lo ∙ ap (λ (q : Row). q .«text_len») rq) (call .ensures) .done (ap numberOf (c .before .before .before .before .enum-told .given .1)) in (
       t .0,
       λ z.
           put-two out x y a b e (omega arith) (omega arith) inside lx (c .before .before .wipe .kept .0 ∙ lt)
           ∙ ap (λ (k : ℕ). put out k (x ++ y)) (start .ensures)
-          ∙ row-opened f ring (s .args .i) r rq out x y (t .1) (c .before .before .wipe .ensures ∙ ap (λ (k : ℕ). replicate k 0) (lt ∙ n)),
+          ∙ row-opened f ring (s .args .index) r rq out x y (t .1) (c .before .before .wipe .ensures ∙ ap (λ (k : ℕ). replicate k 0) (lt ∙ n)),
     )
 
 pub unseal-entry-spec : {M : Type 1} → statement M

@@ -12,7 +12,7 @@ use Rattle.table.specs.declared.row.Row.{Row}
 use Rattle.table.specs.Format.{tagOf}
 use Rattle.table.proofs.Rows.{stretch-length}
 use Rattle.draft.specs.Answers.{tagSet}
-use Rattle.writer.proofs.Lent.{body-fits}
+use Rattle.writer.proofs.Lending.{body-fits}
 use Rattle.writer.proofs.tags.tag_zero.Statement.{statement}
 use Rattle.writer.proofs.tags.tag_zero.Tie as tie
 
@@ -29,11 +29,11 @@ returns : tie.Need-returns
 unfolding tagSet
 returns c =
     let s = c .before .before .before .before in
-    let f = now (s .args .f) in
+    let f = now (s .args .file) in
     let r = c .before .before .row-of .result in
     let rq = c .before .before .row-of .ensures in
     let e : now (c .before .tag-of .result) ≡ tagOf f r = c .before .tag-of .ensures .bytes in
-    let l : length (now (c .before .tag-of .result)) ≡ sizeOf (r .suite) = ap length e ∙ stretch-length f (r .at + r .ad + r .len) (sizeOf (r .suite)) (body-fits f (s .args .i) r (s .pre) rq) in
+    let l : length (now (c .before .tag-of .result)) ≡ sizeOf (r .suite) = ap length e ∙ stretch-length f (r .«ad_at» + r .«ad_len» + r .«text_len») (sizeOf (r .suite)) (body-fits f (s .args .index) r (s .pre) rq) in
     ap not (c .all-zero .ensures ∙ ap₂ (λ (x : List ℕ) (k : ℕ). sameBytes x (replicate k 0)) e l)
     ∙ ap (λ (q : Row). not (sameBytes (tagOf f q) (replicate (sizeOf (q .suite)) 0))) rq
 

@@ -7,11 +7,11 @@ use mathlib.Core.List.{List, _++_, append-assoc, append-nil}
 use lib.ListN.{length, take, drop, replicate, length-append}
 use lib.Seq.{take-at, take-take, drop-at, drop-drop, drop-length, length-take-le}
 use borrow.Rule.Slice.PartMut.{putMid, post-is, take-put, drop-put}
-use Rattle.cipher.specs.Cipher.{Seals, sizeOf}
+use Rattle.cipher.specs.Cipher.{Seals, sizeOf, limit}
 use Rattle.comet.specs.Answers.{Sealed, Opened, openedAs}
 use Rattle.table.specs.declared.row.Row.{Row}
 use Rattle.table.specs.Part.{stretch}
-use Rattle.table.specs.Format.{widthOf, rowOf, textOf, bodyEnd}
+use Rattle.table.specs.Format.{rowSizeOf, rowOf, textOf, bodyEnd}
 use Rattle.table.specs.Inside.{EntryIn}
 use Rattle.shift.specs.Opening.{entrySealingAs, entryOpening}
 use Rattle.draft.specs.Put.{put}
@@ -20,13 +20,13 @@ use Rattle.draft.specs.Answers.{tagRight}
 use Rattle.draft.proofs.Takes.{as-done, open-done}
 
 -- a row's body lies in the file
-pub body-fits : (f : List ℕ) (i : ℕ) (r : Row) → EntryIn (widthOf f) f i → r ≡ rowOf f i → r .at + r .ad + r .len + sizeOf (r .suite) ≤ length f
+pub body-fits : (f : List ℕ) (i : ℕ) (r : Row) → EntryIn (rowSizeOf f) f i → r ≡ rowOf f i → r .«ad_at» + r .«ad_len» + r .«text_len» + sizeOf (r .suite) ≤ length f
 unfolding bodyEnd
 body-fits f i r h q = rw q (h .body-in)
 
-module _ (f ring : List ℕ) (i : ℕ) (h : EntryIn (widthOf f) f i) (g : length ring ≡ 256) where
+module _ (f ring : List ℕ) (i : ℕ) (h : EntryIn (rowSizeOf f) f i) (g : length ring ≡ 256) where
   -- the sealer left text and tag
-  pub seal-told : (suite m : ℕ) (x y text out tag : List ℕ) → Seals suite → length text ≤ 65536 → length out ≡ length text → length tag ≡ sizeOf suite
+  pub seal-told : (suite m : ℕ) (x y text out tag : List ℕ) → Seals suite → length text ≤ limit → length out ≡ length text → length tag ≡ sizeOf suite
       → _≡_ {A = Sealed} (record { number = m; out = x; tag = y }) (entrySealingAs f ring i suite text out tag)
       → (x ≡ textAs false f ring i suite text) × (y ≡ tagAs false f ring i suite text)
   seal-told suite m x y text out tag s high lo lt e =
@@ -38,7 +38,7 @@ module _ (f ring : List ℕ) (i : ℕ) (h : EntryIn (widthOf f) f i) (g : length
     pub done : m ≡ 0 → (true ≡ tagRight f ring i) × (x ≡ entryOut true f ring i)
     pub wrong : 0 < m → false ≡ tagRight f ring i
 
-  pub open-told : (m : ℕ) (x o : List ℕ) → length o ≡ rowOf f i .len → _≡_ {A = Opened} (record { number = m; out = x }) (entryOpening f ring i o) → OpenTold m x
+  pub open-told : (m : ℕ) (x o : List ℕ) → length o ≡ rowOf f i .«text_len» → _≡_ {A = Opened} (record { number = m; out = x }) (entryOpening f ring i o) → OpenTold m x
   open-told m x o l e = told (tagRight f ring i) refl (e ∙ open-done f ring i h g o l)
     where
       told : (b : Bool) → tagRight f ring i ≡ b → _≡_ {A = Opened} (record { number = m; out = x }) (openedAs 0 b (entryOut true f ring i) o) → OpenTold m x
@@ -106,12 +106,12 @@ put-both out x y b e h lo lx ly =
 -- ---- the piece of row i, where it starts
 
 module _ (f ring : List ℕ) (i : ℕ) (r : Row) (q : r ≡ rowOf f i) (out : List ℕ) where
-  pub row-sealed : (text : List ℕ) → text ≡ textOf f r → put out (r .at + r .ad) (pieceAs f ring i (r .suite) text) ≡ put out (pieceStart f i) (sealedPiece f ring i)
+  pub row-sealed : (text : List ℕ) → text ≡ textOf f r → put out (r .«ad_at» + r .«ad_len») (pieceAs f ring i (r .suite) text) ≡ put out (pieceStart f i) (sealedPiece f ring i)
   unfolding pieceStart sealedPiece entryOut entryTag
   row-sealed text e =
-      ap (λ (v : List ℕ). put out (r .at + r .ad) (pieceAs f ring i (r .suite) v)) e
-      ∙ ap (λ (s : Row). put out (s .at + s .ad) (pieceAs f ring i (s .suite) (textOf f s))) q
+      ap (λ (v : List ℕ). put out (r .«ad_at» + r .«ad_len») (pieceAs f ring i (r .suite) v)) e
+      ∙ ap (λ (s : Row). put out (s .«ad_at» + s .«ad_len») (pieceAs f ring i (s .suite) (textOf f s))) q
 
-  pub row-opened : (x y : List ℕ) → x ≡ entryOut true f ring i → y ≡ replicate (sizeOf (r .suite)) 0 → put out (r .at + r .ad) (x ++ y) ≡ put out (pieceStart f i) (draftPiece f ring i)
+  pub row-opened : (x y : List ℕ) → x ≡ entryOut true f ring i → y ≡ replicate (sizeOf (r .suite)) 0 → put out (r .«ad_at» + r .«ad_len») (x ++ y) ≡ put out (pieceStart f i) (draftPiece f ring i)
   unfolding pieceStart draftPiece
-  row-opened x y ex ey = λ t. put out (q t .at + q t .ad) (ex t ++ (ey ∙ ap (λ (s : Row). replicate (sizeOf (s .suite)) 0) q) t)
+  row-opened x y ex ey = λ t. put out (q t .«ad_at» + q t .«ad_len») (ex t ++ (ey ∙ ap (λ (s : Row). replicate (sizeOf (s .suite)) 0) q) t)

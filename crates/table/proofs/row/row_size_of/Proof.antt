@@ -2,8 +2,8 @@
 use mathlib.Core.Path.{ap, _∙_}
 use Rattle.table.specs.Format.{rowSize}
 use borrow.Author.Needs.{needs}
-use Rattle.table.proofs.row.width.Statement.{statement}
-use Rattle.table.proofs.row.width.Tie as tie
+use Rattle.table.proofs.row.row_size_of.Statement.{statement}
+use Rattle.table.proofs.row.row_size_of.Tie as tie
 
 get16-requires : tie.Need-get16-requires
 get16-requires c κs = search needs
@@ -14,5 +14,5 @@ row-size-requires c κs = search needs
 returns : tie.Need-returns
 returns c = c .row-size .ensures ∙ ap rowSize (c .before .get16 .ensures)
 
-pub width-spec : {M : Type 1} → statement M
-width-spec = tie.close (tie.spec get16-requires row-size-requires returns)
+pub row-size-of-spec : {M : Type 1} → statement M
+row-size-of-spec = tie.close (tie.spec get16-requires row-size-requires returns)
