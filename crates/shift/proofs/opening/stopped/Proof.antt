@@ -12,8 +12,8 @@ enum-told c = search needs
 enum-told-2 : tie.Need-enum-told-2
 enum-told-2 c = search needs
 
-enum-known-x : tie.Need-enum-known-x
-enum-known-x c = search needs
+enum-known-found : tie.Need-enum-known-found
+enum-known-found c = search needs
 
 returns : tie.Need-returns
 returns c = absurd (c .before .before .pre (ap (λ (x : Found). foundAnswer x .number) (c .enum-told .given .1)))
@@ -25,4 +25,4 @@ returns-3 : tie.Need-returns-3
 returns-3 c = search needs
 
 pub stopped-spec : {M : Type 1} → statement M
-stopped-spec = tie.close (tie.spec enum-told enum-told-2 enum-known-x returns returns-2 returns-3)
+stopped-spec = tie.close (tie.spec enum-told enum-told-2 enum-known-found returns returns-2 returns-3)

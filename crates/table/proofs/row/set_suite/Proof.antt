@@ -6,8 +6,8 @@ use Rattle.table.proofs.row.set_suite.Tie as tie
 rest-start-requires : tie.Need-rest-start-requires
 rest-start-requires c κs = search needs
 
-slice-write-f : tie.Need-slice-write-f
-slice-write-f c = search needs
+slice-write-file : tie.Need-slice-write-file
+slice-write-file c = search needs
 
 same-length : tie.Need-same-length
 same-length c = search needs
@@ -16,4 +16,4 @@ returns : tie.Need-returns
 returns c = rw (← c .rest-start .ensures .0)
 
 pub set-suite-spec : {M : Type 1} → statement M
-set-suite-spec = tie.close (tie.spec rest-start-requires slice-write-f same-length returns)
+set-suite-spec = tie.close (tie.spec rest-start-requires slice-write-file same-length returns)
