@@ -11,7 +11,7 @@ use borrow.Author.Tests.{eq-eqb, ne-eqb, eqb-true, eqb-false, not-true}
 use Rattle.words.specs.Bytes.{sameBytes}
 use Rattle.words.proofs.Tests.{both-true, is-false}
 use Rattle.words.proofs.Same.{same-refl, same-true}
-use Rattle.table.specs.Format.{countOf, rowOf}
+use Rattle.format.specs.Format.{countOf, rowOf}
 use Rattle.table.proofs.Searches.{any-none, any-some, any-hit}
 use Rattle.compare.specs.Kept.{kept}
 use Rattle.compare.specs.Comparing.{sameFields, nonceBytes, bodyOf, sameEntry, jobAt, has, hasJob, differs, onlyIn, differing}

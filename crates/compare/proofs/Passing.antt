@@ -6,7 +6,7 @@ use mathlib.Core.Path.{_≡_, refl, sym, ap, subst, _∙_}
 use mathlib.Core.Bool.{Bool, true, false, not, _&&_, cond}
 use mathlib.Core.List.{List, [], _∷_}
 use lib.ListN.{length, set}
-use Rattle.table.specs.Format.{countOf, firstEdition, newest}
+use Rattle.format.specs.Format.{countOf, firstEdition, newest}
 use Rattle.table.specs.Check.{checkFile}
 use Rattle.table.proofs.Passed.{passes}
 use Rattle.compare.specs.Comparing.{jobAt, hasJob, differs, onlyIn, onlyFirst, onlySecond, differing}

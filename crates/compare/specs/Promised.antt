@@ -4,8 +4,8 @@ use mathlib.Core.Path.{_≡_}
 use mathlib.Core.List.{List, [], List·Memᴰ}
 use mathlib.Core.Logic.{_↔_}
 use lib.ListN.{length, getD}
-use Rattle.table.specs.Format.{editionOf, countOf, firstEdition, rowOf, stationOf}
-use Rattle.table.specs.Answers.{answer}
+use Rattle.format.specs.Format.{editionOf, countOf, firstEdition, rowOf, stationOf}
+use Rattle.numbers.specs.Answers.{answer}
 use Rattle.table.specs.Check.{checkFile}
 use Rattle.compare.specs.Comparing.{nonceBytes, bodyOf, onlyFirst, onlySecond, differing, refusedIn, stopped, comparison}
 

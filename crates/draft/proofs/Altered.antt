@@ -10,13 +10,13 @@ use lib.ListN.{length, getD, replicate}
 use lib.Seq.{ext-getD}
 use Rattle.words.specs.Bytes.{AllBytes}
 use Rattle.cipher.specs.Cipher.{sizeOf}
-use Rattle.table.specs.declared.answers.Answer.{Answer}
-use Rattle.table.specs.Part.{stretch}
-use Rattle.table.specs.Format.{editionOf, countOf, firstEdition, rowSize, rowSizeOf, rowAt, nonceAt, rowOf, dataOf, textOf, tagOf, bodyEnd}
-use Rattle.table.specs.Answers.{answer}
+use Rattle.numbers.specs.declared.checked.Answer.{Answer}
+use Rattle.format.specs.Part.{stretch}
+use Rattle.format.specs.Format.{editionOf, countOf, firstEdition, rowSize, rowSizeOf, rowAt, nonceAt, rowOf, dataOf, textOf, tagOf, bodyEnd}
+use Rattle.numbers.specs.Answers.{answer}
 use Rattle.table.specs.Check.{badData, checkAs}
-use Rattle.table.specs.Inside.{EntryIn}
-use Rattle.table.proofs.Rows.{row-broad}
+use Rattle.format.specs.Inside.{EntryIn}
+use Rattle.format.proofs.Rows.{row-broad}
 use Rattle.table.proofs.Passed.{Passes, passes}
 use Rattle.table.proofs.Alike.{Agree, AgreeTable, stretch-same, row-same, nonce-same, count-same}
 use Rattle.table.proofs.Kept.{body-table, body-edition, body-other, body-check, data-held}

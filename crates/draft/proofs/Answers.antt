@@ -12,10 +12,10 @@ use Rattle.words.specs.Bytes.{sameBytes}
 use Rattle.words.proofs.Tests.{is-false}
 use Rattle.words.proofs.Same.{same-true, same-refl}
 use Rattle.cipher.specs.Cipher.{Seals, sizeOf}
-use Rattle.table.specs.declared.answers.Answer.{Answer}
+use Rattle.numbers.specs.declared.checked.Answer.{Answer}
 use Rattle.table.specs.Search.{firstOf}
-use Rattle.table.specs.Format.{countOf, firstEdition, rowOf, tagOf}
-use Rattle.table.specs.Answers.{answer}
+use Rattle.format.specs.Format.{countOf, firstEdition, rowOf, tagOf}
+use Rattle.numbers.specs.Answers.{answer}
 use Rattle.table.specs.Check.{andThen, checkAs}
 use Rattle.table.proofs.Searches.{first-says, first-none, first-at}
 use Rattle.table.proofs.Passed.{both-zero}

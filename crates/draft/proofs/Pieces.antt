@@ -10,11 +10,11 @@ use Rattle.cipher.specs.Cipher.{cipherOf, sizeOf, nonceOf}
 use Rattle.cipher.proofs.Lawful.{lawful}
 use Rattle.mode.specs.Mode.{textOut, tagOut}
 use Rattle.mode.proofs.Demand2.{text-length, text-back, tag-back, tag-block}
-use Rattle.table.specs.declared.row.Row.{Row}
-use Rattle.table.specs.Part.{stretch}
-use Rattle.table.specs.Format.{countOf, rowSizeOf, nonceAt, rowOf, dataOf, textOf, tagOf}
+use Rattle.format.specs.declared.row.Row.{Row}
+use Rattle.format.specs.Part.{stretch}
+use Rattle.format.specs.Format.{countOf, rowSizeOf, nonceAt, rowOf, dataOf, textOf, tagOf}
 use Rattle.table.specs.Check.{checkAs}
-use Rattle.table.specs.Inside.{EntryIn}
+use Rattle.format.specs.Inside.{EntryIn}
 use Rattle.table.proofs.Passed.{passes, entry-in}
 use Rattle.shift.specs.Opening.{ringKey, nonceRead}
 use Rattle.shift.proofs.Entries.{text-long}

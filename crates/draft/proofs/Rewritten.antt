@@ -13,14 +13,14 @@ use borrow.Author.Tests.{eqb-false, not-true, eq-eqb}
 use Rattle.words.specs.Bytes.{AllBytes, value, bytes, word}
 use Rattle.words.proofs.Lists.{append-inj}
 use Rattle.cipher.specs.Cipher.{sizeOf}
-use Rattle.table.specs.declared.row.Row.{Row}
-use Rattle.table.specs.declared.answers.Answer.{Answer}
-use Rattle.table.specs.Part.{stretch}
-use Rattle.table.specs.Format.{editionOf, countOf, firstEdition, rowSize, rowSizeOf, rowStart, rowAt, nonceAt, rowOf, dataOf, textOf, tagOf, bodyEnd}
-use Rattle.table.specs.Answers.{answer}
+use Rattle.format.specs.declared.row.Row.{Row}
+use Rattle.numbers.specs.declared.checked.Answer.{Answer}
+use Rattle.format.specs.Part.{stretch}
+use Rattle.format.specs.Format.{editionOf, countOf, firstEdition, rowSize, rowSizeOf, rowStart, rowAt, nonceAt, rowOf, dataOf, textOf, tagOf, bodyEnd}
+use Rattle.numbers.specs.Answers.{answer}
 use Rattle.table.specs.Check.{outside, checkAs}
-use Rattle.table.proofs.Parts.{join}
-use Rattle.table.proofs.Rows.{row-broad, row-late, stretch-length}
+use Rattle.format.proofs.Parts.{join}
+use Rattle.format.proofs.Rows.{row-broad, row-late, stretch-length}
 use Rattle.table.proofs.Searches.{first-none}
 use Rattle.table.proofs.Sound.{Sound, Headed}
 use Rattle.table.proofs.Passed.{Walked, passes, own-edition}

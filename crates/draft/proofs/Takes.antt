@@ -10,10 +10,10 @@ use borrow.Author.Tests.{eq-eqb}
 use Rattle.cipher.specs.Cipher.{Seals, sizeOf, nonceOf, limit}
 use Rattle.cipher.proofs.Suites.{nonce-most, seals-has}
 use Rattle.comet.specs.Answers.{Sealed, sealedAs, sealing, Opened, openedAs}
-use Rattle.comet.proofs.Refuse.{none-bad}
-use Rattle.table.specs.Format.{rowSizeOf, nonceAt, rowOf, textOf}
-use Rattle.table.specs.Inside.{EntryIn}
-use Rattle.table.proofs.Rows.{nonce-length}
+use Rattle.numbers.proofs.Refuse.{none-bad}
+use Rattle.format.specs.Format.{rowSizeOf, nonceAt, rowOf, textOf}
+use Rattle.format.specs.Inside.{EntryIn}
+use Rattle.format.proofs.Rows.{nonce-length}
 use Rattle.shift.specs.Opening.{entrySealingAs, entrySealing, entryOpening}
 use Rattle.shift.proofs.Entries.{key-long, data-long, text-long, entryRight, entryText, entry-opened}
 use Rattle.draft.specs.Files.{textAs, tagAs, entryOut, entryTag}

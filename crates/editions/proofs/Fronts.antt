@@ -10,9 +10,9 @@ use lib.Seq.{take-at, take-all, length-take-le}
 use borrow.Rule.Slice.PartMut.{putMid}
 use Rattle.words.specs.Bytes.{bytes}
 use Rattle.words.proofs.Bytes.{length-bytes, bytes-join}
-use Rattle.table.specs.Part.{stretch}
-use Rattle.table.specs.Format.{rowStart, restStart, rowAt}
-use Rattle.table.proofs.Rows.{row-in, row-below}
+use Rattle.format.specs.Part.{stretch}
+use Rattle.format.specs.Format.{rowStart, restStart, rowAt}
+use Rattle.format.proofs.Rows.{row-in, row-below}
 use Rattle.editions.specs.Inside.{Movable}
 use Rattle.editions.specs.Files.{carried, movedRow, movedRows, movedHeader, movedFrom}
 

@@ -12,7 +12,8 @@ use Rattle.words.specs.Bytes.{sameBytes}
 use Rattle.cipher.specs.Cipher.{isSuite, retired, seals, cipherOf, sizeOf, nonceOf, limit}
 use Rattle.cipher.proofs.Suites.{tag-size, only-four}
 use Rattle.mode.specs.Mode.{textOut, tagOut}
-use Rattle.comet.specs.Answers.{takes, refusal, sealedAs, sealing, openedAs, opening}
+use Rattle.numbers.specs.Verdicts.{takes, refusal}
+use Rattle.comet.specs.Answers.{sealedAs, sealing, openedAs, opening}
 use Rattle.session.specs.Value.{Value, Given, sound, answered, startNumber, starting, dataNumber, dataPart, textNumber, textPart, endNumber, ending}
 use Rattle.session.proofs.Parts.{done-number}
 use Rattle.promises.specs.Numbers.{tagSize, numbers, SealNumbers, OpenNumbers, StartNumbers, Going, DataNumbers, PartNumbers, EndNumbers}

@@ -5,7 +5,8 @@ use Prim.Native.Nat.{ℕ}
 use Rattle.words.proofs.Tests.{is-false}
 use Rattle.cipher.specs.Cipher.{isSuite, IsSuite, retired, seals}
 use Rattle.cipher.proofs.Suites.{only-four}
-use Rattle.comet.specs.Answers.{refusal, sealing}
+use Rattle.numbers.specs.Verdicts.{refusal}
+use Rattle.comet.specs.Answers.{sealing}
 use Rattle.session.specs.Value.{startNumber, starting}
 use Rattle.promises.specs.Retired.{OnlyFour, SealerRefuses, StartRefuses, OpenerNever, Retired}
 use Rattle.promises.proofs.Numbers.{seal-numbers, open-numbers, start-numbers}

@@ -8,9 +8,9 @@ use lib.Dec.{eqb, lit≤}
 use borrow.Author.Tests.{eq-eqb}
 use Rattle.words.specs.Bytes.{AllBytes, sameBytes}
 use Rattle.words.proofs.Same.{same-refl}
-use Rattle.table.specs.declared.answers.Answer.{Answer}
-use Rattle.table.specs.Format.{countOf, firstEdition, rowSizeOf, rowOf, tagOf}
-use Rattle.table.specs.Answers.{answer}
+use Rattle.numbers.specs.declared.checked.Answer.{Answer}
+use Rattle.format.specs.Format.{countOf, firstEdition, rowSizeOf, rowOf, tagOf}
+use Rattle.numbers.specs.Answers.{answer}
 use Rattle.table.specs.Check.{rowNumber, endAnswer, rowsFrom, headNumber, checkBetween, checkAs}
 use Rattle.table.proofs.Searches.{first-none}
 use Rattle.table.proofs.Passed.{both-zero, passes}

@@ -11,15 +11,15 @@ use lib.Seq.{getD-take}
 use lib.Dec.{eqb, lit<, lit≤}
 use borrow.Author.Tests.{eqb-true, ne-eqb}
 use Rattle.words.specs.Bytes.{word}
-use Rattle.table.specs.declared.row.Row.{Row}
-use Rattle.table.specs.declared.answers.Answer.{Answer}
-use Rattle.table.specs.Format.{editionOf, countOf, firstEdition, newest, rowSize, rowSizeOf, rowStart, rowAt}
-use Rattle.table.specs.declared.answers.Refusal.{Refusal}
-use Rattle.table.specs.Answers.{answer, refusalAnswer}
+use Rattle.format.specs.declared.row.Row.{Row}
+use Rattle.numbers.specs.declared.checked.Answer.{Answer}
+use Rattle.format.specs.Format.{editionOf, countOf, firstEdition, newest, rowSize, rowSizeOf, rowStart, rowAt}
+use Rattle.numbers.specs.declared.checked.Refusal.{Refusal}
+use Rattle.numbers.specs.Answers.{answer, refusalAnswer}
 use Rattle.table.specs.Check.{headNumber, checkFile}
 use Rattle.shift.specs.Lookup.{lookupJob}
-use Rattle.table.proofs.Numbers.{refusal-some}
-use Rattle.table.proofs.Rows.{row-broad}
+use Rattle.numbers.proofs.Numbers.{refusal-some}
+use Rattle.format.proofs.Rows.{row-broad}
 use Rattle.table.proofs.Sound.{headed}
 use Rattle.table.proofs.Passed.{passes}
 use Rattle.table.proofs.Rising.{rising}

@@ -18,11 +18,11 @@ use Rattle.mode.proofs.Start.{suite-nonce}
 use Rattle.mode.proofs.Demand2.{empty-tag}
 use Rattle.mode.proofs.Demand3.{same-before, same-behind, data-told}
 use Rattle.mode.proofs.LastBlock.{last-told}
-use Rattle.table.specs.declared.row.Row.{Row}
-use Rattle.table.specs.Part.{stretch}
-use Rattle.table.specs.Format.{rowSizeOf, nonceStart, nonceAt, rowOf, dataOf, textOf, tagOf, bodyEnd}
-use Rattle.table.specs.Inside.{EntryIn}
-use Rattle.table.proofs.Rows.{stretch-length}
+use Rattle.format.specs.declared.row.Row.{Row}
+use Rattle.format.specs.Part.{stretch}
+use Rattle.format.specs.Format.{rowSizeOf, nonceStart, nonceAt, rowOf, dataOf, textOf, tagOf, bodyEnd}
+use Rattle.format.specs.Inside.{EntryIn}
+use Rattle.format.proofs.Rows.{stretch-length}
 use Rattle.shift.specs.Opening.{ringKey, nonceRead}
 use Rattle.shift.proofs.Entries.{entryRight, key-long, nonce-long}
 

@@ -9,9 +9,9 @@ use lib.ListN.{length, replicate}
 use lib.Dec.{eqb}
 use borrow.Author.Tests.{eqb-true, eqb-false}
 use Rattle.comet.specs.Answers.{openedAs}
-use Rattle.table.specs.Format.{rowSizeOf, rowOf}
-use Rattle.table.specs.Answers.{answer}
-use Rattle.table.specs.Inside.{EntryIn}
+use Rattle.format.specs.Format.{rowSizeOf, rowOf}
+use Rattle.numbers.specs.Answers.{answer}
+use Rattle.format.specs.Inside.{EntryIn}
 use Rattle.shift.specs.Lookup.{lookupJob}
 use Rattle.shift.specs.Opening.{entryOpening, JobOpened, left, rowOpening, jobOpening}
 use Rattle.shift.specs.Promised.{Answered, OpensEntry, OpeningAnswers}

@@ -8,10 +8,10 @@ use mathlib.Core.Logic.{⊎-elim}
 use lib.ListN.{length}
 use lib.Dec.{eqb, ltb}
 use borrow.Author.Tests.{eqb-true}
-use Rattle.table.specs.declared.answers.Answer.{Answer}
+use Rattle.numbers.specs.declared.checked.Answer.{Answer}
 use Rattle.table.specs.Search.{firstOf}
-use Rattle.table.specs.Format.{countOf, firstEdition, newest, rowSizeOf, rowOf, stationOf}
-use Rattle.table.specs.Answers.{answer}
+use Rattle.format.specs.Format.{countOf, firstEdition, newest, rowSizeOf, rowOf, stationOf}
+use Rattle.numbers.specs.Answers.{answer}
 use Rattle.table.specs.Check.{bodyStart, endAnswer, rowsFrom, headNumber, andThen, checkBetween, checkAs, checkFile}
 use Rattle.table.proofs.Searches.{first-says}
 use Rattle.table.proofs.Sound.{headed}

@@ -8,8 +8,8 @@ use mathlib.Core.Logic.{⊎-elim}
 use lib.ListN.{length, take, drop, take-append-drop, drop-of-length-le}
 use lib.Seq.{drop-drop}
 use lib.Dec.{eqb·suc-zero}
-use Rattle.table.specs.Part.{stretch}
-use Rattle.table.specs.Format.{countOf, firstEdition, newest, rowSizeOf, rowStart, rowAt, rowOf, bodyEnd}
+use Rattle.format.specs.Part.{stretch}
+use Rattle.format.specs.Format.{countOf, firstEdition, newest, rowSizeOf, rowStart, rowAt, rowOf, bodyEnd}
 use Rattle.table.specs.Check.{bodyStart}
 use Rattle.table.specs.Laid.{bodyAt, bodies, BodiesLaid}
 use Rattle.table.proofs.Passed.{Walked, passes}

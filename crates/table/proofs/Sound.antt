@@ -10,11 +10,11 @@ use borrow.Author.Tests.{ltb-false, eqb-true, not-false}
 use Rattle.words.proofs.Tests.{both-false}
 use Rattle.words.proofs.Ladder.{not-taken}
 use Rattle.cipher.specs.Cipher.{isSuite, IsSuite, limit}
-use Rattle.table.specs.declared.row.Row.{Row}
-use Rattle.table.specs.Format.{editionOf, countOf, totalOf, rowSizeOf, rowStart, rowAt, bodyEnd}
+use Rattle.format.specs.declared.row.Row.{Row}
+use Rattle.format.specs.Format.{editionOf, countOf, totalOf, rowSizeOf, rowStart, rowAt, bodyEnd}
 use Rattle.table.specs.Check.{notAbove, outside, badSuite, badLength, bodyStart, misplaced, unreadSet, nonceSeen, badData, bodyNumber, rowNumber, headNumber}
-use Rattle.table.specs.Inside.{TableIn}
-use Rattle.table.proofs.Rows.{row-broad}
+use Rattle.format.specs.Inside.{TableIn}
+use Rattle.format.proofs.Rows.{row-broad}
 
 -- ---- a row
 
