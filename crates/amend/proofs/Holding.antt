@@ -15,7 +15,6 @@ use Rattle.numbers.proofs.Numbers.{refusal-range, refusal-some}
 use Rattle.table.proofs.Numbered.{check-numbered}
 use Rattle.shift.specs.declared.answers.Found.{Found}
 use Rattle.shift.specs.declared.answers.Found.the-variants.{At, Missing, Refused}
-use Rattle.shift.specs.declared.answers.Entry.{Entry}
 use Rattle.shift.specs.Answers.{foundAnswer}
 use Rattle.shift.specs.Lookup.{lookupJob}
 use Rattle.shift.specs.Entry.{dataStart, dataLength, textStart, textLength, entryOf}

@@ -1,7 +1,7 @@
 -- What the comparison is worth (document 02, W8; W10: stations).
 use Prim.Native.Nat.{ℕ, _<_}
 use mathlib.Core.Path.{_≡_}
-use mathlib.Core.List.{List, [], List·Memᴰ}
+use mathlib.Core.List.{List, List·Memᴰ}
 use mathlib.Core.Logic.{_↔_}
 use lib.ListN.{length, getD}
 use Rattle.format.specs.Format.{editionOf, countOf, firstEdition, rowOf, stationOf}

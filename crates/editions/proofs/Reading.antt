@@ -13,7 +13,7 @@ use Rattle.comet.specs.Answers as comet
 use Rattle.format.specs.declared.row.Row.{Row}
 use Rattle.numbers.specs.declared.checked.Answer.{Answer}
 use Rattle.format.specs.Part.{stretch}
-use Rattle.format.specs.Format.{editionOf, countOf, firstEdition, newest, rowSize, rowSizeOf, rowAt, nonceAt, nonceReadAt, rowOf, dataOf, textOf, tagOf, bodyEnd}
+use Rattle.format.specs.Format.{countOf, firstEdition, newest, rowSize, rowSizeOf, rowAt, nonceAt, nonceReadAt, rowOf, dataOf, textOf, tagOf, bodyEnd}
 use Rattle.numbers.specs.Answers.{answer}
 use Rattle.table.specs.Check.{checkFile}
 use Rattle.format.proofs.Rows.{row-broad}

@@ -1,8 +1,6 @@
 -- Every public function of `keys` leaves one outcome: the bytes of a block tell it.
 use mathlib.Core.Path.{_≡_, refl, sym, ap, _∙_}
-use mathlib.Core.List.{List}
 use native.Mathlib.Omega.{arith}
-use Prim.Native.Nat.{ℕ}
 use Rattle.words.specs.Outcome.{OneOutcome}
 use Rattle.words.specs.declared.block.Block.{Block}
 use Rattle.words.specs.Blocks.{wide}

@@ -1,5 +1,4 @@
 -- The numbers of the refusals: 20 to 31 and 34, of them 25 to 30 and 34 the rows'.
-use Prim.Native.Nat.{ℕ}
 use native.Mathlib.Omega.{arith}
 use mathlib.Core.Path.{_≡_, refl}
 use mathlib.Core.Logic.{inl, inr, ⊎-elim}

@@ -1,8 +1,8 @@
 -- W12: the list of calls by citation; what is reported goes by the first number that applies.
-use mathlib.Core.Path.{_≡_, refl, sym, ap, ap₂, _∙_}
+use mathlib.Core.Path.{_≡_, refl, sym, _∙_}
 use mathlib.Core.Logic.{_⊎_, inl, inr, ⊎-elim}
 use mathlib.Core.Bool.{Bool, true, false}
-use Prim.Native.Nat.{ℕ, zero, suc, _+_, _<_}
+use Prim.Native.Nat.{ℕ, zero, suc, _<_}
 use native.Mathlib.Nat.{not-suc-le-zero, suc-ne-zero, lt-irrefl}
 use native.Mathlib.Omega.{arith}
 use mathlib.Core.List.{List, []}

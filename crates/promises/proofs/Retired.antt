@@ -1,7 +1,6 @@
 -- W7, the suite that seals no more: the line of 10 in the tables of sealer, opener and session is suite 4's.
 use mathlib.Core.Path.{_≡_, refl, sym, _∙_}
 use mathlib.Core.Bool.{false, true≢false}
-use Prim.Native.Nat.{ℕ}
 use Rattle.words.proofs.Tests.{is-false}
 use Rattle.cipher.specs.Cipher.{isSuite, IsSuite, retired, seals}
 use Rattle.cipher.proofs.Suites.{only-four}

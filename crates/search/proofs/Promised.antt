@@ -1,5 +1,5 @@
 -- The rule's equations; on a file that passes, the search finds what the full lookup finds; it looks at 10 rows at most, reads no other, and no body.
-use Prim.Native.Nat.{ℕ, _+_, _^_, _≤_, _<_}
+use Prim.Native.Nat.{ℕ, _+_, _≤_, _<_}
 use native.Mathlib.Nat.{lt-of-le-of-lt}
 use native.Mathlib.Omega.{arith}
 use mathlib.Core.Path.{_≡_, refl, sym, ap, _∙_}
@@ -16,8 +16,7 @@ use Rattle.numbers.specs.declared.checked.Answer.{Answer}
 use Rattle.format.specs.Format.{editionOf, countOf, firstEdition, newest, rowSize, rowSizeOf, rowStart, rowAt}
 use Rattle.numbers.specs.declared.checked.Refusal.{Refusal}
 use Rattle.numbers.specs.Answers.{answer, refusalAnswer}
-use Rattle.table.specs.Check.{headNumber, checkFile}
-use Rattle.shift.specs.Lookup.{lookupJob}
+use Rattle.table.specs.Check.{headNumber}
 use Rattle.numbers.proofs.Numbers.{refusal-some}
 use Rattle.format.proofs.Rows.{row-broad}
 use Rattle.table.proofs.Sound.{headed}
@@ -25,7 +24,7 @@ use Rattle.table.proofs.Passed.{passes}
 use Rattle.table.proofs.Rising.{rising}
 use Rattle.shift.proofs.Finding.{finds}
 use Rattle.table.proofs.Alike.{Agree, AgreeTable, word-same, row-same}
-use Rattle.search.specs.Halving.{Walk, ends, halvingIn, halving, jobsOf, headAnswer, searching}
+use Rattle.search.specs.Halving.{Walk, ends, halving, jobsOf, headAnswer, searching}
 use Rattle.search.specs.Promised.{Halves, SameJobs, RowsDecide, SameAsLookup, TenLooks, SameTable, BodiesUnread}
 use Rattle.search.proofs.Halves.{halving-none, halving-hit, halving-up, halving-down, looks, row-most, jobs-same, Same, visited-same, says}
 

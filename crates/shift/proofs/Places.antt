@@ -13,7 +13,7 @@ use Rattle.format.specs.Format.{rowOf, bodyEnd}
 use Rattle.numbers.specs.Answers.{answer}
 use Rattle.shift.specs.declared.answers.Entry.{Entry}
 use Rattle.shift.specs.Lookup.{lookupJob}
-use Rattle.shift.specs.Entry.{dataStart, dataLength, textStart, textLength, entryAt, entryOf, Lies, EntriesLie}
+use Rattle.shift.specs.Entry.{dataStart, dataLength, textStart, textLength, entryAt, Lies, EntriesLie}
 use Rattle.shift.proofs.Lookups.{holding, found-in}
 
 -- an entry's six values

@@ -1,5 +1,5 @@
 -- The unit of an entry with an empty message cannot be altered: the check still passes if the new byte is a unit, and then the tag is another (demand 3).
-use Prim.Native.Nat.{ℕ, _+_, _*_, _≤_, _<_}
+use Prim.Native.Nat.{ℕ, _+_, _≤_, _<_}
 use native.Mathlib.Omega.{arith}
 use mathlib.Core.Path.{_≡_, refl, sym, ap, _∙_}
 use mathlib.Core.Bool.{Bool, true, false, not, cond}

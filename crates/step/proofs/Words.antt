@@ -6,15 +6,14 @@ use native.Mathlib.Omega.{arith}
 use mathlib.Core.List.{List, [], _∷_, _++_, append-assoc}
 use lib.ListN.{length, take, drop, replicate, length-append, length-drop, take-append-drop, replicate-append-replicate}
 use lib.Seq.{take-at, take-all, take-append-le, take-append-add, drop-append-add, drop-at, length-take-le}
-use Rattle.words.specs.Words.{xor, rotr}
+use Rattle.words.specs.Words.{rotr}
 use Rattle.words.specs.Bytes.{value, bytes, word}
 use Rattle.words.specs.Xors.{xors}
 use Rattle.words.proofs.Xor.{zero-r}
 use Rattle.words.proofs.Lists.{part-take, take-replicate, drop-replicate}
 use Rattle.words.proofs.Bytes.{length-bytes, value-low, bytes-join, bytes-mod, bytes-split, bytes-zeros, reach}
-use Rattle.words.proofs.Xors.{bytes-xor, take-xors, xors-take, xors-append}
+use Rattle.words.proofs.Xors.{take-xors, xors-take, xors-append}
 use Rattle.mode.specs.Words.{Four, four, fourOf, bytesOf, shuffleWords, shuffle, pad}
-use Rattle.mode.specs.Keys.{marked}
 use Rattle.mode.proofs.Words.{pad-short, pad-full}
 
 -- ---- the shuffle, over the number w of bytes in a word

@@ -1,8 +1,8 @@
 -- What number 0 says: of a row that each of 25 to 30 and 34 lets it pass, of a header that each of 20 to 24 does.
 use Prim.Native.Nat.{ℕ, _+_, _≤_, _<_}
 use native.Mathlib.Omega.{arith}
-use mathlib.Core.Path.{_≡_, refl}
-use mathlib.Core.Bool.{Bool, true, false, _||_, not, cond}
+use mathlib.Core.Path.{_≡_}
+use mathlib.Core.Bool.{false, _||_, not}
 use mathlib.Core.List.{List}
 use lib.ListN.{length}
 use lib.Dec.{ltb, eqb, lit<}

@@ -1,7 +1,6 @@
 -- `keys::doubling120` meets its contract: the two halves of twice the low 120 bits.
 use borrow.Author.Needs.{needs}
 use native.Mathlib.Omega.{arith}
-use Prim.Native.Nat.{_^_, _<_}
 use Rattle.words.specs.Words.{xor}
 use Rattle.keys.proofs.Halves.{double-wide, wide-fits}
 use Rattle.keys.proofs.doubling120.Statement.{statement}

@@ -1,5 +1,4 @@
 -- The refusals in their order, and then all entries.
-use native.Mathlib.Omega.{arith}
 use mathlib.Core.Path.{sym, ap, _∙_}
 use denote.Ref.{now}
 use Rattle.format.specs.Format.{firstEdition, newest}

@@ -1,7 +1,6 @@
 -- `numbers::verdict::texts_refused` meets its contract: each test of the code is a rung of the ladder.
 use borrow.Author.Needs.{needs}
 use borrow.Author.Tests.{lt-ltb, le-ltb, eq-eqb, ne-eqb}
-use mathlib.Core.Path.{sym, _∙_}
 use Rattle.cipher.specs.Cipher.{limit}
 use Rattle.numbers.proofs.verdict.texts_refused.Statement.{statement}
 use Rattle.numbers.proofs.verdict.texts_refused.Tie as tie

@@ -1,11 +1,10 @@
 -- `session::ladder::data_number` meets its contract.
 use borrow.Author.Needs.{needs}
 use borrow.Author.Tests.{lt-ltb, le-ltb, eq-eqb, ne-eqb, not-true, not-false}
-use mathlib.Core.Path.{_≡_, sym, ap, _∙_}
-use mathlib.Core.Bool.{Bool, true, false, cond}
+use mathlib.Core.Path.{sym, _∙_}
+use mathlib.Core.Bool.{true, false}
 use native.Mathlib.Omega.{arith}
-use Prim.Native.Nat.{ℕ, _-_}
-use Rattle.session.specs.Value.{sound}
+use Prim.Native.Nat.{_-_}
 use Rattle.session.proofs.Refuse.{sound-told, data-closed, data-begun, data-limit}
 use Rattle.session.proofs.ladder.data_number.Statement.{statement}
 use Rattle.session.proofs.ladder.data_number.Tie as tie

@@ -1,9 +1,9 @@
 -- `session::ladder::text_number` meets its contract.
 use borrow.Author.Tests.{lt-ltb, le-ltb, not-true, not-false}
-use mathlib.Core.Path.{_≡_, refl, sym, ap, _∙_}
-use mathlib.Core.Bool.{Bool, true, false, cond}
+use mathlib.Core.Path.{refl, sym, _∙_}
+use mathlib.Core.Bool.{true, false}
 use native.Mathlib.Omega.{arith}
-use Prim.Native.Nat.{ℕ, _+_, _-_, _≤_, _<_}
+use Prim.Native.Nat.{_+_, _-_, _≤_, _<_}
 use Rattle.cipher.specs.Cipher.{sizeOf}
 use Rattle.session.proofs.Refuse.{sound-told, text-is}
 use borrow.Author.Needs.{needs}
