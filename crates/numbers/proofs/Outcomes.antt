@@ -20,6 +20,8 @@ use Rattle.numbers.specs.Answers.{answer, refusalAnswer, checkedAnswer}
 use Rattle.numbers.proofs.Numbers.{refusal-range, refusal-some}
 use Rattle.numbers.proofs.verdict.Verdict.number.Kinds as number-kinds
 use Rattle.numbers.proofs.verdict.Verdict.number.Reads as number-reads
+use Rattle.numbers.proofs.verdict.under_key.Kinds as under-key-kinds
+use Rattle.numbers.proofs.verdict.under_key.Reads as under-key-reads
 use Rattle.numbers.proofs.verdict.refused.Kinds as refused-kinds
 use Rattle.numbers.proofs.verdict.refused.Reads as refused-reads
 use Rattle.numbers.proofs.checked.Fault.number.Kinds as fault-kinds
@@ -61,6 +63,9 @@ number-tells a b e = sym (answer-back a) ∙ ap answerOf e ∙ answer-back b
 
 pub number : OneOutcome number-kinds.ps number-kinds.r number-reads.Pre number-reads.Post
 number κs a h x y = (x .ensures ∙ sym (y .ensures), refl)
+
+pub under-key : OneOutcome under-key-kinds.ps under-key-kinds.r under-key-reads.Pre under-key-reads.Post
+under-key κs a h x y = (number-tells (x .result) (y .result) (x .ensures ∙ sym (y .ensures)), refl)
 
 pub refused : OneOutcome refused-kinds.ps refused-kinds.r refused-reads.Pre refused-reads.Post
 refused κs a h x y = (number-tells (x .result) (y .result) (x .ensures ∙ sym (y .ensures)), refl)

@@ -3,7 +3,7 @@ use mathlib.Core.Path.{_≡_, refl}
 use mathlib.Core.Bool.{Bool, true, false, not, cond}
 use mathlib.Core.Logic.{_⊎_, inl, inr}
 use Prim.Native.Nat.{ℕ, _≤_, _<_}
-use native.Mathlib.Nat.{suc-ne-zero}
+use native.Mathlib.Nat.{not-suc-le-zero, suc-ne-zero}
 use native.Mathlib.Omega.{arith}
 use mathlib.Core.List.{[], _∷_}
 use lib.Dec.{ltb, eqb, lit<}
@@ -11,7 +11,7 @@ use borrow.Author.Tests.{ltb-false, eqb-true, le-ltb, eq-eqb, not-false}
 use denote.Enum.Declared
 use types.Run.{OneOf, miss}
 use Rattle.words.proofs.Ladder.{not-taken, rung}
-use Rattle.cipher.specs.Cipher.{isSuite, IsSuite, sizeOf, nonceOf, limit}
+use Rattle.cipher.specs.Cipher.{isSuite, IsSuite, sizeOf, nonceOf, limit, underKey}
 use Rattle.numbers.specs.Verdicts.{numberOf, takes, refusal}
 use Rattle.numbers.specs.declared.verdict.Verdict.{Verdict}
 use Rattle.numbers.specs.declared.verdict.Verdict.the-variants.{Done, Suite, Key, Nonce, Data, Text, Room, Tag, Forged, Retired}
@@ -61,6 +61,28 @@ none-bad d s k v a t o g h p =
       eq-eqb o t (p .room),
       eq-eqb g (sizeOf s) (p .tag),
     )
+
+-- where the ladder's upper half refuses, what lies below does not count
+pub upper-stops : (t : Bool) (s k v own : ℕ) → 0 < underKey t s k v 0 → underKey t s k v 0 ≡ underKey t s k v own
+upper-stops t s k v own = rungs (not (isSuite s)) (not t) (not (eqb k 16)) (not (eqb v (nonceOf s)))
+  where
+    rungs : (a b c d : Bool) → 0 < cond a 1 (cond b 10 (cond c 2 (cond d 3 0))) → cond a 1 (cond b 10 (cond c 2 (cond d 3 0))) ≡ cond a 1 (cond b 10 (cond c 2 (cond d 3 own)))
+    rungs true b c d h = refl
+    rungs false true c d h = refl
+    rungs false false true d h = refl
+    rungs false false false true h = refl
+    rungs false false false false h = absurd (not-suc-le-zero h)
+
+-- and where it does not, that alone does
+pub upper-passes : (t : Bool) (s k v own : ℕ) → underKey t s k v 0 ≡ 0 → own ≡ underKey t s k v own
+upper-passes t s k v own = rungs (not (isSuite s)) (not t) (not (eqb k 16)) (not (eqb v (nonceOf s)))
+  where
+    rungs : (a b c d : Bool) → _≡_ {A = ℕ} (cond a 1 (cond b 10 (cond c 2 (cond d 3 0)))) 0 → own ≡ cond a 1 (cond b 10 (cond c 2 (cond d 3 own)))
+    rungs true b c d e = absurd (suc-ne-zero _ e)
+    rungs false true c d e = absurd (suc-ne-zero _ e)
+    rungs false false true d e = absurd (suc-ne-zero _ e)
+    rungs false false false true e = absurd (suc-ne-zero _ e)
+    rungs false false false false e = refl
 
 -- no number above 7 but 10, and that for sealing alone, of a suite that does not seal
 abbrev Most : Bool → ℕ → ℕ → Type 0

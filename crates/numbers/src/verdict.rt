@@ -1,6 +1,7 @@
 // What sealer and opener answer, and the order in which they refuse.
 use cipher::LIMIT;
 ghost use mathlib.Core.Path.{_≡_};
+ghost use Rattle.cipher.specs.Cipher.{underKey};
 ghost use Rattle.numbers.specs.Verdicts.{numberOf, takes, textsNumber, refusal};
 
 // What a call answers: Done, or why it refused.
@@ -67,18 +68,9 @@ fn texts_refused(suite: u8, ad: usize, text: usize, out: usize, tag: usize) -> V
     Verdict::Done
 }
 
-// Numbers 1, 10 and 2 to 7 in the order of the table, from the suite and the lengths of key, nonce, associated data, text, output and tag.
-pub fn refused(
-    opening: bool,
-    suite: u8,
-    key: usize,
-    nonce: usize,
-    ad: usize,
-    text: usize,
-    out: usize,
-    tag: usize,
-) -> Verdict
-    ensures { λ r. ⌜ numberOf r ≡ refusal opening suite key nonce ad text out tag ⌝ }
+// Numbers 1, 10, 2 and 3 in the order of the table, from the suite and the lengths of key and nonce: the ladder's upper half, which a session's start has too.
+pub fn under_key(opening: bool, suite: u8, key: usize, nonce: usize) -> Verdict
+    ensures { λ r. ⌜ numberOf r ≡ underKey (takes opening suite) suite key nonce 0 ⌝ }
 {
     let had = cipher::is_suite(suite);
     let taken = takes(opening, suite);
@@ -95,5 +87,25 @@ pub fn refused(
     if nonce != n {
         return Verdict::Nonce;
     }
+    Verdict::Done
+}
+
+// Numbers 1, 10 and 2 to 7 in the order of the table, from the suite and the lengths of key, nonce, associated data, text, output and tag.
+pub fn refused(
+    opening: bool,
+    suite: u8,
+    key: usize,
+    nonce: usize,
+    ad: usize,
+    text: usize,
+    out: usize,
+    tag: usize,
+) -> Verdict
+    ensures { λ r. ⌜ numberOf r ≡ refusal opening suite key nonce ad text out tag ⌝ }
+{
+    let upper = under_key(opening, suite, key, nonce);
+    let Verdict::Done = upper else {
+        return upper;
+    };
     texts_refused(suite, ad, text, out, tag)
 }

@@ -3,26 +3,11 @@ use cipher::LIMIT;
 ghost use mathlib.Core.Path.{_≡_};
 ghost use Rattle.session.specs.Value.{sound, startNumber, dataNumber, textNumber, endNumber};
 
-// The number of a start, from the lengths of key and nonce.
+// The number of a start, from the lengths of key and nonce: what a call under a key has of the sealer's ladder.
 pub(crate) fn start_number(suite: u8, key: usize, nonce: usize) -> u8
     ensures { λ r. ⌜ r ≡ startNumber suite key nonce ⌝ }
 {
-    let b = cipher::is_suite(suite);
-    if !b {
-        return 1;
-    }
-    let s = cipher::seals(suite);
-    if !s {
-        return 10;
-    }
-    if key != 16 {
-        return 2;
-    }
-    let n = cipher::nonce_size(suite);
-    if nonce != n {
-        return 3;
-    }
-    0
+    numbers::verdict::under_key(false, suite, key, nonce).number()
 }
 
 // Whether a session is one that goes on.

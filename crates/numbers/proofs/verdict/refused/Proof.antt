@@ -1,71 +1,35 @@
--- `numbers::verdict::refused` meets its contract: each test of the code is a rung of the ladder, and the lower half has its own function.
+-- `numbers::verdict::refused` meets its contract: the ladder's upper half has its own function, and so has the lower.
 use borrow.Author.Needs.{needs}
-use borrow.Author.Tests.{eq-eqb, ne-eqb, not-true, not-false}
-use lib.Dec.{eqb}
-use mathlib.Core.Bool.{true, false}
-use mathlib.Core.Path.{_≡_, sym, _∙_}
-use Rattle.cipher.specs.Cipher.{isSuite, nonceOf}
-use Rattle.numbers.specs.Verdicts.{takes, refusal}
+use native.Mathlib.Omega.{arith}
+use mathlib.Core.Path.{sym, _∙_}
+use Rattle.numbers.specs.Verdicts.{takes, textsNumber, refusal}
+use Rattle.numbers.proofs.Refuse.{done-zero, other-some, upper-stops, upper-passes}
 use Rattle.numbers.proofs.verdict.refused.Statement.{statement}
 use Rattle.numbers.proofs.verdict.refused.Tie as tie
 
--- what each test that did not refuse has shown
-had : (c : tie.Else1) → isSuite (c .before .before .before .args .suite) ≡ true
-had c = sym (c .before .before .is-suite .ensures) ∙ not-false _ (c .if1 .left)
+under-key-requires : tie.Need-under-key-requires
+under-key-requires c κs = search needs
 
-taken : (c : tie.Else2) → takes (c .before .before .before .before .args .opening) (c .before .before .before .before .args .suite) ≡ true
-taken c = sym (c .before .before .takes .ensures) ∙ not-false _ (c .if2 .left)
-
-key : (c : tie.Else3) → eqb (c .before .before .before .before .before .args .key) 16 ≡ true
-key c = eq-eqb (c .before .before .before .before .before .args .key) 16 (c .if3 .left)
-
-nonce : (c : tie.Else4) → let x : tie.Start = c .before .before .before .before .before .before .before in eqb (x .args .nonce) (nonceOf (x .args .suite)) ≡ true
-nonce c = eq-eqb _ _ (c .if4 .left ∙ c .before .nonce-size .ensures)
-
-is-suite-requires : tie.Need-is-suite-requires
-is-suite-requires c κs = search needs
-
-takes-requires : tie.Need-takes-requires
-takes-requires c κs = search needs
+enum-told : tie.Need-enum-told
+enum-told c = search needs
 
 returns : tie.Need-returns
 unfolding refusal
-returns c = simp (← c .before .before .is-suite .ensures, c .if1 .taken)
-
-returns-2 : tie.Need-returns-2
-unfolding refusal
-returns-2 c =
-    let e : takes (c .before .before .before .before .args .opening) (c .before .before .before .before .args .suite) ≡ false = sym (c .before .before .takes .ensures) ∙ not-true _ (c .if2 .taken) in
-    simp (had (c .before), e)
-
-returns-3 : tie.Need-returns-3
-unfolding refusal
-returns-3 c = simp (had (c .before .before), taken (c .before), ne-eqb (c .before .before .before .before .before .args .key) 16 (c .if3 .taken))
-
-nonce-size-requires : tie.Need-nonce-size-requires
-nonce-size-requires c κs = search needs
-
-returns-4 : tie.Need-returns-4
-unfolding refusal
-returns-4 c = simp (had (c .before .before .before .before), taken (c .before .before .before), key (c .before .before), ne-eqb (c .before .before .before .before .before .before .before .args .nonce) (nonceOf (c .before .before .before .before .before .before .before .args .suite)) (λ e. c .if4 .taken (e ∙ sym (c .before .nonce-size .ensures))))
+returns c =
+    let x = c .before .before .args in
+    let u = c .before .under-key in
+    u .ensures ∙ upper-stops (takes (x .opening) (x .suite)) (x .suite) (x .key) (x .nonce) (textsNumber (x .suite) (x .ad) (x .text) (x .out) (x .tag)) (omega (arith, other-some (u .result) (c .match .keys2), u .ensures))
 
 texts-refused-requires : tie.Need-texts-refused-requires
 texts-refused-requires c κs = search needs
 
-returns-5 : tie.Need-returns-5
+returns-2 : tie.Need-returns-2
 unfolding refusal
-returns-5 c = simp (had (c .before .before .before .before .before), taken (c .before .before .before .before), key (c .before .before .before), nonce (c .before)) (c .texts-refused .ensures)
+returns-2 c =
+    let m = c .before .before in
+    let x = m .before .before .args in
+    let u = m .before .under-key in
+    c .texts-refused .ensures ∙ upper-passes (takes (x .opening) (x .suite)) (x .suite) (x .key) (x .nonce) (textsNumber (x .suite) (x .ad) (x .text) (x .out) (x .tag)) (sym (u .ensures) ∙ done-zero (u .result) (m .match .keys1))
 
 pub refused-spec : {M : Type 1} → statement M
-refused-spec =
-    tie.close
-    (tie.spec
-    is-suite-requires
-    takes-requires
-    returns
-    returns-2
-    returns-3
-    nonce-size-requires
-    returns-4
-    texts-refused-requires
-    returns-5)
+refused-spec = tie.close (tie.spec under-key-requires enum-told returns texts-refused-requires returns-2)
