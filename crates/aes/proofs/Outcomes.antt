@@ -1,7 +1,6 @@
 -- Every public function of `aes` leaves one outcome: a word or columns are told by their bytes (`bytesOf`), the table by its rule, the image by the definition.
 use mathlib.Core.Path.{_≡_, refl, sym, ap, _∙_}
 use native.Mathlib.Omega.{arith}
-use Prim.Native.Nat.{ℕ}
 use Rattle.words.specs.Words.{xor}
 use Rattle.words.specs.Outcome.{OneOutcome}
 use Rattle.words.proofs.Bytes.{bytes-inj}

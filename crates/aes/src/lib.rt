@@ -9,8 +9,8 @@ ghost use Rattle.fips197.specs.Field.{xtime};
 ghost use Rattle.fips197.specs.Sbox.{subByte, IsSbox};
 ghost use Rattle.fips197.specs.Cipher.{subBytes, shiftRows, mixColumns, addRoundKey, rotWord, cipher};
 ghost use Rattle.aes.specs.Columns.{bytesOf, row, mixColumn, Follows};
-use words::arx::le32;
-use words::arx::store4_32;
+use arx::le32;
+use arx::store4_32;
 use words::block::block_of;
 
 mod sbox;

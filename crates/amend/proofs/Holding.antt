@@ -7,15 +7,14 @@ use mathlib.Core.List.{List}
 use mathlib.Core.Logic.{⊎-elim}
 use lib.Dec.{eqb}
 use borrow.Author.Tests.{eqb-true, eqb-false, eq-eqb, ne-eqb}
-use Rattle.table.specs.declared.answers.Answer.{Answer}
-use Rattle.table.specs.Format.{firstEdition, newest}
-use Rattle.table.specs.Answers.{answer}
+use Rattle.numbers.specs.declared.checked.Answer.{Answer}
+use Rattle.format.specs.Format.{firstEdition, newest}
+use Rattle.numbers.specs.Answers.{answer}
 use Rattle.table.specs.Check.{checkFile}
-use Rattle.table.proofs.Numbers.{refusal-range, refusal-some}
+use Rattle.numbers.proofs.Numbers.{refusal-range, refusal-some}
 use Rattle.table.proofs.Numbered.{check-numbered}
 use Rattle.shift.specs.declared.answers.Found.{Found}
 use Rattle.shift.specs.declared.answers.Found.the-variants.{At, Missing, Refused}
-use Rattle.shift.specs.declared.answers.Entry.{Entry}
 use Rattle.shift.specs.Answers.{foundAnswer}
 use Rattle.shift.specs.Lookup.{lookupJob}
 use Rattle.shift.specs.Entry.{dataStart, dataLength, textStart, textLength, entryOf}

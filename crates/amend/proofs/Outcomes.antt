@@ -5,7 +5,7 @@ use denote.Ref.{now}
 use contract.Lifetimes.{Lfts}
 use borrow.Fn.Kinds.{Dens}
 use Rattle.words.specs.Outcome.{Outcome, OneOutcome}
-use Rattle.table.proofs.Outcomes.{part-one}
+use Rattle.format.proofs.Outcomes.{part-one}
 use Rattle.shift.specs.declared.answers.JobAnswer.{JobAnswer}
 use Rattle.shift.proofs.Outcomes.{opened-one}
 use Rattle.amend.specs.Amending.{AmendedOpening}

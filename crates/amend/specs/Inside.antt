@@ -3,7 +3,7 @@ use Prim.Native.Nat.{ℕ}
 use mathlib.Core.Path.{_≡_}
 use mathlib.Core.Bool.{Bool, true, false}
 use mathlib.Core.List.{List}
-use Rattle.table.specs.declared.answers.Answer.{Answer}
+use Rattle.numbers.specs.declared.checked.Answer.{Answer}
 use Rattle.shift.specs.declared.answers.Found.{Found}
 use Rattle.shift.specs.declared.answers.Found.the-variants.{At, Missing, Refused}
 use Rattle.shift.specs.Lookup.{lookupJob}

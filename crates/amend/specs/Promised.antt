@@ -4,9 +4,9 @@ use mathlib.Core.Path.{_≡_}
 use mathlib.Core.List.{List}
 use mathlib.Core.Logic.{_↔_}
 use denote.Ref.{RefT, now}
-use Rattle.table.specs.Part.{PartOf}
-use Rattle.table.specs.Format.{countOf}
-use Rattle.table.specs.Answers.{answer}
+use Rattle.format.specs.Part.{PartOf}
+use Rattle.format.specs.Format.{countOf}
+use Rattle.numbers.specs.Answers.{answer}
 use Rattle.table.specs.Check.{checkFile}
 use Rattle.shift.specs.Lookup.{lookupJob}
 use Rattle.shift.specs.Entry.{dataStart, dataLength, entryOf}

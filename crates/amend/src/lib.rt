@@ -1,10 +1,10 @@
 // Amendments: a small file that replaces some jobs of the day's.
+use format::row::stretch;
 use shift::answers::Entry;
 use shift::answers::Found;
 use shift::answers::JobAnswer;
 use shift::found::entry_found;
 use shift::found::open_found;
-use table::row::stretch;
 ghost use mathlib.Core.Path.{_≡_};
 ghost use Rattle.shift.specs.Answers.{foundAnswer, openedAnswer};
 ghost use Rattle.amend.specs.Amending.{amendedEntry, CurrentPart, AmendedOpening, amendedOpening};

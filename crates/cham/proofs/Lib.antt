@@ -1,4 +1,3 @@
 pub mod Keys
 pub mod Rounds
 pub mod Injective
-pub mod Outcomes

@@ -94,7 +94,7 @@ fn by_cham128(key: Block, block: Block) -> Block
 {
     let k = words::block::bytes_of(key);
     let b = words::block::bytes_of(block);
-    words::block::block_of(cham::c128::encrypt(k, b))
+    words::block::block_of(cham128::encrypt(k, b))
 }
 
 fn by_speck(key0: u64, key1: u64, block: u64) -> u64
@@ -110,7 +110,7 @@ fn by_cham64(key0: u64, key1: u64, block: u64) -> u64
 {
     let k = words::block::bytes_of(Block { a: key0, b: key1 });
     let b = words::block::bytes8(block);
-    words::block::number8(cham::c64::encrypt(k, b))
+    words::block::number8(cham64::encrypt(k, b))
 }
 
 // The image of a block of 16 bytes.

@@ -8,8 +8,8 @@ ghost use Rattle.fips197.specs.Cipher.{subBytes, shiftRows, mixColumns, cipher}
 ghost use Rattle.aes.specs.Columns.{bytesOf, row, mixColumn, Follows};
 ghost use Rattle.columns.specs.Tables.{share, IsTables};
 use aes::Columns;
-use words::arx::le32;
-use words::arx::store4_32;
+use arx::le32;
+use arx::store4_32;
 
 mod rows;
 

@@ -14,9 +14,10 @@ use Rattle.mode.specs.Blocks.{blocks}
 use Rattle.mode.specs.Mode.{calls}
 use Rattle.mode.proofs.Blocks.{blocks-nil, blocks-more}
 use Rattle.step.specs.Two.{oneMore}
-use Rattle.comet.specs.Answers.{refusal}
+use Rattle.numbers.specs.Verdicts.{refusal}
 use Rattle.comet.specs.Counted.{Counting, countedAs, callsOf, sealingCounted, openingCounted}
-use Rattle.comet.proofs.Refuse.{passed, sealing-over, opening-over}
+use Rattle.numbers.proofs.Refuse.{passed}
+use Rattle.comet.proofs.Left.{sealing-over, opening-over}
 
 -- a and m blocks, the start's call, and the tag's behind them
 pub count-all : (a m x y k : ℕ) → a ≤ 65536 → m ≤ 65536 → x ≡ add 64 1 a → y ≡ add 64 x m → k ≡ oneMore y → k ≡ a + m + 2

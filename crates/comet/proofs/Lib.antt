@@ -1,4 +1,4 @@
 pub mod Turns
-pub mod Refuse
+pub mod Left
 pub mod Outcomes
 pub mod Counts

@@ -1,15 +1,13 @@
 -- Every public function of `comet` leaves one outcome: each answer has a number of its own, and the contract says what number, buffers and count equal.
 use mathlib.Core.Path.{_≡_, refl, sym, ap, ap₂, _∙_}
 use mathlib.Core.List.{List}
-use Prim.Native.Nat.{ℕ, zero, suc}
+use Prim.Native.Nat.{ℕ}
 use Rattle.words.specs.Outcome.{OneOutcome}
-use Rattle.comet.specs.declared.Verdict.{Verdict}
-use Rattle.comet.specs.declared.Verdict.the-variants.{Done, Suite, Key, Nonce, Data, Text, Room, Tag, Forged, Retired}
+use Rattle.numbers.specs.declared.verdict.Verdict.{Verdict}
+use Rattle.numbers.proofs.Outcomes.{number-tells}
 use Rattle.comet.specs.declared.Counted.{Counted}
-use Rattle.comet.specs.Answers.{numberOf, Sealed, Opened}
+use Rattle.comet.specs.Answers.{Sealed, Opened}
 use Rattle.comet.specs.Counted.{Counting}
-use Rattle.comet.proofs.Verdict.number.Kinds as number-kinds
-use Rattle.comet.proofs.Verdict.number.Reads as number-reads
 use Rattle.comet.proofs.seal_counted.Kinds as seal-counted-kinds
 use Rattle.comet.proofs.seal_counted.Reads as seal-counted-reads
 use Rattle.comet.proofs.unseal_counted.Kinds as unseal-counted-kinds
@@ -24,37 +22,6 @@ use Rattle.comet.proofs.unseal_in_place.Kinds as unseal-in-place-kinds
 use Rattle.comet.proofs.unseal_in_place.Reads as unseal-in-place-reads
 use Rattle.comet.proofs.verify.Kinds as verify-kinds
 use Rattle.comet.proofs.verify.Reads as verify-reads
-
-answerOf : ℕ → Verdict
-answerOf zero = Done
-answerOf (suc zero) = Suite
-answerOf (suc (suc zero)) = Key
-answerOf (suc (suc (suc zero))) = Nonce
-answerOf (suc (suc (suc (suc zero)))) = Data
-answerOf (suc (suc (suc (suc (suc zero))))) = Text
-answerOf (suc (suc (suc (suc (suc (suc zero)))))) = Room
-answerOf (suc (suc (suc (suc (suc (suc (suc zero))))))) = Tag
-answerOf (suc (suc (suc (suc (suc (suc (suc (suc zero)))))))) = Forged
-answerOf (suc (suc (suc (suc (suc (suc (suc (suc (suc n))))))))) = Retired
-
-answer-back : (a : Verdict) → answerOf (numberOf a) ≡ a
-unfolding answerOf
-answer-back Done = refl
-answer-back Suite = refl
-answer-back Key = refl
-answer-back Nonce = refl
-answer-back Data = refl
-answer-back Text = refl
-answer-back Room = refl
-answer-back Tag = refl
-answer-back Forged = refl
-answer-back Retired = refl
-
-pub number-tells : (a b : Verdict) → numberOf a ≡ numberOf b → a ≡ b
-number-tells a b e = sym (answer-back a) ∙ ap answerOf e ∙ answer-back b
-
-pub number : OneOutcome number-kinds.ps number-kinds.r number-reads.Pre number-reads.Post
-number κs a h x y = (x .ensures ∙ sym (y .ensures), refl)
 
 counted-told : {x y : Verdict} {j k : ℕ} → x ≡ y → j ≡ k → _≡_ {A = Counted} (record { verdict = x; calls = j }) (record { verdict = y; calls = k })
 counted-told p q = λ i. record { verdict = p i; calls = q i }

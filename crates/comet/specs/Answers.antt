@@ -1,44 +1,12 @@
--- The numbers that sealer and opener give, and what they leave in every buffer (document 01, "Numbers given by sealer and opener"; document 02, W7 for 10).
-use mathlib.Core.Bool.{Bool, true, false, cond, not, _||_}
+-- What sealer and opener leave in every buffer, by the number that they give (document 01, "Numbers given by sealer and opener").
+use mathlib.Core.Bool.{Bool, true, false}
 use Prim.Native.Nat.{ℕ, zero, suc}
 use mathlib.Core.List.{List}
 use lib.ListN.{length, replicate}
-use lib.Dec.{ltb, eqb}
 use Rattle.words.specs.Bytes.{sameBytes}
-use Rattle.cipher.specs.Cipher.{seals, sizeOf, cipherOf, limit, underKey}
+use Rattle.cipher.specs.Cipher.{cipherOf}
+use Rattle.numbers.specs.Verdicts.{refusal}
 use Rattle.mode.specs.Mode.{ciphertext, tag, textOut, tagOut}
-use Rattle.comet.specs.declared.Verdict.{Verdict}
-use Rattle.comet.specs.declared.Verdict.the-variants.{Done, Suite, Key, Nonce, Data, Text, Room, Tag, Forged, Retired}
-
--- the number of each answer
-abbrev pub numberOf : Verdict → ℕ
-numberOf Done = 0
-numberOf Suite = 1
-numberOf Key = 2
-numberOf Nonce = 3
-numberOf Data = 4
-numberOf Text = 5
-numberOf Room = 6
-numberOf Tag = 7
-numberOf Forged = 8
-numberOf Retired = 10
-
--- every suite that we have is opened, and one that seals is sealed
-abbrev pub takes : Bool → ℕ → Bool
-takes opening suite = opening || seals suite
-
--- numbers 4 to 7, from the suite and the lengths of associated data, text, output and tag: the first that applies, 0 where none does
-abbrev pub textsNumber : ℕ → ℕ → ℕ → ℕ → ℕ → ℕ
-textsNumber suite ad text out tag =
-    cond (ltb limit ad) 4
-    (cond (ltb limit text) 5
-    (cond (not (eqb out text)) 6
-    (cond (not (eqb tag (sizeOf suite))) 7
-    0)))
-
--- numbers 1, 10 and 2 to 7, from the suite and the lengths of key, nonce, associated data, text, output and tag: the first that applies, 0 where none does
-unfoldable pub refusal : Bool → ℕ → ℕ → ℕ → ℕ → ℕ → ℕ → ℕ → ℕ
-refusal opening suite key nonce ad text out tag = underKey (takes opening suite) suite key nonce (textsNumber suite ad text out tag)
 
 -- what a call of the sealer gives and leaves
 pub record Sealed : Type 0 where

@@ -1,6 +1,7 @@
 // The sealer and the opener: COMET under every suite.
-use cipher::LIMIT;
 use cipher::Lent;
+use numbers::verdict::Verdict;
+use numbers::verdict::refused;
 use step::tag::Last;
 use words::block::Block;
 
@@ -14,108 +15,14 @@ ghost use Rattle.words.specs.Blocks.{wide};
 ghost use Rattle.cipher.specs.Cipher.{Ready, IsSuite, sizeOf, nonceOf, cipherOf, limit};
 ghost use Rattle.mode.specs.Mode.{textOut, tagOut, calls};
 ghost use Rattle.step.specs.Two.{Clean};
-ghost use Rattle.comet.specs.Answers.{numberOf, takes, textsNumber, refusal, Sealed, sealing, Opened, opening, verifying};
+ghost use Rattle.numbers.specs.Verdicts.{numberOf, refusal};
+ghost use Rattle.comet.specs.Answers.{Sealed, sealing, Opened, opening, verifying};
 ghost use Rattle.comet.specs.Counted.{Counting, sealingCounted, openingCounted};
-
-// What a call answers: Done, or why it refused.
-pub enum Verdict {
-    Done,
-    Suite,
-    Key,
-    Nonce,
-    Data,
-    Text,
-    Room,
-    Tag,
-    Forged,
-    Retired,
-}
-
-impl Verdict {
-    // The answer's number in documents 01 and 02.
-    pub fn number(self) -> u8
-        ensures { λ r. ⌜ r ≡ numberOf self ⌝ }
-    {
-        match self {
-            Verdict::Done => 0,
-            Verdict::Suite => 1,
-            Verdict::Key => 2,
-            Verdict::Nonce => 3,
-            Verdict::Data => 4,
-            Verdict::Text => 5,
-            Verdict::Room => 6,
-            Verdict::Tag => 7,
-            Verdict::Forged => 8,
-            Verdict::Retired => 10,
-        }
-    }
-}
 
 // What a call answers, and how many cipher calls it took.
 pub struct Counted {
     pub verdict: Verdict,
     pub calls: u64,
-}
-
-// Whether the suite, one that we have, is taken: it is always opened, and sealed if it seals.
-fn takes(opening: bool, suite: u8) -> bool
-    ensures { λ r. ⌜ r ≡ takes opening suite ⌝ }
-{
-    if opening {
-        return true;
-    }
-    cipher::seals(suite)
-}
-
-// Numbers 4 to 7 in the order of the table: the ladder's lower half.
-fn texts_refused(suite: u8, ad: usize, text: usize, out: usize, tag: usize) -> Verdict
-    ensures { λ r. ⌜ numberOf r ≡ textsNumber suite ad text out tag ⌝ }
-{
-    if LIMIT < ad {
-        return Verdict::Data;
-    }
-    if LIMIT < text {
-        return Verdict::Text;
-    }
-    if out != text {
-        return Verdict::Room;
-    }
-    let b = cipher::size_of(suite);
-    if tag != b {
-        return Verdict::Tag;
-    }
-    Verdict::Done
-}
-
-// Numbers 1, 10 and 2 to 7 in the order of the table, from the suite and the lengths of key, nonce, associated data, text, output and tag.
-fn refused(
-    opening: bool,
-    suite: u8,
-    key: usize,
-    nonce: usize,
-    ad: usize,
-    text: usize,
-    out: usize,
-    tag: usize,
-) -> Verdict
-    ensures { λ r. ⌜ numberOf r ≡ refusal opening suite key nonce ad text out tag ⌝ }
-{
-    let had = cipher::is_suite(suite);
-    let taken = takes(opening, suite);
-    if !had {
-        return Verdict::Suite;
-    }
-    if !taken {
-        return Verdict::Retired;
-    }
-    if key != 16 {
-        return Verdict::Key;
-    }
-    let n = cipher::nonce_size(suite);
-    if nonce != n {
-        return Verdict::Nonce;
-    }
-    texts_refused(suite, ad, text, out, tag)
 }
 
 // What goes out in the text's place, the tag and the count of the calls, once every length is right: the cipher is lent what it needs.
@@ -156,7 +63,7 @@ fn seal_with(
 {
     let t = crypt(lent, false, suite, key, nonce, ad, text);
     let g = t.tag;
-    words::block::put(g, tag);
+    runs::put(g, tag);
     Counted {
         verdict: Verdict::Done,
         calls: t.calls,
@@ -212,7 +119,7 @@ pub fn seal_counted(
             calls: 0,
         };
     };
-    words::runs::copy(msg, out);
+    runs::copy(msg, out);
     seal_taken(suite, key, nonce, ad, out, tag)
 }
 
@@ -278,7 +185,7 @@ fn unseal_with(
     let g = t.tag;
     let right = step::tag::same(g, tag);
     if !right {
-        words::zeros::wipe(text);
+        runs::wipe(text);
         return Counted {
             verdict: Verdict::Forged,
             calls: t.calls,
@@ -339,7 +246,7 @@ pub fn unseal_counted(
             calls: 0,
         };
     };
-    words::runs::copy(text, out);
+    runs::copy(text, out);
     unseal_taken(suite, key, nonce, ad, out, tag)
 }
 

@@ -1,17 +1,17 @@
 -- The cases of the comparison: a refusal of either file, 36, and the lists.
 use Prim.Native.Nat.{ℕ, _≤_}
-use mathlib.Core.Path.{_≡_, refl, sym}
+use mathlib.Core.Path.{_≡_, sym}
 use mathlib.Core.Bool.{Bool, true, false, true≢false}
 use mathlib.Core.List.{List}
 use lib.ListN.{length}
 use borrow.Author.Tests.{ltb-false, le-ltb, ne-eqb}
 use native.Mathlib.Omega.{arith}
 use Rattle.words.proofs.Tests.{both-false}
-use Rattle.table.specs.Format.{countOf}
-use Rattle.table.specs.declared.answers.Refusal.{Refusal}
-use Rattle.table.specs.Answers.{answer, refusalAnswer}
+use Rattle.format.specs.Format.{countOf}
+use Rattle.numbers.specs.declared.checked.Refusal.{Refusal}
+use Rattle.numbers.specs.Answers.{answer, refusalAnswer}
 use Rattle.table.specs.Check.{checkFile}
-use Rattle.table.proofs.Numbers.{refusal-some}
+use Rattle.numbers.proofs.Numbers.{refusal-some}
 use Rattle.compare.specs.declared.merge.Counts.{Counts}
 use Rattle.compare.specs.Comparing.{onlyFirst, onlySecond, differing, refusedIn, Comparison, stopped, tooLong, listed, comparison}
 use Rattle.compare.specs.Inside.{Sound, Passable, Passed, longer}

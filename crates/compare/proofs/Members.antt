@@ -4,14 +4,12 @@ use native.Mathlib.Omega.{arith}
 use native.Mathlib.Nat.{eq-or-lt-of-le}
 use mathlib.Core.Path.{_≡_, refl, sym, ap, _∙_}
 use mathlib.Core.Bool.{Bool, true, false, not, _&&_, cond, true≢false}
-use mathlib.Core.List.{List, [], _∷_, List·Memᴰ, List·Memᴰ·head, List·Memᴰ·tail, List·Memᴰ·not-nil, List·Memᴰ·cases-cons}
+use mathlib.Core.List.{List, _∷_, List·Memᴰ, List·Memᴰ·head, List·Memᴰ·tail, List·Memᴰ·not-nil, List·Memᴰ·cases-cons}
 use mathlib.Core.Logic.{_⊎_, inl, inr, ⊎-elim}
-use lib.ListN.{length, getD}
-use borrow.Author.Tests.{eq-eqb, ne-eqb, eqb-true, eqb-false, not-true}
-use Rattle.words.specs.Bytes.{sameBytes}
+use borrow.Author.Tests.{eq-eqb, ne-eqb, eqb-true, not-true}
 use Rattle.words.proofs.Tests.{both-true, is-false}
 use Rattle.words.proofs.Same.{same-refl, same-true}
-use Rattle.table.specs.Format.{countOf, rowOf}
+use Rattle.format.specs.Format.{countOf}
 use Rattle.table.proofs.Searches.{any-none, any-some, any-hit}
 use Rattle.compare.specs.Kept.{kept}
 use Rattle.compare.specs.Comparing.{sameFields, nonceBytes, bodyOf, sameEntry, jobAt, has, hasJob, differs, onlyIn, differing}

@@ -5,9 +5,9 @@ use mathlib.Core.Logic.{inr}
 use lib.Dec.{eqb, lit<}
 use borrow.Author.Tests.{ne-eqb}
 use Rattle.words.specs.Outcome.{OneOutcome}
-use Rattle.table.specs.Answers.{answer}
-use Rattle.table.proofs.Numbers.{refusal-some}
-use Rattle.table.proofs.Outcomes.{refusalOf, refusal-back, unlike}
+use Rattle.numbers.specs.Answers.{answer}
+use Rattle.numbers.proofs.Numbers.{refusal-some}
+use Rattle.numbers.proofs.Outcomes.{refusalOf, refusal-back, unlike}
 use Rattle.compare.specs.declared.Finding.{Finding}
 use Rattle.compare.specs.declared.Compared.{Compared}
 use Rattle.compare.specs.declared.Compared.the-variants.{Done, First, Second, Room}

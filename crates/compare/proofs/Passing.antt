@@ -2,11 +2,11 @@
 use Prim.Native.Nat.{ℕ, _+_, _≤_, _<_}
 use native.Mathlib.Omega.{arith}
 use native.Mathlib.Nat.{sub-zero, le-trans}
-use mathlib.Core.Path.{_≡_, refl, sym, ap, subst, _∙_}
-use mathlib.Core.Bool.{Bool, true, false, not, _&&_, cond}
+use mathlib.Core.Path.{_≡_, refl, subst}
+use mathlib.Core.Bool.{Bool, true, not, _&&_, cond}
 use mathlib.Core.List.{List, [], _∷_}
 use lib.ListN.{length, set}
-use Rattle.table.specs.Format.{countOf, firstEdition, newest}
+use Rattle.format.specs.Format.{countOf, firstEdition, newest}
 use Rattle.table.specs.Check.{checkFile}
 use Rattle.table.proofs.Passed.{passes}
 use Rattle.compare.specs.Comparing.{jobAt, hasJob, differs, onlyIn, onlyFirst, onlySecond, differing}

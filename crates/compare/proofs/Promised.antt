@@ -8,9 +8,9 @@ use lib.ListN.{length}
 use lib.Dec.{ltb}
 use borrow.Author.Tests.{eq-eqb, le-ltb}
 use Rattle.cipher.specs.Cipher.{sizeOf}
-use Rattle.table.specs.Format.{countOf, firstEdition, newest, rowSize, rowOf, bodyEnd}
+use Rattle.format.specs.Format.{countOf, firstEdition, newest, rowSize, rowOf, bodyEnd}
 use Rattle.table.specs.Check.{checkFile}
-use Rattle.table.proofs.Rows.{stretch-length, station-none}
+use Rattle.format.proofs.Rows.{stretch-length, station-none}
 use Rattle.table.proofs.Passed.{passes, entry-in}
 use Rattle.table.proofs.Searches.{any-hit, any-only}
 use Rattle.compare.specs.Comparing.{bodyOf, sameEntry, jobAt, has, hasJob, differs, onlyIn, differing}

@@ -10,7 +10,7 @@ use lib.Dec.{eqb}
 use Rattle.words.specs.Bytes.{sameBytes}
 use Rattle.words.specs.Blocks.{filled}
 use Rattle.words.proofs.Same.{same-true, same-behind}
-use Rattle.table.specs.Part.{stretch}
+use Rattle.format.specs.Part.{stretch}
 
 -- the first n, and the rest
 split : (n : ℕ) (x y : List ℕ) → n ≤ length x → n ≤ length y → sameBytes x y ≡ sameBytes (take n x) (take n y) && sameBytes (drop n x) (drop n y)

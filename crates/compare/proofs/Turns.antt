@@ -4,11 +4,11 @@ use native.Mathlib.Omega.{arith}
 use native.Mathlib.Nat.{eq-or-lt-of-le}
 use native.Mathlib.Decide.{decLt}
 use mathlib.Core.Path.{_≡_, refl, sym, ap, _∙_}
-use mathlib.Core.Bool.{Bool, true, false, not, _&&_, cond}
+use mathlib.Core.Bool.{true, false, not, _&&_}
 use mathlib.Core.List.{List}
 use mathlib.Core.Logic.{⊎-elim}
 use borrow.Author.Tests.{eq-eqb, ne-eqb}
-use Rattle.table.specs.Format.{countOf, firstEdition, newest, rowSizeOf}
+use Rattle.format.specs.Format.{countOf, firstEdition, newest, rowSizeOf}
 use Rattle.table.specs.Check.{checkFile}
 use Rattle.table.proofs.Searches.{any-none, any-only}
 use Rattle.table.proofs.Passed.{passes}

@@ -5,11 +5,11 @@ use mathlib.Core.List.{List}
 use lib.ListN.{length}
 use lib.Dec.{ltb, eqb}
 use Rattle.words.specs.Bytes.{sameBytes}
-use Rattle.table.specs.declared.row.Row.{Row}
-use Rattle.table.specs.declared.answers.Answer.{Answer}
+use Rattle.format.specs.declared.row.Row.{Row}
+use Rattle.numbers.specs.declared.checked.Answer.{Answer}
 use Rattle.table.specs.Search.{anyBelow}
-use Rattle.table.specs.Format.{countOf, rowSizeOf, rowOf, stationOf, nonceAt}
-use Rattle.table.specs.Answers.{answer, refusalAnswer}
+use Rattle.format.specs.Format.{countOf, rowSizeOf, rowOf, stationOf, nonceAt}
+use Rattle.numbers.specs.Answers.{answer, refusalAnswer}
 use Rattle.table.specs.Check.{checkFile, refused}
 use Rattle.table.specs.Laid.{bodyAt}
 use Rattle.compare.specs.declared.Finding.{Finding}

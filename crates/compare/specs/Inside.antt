@@ -5,7 +5,7 @@ use mathlib.Core.Bool.{Bool, true, false, not, _||_, cond}
 use mathlib.Core.List.{List, _∷_}
 use lib.ListN.{length}
 use lib.Dec.{ltb}
-use Rattle.table.specs.Format.{countOf}
+use Rattle.format.specs.Format.{countOf}
 use Rattle.table.specs.Check.{checkFile}
 use Rattle.compare.specs.declared.merge.Turn.{Turn}
 use Rattle.compare.specs.declared.merge.Counts.{Counts}

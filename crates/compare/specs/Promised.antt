@@ -1,11 +1,11 @@
 -- What the comparison is worth (document 02, W8; W10: stations).
 use Prim.Native.Nat.{ℕ, _<_}
 use mathlib.Core.Path.{_≡_}
-use mathlib.Core.List.{List, [], List·Memᴰ}
+use mathlib.Core.List.{List, List·Memᴰ}
 use mathlib.Core.Logic.{_↔_}
 use lib.ListN.{length, getD}
-use Rattle.table.specs.Format.{editionOf, countOf, firstEdition, rowOf, stationOf}
-use Rattle.table.specs.Answers.{answer}
+use Rattle.format.specs.Format.{editionOf, countOf, firstEdition, rowOf, stationOf}
+use Rattle.numbers.specs.Answers.{answer}
 use Rattle.table.specs.Check.{checkFile}
 use Rattle.compare.specs.Comparing.{nonceBytes, bodyOf, onlyFirst, onlySecond, differing, refusedIn, stopped, comparison}
 

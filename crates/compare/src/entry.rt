@@ -1,20 +1,20 @@
 // Two rows, compared as entries; each file has its own edition.
-use table::row::Row;
-use table::row::body_end;
-use table::row::nonce_at;
-use table::row::row_at;
-use table::row::row_size_of;
-use table::row::station_of;
-use table::row::stretch;
-use words::block::filled;
+use format::row::Row;
+use format::row::body_end;
+use format::row::nonce_at;
+use format::row::row_at;
+use format::row::row_size_of;
+use format::row::station_of;
+use format::row::stretch;
+use runs::filled;
 use words::block::same;
 ghost use mathlib.Core.Path.{_≡_};
 ghost use Prim.Native.Nat.{_-_, _≤_};
 ghost use lib.ListN.{length};
 ghost use Rattle.words.specs.Bytes.{sameBytes};
-ghost use Rattle.table.specs.Part.{stretch};
-ghost use Rattle.table.specs.Format.{rowSizeOf, bodyEnd};
-ghost use Rattle.table.specs.Inside.{EntryIn};
+ghost use Rattle.format.specs.Part.{stretch};
+ghost use Rattle.format.specs.Format.{rowSizeOf, bodyEnd};
+ghost use Rattle.format.specs.Inside.{EntryIn};
 ghost use Rattle.compare.specs.Comparing.{sameFields, sameEntry};
 
 // The same bytes from place i up to place e, sixteen at most.

@@ -5,11 +5,11 @@ mod merge;
 use merge::Counts;
 use merge::most;
 use merge::pass;
-use table::answers::Checked;
-use table::answers::Refusal;
+use numbers::checked::Checked;
+use numbers::checked::Refusal;
 use table::check;
 ghost use mathlib.Core.Path.{_≡_};
-ghost use Rattle.table.specs.Answers.{refusalAnswer};
+ghost use Rattle.numbers.specs.Answers.{refusalAnswer};
 ghost use Rattle.compare.specs.Comparing.{refusedIn, findingOf, tooLong, Comparison, comparison};
 ghost use Rattle.compare.specs.Inside.{Sound, longer};
 

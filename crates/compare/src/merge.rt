@@ -1,13 +1,13 @@
 // One pass over the tables of two files that pass the check, as a merge.
 use crate::entry::same_entry;
-use table::row::count;
-use table::row::row_at;
-use table::row::row_size_of;
+use format::row::count;
+use format::row::row_at;
+use format::row::row_size_of;
 ghost use mathlib.Core.Path.{_≡_};
 ghost use mathlib.Core.Bool.{true, cond, _&&_};
 ghost use Prim.Native.Nat.{_+_, _<_, _≤_};
 ghost use lib.ListN.{length, set};
-ghost use Rattle.table.specs.Format.{countOf};
+ghost use Rattle.format.specs.Format.{countOf};
 ghost use Rattle.table.specs.Check.{checkFile};
 ghost use Rattle.compare.specs.Comparing.{jobAt};
 ghost use Rattle.compare.specs.Inside.{Sound, At, firstTurn, secondTurn, Turned, Passable, Passed};

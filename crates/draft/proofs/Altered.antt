@@ -1,30 +1,30 @@
 -- A genuine file, altered inside one block of one entry: every other tag is still right, and this one is wrong (demand 3).
-use Prim.Native.Nat.{ℕ, _+_, _-_, _*_, _≤_, _<_}
+use Prim.Native.Nat.{ℕ, _+_, _-_, _≤_, _<_}
 use native.Mathlib.Decide.{decLt}
 use native.Mathlib.Omega.{arith}
-use mathlib.Core.Path.{_≡_, refl, sym, ap, ap₂, _∙_}
-use mathlib.Core.Bool.{Bool, true, false, cond, true≢false}
+use mathlib.Core.Path.{_≡_, sym, ap, _∙_}
+use mathlib.Core.Bool.{true, false, cond, true≢false}
 use mathlib.Core.List.{List}
 use mathlib.Core.Logic.{_⊎_, inl, inr, ⊎-elim}
 use lib.ListN.{length, getD, replicate}
 use lib.Seq.{ext-getD}
 use Rattle.words.specs.Bytes.{AllBytes}
 use Rattle.cipher.specs.Cipher.{sizeOf}
-use Rattle.table.specs.declared.answers.Answer.{Answer}
-use Rattle.table.specs.Part.{stretch}
-use Rattle.table.specs.Format.{editionOf, countOf, firstEdition, rowSize, rowSizeOf, rowAt, nonceAt, rowOf, dataOf, textOf, tagOf, bodyEnd}
-use Rattle.table.specs.Answers.{answer}
+use Rattle.numbers.specs.declared.checked.Answer.{Answer}
+use Rattle.format.specs.Part.{stretch}
+use Rattle.format.specs.Format.{editionOf, countOf, firstEdition, rowSize, rowSizeOf, rowAt, nonceAt, rowOf, textOf, tagOf, bodyEnd}
+use Rattle.numbers.specs.Answers.{answer}
 use Rattle.table.specs.Check.{badData, checkAs}
-use Rattle.table.specs.Inside.{EntryIn}
-use Rattle.table.proofs.Rows.{row-broad}
+use Rattle.format.specs.Inside.{EntryIn}
+use Rattle.format.proofs.Rows.{row-broad}
 use Rattle.table.proofs.Passed.{Passes, passes}
-use Rattle.table.proofs.Alike.{Agree, AgreeTable, stretch-same, row-same, nonce-same, count-same}
+use Rattle.table.proofs.Alike.{AgreeTable, stretch-same, row-same, nonce-same, count-same}
 use Rattle.table.proofs.Kept.{body-table, body-edition, body-other, body-check, data-held}
 use Rattle.shift.proofs.Entries.{entryRight}
 use Rattle.shift.proofs.Changed.{stretch-at, data-wrong, text-wrong}
 use Rattle.draft.specs.Files.{pieceStart, entryTag}
 use Rattle.draft.specs.Answers.{tagRight, writes, fileUnsealing}
-use Rattle.draft.specs.Promised.{RightTag, Genuine, WithRing, Altered, TextAltered, DataAltered}
+use Rattle.draft.specs.Promised.{RightTag, Genuine, WithRing, TextAltered, DataAltered}
 use Rattle.draft.proofs.Pieces.{entry-at, tag-same}
 use Rattle.draft.proofs.Back.{plain-file}
 use Rattle.draft.proofs.Answers.{right-test, unsealing}

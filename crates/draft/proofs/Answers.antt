@@ -1,8 +1,8 @@
 -- The answers one after the other: which numbers there are, and what each says.
-use Prim.Native.Nat.{ℕ, _+_, _-_, _≤_, _<_}
+use Prim.Native.Nat.{ℕ, _-_, _<_}
 use native.Mathlib.Omega.{arith}
-use mathlib.Core.Path.{_≡_, refl, sym, ap, ap₂, _∙_}
-use mathlib.Core.Bool.{Bool, true, false, not, cond, true≢false}
+use mathlib.Core.Path.{_≡_, refl, sym, ap, _∙_}
+use mathlib.Core.Bool.{Bool, true, false, not, cond}
 use mathlib.Core.List.{List}
 use mathlib.Core.Logic.{_⊎_, inl, inr, ⊎-elim}
 use lib.ListN.{length, replicate}
@@ -12,17 +12,17 @@ use Rattle.words.specs.Bytes.{sameBytes}
 use Rattle.words.proofs.Tests.{is-false}
 use Rattle.words.proofs.Same.{same-true, same-refl}
 use Rattle.cipher.specs.Cipher.{Seals, sizeOf}
-use Rattle.table.specs.declared.answers.Answer.{Answer}
+use Rattle.numbers.specs.declared.checked.Answer.{Answer}
 use Rattle.table.specs.Search.{firstOf}
-use Rattle.table.specs.Format.{countOf, firstEdition, rowOf, tagOf}
-use Rattle.table.specs.Answers.{answer}
+use Rattle.format.specs.Format.{countOf, firstEdition, rowOf, tagOf}
+use Rattle.numbers.specs.Answers.{answer}
 use Rattle.table.specs.Check.{andThen, checkAs}
 use Rattle.table.proofs.Searches.{first-says, first-none, first-at}
 use Rattle.table.proofs.Passed.{both-zero}
-use Rattle.table.proofs.Numbered.{Numbered, check-numbered}
-use Rattle.draft.specs.Files.{draftEdition, entryTag, sealedFile, draftFile}
-use Rattle.draft.specs.Answers.{tagSet, rowRetired, tagRight, setFrom, retiredFrom, wrongFrom, lentAnswer, sealAnswer, openAnswer, unsealAnswer, FileWritten, writes, leaves, fileSealing, fileUnsealing}
-use Rattle.draft.specs.Promised.{ZeroTag, RightTag, Valid, AllSeal, Genuine, SealCases, UnsealCases, Sealing, Unsealing, SealNumbers, UnsealNumbers}
+use Rattle.table.proofs.Numbered.{check-numbered}
+use Rattle.draft.specs.Files.{draftEdition, sealedFile, draftFile}
+use Rattle.draft.specs.Answers.{tagSet, rowRetired, tagRight, setFrom, retiredFrom, wrongFrom, lentAnswer, sealAnswer, openAnswer, unsealAnswer, writes, leaves, fileSealing, fileUnsealing}
+use Rattle.draft.specs.Promised.{ZeroTag, RightTag, Valid, AllSeal, SealCases, UnsealCases, Sealing, Unsealing, SealNumbers, UnsealNumbers}
 
 -- ---- a tag's two tests
 

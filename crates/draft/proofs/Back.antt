@@ -6,12 +6,12 @@ use mathlib.Core.List.{List, _++_}
 use lib.ListN.{length, replicate, length-append, length-replicate}
 use lib.Dec.{lit<}
 use Rattle.cipher.specs.Cipher.{sizeOf}
-use Rattle.table.specs.declared.row.Row.{Row}
-use Rattle.table.specs.declared.answers.Answer.{Answer}
-use Rattle.table.specs.Format.{countOf, firstEdition, rowSize, rowSizeOf, nonceAt, rowOf, dataOf, textOf, tagOf}
-use Rattle.table.specs.Answers.{answer}
+use Rattle.format.specs.declared.row.Row.{Row}
+use Rattle.numbers.specs.declared.checked.Answer.{Answer}
+use Rattle.format.specs.Format.{countOf, firstEdition, rowSize, rowSizeOf, nonceAt, rowOf, dataOf, textOf, tagOf}
+use Rattle.numbers.specs.Answers.{answer}
 use Rattle.table.specs.Check.{checkAs}
-use Rattle.table.specs.Inside.{EntryIn}
+use Rattle.format.specs.Inside.{EntryIn}
 use Rattle.draft.specs.Files.{draftEdition, pieceSize, entryOut, entryTag, sealedPiece, draftPiece, rewritten, sealedFile, draftFile}
 use Rattle.draft.specs.Answers.{FileWritten, writes, fileSealing, fileUnsealing}
 use Rattle.draft.specs.Promised.{Valid, AllSeal, Genuine, WithRing, SealedBack, UnsealedBack}

@@ -1,25 +1,23 @@
 -- Text and tag of a row: how long they are, and that what one direction makes of them the other undoes.
-use Prim.Native.Nat.{ℕ, _+_, _*_, _<_}
-use native.Mathlib.Omega.{arith}
-use mathlib.Core.Path.{_≡_, refl, sym, ap, ap₂, _∙_}
-use mathlib.Core.Bool.{Bool, true, false, not}
+use Prim.Native.Nat.{ℕ, _+_, _<_}
+use mathlib.Core.Path.{_≡_, sym, ap₂, _∙_}
+use mathlib.Core.Bool.{Bool, not}
 use mathlib.Core.List.{List, _++_}
-use lib.ListN.{length, take, drop, replicate, length-append, length-replicate}
+use lib.ListN.{length, take}
 use Rattle.words.specs.Bytes.{AllBytes}
 use Rattle.cipher.specs.Cipher.{cipherOf, sizeOf, nonceOf}
 use Rattle.cipher.proofs.Lawful.{lawful}
 use Rattle.mode.specs.Mode.{textOut, tagOut}
 use Rattle.mode.proofs.Demand2.{text-length, text-back, tag-back, tag-block}
-use Rattle.table.specs.declared.row.Row.{Row}
-use Rattle.table.specs.Part.{stretch}
-use Rattle.table.specs.Format.{countOf, rowSizeOf, nonceAt, rowOf, dataOf, textOf, tagOf}
+use Rattle.format.specs.Part.{stretch}
+use Rattle.format.specs.Format.{countOf, rowSizeOf, nonceAt, rowOf, dataOf, textOf, tagOf}
 use Rattle.table.specs.Check.{checkAs}
-use Rattle.table.specs.Inside.{EntryIn}
+use Rattle.format.specs.Inside.{EntryIn}
 use Rattle.table.proofs.Passed.{passes, entry-in}
 use Rattle.shift.specs.Opening.{ringKey, nonceRead}
 use Rattle.shift.proofs.Entries.{text-long}
 use Rattle.shift.proofs.Changed.{all-stretch, nonce-bytes, nonce-full, key-block}
-use Rattle.draft.specs.Files.{pieceStart, pieceSize, entryOut, entryTag, sealedPiece, draftPiece}
+use Rattle.draft.specs.Files.{pieceStart, pieceSize, entryOut, entryTag}
 use Rattle.draft.proofs.Rewritten.{Plain, two-parts}
 
 -- two files with the same row, nonce and associated data make the same of a text

@@ -8,8 +8,8 @@ use mathlib.Core.List.{List, _++_}
 use mathlib.Core.Logic.{_⊎_, inl, inr, ⊎-elim}
 use lib.ListN.{length, getD, take, drop, length-append, length-take, length-drop, List·getD-append}
 use lib.Seq.{length-take-le, getD-take, getD-drop, getD-append-add, ext-getD}
-use Rattle.table.specs.Part.{stretch}
-use Rattle.table.proofs.Rows.{stretch-length}
+use Rattle.format.specs.Part.{stretch}
+use Rattle.format.proofs.Rows.{stretch-length}
 use Rattle.draft.specs.Put.{put, putAll}
 
 -- k is none of the n places from `at` on

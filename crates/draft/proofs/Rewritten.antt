@@ -1,35 +1,32 @@
 -- A file that passes, with another edition and other bytes for text and tag of each row: it has the same rows and associated data, so it passes at that edition.
-use Prim.Native.Nat.{ℕ, zero, suc, _+_, _-_, _*_, _/_, _%_, _≤_, _<_}
+use Prim.Native.Nat.{ℕ, _+_, _-_, _/_, _%_, _≤_, _<_}
 use native.Mathlib.Decide.{decLt}
 use native.Mathlib.Omega.{arith}
-use mathlib.Core.Path.{_≡_, refl, sym, ap, ap₂, _∙_}
-use mathlib.Core.Bool.{Bool, true, false, not}
-use mathlib.Core.List.{List, [], _∷_, _++_}
+use mathlib.Core.Path.{_≡_, refl, sym, ap, _∙_}
+use mathlib.Core.List.{List, _++_}
 use mathlib.Core.Logic.{_⊎_, inl, inr, ⊎-elim}
-use lib.ListN.{length, getD, take, drop}
+use lib.ListN.{length, getD, drop}
 use lib.Seq.{getD-take, getD-drop, ext-getD}
-use lib.Dec.{eqb}
-use borrow.Author.Tests.{eqb-false, not-true, eq-eqb}
-use Rattle.words.specs.Bytes.{AllBytes, value, bytes, word}
+use Rattle.words.specs.Bytes.{AllBytes, value, bytes}
 use Rattle.words.proofs.Lists.{append-inj}
 use Rattle.cipher.specs.Cipher.{sizeOf}
-use Rattle.table.specs.declared.row.Row.{Row}
-use Rattle.table.specs.declared.answers.Answer.{Answer}
-use Rattle.table.specs.Part.{stretch}
-use Rattle.table.specs.Format.{editionOf, countOf, firstEdition, rowSize, rowSizeOf, rowStart, rowAt, nonceAt, rowOf, dataOf, textOf, tagOf, bodyEnd}
-use Rattle.table.specs.Answers.{answer}
+use Rattle.format.specs.declared.row.Row.{Row}
+use Rattle.numbers.specs.declared.checked.Answer.{Answer}
+use Rattle.format.specs.Part.{stretch}
+use Rattle.format.specs.Format.{editionOf, countOf, firstEdition, rowSize, rowSizeOf, rowStart, rowAt, nonceAt, rowOf, dataOf, textOf, tagOf, bodyEnd}
+use Rattle.numbers.specs.Answers.{answer}
 use Rattle.table.specs.Check.{outside, checkAs}
-use Rattle.table.proofs.Parts.{join}
-use Rattle.table.proofs.Rows.{row-broad, row-late, stretch-length}
+use Rattle.format.proofs.Parts.{join}
+use Rattle.format.proofs.Rows.{row-broad, row-late, stretch-length}
 use Rattle.table.proofs.Searches.{first-none}
 use Rattle.table.proofs.Sound.{Sound, Headed}
 use Rattle.table.proofs.Passed.{Walked, passes, own-edition}
 use Rattle.table.proofs.Bodies.{apart, after-table}
 use Rattle.table.proofs.Alike.{AgreeTable, stretch-same, row-same, nonce-same, count-same}
 use Rattle.table.proofs.Kept.{data-held, taken, check-kept}
-use Rattle.draft.specs.Put.{put, putAll}
+use Rattle.draft.specs.Put.{put}
 use Rattle.draft.specs.Files.{inEdition, pieceStart, pieceSize, rewritten}
-use Rattle.draft.proofs.Puts.{Beside, Apart, Inside, Outside, where-is, put-length, put-in, put-beside, all-length, all-outside, all-inside, piece-stretch}
+use Rattle.draft.proofs.Puts.{Apart, Inside, Outside, where-is, put-length, put-in, put-beside, all-length, all-outside, all-inside, piece-stretch}
 
 -- ---- the edition
 

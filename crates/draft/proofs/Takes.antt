@@ -1,7 +1,7 @@
 -- A row of a file that passes has a suite and lengths that sealer and opener take, so their refusals cannot come out.
-use Prim.Native.Nat.{ℕ, _≤_, _<_}
+use Prim.Native.Nat.{ℕ, _≤_}
 use native.Mathlib.Omega.{arith}
-use mathlib.Core.Path.{_≡_, refl, sym, ap, _∙_}
+use mathlib.Core.Path.{_≡_, sym, ap, _∙_}
 use mathlib.Core.Bool.{Bool, true, false}
 use mathlib.Core.List.{List}
 use mathlib.Core.Logic.{_⊎_, inl, inr}
@@ -10,12 +10,12 @@ use borrow.Author.Tests.{eq-eqb}
 use Rattle.cipher.specs.Cipher.{Seals, sizeOf, nonceOf, limit}
 use Rattle.cipher.proofs.Suites.{nonce-most, seals-has}
 use Rattle.comet.specs.Answers.{Sealed, sealedAs, sealing, Opened, openedAs}
-use Rattle.comet.proofs.Refuse.{none-bad}
-use Rattle.table.specs.Format.{rowSizeOf, nonceAt, rowOf, textOf}
-use Rattle.table.specs.Inside.{EntryIn}
-use Rattle.table.proofs.Rows.{nonce-length}
+use Rattle.numbers.proofs.Refuse.{none-bad}
+use Rattle.format.specs.Format.{rowSizeOf, nonceAt, rowOf, textOf}
+use Rattle.format.specs.Inside.{EntryIn}
+use Rattle.format.proofs.Rows.{nonce-length}
 use Rattle.shift.specs.Opening.{entrySealingAs, entrySealing, entryOpening}
-use Rattle.shift.proofs.Entries.{key-long, data-long, text-long, entryRight, entryText, entry-opened}
+use Rattle.shift.proofs.Entries.{key-long, data-long, text-long, entry-opened}
 use Rattle.draft.specs.Files.{textAs, tagAs, entryOut, entryTag}
 use Rattle.draft.specs.Answers.{tagRight}
 use Rattle.draft.specs.Promised.{SealerTakes, OpenerTakes}

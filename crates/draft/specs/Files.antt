@@ -6,7 +6,7 @@ use lib.ListN.{take, replicate}
 use Rattle.words.specs.Bytes.{bytes}
 use Rattle.cipher.specs.Cipher.{sizeOf, nonceOf, cipherOf}
 use Rattle.mode.specs.Mode.{textOut, tagOut}
-use Rattle.table.specs.Format.{countOf, firstEdition, rowSizeOf, nonceAt, rowOf, dataOf, textOf}
+use Rattle.format.specs.Format.{countOf, firstEdition, rowSizeOf, nonceAt, rowOf, dataOf, textOf}
 use Rattle.shift.specs.Opening.{ringKey}
 use Rattle.draft.specs.Put.{put, putAll}
 

@@ -7,8 +7,8 @@ use mathlib.Core.Logic.{_⊎_}
 use lib.ListN.{length, getD, replicate}
 use Rattle.words.specs.Bytes.{AllBytes}
 use Rattle.cipher.specs.Cipher.{Seals, sizeOf}
-use Rattle.table.specs.Format.{countOf, firstEdition, rowOf, tagOf}
-use Rattle.table.specs.Answers.{answer}
+use Rattle.format.specs.Format.{countOf, firstEdition, rowOf, tagOf}
+use Rattle.numbers.specs.Answers.{answer}
 use Rattle.table.specs.Check.{badData, checkAs}
 use Rattle.shift.specs.Opening.{entrySealing, entryOpening}
 use Rattle.draft.specs.Files.{draftEdition, pieceStart, entryTag, sealedFile, draftFile}

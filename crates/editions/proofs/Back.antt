@@ -8,13 +8,13 @@ use lib.ListN.{length, take, drop, replicate, take-append-drop}
 use lib.Seq.{drop-drop}
 use Rattle.words.specs.Bytes.{AllBytes, bytes}
 use Rattle.words.proofs.Bytes.{unpack}
-use Rattle.table.specs.declared.row.Row.{Row}
-use Rattle.table.specs.Part.{stretch}
-use Rattle.table.specs.Format.{editionOf, countOf, totalOf, rowStart, restStart, rowAt}
-use Rattle.table.specs.Inside.{TableIn}
-use Rattle.table.proofs.Rows.{row-in}
+use Rattle.format.specs.declared.row.Row.{Row}
+use Rattle.format.specs.Part.{stretch}
+use Rattle.format.specs.Format.{editionOf, countOf, totalOf, rowStart, restStart, rowAt}
+use Rattle.format.specs.Inside.{TableIn}
+use Rattle.format.proofs.Rows.{row-in}
 use Rattle.editions.specs.Files.{carried, movedRow, movedRows, movedHeader, movedFrom}
-use Rattle.table.proofs.Parts.{join}
+use Rattle.format.proofs.Parts.{join}
 use Rattle.editions.proofs.Laid.{file-bodies, file-long}
 use Rattle.editions.proofs.Kept.{job-part, field-part, rest-part, row-is, carried-back}
 

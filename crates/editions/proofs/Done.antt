@@ -12,14 +12,14 @@ use borrow.Author.Tests.{eq-eqb, ne-eqb, le-ltb, eqb-true, ltb-false, not-false}
 use types.Run.{OneOf, miss}
 use denote.Enum.Declared.{tagOf}
 use Rattle.words.proofs.Tests.{is-false}
-use Rattle.table.specs.declared.answers.Answer.{Answer}
-use Rattle.table.specs.declared.answers.Refusal.{Refusal}
-use Rattle.table.specs.Format.{editionOf, countOf, firstEdition, newest, rowSize, rowSizeOf, rowStart, bodyEnd, stationOf}
-use Rattle.table.specs.Answers.{answer, refusalAnswer}
+use Rattle.numbers.specs.declared.checked.Answer.{Answer}
+use Rattle.numbers.specs.declared.checked.Refusal.{Refusal}
+use Rattle.format.specs.Format.{editionOf, countOf, firstEdition, newest, rowSize, rowSizeOf, rowStart, bodyEnd, stationOf}
+use Rattle.numbers.specs.Answers.{answer, refusalAnswer}
 use Rattle.table.specs.Check.{headNumber, andThen, checkAs}
 use Rattle.table.proofs.Searches.{first-says, first-none}
-use Rattle.table.proofs.Numbers.{refusal-some}
-use Rattle.table.proofs.Rows.{row-broad, row-narrow}
+use Rattle.numbers.proofs.Numbers.{refusal-some}
+use Rattle.format.proofs.Rows.{row-broad, row-narrow}
 use Rattle.table.proofs.Sound.{headed}
 use Rattle.table.proofs.Passed.{passes, both-zero}
 use Rattle.table.proofs.Bodies.{after-table}

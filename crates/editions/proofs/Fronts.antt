@@ -3,16 +3,16 @@ use Prim.Native.Nat.{ℕ, _+_, _-_, _*_, _^_, _≤_, _<_}
 use native.Mathlib.Nat.{mul-suc, mul-zero}
 use native.Mathlib.Numerals.{add-one}
 use native.Mathlib.Omega.{arith}
-use mathlib.Core.Path.{_≡_, refl, sym, ap, ap₂, _∙_}
-use mathlib.Core.List.{List, _∷_, _++_, append-assoc, append-nil}
+use mathlib.Core.Path.{_≡_, sym, ap, ap₂, _∙_}
+use mathlib.Core.List.{List, _++_, append-assoc, append-nil}
 use lib.ListN.{length, take, drop, replicate, length-append, length-drop}
 use lib.Seq.{take-at, take-all, length-take-le}
 use borrow.Rule.Slice.PartMut.{putMid}
 use Rattle.words.specs.Bytes.{bytes}
 use Rattle.words.proofs.Bytes.{length-bytes, bytes-join}
-use Rattle.table.specs.Part.{stretch}
-use Rattle.table.specs.Format.{rowStart, restStart, rowAt}
-use Rattle.table.proofs.Rows.{row-in, row-below}
+use Rattle.format.specs.Part.{stretch}
+use Rattle.format.specs.Format.{rowStart, restStart, rowAt}
+use Rattle.format.proofs.Rows.{row-in, row-below}
 use Rattle.editions.specs.Inside.{Movable}
 use Rattle.editions.specs.Files.{carried, movedRow, movedRows, movedHeader, movedFrom}
 

@@ -8,10 +8,10 @@ use lib.ListN.{length, getD, drop, replicate}
 use lib.Seq.{drop-drop, take-all}
 use Rattle.words.specs.Bytes.{value, bytes, word}
 use Rattle.words.proofs.Bytes.{length-bytes, value-bytes}
-use Rattle.table.specs.Part.{stretch}
-use Rattle.table.specs.Format.{editionOf, countOf, totalOf, rowStart, restStart, rowAt, nonceStart, nonceAt}
-use Rattle.table.specs.Inside.{TableIn}
-use Rattle.table.proofs.Rows.{row-in}
+use Rattle.format.specs.Part.{stretch}
+use Rattle.format.specs.Format.{editionOf, countOf, totalOf, rowStart, restStart, rowAt, nonceStart, nonceAt}
+use Rattle.format.specs.Inside.{TableIn}
+use Rattle.format.proofs.Rows.{row-in}
 use Rattle.editions.specs.Files.{carried, movedRow, movedHeader, movedFrom}
 use Rattle.editions.proofs.Segments.{inside, in-first, in-second, at-front, word-stretch, seg-same, word-in, byte-in}
 use Rattle.editions.proofs.Laid.{row-job, row-station, row-fields, row-offset, row-rest, header-long, file-row, file-bodies, file-long}

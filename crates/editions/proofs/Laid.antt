@@ -9,10 +9,10 @@ use lib.ListN.{length, take, drop, replicate, length-append, length-replicate, l
 use lib.Seq.{take-all, drop-at}
 use Rattle.words.specs.Bytes.{bytes}
 use Rattle.words.proofs.Bytes.{length-bytes}
-use Rattle.table.specs.Part.{stretch}
-use Rattle.table.specs.Format.{rowStart, restStart, rowAt}
-use Rattle.table.specs.Inside.{TableIn}
-use Rattle.table.proofs.Rows.{row-in, stretch-length}
+use Rattle.format.specs.Part.{stretch}
+use Rattle.format.specs.Format.{rowStart, restStart, rowAt}
+use Rattle.format.specs.Inside.{TableIn}
+use Rattle.format.proofs.Rows.{row-in, stretch-length}
 use Rattle.editions.specs.Files.{carried, movedRow, movedRows, movedHeader, movedFrom}
 use Rattle.editions.proofs.Segments.{skip, in-first, in-second, at-front}
 

@@ -5,9 +5,9 @@ use mathlib.Core.Logic.{inl, inr}
 use lib.Dec.{eqb, lit<}
 use borrow.Author.Tests.{ne-eqb}
 use Rattle.words.specs.Outcome.{OneOutcome}
-use Rattle.table.specs.declared.answers.Answer.{Answer}
-use Rattle.table.proofs.Numbers.{refusal-some}
-use Rattle.table.proofs.Outcomes.{refusalOf, refusal-back, unlike, answer-one}
+use Rattle.numbers.specs.declared.checked.Answer.{Answer}
+use Rattle.numbers.proofs.Numbers.{refusal-some}
+use Rattle.numbers.proofs.Outcomes.{refusalOf, refusal-back, unlike, answer-one}
 use Rattle.editions.specs.declared.answers.Moved.{Moved}
 use Rattle.editions.specs.declared.answers.Moved.the-variants.{Done, Refused, Station, Room}
 use Rattle.editions.specs.Answers.{movedAnswer, FileMoved}

@@ -10,11 +10,11 @@ use borrow.Author.Tests.{eq-eqb, le-ltb}
 use Rattle.words.specs.Bytes.{sameBytes}
 use Rattle.words.specs.Blocks.{filled}
 use Rattle.cipher.specs.Cipher.{nonceOf}
-use Rattle.table.specs.declared.row.Row.{Row}
-use Rattle.table.specs.Format.{editionOf, countOf, totalOf, rowSize, rowSizeOf, rowStart, rowAt, nonceAt, nonceReadAt, bodyEnd}
-use Rattle.table.specs.Answers.{answer}
+use Rattle.format.specs.declared.row.Row.{Row}
+use Rattle.format.specs.Format.{editionOf, countOf, totalOf, rowSize, rowSizeOf, rowStart, rowAt, nonceAt, nonceReadAt, bodyEnd}
+use Rattle.numbers.specs.Answers.{answer}
 use Rattle.table.specs.Check.{outside, notAbove, badSuite, badLength, bodyStart, misplaced, unreadSet, clash, nonceSeen, badData, bodyNumber, rowNumber, endAnswer, rowsFrom, headNumber, checkBetween, checkAs}
-use Rattle.table.specs.Inside.{TableIn}
+use Rattle.format.specs.Inside.{TableIn}
 use Rattle.table.proofs.Searches.{first-none}
 use Rattle.table.proofs.Passed.{Walked}
 use Rattle.table.proofs.Bodies.{after-table}

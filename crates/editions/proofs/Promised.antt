@@ -8,13 +8,13 @@ use lib.ListN.{length, drop, replicate}
 use lib.Dec.{lit<, lit≤}
 use Rattle.words.specs.Bytes.{AllBytes, bytes, value}
 use Rattle.words.proofs.Bytes.{unpack, bytes-zeros}
-use Rattle.table.specs.declared.answers.Answer.{Answer}
-use Rattle.table.specs.declared.row.Row.{Row}
-use Rattle.table.specs.Part.{stretch}
-use Rattle.table.specs.Format.{editionOf, countOf, totalOf, firstEdition, newest, rowSize, rowSizeOf, rowStart, rowAt, rowOf, bodyEnd, stationAt}
-use Rattle.table.specs.Answers.{answer}
+use Rattle.numbers.specs.declared.checked.Answer.{Answer}
+use Rattle.format.specs.declared.row.Row.{Row}
+use Rattle.format.specs.Part.{stretch}
+use Rattle.format.specs.Format.{editionOf, countOf, totalOf, firstEdition, newest, rowSize, rowSizeOf, rowStart, rowAt, rowOf, bodyEnd, stationAt}
+use Rattle.numbers.specs.Answers.{answer}
 use Rattle.table.specs.Check.{headNumber, checkAs}
-use Rattle.table.proofs.Rows.{row-broad, row-in, station-none}
+use Rattle.format.proofs.Rows.{row-broad, row-in, station-none}
 use Rattle.table.proofs.Passed.{Passes, passes, own-edition}
 use Rattle.table.proofs.Bodies.{after-table}
 use Rattle.table.proofs.Kept.{wider}

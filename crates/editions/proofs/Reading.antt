@@ -10,13 +10,13 @@ use lib.Dec.{eqb, lit≤}
 use borrow.Author.Tests.{eqb-true}
 use Rattle.cipher.specs.Cipher.{sizeOf}
 use Rattle.comet.specs.Answers as comet
-use Rattle.table.specs.declared.row.Row.{Row}
-use Rattle.table.specs.declared.answers.Answer.{Answer}
-use Rattle.table.specs.Part.{stretch}
-use Rattle.table.specs.Format.{editionOf, countOf, firstEdition, newest, rowSize, rowSizeOf, rowAt, nonceAt, nonceReadAt, rowOf, dataOf, textOf, tagOf, bodyEnd}
-use Rattle.table.specs.Answers.{answer}
+use Rattle.format.specs.declared.row.Row.{Row}
+use Rattle.numbers.specs.declared.checked.Answer.{Answer}
+use Rattle.format.specs.Part.{stretch}
+use Rattle.format.specs.Format.{countOf, firstEdition, newest, rowSize, rowSizeOf, rowAt, nonceAt, nonceReadAt, rowOf, dataOf, textOf, tagOf, bodyEnd}
+use Rattle.numbers.specs.Answers.{answer}
 use Rattle.table.specs.Check.{checkFile}
-use Rattle.table.proofs.Rows.{row-broad}
+use Rattle.format.proofs.Rows.{row-broad}
 use Rattle.table.proofs.Passed.{passes}
 use Rattle.table.proofs.Kept.{wider}
 use Rattle.shift.specs.Lookup.{lookupJob}

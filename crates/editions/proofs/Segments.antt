@@ -8,7 +8,7 @@ use lib.ListN.{length, take, drop, getD, length-drop}
 use lib.Seq.{take-add, take-take, take-at, drop-at, drop-drop, length-take-le, take-append-le, drop-append-le, getD-take, getD-drop}
 use Rattle.words.specs.Bytes.{part, word, value}
 use Rattle.words.proofs.Lists.{part-take}
-use Rattle.table.specs.Part.{stretch}
+use Rattle.format.specs.Part.{stretch}
 
 -- behind the first m elements
 pub skip : (x y : List ℕ) (m k : ℕ) → length x ≡ m → drop (m + k) (x ++ y) ≡ drop k y

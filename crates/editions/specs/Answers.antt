@@ -4,10 +4,10 @@ use mathlib.Core.Bool.{not, cond}
 use mathlib.Core.List.{List}
 use lib.ListN.{length}
 use lib.Dec.{eqb, ltb}
-use Rattle.table.specs.declared.answers.Answer.{Answer}
+use Rattle.numbers.specs.declared.checked.Answer.{Answer}
 use Rattle.table.specs.Search.{firstOf}
-use Rattle.table.specs.Format.{editionOf, countOf, firstEdition, newest, stationOf}
-use Rattle.table.specs.Answers.{answer, refusalAnswer}
+use Rattle.format.specs.Format.{editionOf, countOf, firstEdition, newest, stationOf}
+use Rattle.numbers.specs.Answers.{answer, refusalAnswer}
 use Rattle.table.specs.Check.{headNumber, andThen, checkAs}
 use Rattle.editions.specs.declared.answers.Moved.{Moved}
 use Rattle.editions.specs.declared.answers.Moved.the-variants.{Done, Refused, Station, Room}

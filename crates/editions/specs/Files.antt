@@ -3,8 +3,8 @@ use Prim.Native.Nat.{ℕ, zero, suc, _+_, _-_}
 use mathlib.Core.List.{List, [], _++_}
 use lib.ListN.{length, drop, replicate}
 use Rattle.words.specs.Bytes.{bytes}
-use Rattle.table.specs.Part.{stretch}
-use Rattle.table.specs.Format.{countOf, rowSize, rowSizeOf, rowStart, restStart, rowAt}
+use Rattle.format.specs.Part.{stretch}
+use Rattle.format.specs.Format.{countOf, rowSize, rowSizeOf, rowStart, restStart, rowAt}
 
 -- where a place behind the table of n rows comes to lie: it rises, or falls, with the table's end, which is by 4n
 unfoldable pub carried : ℕ → ℕ → ℕ → ℕ → ℕ

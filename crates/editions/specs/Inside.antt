@@ -3,8 +3,8 @@ use Prim.Native.Nat.{ℕ, _≤_, _<_}
 use mathlib.Core.Path.{_≡_}
 use mathlib.Core.List.{List}
 use lib.ListN.{length}
-use Rattle.table.specs.Format.{countOf, rowSizeOf, rowStart, rowAt}
-use Rattle.table.specs.Inside.{TableIn}
+use Rattle.format.specs.Format.{countOf, rowSizeOf, rowStart, rowAt}
+use Rattle.format.specs.Inside.{TableIn}
 use Rattle.editions.specs.Files.{carried}
 
 -- the rows of w bytes can become rows of v bytes

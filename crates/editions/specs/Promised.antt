@@ -4,10 +4,10 @@ use mathlib.Core.Path.{_≡_}
 use mathlib.Core.List.{List}
 use lib.ListN.{length, drop}
 use Rattle.words.specs.Bytes.{AllBytes}
-use Rattle.table.specs.Part.{stretch}
-use Rattle.table.specs.Format.{countOf, totalOf, firstEdition, newest, rowSizeOf, rowStart, rowOf, stationOf, nonceAt}
+use Rattle.format.specs.Part.{stretch}
+use Rattle.format.specs.Format.{countOf, totalOf, firstEdition, newest, rowSizeOf, rowStart, rowOf, stationOf, nonceAt}
 use Rattle.table.specs.Laid.{bodyAt}
-use Rattle.table.specs.Answers.{answer}
+use Rattle.numbers.specs.Answers.{answer}
 use Rattle.table.specs.Check.{checkAs}
 use Rattle.shift.specs.Lookup.{lookupJob}
 use Rattle.shift.specs.Entry.{dataStart, dataLength}

@@ -1,12 +1,12 @@
 // An output that is written from the front: each call leaves what stands before `at`, and puts one part more.
-use table::row::stretch;
-use words::runs::copy;
+use format::row::stretch;
+use runs::copy;
 ghost use mathlib.Core.Path.{_≡_};
 ghost use mathlib.Core.List.{_++_};
 ghost use Prim.Native.Nat.{_+_, _≤_};
 ghost use lib.ListN.{length, take, replicate};
 ghost use Rattle.words.specs.Bytes.{bytes};
-ghost use Rattle.table.specs.Part.{stretch};
+ghost use Rattle.format.specs.Part.{stretch};
 
 // Writes src from `at` on.
 pub(crate) fn put(out: &mut [u8], at: usize, src: &[u8])
@@ -30,7 +30,7 @@ pub(crate) fn put32(out: &mut [u8], at: usize, number: u32)
     requires { ⌜ at + 4 ≤ length (now out) ⌝ }
     ensures { λ _. ⌜ take (at + 4) (now (out .exit)) ≡ take at (now (out .entry)) ++ bytes 4 number ⌝ }
 {
-    let b = words::arx::store2_32(number, 0);
+    let b = arx::store2_32(number, 0);
     put(out, at, &b[0..4]);
 }
 

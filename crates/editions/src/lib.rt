@@ -4,27 +4,27 @@ mod front;
 mod rows;
 
 use answers::Moved;
+use format::row::FIRST_EDITION;
+use format::row::NEWEST;
+use format::row::count;
+use format::row::row_size;
+use format::row::row_size_of;
+use format::row::row_start;
+use format::row::station_of;
 use front::put;
 use front::put_part;
+use numbers::checked::Checked;
+use numbers::checked::Refusal;
 use rows::put_rows;
-use table::answers::Checked;
-use table::answers::Refusal;
 use table::check_as;
 use table::check_head;
-use table::row::FIRST_EDITION;
-use table::row::NEWEST;
-use table::row::count;
-use table::row::row_size;
-use table::row::row_size_of;
-use table::row::row_start;
-use table::row::station_of;
 ghost use mathlib.Core.Path.{_≡_};
 ghost use mathlib.Core.List.{_++_};
 ghost use Prim.Native.Nat.{_≤_, _<_};
 ghost use lib.ListN.{length, take};
 ghost use Rattle.words.specs.Bytes.{bytes};
-ghost use Rattle.table.specs.Format.{rowSizeOf};
-ghost use Rattle.table.specs.Inside.{TableIn};
+ghost use Rattle.format.specs.Format.{rowSizeOf};
+ghost use Rattle.format.specs.Inside.{TableIn};
 ghost use Rattle.editions.specs.Files.{carried, movedFrom, moved};
 ghost use Rattle.editions.specs.Answers.{movedAnswer, stationsFrom, lengthAnswer, movedLength, upAnswer, backAnswer, FileMoved, toEdition2, toEdition1};
 ghost use Rattle.editions.specs.Inside.{Movable, Tabled, Source, Room};
@@ -35,7 +35,7 @@ fn put_header(out: &mut [u8], edition: u16, rows: usize)
     ensures { λ _. ⌜ take 8 (now (out .exit)) ≡ bytes 2 edition ++ (bytes 2 rows ++ bytes 4 (length (now (out .entry)))) ⌝ }
 {
     let top = edition as u32 + 65536 * (rows as u32);
-    let b = words::arx::store2_32(top, out.len() as u32);
+    let b = arx::store2_32(top, out.len() as u32);
     put(out, 0, &b[0..8]);
 }
 

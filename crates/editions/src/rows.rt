@@ -2,16 +2,16 @@
 use crate::front::put_part;
 use crate::front::put_zeros;
 use crate::front::put32;
-use table::row::rest_start;
-use table::row::row_at;
-use table::row::row_start;
+use format::row::rest_start;
+use format::row::row_at;
+use format::row::row_start;
 ghost use mathlib.Core.Path.{_≡_};
 ghost use mathlib.Core.List.{_++_};
 ghost use Prim.Native.Nat.{_+_, _-_, _≤_, _<_};
 ghost use lib.ListN.{length, take, replicate};
 ghost use Rattle.words.specs.Bytes.{bytes};
-ghost use Rattle.table.specs.Part.{stretch};
-ghost use Rattle.table.specs.Format.{rowStart, restStart, rowAt};
+ghost use Rattle.format.specs.Part.{stretch};
+ghost use Rattle.format.specs.Format.{rowStart, restStart, rowAt};
 ghost use Rattle.editions.specs.Files.{carried, movedRow, movedRows};
 ghost use Rattle.editions.specs.Inside.{Movable};
 

@@ -19,7 +19,7 @@ pub struct Call {
 fn number(head: &[u8; 30], at: usize) -> u32
     requires { ⌜ at < 27 ⌝ }
 {
-    words::arx::le32(head[at], head[at + 1], head[at + 2], head[at + 3])
+    arx::le32(head[at], head[at + 1], head[at + 2], head[at + 3])
 }
 
 pub fn call_of(head: &[u8; 30]) -> Call {

@@ -24,7 +24,7 @@ use Rattle.mode.proofs.Chain.{Good, good-after, good-message, length-me
 use Rattle.mode.proofs.Start.{good-data}
 use Rattle.mode.proofs.Demand3.{absorbed-left, block-told, same-before, same-behind, parts, data-told}
 use Rattle.mode.proofs.Calls.{made-count}
-use Rattle.mode.proofs.Meets.{same-chain, Full, outputOf, Complemented, Meets, changed-at, meets}
+use Rattle.mode.proofs.Meets.{same-chain, Full, outputOf, Meets, changed-at, meets}
 
 module _ (κ : Cipher) (L : Lawful κ) where
   -- ---- the same keys

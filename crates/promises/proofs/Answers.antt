@@ -10,7 +10,8 @@ use Rattle.cipher.specs.Cipher.{cipherOf, sizeOf}
 use Rattle.mode.specs.Mode.{nonceSize, textOut, tagOut}
 use Rattle.mode.proofs.Start.{suite-nonce}
 use Rattle.comet.specs.Answers.{Opened, openedAs, opening}
-use Rattle.comet.proofs.Refuse.{Passed, none-bad, tag-right}
+use Rattle.numbers.proofs.Refuse.{Passed, none-bad}
+use Rattle.comet.proofs.Left.{tag-right}
 use Rattle.promises.specs.Input.{Texts, Input}
 
 -- ---- lengths that are right

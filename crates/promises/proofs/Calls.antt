@@ -1,8 +1,8 @@
 -- W12: the list of calls by citation; what is reported goes by the first number that applies.
-use mathlib.Core.Path.{_≡_, refl, sym, ap, ap₂, _∙_}
+use mathlib.Core.Path.{_≡_, refl, sym, _∙_}
 use mathlib.Core.Logic.{_⊎_, inl, inr, ⊎-elim}
 use mathlib.Core.Bool.{Bool, true, false}
-use Prim.Native.Nat.{ℕ, zero, suc, _+_, _<_}
+use Prim.Native.Nat.{ℕ, zero, suc, _<_}
 use native.Mathlib.Nat.{not-suc-le-zero, suc-ne-zero, lt-irrefl}
 use native.Mathlib.Omega.{arith}
 use mathlib.Core.List.{List, []}
@@ -13,9 +13,10 @@ use Rattle.mode.specs.Blocks.{blocks, chop}
 use Rattle.mode.specs.Mode.{calls}
 use Rattle.mode.proofs.Chain.{some}
 use Rattle.mode.proofs.Calls.{calls-count, calls-same, calls-decide}
-use Rattle.comet.specs.Answers.{refusal, sealedAs, sealing, openedAs, opening}
+use Rattle.numbers.specs.Verdicts.{refusal}
+use Rattle.comet.specs.Answers.{sealedAs, sealing, openedAs, opening}
 use Rattle.comet.specs.Counted.{countedAs, callsOf}
-use Rattle.comet.proofs.Refuse.{refusal-most}
+use Rattle.numbers.proofs.Refuse.{refusal-most}
 use Rattle.comet.proofs.Counts.{calls-all}
 use Rattle.promises.specs.Calls.{SealReports, OpenReports, CallsSum, EmptyTwo, SameReport, Calls}
 

@@ -9,11 +9,11 @@ use lib.ListN.{length}
 use lib.Dec.{eqb, ltb}
 use borrow.Author.Tests.{eqb-true, eqb-false, eq-eqb, ne-eqb, lt-ltb, le-ltb}
 use Rattle.cipher.specs.Cipher.{Seals}
-use Rattle.table.specs.Format.{countOf, firstEdition, newest, rowSizeOf, rowOf, tagOf, stationOf}
-use Rattle.table.specs.declared.answers.Answer.{Answer}
-use Rattle.table.specs.Answers.{answer}
+use Rattle.format.specs.Format.{countOf, firstEdition, newest, rowSizeOf, rowOf, tagOf, stationOf}
+use Rattle.numbers.specs.declared.checked.Answer.{Answer}
+use Rattle.numbers.specs.Answers.{answer}
 use Rattle.table.specs.Check.{nonceSeen, headNumber, andThen, checkAs, checkFile}
-use Rattle.table.specs.Inside.{EntryIn}
+use Rattle.format.specs.Inside.{EntryIn}
 use Rattle.table.proofs.Searches.{first-at, first-none}
 use Rattle.shift.specs.Lookup.{lookupJob}
 use Rattle.shift.specs.Opening.{entryOpening, JobOpened, left, rowOpening, jobOpening}

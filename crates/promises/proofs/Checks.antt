@@ -11,11 +11,11 @@ use borrow.Author.Tests.{eqb-true, eqb-false, ne-eqb, not-true, not-false}
 use Rattle.words.specs.Blocks.{filled}
 use Rattle.cipher.proofs.Suites.{tag-size}
 use Rattle.cipher.specs.Cipher.{limit}
-use Rattle.table.specs.declared.row.Row.{Row}
-use Rattle.table.specs.declared.answers.Answer.{Answer}
+use Rattle.format.specs.declared.row.Row.{Row}
+use Rattle.numbers.specs.declared.checked.Answer.{Answer}
 use Rattle.table.specs.Search.{anyBelow}
-use Rattle.table.specs.Format.{editionOf, countOf, totalOf, rowSizeOf, rowStart, rowOf, nonceAt, nonceReadAt, bodyEnd, dataJob, unitOf}
-use Rattle.table.specs.Answers.{answer}
+use Rattle.format.specs.Format.{editionOf, countOf, totalOf, rowSizeOf, rowStart, rowOf, nonceAt, nonceReadAt, bodyEnd, dataJob, unitOf}
+use Rattle.numbers.specs.Answers.{answer}
 use Rattle.table.specs.Check.{notAbove, badSuite, badLength, bodyStart, misplaced, unreadSet, clash, nonceSeen, badData, bodyNumber, rowNumber, endAnswer, rowsFrom, headNumber, checkBetween}
 use Rattle.table.proofs.Searches.{any-some, any-hit, first-at, first-none}
 use Rattle.shift.specs.Nonces.{SameNonce}

@@ -13,7 +13,8 @@ use Rattle.words.specs.Bytes.{sameBytes}
 use Rattle.words.proofs.Ladder.{rung}
 use Rattle.cipher.specs.Cipher.{isSuite, sizeOf, nonceOf, cipherOf, limit}
 use Rattle.mode.specs.Mode.{ciphertext, tag, textOut, tagOut}
-use Rattle.comet.specs.Answers.{takes, refusal, Sealed, sealedAs, sealing, Opened, openedAs, opening, verifying}
+use Rattle.numbers.specs.Verdicts.{takes, refusal}
+use Rattle.comet.specs.Answers.{Sealed, sealedAs, sealing, Opened, openedAs, opening, verifying}
 use Rattle.comet.proofs.Outcomes as comet
 use Rattle.session.proofs.Outcomes as session
 use Rattle.table.proofs.Outcomes as table
@@ -25,7 +26,7 @@ use Rattle.amend.proofs.Outcomes as amend
 use Rattle.editions.proofs.Outcomes as editions
 use Rattle.compare.proofs.Outcomes as comparing
 use Rattle.reader.proofs.Outcomes as reading
-use Rattle.comet.proofs.Refuse.{refusal-most}
+use Rattle.numbers.proofs.Refuse.{refusal-most}
 use Rattle.promises.specs.Demand1.{EntryPoints, SealKeeps, OpenKeeps, SealInPlace, OpenInPlace, VerifyOpens}
 
 pub entry-points : EntryPoints

@@ -9,7 +9,7 @@ use Rattle.cipher.proofs.Lawful.{lawful}
 use Rattle.mode.specs.Mode.{ciphertext, tag, textOut, tagOut}
 use Rattle.mode.proofs.Demand2.{text-length, text-bytes, text-back, tag-back, tag-block}
 use Rattle.comet.specs.Answers.{sealedAs, sealing, Opened}
-use Rattle.comet.proofs.Refuse.{none-bad}
+use Rattle.numbers.proofs.Refuse.{none-bad}
 use Rattle.promises.specs.Input.{Input}
 use Rattle.promises.specs.Demand2.{Sealing, Accepting, Returning, RoundTrip}
 use Rattle.promises.proofs.Answers.{fits, nonce-right, opens, opened-tag}

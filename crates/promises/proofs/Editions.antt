@@ -4,7 +4,7 @@ use mathlib.Core.List.{List}
 use Prim.Native.Nat.{ℕ, _<_}
 use lib.ListN.{length}
 use lib.Dec.{lit≤}
-use Rattle.table.specs.Format.{countOf, firstEdition, newest}
+use Rattle.format.specs.Format.{countOf, firstEdition, newest}
 use Rattle.table.specs.Check.{checkFile}
 use Rattle.table.proofs.Kept.{wider}
 use Rattle.compare.proofs.Promised.{equal-rows}

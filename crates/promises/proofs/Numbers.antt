@@ -4,7 +4,7 @@ use mathlib.Core.Logic.{_⊎_, inl, inr, _↔_}
 use mathlib.Core.Bool.{Bool, true, false, cond, not, _&&_, true≢false}
 use Prim.Native.Nat.{ℕ, zero, suc, _+_, _-_, _≤_, _<_}
 use native.Mathlib.Omega.{arith}
-use mathlib.Core.List.{List, [], _∷_}
+use mathlib.Core.List.{List, []}
 use lib.ListN.{length}
 use lib.Dec.{eqb, ltb, leb}
 use borrow.Author.Tests.{not-true}
@@ -12,7 +12,8 @@ use Rattle.words.specs.Bytes.{sameBytes}
 use Rattle.cipher.specs.Cipher.{isSuite, retired, seals, cipherOf, sizeOf, nonceOf, limit}
 use Rattle.cipher.proofs.Suites.{tag-size, only-four}
 use Rattle.mode.specs.Mode.{textOut, tagOut}
-use Rattle.comet.specs.Answers.{takes, refusal, sealedAs, sealing, openedAs, opening}
+use Rattle.numbers.specs.Verdicts.{takes, refusal}
+use Rattle.comet.specs.Answers.{sealedAs, sealing, openedAs, opening}
 use Rattle.session.specs.Value.{Value, Given, sound, answered, startNumber, starting, dataNumber, dataPart, textNumber, textPart, endNumber, ending}
 use Rattle.session.proofs.Parts.{done-number}
 use Rattle.promises.specs.Numbers.{tagSize, numbers, SealNumbers, OpenNumbers, StartNumbers, Going, DataNumbers, PartNumbers, EndNumbers}

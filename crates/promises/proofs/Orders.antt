@@ -7,9 +7,9 @@ use mathlib.Core.List.{List, [], _∷_}
 use lib.Dec.{eqb}
 use borrow.Author.Tests.{ne-eqb}
 use Rattle.words.proofs.Tests.{both-true}
-use Rattle.table.specs.declared.answers.Answer.{Answer}
+use Rattle.numbers.specs.declared.checked.Answer.{Answer}
 use Rattle.table.specs.Search.{firstOf}
-use Rattle.table.specs.Answers.{answer}
+use Rattle.numbers.specs.Answers.{answer}
 use Rattle.table.specs.Check.{andThen}
 use Rattle.table.proofs.Searches.{first-at, first-none}
 use Rattle.promises.specs.Orders.{Stage, whole, rows, Quiet, Stages, Order}

@@ -11,8 +11,8 @@ use borrow.Author.Tests.{ltb-true, leb-true, eqb-true, eqb-false, lt-ltb, le-leb
 use Rattle.words.specs.Bytes.{sameBytes}
 use Rattle.words.proofs.Tests.{both-true}
 use Rattle.words.proofs.Same.{same-refl, same-true}
-use Rattle.table.specs.declared.answers.Answer.{Answer}
-use Rattle.table.specs.Answers.{answer}
+use Rattle.numbers.specs.declared.checked.Answer.{Answer}
+use Rattle.numbers.specs.Answers.{answer}
 use Rattle.promises.specs.Tables.{Line, None, Lines, Table}
 
 -- ---- a test tells whether something holds

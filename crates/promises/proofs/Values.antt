@@ -8,7 +8,7 @@ use Rattle.mode.specs.Blocks.{chopLengths, lengths}
 use Rattle.mode.specs.Words.{doubleBy, pad}
 use Rattle.mode.specs.Keys.{textMarks, marks}
 use Rattle.words.specs.Bytes.{value}
-use Rattle.table.specs.Format.{rowSize, rowStart}
+use Rattle.format.specs.Format.{rowSize, rowStart}
 use Rattle.table.specs.Search.{firstOf}
 use Rattle.table.specs.Check.{bodyStart, endAnswer, rowsFrom, headNumber, checkBetween}
 use Rattle.promises.specs.Values.{StarredValues}

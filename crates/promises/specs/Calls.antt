@@ -9,7 +9,8 @@ use Rattle.cipher.specs.Cipher.{Cipher, sizeOf, cipherOf}
 use Rattle.mode.specs.Blocks.{blocks}
 use Rattle.mode.specs.Mode.{textOut, tagOut, calls}
 use Rattle.mode.specs.Calls.{Agree, other}
-use Rattle.comet.specs.Answers.{Sealed, refusal, Opened}
+use Rattle.numbers.specs.Verdicts.{refusal}
+use Rattle.comet.specs.Answers.{Sealed, Opened}
 use Rattle.comet.specs.Counted.{Counting, callsOf, sealingCounted, openingCounted}
 
 -- the list is what is enciphered: a cipher that gives the same for its pairs gives the same text and tag, whatever it gives for others

@@ -5,8 +5,8 @@ use Prim.Native.Nat.{ℕ, _≤_, _<_}
 use mathlib.Core.List.{List, [], _∷_}
 use lib.ListN.{length}
 use Rattle.cipher.specs.Cipher.{Seals}
-use Rattle.table.specs.Format.{countOf, firstEdition, newest, rowSizeOf, rowOf, stationOf}
-use Rattle.table.specs.Answers.{answer}
+use Rattle.format.specs.Format.{countOf, firstEdition, newest, rowSizeOf, rowOf, stationOf}
+use Rattle.numbers.specs.Answers.{answer}
 use Rattle.table.specs.Check.{headNumber, checkAs, checkFile}
 use Rattle.shift.specs.Lookup.{lookupJob}
 use Rattle.shift.specs.Opening.{left, jobOpening}

@@ -2,7 +2,7 @@
 use mathlib.Core.Path.{_≡_}
 use mathlib.Core.List.{List}
 use Prim.Native.Nat.{ℕ}
-use Rattle.table.specs.Answers.{answer}
+use Rattle.numbers.specs.Answers.{answer}
 use Rattle.compare.specs.Comparing.{refusedIn, stopped, comparison}
 use Rattle.editions.specs.Answers.{toEdition2, toEdition1}
 use Rattle.editions.specs.Promised.{ThereAndBack, BackAndThere, UpPasses, BackPasses, BackShort, LengthTold, UpRises, BackFalls, UpKeeps, BackKeeps, UpReads, BackReads}

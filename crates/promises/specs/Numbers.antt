@@ -10,8 +10,8 @@ use Rattle.cipher.specs.Cipher.{factsOf, Seals, cipherOf, sizeOf, nonceOf, limi
 use Rattle.mode.specs.Mode.{tagOut}
 use Rattle.comet.specs.Answers.{sealing, opening}
 use Rattle.session.specs.Value.{Value, starting, dataPart, textPart, ending}
-use Rattle.table.specs.Format.{editionOf, countOf, totalOf, rowSizeOf, rowOf, nonceAt, nonceReadAt, dataJob, unitOf}
-use Rattle.table.specs.Answers.{answer}
+use Rattle.format.specs.Format.{editionOf, countOf, totalOf, rowSizeOf, rowOf, nonceAt, nonceReadAt, dataJob, unitOf}
+use Rattle.numbers.specs.Answers.{answer}
 use Rattle.table.specs.Check.{bodyStart, checkBetween}
 use Rattle.shift.specs.Nonces.{SameNonce}
 use Rattle.promises.specs.Tables.{Line, _when_, None, Lines, Table}

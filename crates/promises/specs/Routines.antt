@@ -5,13 +5,14 @@ use mathlib.Core.List.{List, []}
 use lib.ListN.{length}
 use contract.Lifetimes.{Lfts}
 use denote.Ref.{RefT, now}
-use Rattle.comet.specs.Answers.{numberOf, Sealed, sealing, Opened, opening, verifying}
+use Rattle.numbers.specs.Verdicts.{numberOf}
+use Rattle.comet.specs.Answers.{Sealed, sealing, Opened, opening, verifying}
 use Rattle.comet.specs.Counted.{Counting, sealingCounted, openingCounted}
 use Rattle.session.specs.declared.Session.{Session}
 use Rattle.session.specs.Value.{starting, dataPart, textPart, ending}
 use Rattle.session.specs.Structs.{asValue, gives}
-use Rattle.table.specs.Part.{PartOf}
-use Rattle.table.specs.Answers.{checkedAnswer}
+use Rattle.format.specs.Part.{PartOf}
+use Rattle.numbers.specs.Answers.{checkedAnswer}
 use Rattle.table.specs.Check.{checkFile}
 use Rattle.shift.specs.Answers.{foundAnswer, openedAnswer}
 use Rattle.shift.specs.Lookup.{lookupJob}

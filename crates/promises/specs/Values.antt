@@ -7,7 +7,7 @@ use Rattle.cham.specs.Cham.{secondPlace}
 use Rattle.cipher.specs.Cipher.{cipherOf}
 use Rattle.mode.specs.Words.{double, Four, four, shuffleWords, pad}
 use Rattle.mode.specs.Keys.{marks}
-use Rattle.table.specs.declared.answers.Answer.{Answer}
+use Rattle.numbers.specs.declared.checked.Answer.{Answer}
 use Rattle.table.specs.Check.{checkFile}
 
 -- four words as a row, the highest first

@@ -11,14 +11,14 @@ use lib.ListN.{replicate}
 use lib.Dec.{eqb}
 use borrow.Author.Tests.{eq-eqb, ne-eqb, lt-ltb, le-ltb, eqb-true}
 use denote.Ref.{RefT, now}
-use Rattle.table.specs.declared.answers.Answer.{Answer}
-use Rattle.table.specs.declared.answers.Refusal.{Refusal}
-use Rattle.table.specs.Format.{firstEdition, newest, countOf, rowSizeOf}
-use Rattle.table.specs.Answers.{answer, refusalAnswer}
+use Rattle.numbers.specs.declared.checked.Answer.{Answer}
+use Rattle.numbers.specs.declared.checked.Refusal.{Refusal}
+use Rattle.format.specs.Format.{firstEdition, newest, countOf, rowSizeOf}
+use Rattle.numbers.specs.Answers.{answer, refusalAnswer}
 use Rattle.table.specs.Check.{headNumber, checkFile}
-use Rattle.table.specs.Inside.{RowIn}
-use Rattle.table.proofs.Numbers.{refusal-some}
-use Rattle.table.proofs.Rows.{row-in}
+use Rattle.format.specs.Inside.{RowIn}
+use Rattle.numbers.proofs.Numbers.{refusal-some}
+use Rattle.format.proofs.Rows.{row-in}
 use Rattle.table.proofs.Sound.{headed}
 use Rattle.table.proofs.Passed.{passes}
 use Rattle.reader.specs.declared.cursor.Cursor.{Cursor}

@@ -8,11 +8,11 @@ use mathlib.Core.List.{List, [], _∷_, _++_}
 use lib.ListN.{length, getD, drop, set, length-append, length-drop}
 use lib.Seq.{drop-cons, set-at, append-snoc}
 use borrow.Author.Tests.{lt-ltb, le-ltb, ne-eqb}
-use Rattle.table.specs.declared.answers.Refusal.{Refusal}
-use Rattle.table.specs.Format.{countOf}
-use Rattle.table.specs.Answers.{answer, refusalAnswer}
+use Rattle.numbers.specs.declared.checked.Refusal.{Refusal}
+use Rattle.format.specs.Format.{countOf}
+use Rattle.numbers.specs.Answers.{answer, refusalAnswer}
 use Rattle.table.specs.Check.{checkFile}
-use Rattle.table.proofs.Numbers.{refusal-some}
+use Rattle.numbers.proofs.Numbers.{refusal-some}
 use Rattle.reader.specs.Reporting.{jobOf, tagNumber, each, front, entries, Report, stopped, longest, reporting}
 
 each-length : (what : ℕ → ℕ) (n : ℕ) → length (each what n) ≡ n

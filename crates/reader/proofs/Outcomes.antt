@@ -5,9 +5,9 @@ use mathlib.Core.Logic.{inl}
 use lib.Dec.{eqb, lit<}
 use borrow.Author.Tests.{ne-eqb}
 use Rattle.words.specs.Outcome.{OneOutcome}
-use Rattle.table.specs.Answers.{answer}
-use Rattle.table.proofs.Numbers.{refusal-some}
-use Rattle.table.proofs.Outcomes.{refusalOf, refusal-back, unlike}
+use Rattle.numbers.specs.Answers.{answer}
+use Rattle.numbers.proofs.Numbers.{refusal-some}
+use Rattle.numbers.proofs.Outcomes.{refusalOf, refusal-back, unlike}
 use Rattle.reader.specs.declared.answers.Said.{Said}
 use Rattle.reader.specs.declared.answers.Reported.{Reported}
 use Rattle.reader.specs.declared.answers.Reported.the-variants.{Entries, Refused, Ring, Room}

@@ -5,9 +5,9 @@ use mathlib.Core.Bool.{Bool, true, false, cond}
 use mathlib.Core.List.{List}
 use lib.ListN.{length}
 use Rattle.comet.specs.Answers.{Opened, openedAs}
-use Rattle.table.specs.Format.{rowSizeOf, rowOf, textOf}
-use Rattle.table.specs.Inside.{EntryIn}
-use Rattle.table.specs.Answers.{answer}
+use Rattle.format.specs.Format.{rowSizeOf, rowOf, textOf}
+use Rattle.format.specs.Inside.{EntryIn}
+use Rattle.numbers.specs.Answers.{answer}
 use Rattle.shift.specs.Opening.{entryOpening, entryVerifying, JobOpened}
 use Rattle.shift.proofs.Entries.{text-long, test-number}
 use Rattle.shift.proofs.Lookups.{found-in}

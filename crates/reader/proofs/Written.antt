@@ -1,16 +1,16 @@
 -- What the writer makes is genuine, so every tag of it is right, and every entry line has 0.
 use Prim.Native.Nat.{ℕ, _≤_, _<_}
 use mathlib.Core.Path.{_≡_, refl, sym, ap, _∙_}
-use mathlib.Core.Bool.{true, not}
+use mathlib.Core.Bool.{not}
 use mathlib.Core.List.{List, _++_}
 use lib.ListN.{length, drop}
 use lib.Dec.{eqb, lit≤}
 use borrow.Author.Tests.{eq-eqb}
-use Rattle.words.specs.Bytes.{AllBytes, sameBytes}
+use Rattle.words.specs.Bytes.{AllBytes}
 use Rattle.words.proofs.Same.{same-refl}
-use Rattle.table.specs.declared.answers.Answer.{Answer}
-use Rattle.table.specs.Format.{countOf, firstEdition, rowSizeOf, rowOf, tagOf}
-use Rattle.table.specs.Answers.{answer}
+use Rattle.numbers.specs.declared.checked.Answer.{Answer}
+use Rattle.format.specs.Format.{countOf, firstEdition, rowSizeOf, rowOf, tagOf}
+use Rattle.numbers.specs.Answers.{answer}
 use Rattle.table.specs.Check.{rowNumber, endAnswer, rowsFrom, headNumber, checkBetween, checkAs}
 use Rattle.table.proofs.Searches.{first-none}
 use Rattle.table.proofs.Passed.{both-zero, passes}
@@ -20,7 +20,7 @@ use Rattle.draft.specs.Answers.{tagRight, sealAnswer, fileSealing}
 use Rattle.draft.specs.Promised.{Valid, Genuine}
 use Rattle.draft.proofs.Answers.{sealable}
 use Rattle.draft.proofs.Back.{sealed-then-unsealed}
-use Rattle.reader.specs.Reporting.{jobOf, tagNumber, front, entries, Report, reporting}
+use Rattle.reader.specs.Reporting.{jobOf, tagNumber, front, entries}
 use Rattle.reader.specs.Promised.{WriterReported}
 use Rattle.reader.proofs.Fronts.{each-same, all-said}
 

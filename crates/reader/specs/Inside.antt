@@ -3,10 +3,10 @@ use Prim.Native.Nat.{ℕ, _≤_}
 use mathlib.Core.Path.{_≡_}
 use mathlib.Core.List.{List}
 use lib.ListN.{length}
-use Rattle.table.specs.declared.row.Row.{Row}
-use Rattle.table.specs.Format.{rowSizeOf, countOf, rowOf}
+use Rattle.format.specs.declared.row.Row.{Row}
+use Rattle.format.specs.Format.{rowSizeOf, countOf, rowOf}
 use Rattle.table.specs.Check.{checkFile}
-use Rattle.table.specs.Inside.{EntryIn}
+use Rattle.format.specs.Inside.{EntryIn}
 
 -- row i can be opened under the ring
 pub record Openable (f ring : List ℕ) (i : ℕ) (r : Row) : Type 0 where

@@ -5,8 +5,8 @@ use mathlib.Core.List.{List, _++_}
 use mathlib.Core.Logic.{_⊎_}
 use lib.ListN.{length, replicate}
 use denote.Ref.{RefT, now}
-use Rattle.table.specs.Format.{countOf, rowOf}
-use Rattle.table.specs.Answers.{answer}
+use Rattle.format.specs.Format.{countOf, rowOf}
+use Rattle.numbers.specs.Answers.{answer}
 use Rattle.table.specs.Check.{checkFile}
 use Rattle.words.specs.Bytes.{AllBytes}
 use Rattle.shift.specs.Opening.{jobOpening}

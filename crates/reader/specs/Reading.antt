@@ -4,7 +4,7 @@ use mathlib.Core.List.{List, [], _∷_}
 use mathlib.Core.Bool.{_&&_, cond}
 use lib.Dec.{ltb, eqb}
 use denote.Ref.{RefT, now}
-use Rattle.table.specs.Format.{countOf, firstEdition, newest, rowSizeOf, nonceStart, rowOf, stationOf}
+use Rattle.format.specs.Format.{countOf, firstEdition, newest, rowSizeOf, nonceStart, rowOf, stationOf}
 use Rattle.table.specs.Check.{headNumber, checkFile}
 use Rattle.reader.specs.declared.cursor.Cursor.{Cursor}
 use Rattle.reader.specs.declared.cursor.Listed.{Listed}

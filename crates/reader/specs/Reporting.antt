@@ -1,12 +1,12 @@
 -- The report on a supplier's file (document 02, W14): all that the program prints.
 use Prim.Native.Nat.{ℕ, zero, suc}
-use mathlib.Core.Bool.{Bool, not, _||_, cond}
+use mathlib.Core.Bool.{not, _||_, cond}
 use mathlib.Core.List.{List, [], _∷_, _++_}
 use lib.ListN.{length, drop}
 use lib.Dec.{ltb, eqb}
-use Rattle.table.specs.declared.answers.Answer.{Answer}
-use Rattle.table.specs.Format.{countOf, rowOf}
-use Rattle.table.specs.Answers.{answer, refusalAnswer}
+use Rattle.numbers.specs.declared.checked.Answer.{Answer}
+use Rattle.format.specs.Format.{countOf, rowOf}
+use Rattle.numbers.specs.Answers.{answer, refusalAnswer}
 use Rattle.table.specs.Check.{checkFile, refused}
 use Rattle.draft.specs.Answers.{tagRight}
 use Rattle.reader.specs.declared.answers.Said.{Said}

@@ -1,7 +1,7 @@
 // What a report says, and its numbers in documents 01 and 02.
-use table::answers::Refusal;
+use numbers::checked::Refusal;
 ghost use mathlib.Core.Path.{_≡_};
-ghost use Rattle.table.specs.Answers.{refusalAnswer};
+ghost use Rattle.numbers.specs.Answers.{refusalAnswer};
 ghost use Rattle.reader.specs.Reporting.{refuses, saidOf};
 
 // A number and the row that it carries, and how many entries there are.

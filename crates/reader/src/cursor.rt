@@ -1,18 +1,18 @@
 // A place in a shift file, by value: the file's entries one after another, for whoever has the file at hand.
+use format::row::FIRST_EDITION;
+use format::row::NEWEST;
+use format::row::Row;
+use format::row::count;
+use format::row::nonce_start;
+use format::row::row_size_of;
+use format::row::station_of;
+use numbers::checked::Checked;
 use shift::lend::row_of;
-use table::answers::Checked;
 use table::check;
 use table::check_head;
-use table::row::FIRST_EDITION;
-use table::row::NEWEST;
-use table::row::Row;
-use table::row::count;
-use table::row::nonce_start;
-use table::row::row_size_of;
-use table::row::station_of;
 ghost use mathlib.Core.Path.{_≡_};
-ghost use Rattle.table.specs.Format.{rowSizeOf};
-ghost use Rattle.table.specs.Inside.{RowIn};
+ghost use Rattle.format.specs.Format.{rowSizeOf};
+ghost use Rattle.format.specs.Inside.{RowIn};
 ghost use Rattle.reader.specs.Reading.{rowsLaid, listedOf, startOf, askOf};
 
 // The row that is next, and how many rows there are.

@@ -1,7 +1,7 @@
 // The entries of a file that passes, one after another: the job of each, and whether its tag is right.
+use format::row::Row;
 use shift::lend::row_of;
 use shift::lend::verify_row;
-use table::row::Row;
 ghost use mathlib.Core.Path.{_≡_};
 ghost use Prim.Native.Nat.{_<_};
 ghost use Rattle.reader.specs.Reporting.{jobOf, tagNumber, front};

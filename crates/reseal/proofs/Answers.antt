@@ -10,9 +10,9 @@ use lib.Dec.{eqb, lit<}
 use borrow.Author.Tests.{eq-eqb, ne-eqb, eqb-true, eqb-false, not-false}
 use Rattle.words.proofs.Tests.{is-false}
 use Rattle.cipher.specs.Cipher.{retiredSuite}
-use Rattle.table.specs.declared.answers.Answer.{Answer}
-use Rattle.table.specs.Format.{countOf, firstEdition, rowSizeOf, rowOf}
-use Rattle.table.specs.Answers.{answer}
+use Rattle.numbers.specs.declared.checked.Answer.{Answer}
+use Rattle.format.specs.Format.{countOf, firstEdition, rowSizeOf, rowOf}
+use Rattle.numbers.specs.Answers.{answer}
 use Rattle.table.specs.Check.{nonceSeen, andThen, checkAs}
 use Rattle.table.proofs.Searches.{first-none, first-at}
 use Rattle.table.proofs.Passed.{both-zero}

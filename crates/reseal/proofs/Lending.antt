@@ -11,13 +11,13 @@ use borrow.Author.Tests.{eq-eqb, ne-eqb}
 use borrow.Rule.Slice.PartMut.{putMid, same-len-mid}
 use Rattle.words.specs.Bytes.{sameBytes}
 use Rattle.cipher.specs.Cipher.{retiredSuite, factsOf, isSuite, retired, seals, Seals, sizeOf}
-use Rattle.table.specs.declared.row.Row.{Row}
-use Rattle.table.specs.declared.answers.Answer.{Answer}
-use Rattle.table.specs.Part.{stretch}
-use Rattle.table.specs.Format.{countOf, firstEdition, rowSizeOf, restStart, rowOf, nonceAt}
+use Rattle.format.specs.declared.row.Row.{Row}
+use Rattle.numbers.specs.declared.checked.Answer.{Answer}
+use Rattle.format.specs.Part.{stretch}
+use Rattle.format.specs.Format.{countOf, firstEdition, rowSizeOf, restStart, rowOf, nonceAt}
 use Rattle.table.specs.Check.{checkAs, unreadSet, clash}
-use Rattle.table.specs.Inside.{RowIn, TableIn}
-use Rattle.table.proofs.Rows.{row-in, row-late, stretch-length}
+use Rattle.format.specs.Inside.{RowIn, TableIn}
+use Rattle.format.proofs.Rows.{row-in, row-late, stretch-length}
 use Rattle.table.proofs.Nonces.{clash-keys, clash-none}
 use Rattle.table.proofs.Passed.{Passes, passes}
 use Rattle.draft.specs.Put.{put, putAll}

@@ -6,8 +6,8 @@ use mathlib.Core.List.{List, [], _∷_, _++_}
 use mathlib.Core.Logic.{_⊎_, inr, ⊎-elim}
 use lib.ListN.{length, take, drop, set, take-append-drop}
 use lib.Seq.{drop-drop, set-split}
-use Rattle.table.specs.Part.{stretch}
-use Rattle.table.proofs.Rows.{stretch-length}
+use Rattle.format.specs.Part.{stretch}
+use Rattle.format.proofs.Rows.{stretch-length}
 use Rattle.table.proofs.Alike.{stretch-same}
 use Rattle.draft.specs.Put.{put, putAll}
 use Rattle.draft.proofs.Puts.{Apart, all-length, all-outside}

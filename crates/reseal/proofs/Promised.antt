@@ -6,10 +6,10 @@ use mathlib.Core.List.{List}
 use lib.ListN.{length}
 use Rattle.comet.specs.Answers.{Opened, openedAs}
 use Rattle.words.specs.Bytes.{AllBytes}
-use Rattle.table.specs.declared.row.Row.{Row}
-use Rattle.table.specs.declared.answers.Answer.{Answer}
-use Rattle.table.specs.Format.{countOf, firstEdition, rowSizeOf, rowOf, dataOf}
-use Rattle.table.specs.Answers.{answer}
+use Rattle.format.specs.declared.row.Row.{Row}
+use Rattle.numbers.specs.declared.checked.Answer.{Answer}
+use Rattle.format.specs.Format.{countOf, firstEdition, rowSizeOf, rowOf, dataOf}
+use Rattle.numbers.specs.Answers.{answer}
 use Rattle.table.specs.Check.{nonceSeen, checkAs}
 use Rattle.table.proofs.Passed.{passes}
 use Rattle.shift.specs.Opening.{entryOpening}

@@ -15,14 +15,14 @@ use Rattle.cipher.proofs.Lawful.{lawful}
 use Rattle.mode.specs.Mode.{textOut, tagOut}
 use Rattle.mode.proofs.Demand2.{text-length, text-bytes, text-back, tag-back, tag-block}
 use Rattle.mode.proofs.Start.{suite-nonce}
-use Rattle.table.specs.declared.row.Row.{Row}
-use Rattle.table.specs.declared.answers.Answer.{Answer}
-use Rattle.table.specs.Part.{stretch}
-use Rattle.table.specs.Format.{countOf, firstEdition, rowSizeOf, nonceAt, rowOf, dataOf, textOf, tagOf}
-use Rattle.table.specs.Answers.{answer}
+use Rattle.format.specs.declared.row.Row.{Row}
+use Rattle.numbers.specs.declared.checked.Answer.{Answer}
+use Rattle.format.specs.Part.{stretch}
+use Rattle.format.specs.Format.{countOf, firstEdition, rowSizeOf, nonceAt, rowOf, dataOf, textOf, tagOf}
+use Rattle.numbers.specs.Answers.{answer}
 use Rattle.table.specs.Check.{checkAs}
-use Rattle.table.specs.Inside.{EntryIn}
-use Rattle.table.proofs.Rows.{stretch-length}
+use Rattle.format.specs.Inside.{EntryIn}
+use Rattle.format.proofs.Rows.{stretch-length}
 use Rattle.table.proofs.Alike.{stretch-same}
 use Rattle.shift.specs.Opening.{ringKey, nonceRead}
 use Rattle.shift.proofs.Changed.{all-stretch, nonce-bytes, nonce-full, key-block}

@@ -13,12 +13,12 @@ use borrow.Author.Tests.{le-ltb, eq-eqb, ne-eqb, eqb-true}
 use Rattle.words.specs.Bytes.{sameBytes}
 use Rattle.words.specs.Blocks.{filled}
 use Rattle.cipher.specs.Cipher.{retiredSuite, factsOf, isSuite, sizeOf, nonceOf}
-use Rattle.table.specs.declared.row.Row.{Row}
-use Rattle.table.specs.Format.{editionOf, countOf, totalOf, firstEdition, rowSize, rowSizeOf, rowStart, restStart, rowAt, nonceStart, nonceAt, nonceReadAt, rowOf, bodyEnd}
-use Rattle.table.specs.Answers.{answer}
+use Rattle.format.specs.declared.row.Row.{Row}
+use Rattle.format.specs.Format.{editionOf, countOf, totalOf, firstEdition, rowSize, rowSizeOf, rowStart, restStart, rowAt, nonceStart, nonceAt, nonceReadAt, rowOf, bodyEnd}
+use Rattle.numbers.specs.Answers.{answer}
 use Rattle.table.specs.Check.{notAbove, badSuite, badLength, bodyStart, misplaced, unreadSet, clash, nonceSeen, badData, bodyNumber, rowNumber, endAnswer, rowsFrom, headNumber, checkBetween, checkAs}
-use Rattle.table.specs.Inside.{TableIn}
-use Rattle.table.proofs.Rows.{row-broad, row-late, row-below, row-in, nonce-length}
+use Rattle.format.specs.Inside.{TableIn}
+use Rattle.format.proofs.Rows.{row-broad, row-late, row-below, row-in, nonce-length}
 use Rattle.table.proofs.Sound.{Sound}
 use Rattle.table.proofs.Passed.{Passes, passes}
 use Rattle.table.proofs.Alike.{word-same}

@@ -4,7 +4,7 @@ use mathlib.Core.Bool.{true, cond}
 use mathlib.Core.List.{List, [], _∷_}
 use lib.Dec.{eqb}
 use Rattle.cipher.specs.Cipher.{retiredSuite}
-use Rattle.table.specs.Format.{countOf, rowSizeOf, restStart, rowOf}
+use Rattle.format.specs.Format.{countOf, rowSizeOf, restStart, rowOf}
 use Rattle.draft.specs.Put.{putAll}
 use Rattle.draft.specs.Files.{pieceStart, pieceAs, entryOut}
 

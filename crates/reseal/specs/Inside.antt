@@ -3,8 +3,8 @@ use Prim.Native.Nat.{ℕ}
 use mathlib.Core.Path.{_≡_}
 use mathlib.Core.List.{List}
 use Rattle.cipher.specs.Cipher.{retiredSuite}
-use Rattle.table.specs.declared.row.Row.{Row}
-use Rattle.table.specs.Format.{countOf, firstEdition, rowOf}
+use Rattle.format.specs.declared.row.Row.{Row}
+use Rattle.format.specs.Format.{countOf, firstEdition, rowOf}
 use Rattle.table.specs.Check.{checkAs}
 use Rattle.writer.specs.Inside.{RowWritable}
 

@@ -7,8 +7,8 @@ use mathlib.Core.Logic.{_⊎_}
 use lib.ListN.{length, getD, replicate}
 use Rattle.cipher.specs.Cipher.{retiredSuite}
 use Rattle.words.specs.Bytes.{AllBytes}
-use Rattle.table.specs.Format.{countOf, firstEdition, rowSizeOf, restStart, nonceAt, rowOf, dataOf}
-use Rattle.table.specs.Answers.{answer}
+use Rattle.format.specs.Format.{countOf, firstEdition, rowSizeOf, restStart, nonceAt, rowOf, dataOf}
+use Rattle.numbers.specs.Answers.{answer}
 use Rattle.table.specs.Check.{nonceSeen, checkAs}
 use Rattle.shift.specs.Opening.{entryOpening}
 use Rattle.draft.specs.Files.{pieceStart, pieceSize}

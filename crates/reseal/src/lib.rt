@@ -2,14 +2,14 @@
 mod rows;
 mod suites;
 
+use format::row::FIRST_EDITION;
+use format::row::count;
+use numbers::checked::Checked;
 use rows::reseal_rows;
+use runs::copy;
 use suites::first_clash;
 use suites::put_suites;
-use table::answers::Checked;
 use table::check_as;
-use table::row::FIRST_EDITION;
-use table::row::count;
-use words::runs::copy;
 use writer::answers::Written;
 use writer::lent_refused;
 ghost use mathlib.Core.Path.{_≡_};

@@ -1,12 +1,12 @@
 // The suite 4 entries, from the file into the output: opened, and sealed again as suite 3.
 use crate::suites::RETIRED;
 use crate::suites::SUCCESSOR;
-use comet::Verdict;
+use format::body::text_start;
+use format::row::Row;
+use numbers::verdict::Verdict;
+use runs::wipe;
 use shift::lend::open_row;
 use shift::lend::row_of;
-use table::body::text_start;
-use table::row::Row;
-use words::zeros::wipe;
 use writer::answers::Written;
 use writer::piece::seal_into;
 ghost use mathlib.Core.Path.{_≡_};

@@ -1,10 +1,9 @@
 -- One outcome for each input: a contract says which row was found and how many were looked at.
-use mathlib.Core.Path.{_≡_, refl, sym, ap₂, _∙_}
+use mathlib.Core.Path.{refl, sym, ap₂, _∙_}
 use Prim.Native.Nat.{ℕ}
 use Rattle.words.specs.Outcome.{OneOutcome}
 use Rattle.shift.specs.declared.answers.Found.{Found}
 use Rattle.shift.proofs.Outcomes.{found-one}
-use Rattle.search.specs.declared.Searched.{Searched}
 use Rattle.search.proofs.search.Kinds as search-kinds
 use Rattle.search.proofs.search.Reads as search-reads
 

@@ -1,5 +1,5 @@
 -- The rule's equations; on a file that passes, the search finds what the full lookup finds; it looks at 10 rows at most, reads no other, and no body.
-use Prim.Native.Nat.{ℕ, _+_, _^_, _≤_, _<_}
+use Prim.Native.Nat.{ℕ, _+_, _≤_, _<_}
 use native.Mathlib.Nat.{lt-of-le-of-lt}
 use native.Mathlib.Omega.{arith}
 use mathlib.Core.Path.{_≡_, refl, sym, ap, _∙_}
@@ -11,21 +11,20 @@ use lib.Seq.{getD-take}
 use lib.Dec.{eqb, lit<, lit≤}
 use borrow.Author.Tests.{eqb-true, ne-eqb}
 use Rattle.words.specs.Bytes.{word}
-use Rattle.table.specs.declared.row.Row.{Row}
-use Rattle.table.specs.declared.answers.Answer.{Answer}
-use Rattle.table.specs.Format.{editionOf, countOf, firstEdition, newest, rowSize, rowSizeOf, rowStart, rowAt}
-use Rattle.table.specs.declared.answers.Refusal.{Refusal}
-use Rattle.table.specs.Answers.{answer, refusalAnswer}
-use Rattle.table.specs.Check.{headNumber, checkFile}
-use Rattle.shift.specs.Lookup.{lookupJob}
-use Rattle.table.proofs.Numbers.{refusal-some}
-use Rattle.table.proofs.Rows.{row-broad}
+use Rattle.format.specs.declared.row.Row.{Row}
+use Rattle.numbers.specs.declared.checked.Answer.{Answer}
+use Rattle.format.specs.Format.{editionOf, countOf, firstEdition, newest, rowSize, rowSizeOf, rowStart, rowAt}
+use Rattle.numbers.specs.declared.checked.Refusal.{Refusal}
+use Rattle.numbers.specs.Answers.{answer, refusalAnswer}
+use Rattle.table.specs.Check.{headNumber}
+use Rattle.numbers.proofs.Numbers.{refusal-some}
+use Rattle.format.proofs.Rows.{row-broad}
 use Rattle.table.proofs.Sound.{headed}
 use Rattle.table.proofs.Passed.{passes}
 use Rattle.table.proofs.Rising.{rising}
 use Rattle.shift.proofs.Finding.{finds}
 use Rattle.table.proofs.Alike.{Agree, AgreeTable, word-same, row-same}
-use Rattle.search.specs.Halving.{Walk, ends, halvingIn, halving, jobsOf, headAnswer, searching}
+use Rattle.search.specs.Halving.{Walk, ends, halving, jobsOf, headAnswer, searching}
 use Rattle.search.specs.Promised.{Halves, SameJobs, RowsDecide, SameAsLookup, TenLooks, SameTable, BodiesUnread}
 use Rattle.search.proofs.Halves.{halving-none, halving-hit, halving-up, halving-down, looks, row-most, jobs-same, Same, visited-same, says}
 

@@ -3,9 +3,9 @@ use Prim.Native.Nat.{ℕ, zero, suc, _+_, _-_, _/_}
 use mathlib.Core.Bool.{cond}
 use mathlib.Core.List.{List, [], _∷_}
 use lib.Dec.{eqb, ltb}
-use Rattle.table.specs.declared.answers.Answer.{Answer}
-use Rattle.table.specs.Format.{countOf, firstEdition, newest, rowSizeOf, rowAt}
-use Rattle.table.specs.Answers.{answer}
+use Rattle.numbers.specs.declared.checked.Answer.{Answer}
+use Rattle.format.specs.Format.{countOf, firstEdition, newest, rowSizeOf, rowAt}
+use Rattle.numbers.specs.Answers.{answer}
 use Rattle.table.specs.Check.{headNumber}
 
 -- the rows that were looked at, and what is said

@@ -3,8 +3,8 @@ use Prim.Native.Nat.{ℕ, _+_, _-_, _/_, _≤_, _<_}
 use mathlib.Core.Path.{_≡_}
 use mathlib.Core.List.{List, [], _∷_}
 use lib.ListN.{length, take}
-use Rattle.table.specs.Format.{countOf, rowSizeOf, rowStart, rowOf}
-use Rattle.table.specs.Answers.{answer}
+use Rattle.format.specs.Format.{countOf, rowSizeOf, rowStart, rowOf}
+use Rattle.numbers.specs.Answers.{answer}
 use Rattle.table.specs.Check.{checkFile}
 use Rattle.shift.specs.Lookup.{lookupJob}
 use Rattle.search.specs.Halving.{ends, visit, halving, headAnswer, searching}

@@ -1,15 +1,15 @@
 // Finding a job in a shift file by halving, without walking the file.
+use format::row::FIRST_EDITION;
+use format::row::NEWEST;
+use format::row::count;
+use format::row::row_at;
+use format::row::row_size_of;
+use numbers::checked::Checked;
 use shift::answers::Found;
-use table::answers::Checked;
 use table::check_head;
-use table::row::FIRST_EDITION;
-use table::row::NEWEST;
-use table::row::count;
-use table::row::row_at;
-use table::row::row_size_of;
 ghost use mathlib.Core.Path.{_≡_};
 ghost use lib.ListN.{length};
-ghost use Rattle.table.specs.Inside.{TableIn};
+ghost use Rattle.format.specs.Inside.{TableIn};
 ghost use Rattle.shift.specs.Answers.{foundAnswer};
 ghost use Rattle.search.specs.Halving.{jobsOf, halving, searching};
 

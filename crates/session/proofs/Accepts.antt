@@ -1,12 +1,11 @@
 -- A session of ours takes what the rules allow: at the value of the bytes that have come, the numbers are those of the lengths that have come, and so are the counts.
-use mathlib.Core.Path.{_≡_, refl, sym, ap, _∙_, subst}
-use mathlib.Core.Bool.{Bool, true, false, cond, not, _&&_}
+use mathlib.Core.Path.{_≡_, refl, sym, ap, _∙_}
+use mathlib.Core.Bool.{Bool, true, false}
 use Prim.Native.Nat.{ℕ, zero, suc, _+_, _-_, _*_, _/_, _%_, _≤_, _<_}
 use native.Mathlib.Nat.{suc-ne-zero, zero-mul, div-eq-of-lt, mod-lt}
 use native.Mathlib.Omega.{arith}
-use mathlib.Core.List.{List, [], _∷_, _++_}
+use mathlib.Core.List.{List, [], _∷_}
 use lib.ListN.{length, replicate, length-append, length-replicate}
-use lib.Dec.{leb, ltb, eqb}
 use borrow.Author.Tests.{le-leb, le-ltb, eq-eqb, ne-eqb}
 use Rattle.words.proofs.Lists.{nil-of}
 use Rattle.words.specs.Blocks.{filled}
@@ -16,8 +15,8 @@ use Rattle.cipher.proofs.Suites.{size-most}
 use Rattle.mode.specs.Walk.{rest}
 use Rattle.mode.proofs.Chain.{some}
 use Rattle.mode.proofs.Cut.{rest-less}
-use Rattle.session.specs.Value.{Value, Given, answered, gave, dataIn, dataNumber, dataPart, textNumber, textDone, textPart, endNumber, endDone, ending, sound}
-use Rattle.session.specs.Calls.{Run, Next}
+use Rattle.session.specs.Value.{Value, answered, gave, dataIn, dataNumber, dataPart, textNumber, textDone, textPart, endNumber, endDone, ending, sound}
+use Rattle.session.specs.Calls.{Next}
 use Rattle.session.proofs.Joined.{heldSoFar, soFar}
 use Rattle.session.proofs.Refuse.{text-is, end-is, data-begun, data-limit}
 use Rattle.session.proofs.Parts.{done-number}

@@ -1,5 +1,5 @@
 -- How many bytes a call writes: a message part as many as the whole blocks of the held bytes and its own, the end what is held.
-use mathlib.Core.Path.{_≡_, refl, sym, ap, ap₂, _∙_}
+use mathlib.Core.Path.{_≡_, sym, ap, ap₂, _∙_}
 use mathlib.Core.Bool.{false}
 use Prim.Native.Nat.{ℕ, zero, suc, _+_, _-_, _*_, _/_, _%_, _≤_, _<_, min}
 use native.Mathlib.Nat.{le-refl, mod-lt}
@@ -9,7 +9,7 @@ use mathlib.Core.List.{List, [], _∷_, _++_}
 use lib.ListN.{length, take, drop, length-append, length-take, length-drop}
 use lib.Seq.{length-take-le}
 use Rattle.words.proofs.Lists.{nil-of}
-use Rattle.cipher.specs.Cipher.{Cipher, Lawful, cipherOf, sizeOf}
+use Rattle.cipher.specs.Cipher.{Cipher, Lawful, cipherOf}
 use Rattle.cipher.proofs.Lawful.{lawful}
 use Rattle.cipher.proofs.Suites.{size-most}
 use Rattle.mode.specs.Blocks.{blocks}

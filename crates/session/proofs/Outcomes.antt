@@ -1,11 +1,9 @@
 -- Every public function of `session` leaves one outcome: a session is told by its value in the definitions (`asValue`), whose lists are the bytes of its numbers.
-use mathlib.Core.Path.{_≡_, refl, sym, ap, ap₂, _∙_}
+use mathlib.Core.Path.{_≡_, refl, sym, ap, _∙_}
 use mathlib.Core.List.{List}
 use Prim.Native.Nat.{ℕ, _^_, _<_}
 use native.Mathlib.Omega.{arith}
 use Rattle.words.specs.Outcome.{OneOutcome}
-use Rattle.words.specs.Blocks.{wide}
-use Rattle.words.specs.declared.block.Block.{Block}
 use Rattle.words.proofs.Blocks.{wide-told}
 use Rattle.session.specs.declared.Session.{Session}
 use Rattle.session.specs.declared.Step.{Step}

@@ -1,17 +1,15 @@
 -- What the code worked out for a part of the message, or for the end, is what the definition gives.
-use mathlib.Core.Path.{_≡_, refl, sym, ap, ap₂, _∙_, subst}
+use mathlib.Core.Path.{_≡_, refl, ap, ap₂, _∙_}
 use mathlib.Core.Bool.{false}
-use Prim.Native.Nat.{ℕ, zero, suc, _+_, _-_, _%_, _≤_, _<_}
+use Prim.Native.Nat.{ℕ, _+_, _-_, _%_}
 use native.Mathlib.Nat.{suc-ne-zero}
-use native.Mathlib.Omega.{arith}
 use mathlib.Core.List.{List, [], _∷_, _++_}
 use lib.ListN.{length, take}
-use Rattle.words.proofs.Lists.{nil-of}
 use Rattle.words.specs.Blocks.{filled}
 use Rattle.cipher.specs.Cipher.{Cipher, cipherOf}
 use Rattle.mode.specs.Blocks.{blocks}
 use Rattle.mode.specs.Walk.{States, whole, rest, walked, covered, tagged}
-use Rattle.session.specs.Value.{Value, Given, valueOf, written, gave, firstMark, begun, textStates, blocksOut, textIn, partOut, textGiven, textDone, endOut, endTag, endDone, over}
+use Rattle.session.specs.Value.{Value, valueOf, written, gave, firstMark, begun, textStates, blocksOut, textIn, partOut, textGiven, textDone, endOut, endTag, endDone, over}
 
 -- two, n and m are what the code found for the states, the block's size and the first mark
 module _ (v : Value) (two : States) (n m : ℕ)

@@ -1,16 +1,15 @@
 -- Each accepted call takes the value after the bytes so far to the value after those bytes and its own, whatever the bytes so far were cut into.
-use mathlib.Core.Path.{_≡_, refl, sym, ap, ap₂, _∙_, subst}
-use mathlib.Core.Bool.{Bool, true, false, cond}
-use Prim.Native.Nat.{ℕ, zero, suc, _+_, _-_, _*_, _/_, _%_, _≤_, _<_}
-use native.Mathlib.Nat.{le-refl, zero-mod, mod-lt}
+use mathlib.Core.Path.{_≡_, refl, sym, ap, ap₂, _∙_}
+use mathlib.Core.Bool.{Bool, false, cond}
+use Prim.Native.Nat.{ℕ, _+_, _-_, _*_, _/_, _%_, _<_}
+use native.Mathlib.Nat.{le-refl, zero-mod}
 use native.Mathlib.Omega.{arith}
-use mathlib.Core.List.{List, [], _∷_, _++_, append-nil}
-use lib.ListN.{length, take, drop, replicate, length-append}
+use mathlib.Core.List.{List, [], _∷_, _++_}
+use lib.ListN.{length, take, replicate, length-append}
 use lib.Seq.{take-at}
-use lib.Dec.{eqb, ltb}
-use borrow.Author.Tests.{eq-eqb, ne-eqb}
+use borrow.Author.Tests.{ne-eqb}
 use Rattle.words.specs.Bytes.{AllBytes}
-use Rattle.words.proofs.Lists.{all-take, all-append}
+use Rattle.words.proofs.Lists.{all-take}
 use Rattle.words.specs.Blocks.{filled}
 use Rattle.cipher.specs.Cipher.{Cipher, Lawful, Block, cipherOf, nonceOf}
 use Rattle.cipher.proofs.Lawful.{lawful}
@@ -21,10 +20,10 @@ use Rattle.mode.proofs.Chain.{some}
 use Rattle.mode.proofs.Start.{suite-nonce, y-block, z-block}
 use Rattle.mode.specs.Walk.{States, whole, rest, walked, covered, tagged, origin, dataDone}
 use Rattle.session.specs.Value.{Value, fresh, states, heldOf, firstMark, dataStates, dataIn, begun, textStates, blocksOut, textIn, partOut, endOut, endTag}
-use Rattle.session.proofs.Joined.{dataSoFar, textSoFar, outSoFar, statesSoFar, heldSoFar, soFar}
-use Rattle.mode.proofs.Cut.{length-rest, whole-rest, whole-short, rest-short, blocks-whole-rest, blocks-more-bytes, rest-more}
+use Rattle.session.proofs.Joined.{dataSoFar, textSoFar, outSoFar, statesSoFar, soFar}
+use Rattle.mode.proofs.Cut.{length-rest, whole-short, rest-short, blocks-whole-rest, blocks-more-bytes, rest-more}
 use Rattle.step.proofs.Turns.{states-path}
-use Rattle.mode.proofs.Walk.{later, walked-append, covered-append, Fine, walked-fine, later-first, text-walk, tag-walk}
+use Rattle.mode.proofs.Walk.{walked-append, covered-append, Fine, walked-fine, later-first, text-walk, tag-walk}
 
 -- ---- a walk over the whole blocks of l goes on with what comes behind l
 

@@ -12,7 +12,7 @@ use lib.Seq.{take-append-seam}
 use Rattle.words.specs.Bytes.{AllBytes}
 use Rattle.words.proofs.Lists.{nil-of, all-append, all-nil}
 use Rattle.cipher.proofs.Suites.{seals-has}
-use Rattle.cipher.specs.Cipher.{Block, isSuite, seals, Seals, cipherOf, sizeOf, nonceOf, limit}
+use Rattle.cipher.specs.Cipher.{Block, isSuite, seals, Seals, cipherOf, nonceOf, limit}
 use Rattle.mode.specs.Mode.{ciphertext, tag}
 use Rattle.session.specs.Value.{Value, Given, over, answered, gave, written, startNumber, starting, dataNumber, dataPart, textNumber, textDone, textPart, endNumber, endDone, ending, dataIn, partOut, endOut, fresh}
 use Rattle.session.proofs.Joined.{outSoFar, soFar}

@@ -27,7 +27,7 @@ fn joined(held: [u8; 16], h: usize, p: &[u8]) -> [u8; 16]
     requires { ⌜ h + length (now p) ≤ 16 ⌝ }
     ensures { λ r. ⌜ r ≡ filled (take h held ++ now (p .entry)) ⌝ }
 {
-    let mut r = words::block::filled_bytes(&held[0..h]);
+    let mut r = runs::filled_bytes(&held[0..h]);
     let mut j: usize = 0;
     while j < p.len() {
         r[h + j] = p[j];
@@ -45,7 +45,7 @@ fn absorb_blocks(lent: &[Lent], suite: u8, s: State, ad: &[u8]) -> Fed
     let w = walk::absorb(lent, false, suite, s, 0, ad);
     let t = w.s;
     let i = w.at;
-    let h = words::block::filled_bytes(&ad[i..ad.len()]);
+    let h = runs::filled_bytes(&ad[i..ad.len()]);
     Fed { s: t, held: h }
 }
 
@@ -101,8 +101,8 @@ fn gather(held: [u8; 16], h: usize, p: &[u8], out: &mut [u8])
     ensures { λ _. ⌜ now (out .exit) ≡ take h held ++ now (p .entry) ⌝ }
 {
     let end = out.len();
-    words::runs::copy(&held[0..h], &mut out[0..h]);
-    words::runs::copy(p, &mut out[h..end]);
+    runs::copy(&held[0..h], &mut out[0..h]);
+    runs::copy(p, &mut out[h..end]);
 }
 
 // The whole blocks of text are sealed in their place, the first under the mark m: the cipher is lent what it needs.
@@ -149,7 +149,7 @@ pub(crate) fn crypt_part(
     gather(held, h, &part[0..e], &mut out[0..w]);
     let t = crypt_blocks(suite, s, m, &mut out[0..w]);
     let u = t.s;
-    let g = words::block::filled_bytes(&part[e..part.len()]);
+    let g = runs::filled_bytes(&part[e..part.len()]);
     Made {
         s: u,
         held: g,
@@ -175,6 +175,6 @@ pub(crate) fn last_in(
     if h == 0 {
         return s;
     }
-    words::runs::copy(&held[0..h], &mut out[0..h]);
+    runs::copy(&held[0..h], &mut out[0..h]);
     crypt_short(lent, false, suite, s, m ^ 0x40, &mut out[0..h])
 }

@@ -2,7 +2,7 @@
 use words::block::Block;
 
 mod blocks;
-mod numbers;
+mod ladder;
 mod work;
 
 ghost use mathlib.Core.Path.{_≡_};
@@ -32,7 +32,7 @@ impl Session {
     pub fn start(suite: u8, key: &[u8], nonce: &[u8]) -> Step
         ensures { λ r. ⌜ gives r [] [] ≡ starting suite (now (key .entry)) (now (nonce .entry)) ⌝ }
     {
-        let k = numbers::start_number(suite, key.len(), nonce.len());
+        let k = ladder::start_number(suite, key.len(), nonce.len());
         if k != 0 {
             return work::refused(k);
         }
@@ -50,7 +50,7 @@ impl Session {
         let suite = self.suite;
         let ad_total = self.ad_total;
         let text_total = self.text_total;
-        let k = numbers::data_number(suite, ad_total, text_total, part.len());
+        let k = ladder::data_number(suite, ad_total, text_total, part.len());
         if k != 0 {
             return Step {
                 next: self,
@@ -68,7 +68,7 @@ impl Session {
         let suite = self.suite;
         let ad_total = self.ad_total;
         let text_total = self.text_total;
-        let k = numbers::text_number(suite, ad_total, text_total, part.len(), out.len());
+        let k = ladder::text_number(suite, ad_total, text_total, part.len(), out.len());
         if k != 0 {
             return Step {
                 next: self,
@@ -93,7 +93,7 @@ impl Session {
         let suite = self.suite;
         let ad_total = self.ad_total;
         let text_total = self.text_total;
-        let k = numbers::end_number(suite, ad_total, text_total, out.len(), tag.len());
+        let k = ladder::end_number(suite, ad_total, text_total, out.len(), tag.len());
         if k != 0 {
             return Step {
                 next: self,

@@ -227,7 +227,7 @@ pub(crate) fn close(lent: &[Lent], s: Session, out: &mut [u8], tag: &mut [u8]) -
     let t = crate::blocks::last_in(lent, suite, two, m, held, h, out);
     let l = step::tag::tag_of(lent, suite, t);
     let g = l.tag;
-    words::block::put(g, tag);
+    runs::put(g, tag);
     let next = ended();
     Step {
         next: next,

@@ -2,7 +2,7 @@
 use Prim.Native.Nat.{ℕ, _+_, _*_, _≤_, _<_}
 use native.Mathlib.Decide.{decLt}
 use native.Mathlib.Omega.{arith}
-use mathlib.Core.Path.{_≡_, refl, sym, ap, ap₂, _∙_}
+use mathlib.Core.Path.{_≡_, refl, sym, ap, _∙_}
 use mathlib.Core.Bool.{Bool, true, false}
 use mathlib.Core.List.{List, []}
 use mathlib.Core.Logic.{_⊎_, inl, inr}
@@ -11,18 +11,17 @@ use lib.Seq.{getD-take, getD-drop}
 use Rattle.words.specs.Bytes.{AllBytes, sameBytes}
 use Rattle.words.proofs.Same.{same-true}
 use Rattle.words.proofs.Lists.{all-nil, all-take, all-drop}
-use Rattle.cipher.specs.Cipher.{Cipher, Block, cipherOf, sizeOf, nonceOf}
+use Rattle.cipher.specs.Cipher.{Block, cipherOf, sizeOf, nonceOf}
 use Rattle.cipher.proofs.Lawful.{lawful}
 use Rattle.mode.specs.Mode.{nonceSize, tagOut}
 use Rattle.mode.proofs.Start.{suite-nonce}
 use Rattle.mode.proofs.Demand2.{empty-tag}
 use Rattle.mode.proofs.Demand3.{same-before, same-behind, data-told}
 use Rattle.mode.proofs.LastBlock.{last-told}
-use Rattle.table.specs.declared.row.Row.{Row}
-use Rattle.table.specs.Part.{stretch}
-use Rattle.table.specs.Format.{rowSizeOf, nonceStart, nonceAt, rowOf, dataOf, textOf, tagOf, bodyEnd}
-use Rattle.table.specs.Inside.{EntryIn}
-use Rattle.table.proofs.Rows.{stretch-length}
+use Rattle.format.specs.Part.{stretch}
+use Rattle.format.specs.Format.{rowSizeOf, nonceStart, nonceAt, rowOf, dataOf, textOf, tagOf, bodyEnd}
+use Rattle.format.specs.Inside.{EntryIn}
+use Rattle.format.proofs.Rows.{stretch-length}
 use Rattle.shift.specs.Opening.{ringKey, nonceRead}
 use Rattle.shift.proofs.Entries.{entryRight, key-long, nonce-long}
 

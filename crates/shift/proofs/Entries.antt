@@ -11,12 +11,13 @@ use Rattle.words.specs.Bytes.{sameBytes}
 use Rattle.cipher.specs.Cipher.{sizeOf, nonceOf, cipherOf, limit}
 use Rattle.cipher.proofs.Suites.{nonce-most}
 use Rattle.mode.specs.Mode.{textOut, tagOut}
-use Rattle.comet.specs.Answers.{refusal, Sealed, sealing, Opened, openedAs, opening, verifying}
-use Rattle.table.specs.declared.row.Row.{Row}
-use Rattle.table.specs.Format.{rowSizeOf, nonceAt, rowOf, dataOf, textOf, tagOf, bodyEnd}
-use Rattle.table.specs.Answers.{answer}
-use Rattle.table.specs.Inside.{EntryIn}
-use Rattle.table.proofs.Rows.{stretch-length, nonce-length}
+use Rattle.numbers.specs.Verdicts.{refusal}
+use Rattle.comet.specs.Answers.{Sealed, sealing, Opened, openedAs, opening, verifying}
+use Rattle.format.specs.declared.row.Row.{Row}
+use Rattle.format.specs.Format.{rowSizeOf, nonceAt, rowOf, dataOf, textOf, tagOf, bodyEnd}
+use Rattle.numbers.specs.Answers.{answer}
+use Rattle.format.specs.Inside.{EntryIn}
+use Rattle.format.proofs.Rows.{stretch-length, nonce-length}
 use Rattle.shift.specs.Opening.{ringKey, nonceRead, entrySealingAs, entryOpening, entryVerifying, left, rowOpening}
 use Rattle.shift.specs.Inside.{Lendable}
 

@@ -1,19 +1,19 @@
 -- Opening a job: the answer is the opener's on the entry's own bytes; its number is 0, 2, 6, 8 or a refusal of the lookup; the output changes only with 0 and 8.
-use Prim.Native.Nat.{ℕ, _≤_}
+use Prim.Native.Nat.{ℕ}
 use native.Mathlib.Omega.{arith}
 use mathlib.Core.Path.{_≡_, refl, sym, ap, subst}
 use mathlib.Core.Bool.{Bool, true, false, not, cond}
 use mathlib.Core.List.{List}
 use mathlib.Core.Logic.{_⊎_, inl, inr, ⊎-elim}
-use lib.ListN.{length, replicate}
+use lib.ListN.{length}
 use lib.Dec.{eqb}
 use borrow.Author.Tests.{eqb-true, eqb-false}
 use Rattle.comet.specs.Answers.{openedAs}
-use Rattle.table.specs.Format.{rowSizeOf, rowOf}
-use Rattle.table.specs.Answers.{answer}
-use Rattle.table.specs.Inside.{EntryIn}
+use Rattle.format.specs.Format.{rowSizeOf, rowOf}
+use Rattle.numbers.specs.Answers.{answer}
+use Rattle.format.specs.Inside.{EntryIn}
 use Rattle.shift.specs.Lookup.{lookupJob}
-use Rattle.shift.specs.Opening.{entryOpening, JobOpened, left, rowOpening, jobOpening}
+use Rattle.shift.specs.Opening.{left, rowOpening, jobOpening}
 use Rattle.shift.specs.Promised.{Answered, OpensEntry, OpeningAnswers}
 use Rattle.shift.proofs.Lookups.{found-in}
 use Rattle.shift.proofs.Entries.{entryRight, entryText, entry-opened, row-opens}

@@ -7,13 +7,13 @@ use mathlib.Core.Logic.{⊎-elim}
 use borrow.Author.Tests.{eqb-true}
 use types.Run.{OneOf, miss}
 use denote.Enum.Declared.{tagOf}
-use Rattle.table.specs.declared.answers.Answer.{Answer}
-use Rattle.table.specs.Format.{countOf, firstEdition, newest, rowSizeOf, rowAt, rowOf}
-use Rattle.table.specs.Answers.{answer}
+use Rattle.numbers.specs.declared.checked.Answer.{Answer}
+use Rattle.format.specs.Format.{countOf, firstEdition, newest, rowSizeOf, rowAt, rowOf}
+use Rattle.numbers.specs.Answers.{answer}
 use Rattle.table.specs.Check.{checkFile}
-use Rattle.table.specs.Inside.{EntryIn}
+use Rattle.format.specs.Inside.{EntryIn}
 use Rattle.table.proofs.Searches.{first-says}
-use Rattle.table.proofs.Numbers.{refusal-some}
+use Rattle.numbers.proofs.Numbers.{refusal-some}
 use Rattle.table.proofs.Passed.{Passes, passes, both-zero, entry-in}
 use Rattle.shift.specs.declared.answers.Found.{Found}
 use Rattle.shift.specs.declared.answers.Found.the-variants as found

@@ -11,8 +11,8 @@ use Rattle.words.proofs.Lists.{append-inj}
 use Rattle.words.specs.Blocks.{filled}
 use Rattle.cipher.specs.Cipher.{nonceOf}
 use Rattle.cipher.proofs.Suites.{sizes-two, nonce-wide, nonce-narrow}
-use Rattle.table.specs.Format.{editionOf, countOf, rowSizeOf, rowOf, nonceAt}
-use Rattle.table.proofs.Rows.{row-broad, nonce-length}
+use Rattle.format.specs.Format.{editionOf, countOf, rowSizeOf, rowOf, nonceAt}
+use Rattle.format.proofs.Rows.{row-broad, nonce-length}
 use Rattle.table.proofs.Passed.{passes}
 use Rattle.table.proofs.Nonces.{earlier}
 use Rattle.shift.specs.Nonces.{NoncesOnce, UnreadByte}

@@ -9,10 +9,11 @@ use contract.Lifetimes.{Lfts}
 use borrow.Fn.Kinds.{Dens}
 use Rattle.words.specs.Outcome.{Outcome, OneOutcome}
 use Rattle.comet.specs.Answers as comet
-use Rattle.comet.proofs.Outcomes.{number-tells}
-use Rattle.table.specs.declared.answers.Answer.{Answer}
-use Rattle.table.proofs.Numbers.{refusal-some}
-use Rattle.table.proofs.Outcomes.{refusalOf, refusal-back, unlike, answer-one, part-one}
+use Rattle.numbers.proofs.Outcomes.{number-tells}
+use Rattle.numbers.specs.declared.checked.Answer.{Answer}
+use Rattle.numbers.proofs.Numbers.{refusal-some}
+use Rattle.numbers.proofs.Outcomes.{refusalOf, refusal-back, unlike, answer-one}
+use Rattle.format.proofs.Outcomes.{part-one}
 use Rattle.shift.specs.declared.answers.Found.{Found}
 use Rattle.shift.specs.declared.answers.Found.the-variants as found
 use Rattle.shift.specs.declared.answers.JobAnswer.{JobAnswer}

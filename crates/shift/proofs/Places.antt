@@ -7,13 +7,13 @@ use mathlib.Core.List.{List}
 use lib.ListN.{length}
 use lib.Dec.{eqb}
 use borrow.Author.Tests.{eqb-true, ne-eqb}
-use Rattle.table.specs.declared.answers.Answer.{Answer}
-use Rattle.table.specs.declared.row.Row.{Row}
-use Rattle.table.specs.Format.{rowOf, bodyEnd}
-use Rattle.table.specs.Answers.{answer}
+use Rattle.numbers.specs.declared.checked.Answer.{Answer}
+use Rattle.format.specs.declared.row.Row.{Row}
+use Rattle.format.specs.Format.{rowOf, bodyEnd}
+use Rattle.numbers.specs.Answers.{answer}
 use Rattle.shift.specs.declared.answers.Entry.{Entry}
 use Rattle.shift.specs.Lookup.{lookupJob}
-use Rattle.shift.specs.Entry.{dataStart, dataLength, textStart, textLength, entryAt, entryOf, Lies, EntriesLie}
+use Rattle.shift.specs.Entry.{dataStart, dataLength, textStart, textLength, entryAt, Lies, EntriesLie}
 use Rattle.shift.proofs.Lookups.{holding, found-in}
 
 -- an entry's six values

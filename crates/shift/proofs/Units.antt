@@ -1,5 +1,5 @@
 -- The unit of an entry with an empty message cannot be altered: the check still passes if the new byte is a unit, and then the tag is another (demand 3).
-use Prim.Native.Nat.{ℕ, _+_, _*_, _≤_, _<_}
+use Prim.Native.Nat.{ℕ, _+_, _≤_, _<_}
 use native.Mathlib.Omega.{arith}
 use mathlib.Core.Path.{_≡_, refl, sym, ap, _∙_}
 use mathlib.Core.Bool.{Bool, true, false, not, cond}
@@ -14,15 +14,15 @@ use Rattle.words.proofs.Lists.{all-set}
 use Rattle.cipher.specs.Cipher.{sizeOf}
 use Rattle.cipher.proofs.Suites.{sizes-two}
 use Rattle.comet.specs.Answers.{Opened, openedAs}
-use Rattle.comet.proofs.Refuse.{tag-right}
-use Rattle.table.specs.declared.row.Row.{Row}
-use Rattle.table.specs.declared.answers.Answer.{Answer}
-use Rattle.table.specs.Format.{editionOf, countOf, firstEdition, newest, rowSize, rowSizeOf, rowAt, nonceAt, rowOf, dataOf, tagOf, bodyEnd, unitOf, isUnit}
-use Rattle.table.specs.Answers.{answer}
+use Rattle.comet.proofs.Left.{tag-right}
+use Rattle.format.specs.declared.row.Row.{Row}
+use Rattle.numbers.specs.declared.checked.Answer.{Answer}
+use Rattle.format.specs.Format.{editionOf, countOf, firstEdition, newest, rowSize, rowSizeOf, rowAt, nonceAt, rowOf, dataOf, tagOf, bodyEnd, unitOf, isUnit}
+use Rattle.numbers.specs.Answers.{answer}
 use Rattle.table.specs.Check.{checkFile}
-use Rattle.table.specs.Inside.{EntryIn}
+use Rattle.format.specs.Inside.{EntryIn}
 use Rattle.table.proofs.Passed.{Passes}
-use Rattle.table.proofs.Rows.{row-broad}
+use Rattle.format.proofs.Rows.{row-broad}
 use Rattle.table.proofs.Alike.{AgreeTable, stretch-same, row-same, nonce-same, count-same}
 use Rattle.table.proofs.Kept.{body-table, body-edition}
 use Rattle.table.proofs.Units.{unit-long, unit-outside, unit-check}

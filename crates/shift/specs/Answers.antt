@@ -1,6 +1,6 @@
 -- Document 01's number and row for each case of the answers: a found row itself, 25 to 30 and 34 the row at fault, every other number 0.
-use Rattle.table.specs.declared.answers.Answer.{Answer}
-use Rattle.table.specs.Answers.{answer, refusalAnswer}
+use Rattle.numbers.specs.declared.checked.Answer.{Answer}
+use Rattle.numbers.specs.Answers.{answer, refusalAnswer}
 use Rattle.shift.specs.declared.answers.Found.{Found}
 use Rattle.shift.specs.declared.answers.Found.the-variants as found
 use Rattle.shift.specs.declared.answers.JobAnswer.{JobAnswer}

@@ -3,10 +3,10 @@ use Prim.Native.Nat.{ℕ, _+_, _*_, _≤_}
 use mathlib.Core.Path.{_≡_}
 use mathlib.Core.List.{List}
 use lib.ListN.{length}
-use Rattle.table.specs.declared.answers.Answer.{Answer}
-use Rattle.table.specs.declared.row.Row.{Row}
-use Rattle.table.specs.Format.{rowSizeOf, rowOf, bodyEnd}
-use Rattle.table.specs.Inside.{RowIn}
+use Rattle.numbers.specs.declared.checked.Answer.{Answer}
+use Rattle.format.specs.declared.row.Row.{Row}
+use Rattle.format.specs.Format.{rowSizeOf, rowOf, bodyEnd}
+use Rattle.format.specs.Inside.{RowIn}
 use Rattle.shift.specs.Lookup.{lookupJob}
 
 -- what the opener is lent of row i lies in the file and in the ring

@@ -2,10 +2,10 @@
 use Prim.Native.Nat.{ℕ, _-_}
 use mathlib.Core.List.{List}
 use lib.Dec.{eqb}
-use Rattle.table.specs.declared.answers.Answer.{Answer}
+use Rattle.numbers.specs.declared.checked.Answer.{Answer}
 use Rattle.table.specs.Search.{firstOf}
-use Rattle.table.specs.Format.{countOf, rowSizeOf, rowAt}
-use Rattle.table.specs.Answers.{answer}
+use Rattle.format.specs.Format.{countOf, rowSizeOf, rowAt}
+use Rattle.numbers.specs.Answers.{answer}
 use Rattle.table.specs.Check.{andThen, checkFile}
 
 -- the first row of n from row i on that has the job; 32 where none has

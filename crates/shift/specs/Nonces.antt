@@ -6,7 +6,7 @@ use mathlib.Core.List.{List}
 use lib.ListN.{length, getD}
 use Rattle.words.specs.Blocks.{filled}
 use Rattle.cipher.specs.Cipher.{nonceOf}
-use Rattle.table.specs.Format.{countOf, rowSizeOf, rowStart, rowOf, nonceAt, nonceReadAt}
+use Rattle.format.specs.Format.{countOf, rowSizeOf, rowStart, rowOf, nonceAt, nonceReadAt}
 use Rattle.table.specs.Check.{checkBetween}
 use Rattle.shift.specs.Opening.{nonceRead}
 

@@ -6,10 +6,10 @@ use lib.ListN.{length, take}
 use lib.Dec.{eqb}
 use Rattle.cipher.specs.Cipher.{nonceOf}
 use Rattle.comet.specs.Answers as comet
-use Rattle.table.specs.declared.answers.Answer.{Answer}
-use Rattle.table.specs.Part.{stretch}
-use Rattle.table.specs.Format.{rowSizeOf, nonceAt, nonceReadAt, rowOf, dataOf, textOf, tagOf}
-use Rattle.table.specs.Answers.{answer}
+use Rattle.numbers.specs.declared.checked.Answer.{Answer}
+use Rattle.format.specs.Part.{stretch}
+use Rattle.format.specs.Format.{rowSizeOf, nonceAt, nonceReadAt, rowOf, dataOf, textOf, tagOf}
+use Rattle.numbers.specs.Answers.{answer}
 use Rattle.shift.specs.Lookup.{lookupJob}
 
 -- the ring is 16 keys, 256 bytes; key k is bytes 16k to 16k + 15

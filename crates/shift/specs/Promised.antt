@@ -6,8 +6,8 @@ use mathlib.Core.List.{List, []}
 use mathlib.Core.Logic.{_⊎_, _↔_}
 use lib.ListN.{length, replicate, set}
 use Rattle.words.specs.Bytes.{AllBytes}
-use Rattle.table.specs.Format.{countOf, rowOf, unitOf, isUnit}
-use Rattle.table.specs.Answers.{answer, Ranged}
+use Rattle.format.specs.Format.{countOf, rowOf, unitOf, isUnit}
+use Rattle.numbers.specs.Answers.{answer, Ranged}
 use Rattle.table.specs.Check.{checkFile}
 use Rattle.shift.specs.Lookup.{lookupJob}
 use Rattle.shift.specs.Opening.{entryOpening, JobOpened, left, jobOpening}

@@ -1,6 +1,6 @@
 // The answers of lookup, entry and opening, and their numbers in document 01.
-use table::answers::Answer;
-use table::answers::Refusal;
+use numbers::checked::Answer;
+use numbers::checked::Refusal;
 ghost use mathlib.Core.Path.{_≡_};
 ghost use Rattle.shift.specs.Answers.{foundAnswer, openedAnswer};
 

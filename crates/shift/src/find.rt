@@ -1,8 +1,8 @@
 // The search for a job, over the whole table.
 use crate::answers::Found;
-use table::row::row_at;
+use format::row::row_at;
 ghost use mathlib.Core.Path.{_≡_};
-ghost use Rattle.table.specs.Inside.{TableIn};
+ghost use Rattle.format.specs.Inside.{TableIn};
 ghost use Rattle.shift.specs.Answers.{foundAnswer};
 ghost use Rattle.shift.specs.Lookup.{findFrom};
 

@@ -1,20 +1,21 @@
 // What sealer, opener and the record's test are lent of a row: the entry's own stretch of the file, and its key.
-use comet::Verdict;
-use table::body::data_of;
-use table::body::tag_of;
-use table::body::text_of;
-use table::row::Row;
-use table::row::nonce_at;
-use table::row::row_at;
-use table::row::row_size_of;
-use table::row::stretch;
+use format::body::data_of;
+use format::body::tag_of;
+use format::body::text_of;
+use format::row::Row;
+use format::row::nonce_at;
+use format::row::row_at;
+use format::row::row_size_of;
+use format::row::stretch;
+use numbers::verdict::Verdict;
 ghost use mathlib.Core.Path.{_≡_};
 ghost use Prim.Native.Nat.{_+_, _*_, _≤_};
 ghost use lib.ListN.{length, take};
 ghost use Rattle.cipher.specs.Cipher.{nonceOf};
-ghost use Rattle.comet.specs.Answers.{numberOf, Sealed, Opened};
-ghost use Rattle.table.specs.Format.{rowSizeOf, rowOf, nonceAt};
-ghost use Rattle.table.specs.Inside.{RowIn};
+ghost use Rattle.numbers.specs.Verdicts.{numberOf};
+ghost use Rattle.comet.specs.Answers.{Sealed, Opened};
+ghost use Rattle.format.specs.Format.{rowSizeOf, rowOf, nonceAt};
+ghost use Rattle.format.specs.Inside.{RowIn};
 ghost use Rattle.shift.specs.Opening.{ringKey, entrySealingAs, entryOpening, entryVerifying};
 ghost use Rattle.shift.specs.Inside.{Lendable};
 

@@ -3,10 +3,10 @@ use crate::answers::Found;
 use crate::answers::JobAnswer;
 use crate::lend::open_row;
 use crate::lend::row_of;
-use comet::Verdict;
+use numbers::verdict::Verdict;
 ghost use mathlib.Core.Path.{_≡_};
-ghost use Rattle.table.specs.Format.{rowSizeOf};
-ghost use Rattle.table.specs.Inside.{EntryIn};
+ghost use Rattle.format.specs.Format.{rowSizeOf};
+ghost use Rattle.format.specs.Inside.{EntryIn};
 ghost use Rattle.shift.specs.Answers.{foundAnswer, openedAnswer};
 ghost use Rattle.shift.specs.Opening.{JobOpened, rowOpening};
 

@@ -5,8 +5,8 @@ use mathlib.Core.Path.{subst}
 use mathlib.Core.Bool.{Bool, true, false, cond}
 use mathlib.Core.List.{List}
 use lib.Dec.{eqb}
-use Rattle.table.specs.declared.answers.Answer.{Answer}
-use Rattle.table.specs.Answers.{answer}
+use Rattle.numbers.specs.declared.checked.Answer.{Answer}
+use Rattle.numbers.specs.Answers.{answer}
 use Rattle.shift.specs.Opening.{left, jobOpening}
 use Rattle.amend.specs.declared.Amended.{Amended}
 use Rattle.amend.specs.Amending.{amendedEntry, holder, amendedOpening}

@@ -5,8 +5,8 @@ use mathlib.Core.Bool.{Bool, true, false, cond}
 use mathlib.Core.List.{List}
 use lib.Dec.{lit≤}
 use borrow.Author.Tests.{eqb-true, not-false}
-use Rattle.table.specs.Format.{firstEdition, newest}
-use Rattle.table.specs.Answers.{answer}
+use Rattle.format.specs.Format.{firstEdition, newest}
+use Rattle.numbers.specs.Answers.{answer}
 use Rattle.table.specs.Check.{checkFile, refused}
 use Rattle.compare.specs.declared.Finding.{Finding}
 use Rattle.compare.specs.Comparing.{refusedIn, Comparison, stopped, tooLong, listed, comparison}

@@ -8,7 +8,7 @@ use Rattle.words.proofs.Blocks.{wide-told}
 use Rattle.comet.specs.Answers.{Sealed, Opened}
 use Rattle.comet.specs.Counted.{Counting}
 use Rattle.session.specs.Value.{Value, Given}
-use Rattle.table.specs.declared.answers.Answer.{Answer}
+use Rattle.numbers.specs.declared.checked.Answer.{Answer}
 use Rattle.shift.specs.declared.answers.Entry.{Entry}
 use Rattle.shift.specs.Opening.{JobOpened}
 use Rattle.snoekeldraf.specs.Located.{Located}

@@ -6,8 +6,8 @@ use mathlib.Core.List.{List}
 use lib.ListN.{length}
 use lib.Dec.{ltb, eqb, lit≤}
 use borrow.Author.Tests.{eqb-true, not-false}
-use Rattle.table.specs.Format.{countOf, firstEdition, newest}
-use Rattle.table.specs.Answers.{answer}
+use Rattle.format.specs.Format.{countOf, firstEdition, newest}
+use Rattle.numbers.specs.Answers.{answer}
 use Rattle.table.specs.Check.{checkFile}
 use Rattle.table.proofs.Passed.{passes}
 use Rattle.reader.specs.declared.answers.Said.{Said}

@@ -1,17 +1,17 @@
 -- A shift file has at most 512 rows, so the row of every answer is at most 512 and fits C's number.
 use Prim.Native.Nat.{ℕ, _-_, _≤_}
 use native.Mathlib.Omega.{arith}
-use mathlib.Core.Path.{_≡_, refl, ap, ap₂}
+use mathlib.Core.Path.{_≡_, refl, ap}
 use mathlib.Core.Bool.{Bool, true, false, not, cond}
 use mathlib.Core.List.{List}
 use mathlib.Core.Logic.{⊎-elim}
 use lib.ListN.{length}
 use lib.Dec.{eqb, ltb}
 use borrow.Author.Tests.{eqb-true}
-use Rattle.table.specs.declared.answers.Answer.{Answer}
+use Rattle.numbers.specs.declared.checked.Answer.{Answer}
 use Rattle.table.specs.Search.{firstOf}
-use Rattle.table.specs.Format.{countOf, firstEdition, newest, rowSizeOf, rowOf, stationOf}
-use Rattle.table.specs.Answers.{answer}
+use Rattle.format.specs.Format.{countOf, firstEdition, newest, rowSizeOf, rowOf, stationOf}
+use Rattle.numbers.specs.Answers.{answer}
 use Rattle.table.specs.Check.{bodyStart, endAnswer, rowsFrom, headNumber, andThen, checkBetween, checkAs, checkFile}
 use Rattle.table.proofs.Searches.{first-says}
 use Rattle.table.proofs.Sound.{headed}

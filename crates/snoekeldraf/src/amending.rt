@@ -1,7 +1,7 @@
 // Amendments.
 use crate::file::say;
 ghost use mathlib.Core.Path.{_≡_};
-ghost use Rattle.table.specs.Answers.{answer};
+ghost use Rattle.numbers.specs.Answers.{answer};
 ghost use Rattle.amend.specs.Amending.{AmendedOpening, amendedOpening};
 ghost use Rattle.snoekeldraf.specs.Amended.{Placed, placing};
 

@@ -1,7 +1,7 @@
 // The writer of shift files.
 use crate::file::say;
 ghost use mathlib.Core.Path.{_≡_};
-ghost use Rattle.table.specs.Answers.{answer};
+ghost use Rattle.numbers.specs.Answers.{answer};
 ghost use Rattle.draft.specs.Answers.{FileWritten, fileSealing, fileUnsealing};
 
 // Seals a draft into out: the checks with 0 for the edition, 33, 10, 2, 6.

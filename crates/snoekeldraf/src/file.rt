@@ -1,8 +1,8 @@
 // The shift file.
-use table::answers::Answer;
+use numbers::checked::Answer;
 ghost use mathlib.Core.Path.{_≡_};
 ghost use Prim.Native.Nat.{_≤_};
-ghost use Rattle.table.specs.Answers.{answer};
+ghost use Rattle.numbers.specs.Answers.{answer};
 ghost use Rattle.table.specs.Check.{checkFile};
 ghost use Rattle.shift.specs.declared.answers.Entry.{Entry};
 ghost use Rattle.shift.specs.Lookup.{lookupJob};

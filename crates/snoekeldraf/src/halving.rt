@@ -2,7 +2,7 @@
 use crate::file::say;
 ghost use mathlib.Core.Path.{_≡_};
 ghost use lib.ListN.{length};
-ghost use Rattle.table.specs.Answers.{answer};
+ghost use Rattle.numbers.specs.Answers.{answer};
 ghost use Rattle.search.specs.Halving.{searching};
 
 // Numbers 20 to 24, and then the row that halving finds, or 32; and how many rows were looked at.

@@ -1,7 +1,7 @@
 // The length of a moved file, and the moves between editions 1 and 2.
 use crate::file::say;
 ghost use mathlib.Core.Path.{_≡_};
-ghost use Rattle.table.specs.Answers.{answer};
+ghost use Rattle.numbers.specs.Answers.{answer};
 ghost use Rattle.editions.specs.Answers.{movedLength, FileMoved, toEdition2, toEdition1};
 
 // How long the file is once it is moved; 0 where one of 20 to 24 applies.

@@ -5,7 +5,7 @@ use words::block::Block;
 ghost use mathlib.Core.Path.{_≡_};
 ghost use mathlib.Core.List.{[]};
 ghost use Rattle.session.specs.Value.{starting, dataPart, textPart, ending};
-ghost use Rattle.session.specs.Structs.{asValue, gives};
+ghost use Rattle.session.specs.Structs.{asValue};
 ghost use Rattle.snoekeldraf.specs.Flat.{flat, flatGives};
 
 // The C struct comet_session.

@@ -1,7 +1,7 @@
 // The reseal pass.
 use crate::file::say;
 ghost use mathlib.Core.Path.{_≡_};
-ghost use Rattle.table.specs.Answers.{answer};
+ghost use Rattle.numbers.specs.Answers.{answer};
 ghost use Rattle.draft.specs.Answers.{FileWritten};
 ghost use Rattle.reseal.specs.Answers.{fileResealing};
 

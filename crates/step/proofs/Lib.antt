@@ -1,4 +1,3 @@
 pub mod Words
-pub mod Halves
 pub mod Turns
 pub mod Outcomes

@@ -1,4 +1,4 @@
--- The mode's work on bytes, done on two numbers of 64 bits: mark, shuffle, padding and mask.
+-- The mode's work on bytes, done on two numbers of 64 bits: shuffle, padding and mask.
 use mathlib.Core.Path.{_≡_, refl, sym, ap, ap₂, _∙_}
 use Prim.Native.Nat.{ℕ, suc, _+_, _-_, _*_, _/_, _%_, _^_, _≤_, _<_}
 use native.Mathlib.Nat.{le-of-eq, mod-lt, mod-eq-of-lt, mul-one, pow-le-pow-right}
@@ -6,28 +6,15 @@ use native.Mathlib.Omega.{arith}
 use mathlib.Core.List.{List, [], _∷_, _++_, append-assoc}
 use lib.ListN.{length, take, drop, replicate, length-append, length-drop, take-append-drop, replicate-append-replicate}
 use lib.Seq.{take-at, take-all, take-append-le, take-append-add, drop-append-add, drop-at, length-take-le}
-use Rattle.words.specs.Words.{xor, rotr}
+use Rattle.words.specs.Words.{rotr}
 use Rattle.words.specs.Bytes.{value, bytes, word}
 use Rattle.words.specs.Xors.{xors}
 use Rattle.words.proofs.Xor.{zero-r}
 use Rattle.words.proofs.Lists.{part-take, take-replicate, drop-replicate}
 use Rattle.words.proofs.Bytes.{length-bytes, value-low, bytes-join, bytes-mod, bytes-split, bytes-zeros, reach}
-use Rattle.words.proofs.Xors.{bytes-xor, take-xors, xors-take, xors-append}
+use Rattle.words.proofs.Xors.{take-xors, xors-take, xors-append}
 use Rattle.mode.specs.Words.{Four, four, fourOf, bytesOf, shuffleWords, shuffle, pad}
-use Rattle.mode.specs.Keys.{marked}
 use Rattle.mode.proofs.Words.{pad-short, pad-full}
-
--- the mark in the top byte of the high half
-pub mark-high : (a b m : ℕ) → m < 256 → bytes 8 a ++ bytes 8 (xor b (m * 0x100_0000_0000_0000)) ≡ marked m (bytes 8 a ++ bytes 8 b)
-unfolding marked bytes
-mark-high a b m h =
-    let e : m * 0x100_0000_0000_0000 ≡ 0 + 256 ^ 7 * m = omega arith in
-    let r : m % 256 ≡ m = omega arith in
-    ap (λ (l : List ℕ). bytes 8 a ++ l)
-    (bytes-xor 8 b (m * 0x100_0000_0000_0000)
-    ∙ ap (λ (v : ℕ). xors (bytes 8 b) (bytes 8 v)) e
-    ∙ ap (xors (bytes 8 b)) (bytes-join 7 1 0 m (omega arith))
-    ∙ simp (zero-r, r))
 
 -- ---- the shuffle, over the number w of bytes in a word
 

@@ -76,7 +76,7 @@ pub fn absorb_short(
 {
     let n = cipher::size_of(suite);
     let t = crate::state::turn(lent, suite, state, mark, n);
-    let p = words::block::filled(block);
+    let p = runs::filled(block);
     if opening {
         let x = t.y;
         let h = crate::shuffle::shuffled(suite, x, n);
@@ -103,10 +103,10 @@ pub fn crypt_short(
     let n = cipher::size_of(suite);
     let t = crate::state::turn(lent, suite, state, mark, n);
     let x = t.y;
-    let p = words::block::filled(block);
+    let p = runs::filled(block);
     let h = crate::shuffle::shuffled(suite, x, n);
     let c = words::block::xor(p, h);
-    words::block::put(c, block);
+    runs::put(c, block);
     if opening {
         return crate::state::mix(t, crate::pad::padded(c, k));
     }

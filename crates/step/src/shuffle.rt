@@ -1,6 +1,6 @@
 // The shuffle of a block, on its words.
-use words::arx::rotl16;
-use words::arx::rotl32;
+use arx::rotl16;
+use arx::rotl32;
 use words::block::Block;
 ghost use mathlib.Core.Path.{_≡_};
 ghost use lib.ListN.{take};

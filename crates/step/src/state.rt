@@ -64,7 +64,7 @@ pub(crate) fn turn(lent: &[Lent], suite: u8, s: State, m: u8, n: usize) -> State
 {
     let y = s.y;
     let z0 = s.z;
-    let b = crate::key::block_key(suite, z0, m);
+    let b = keys::block_key(suite, z0, m);
     let k = b.key;
     let z = b.z;
     let x = image(lent, suite, n, k, y);

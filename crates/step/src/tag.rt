@@ -26,7 +26,7 @@ pub fn tag_of(lent: &[Lent], suite: u8, state: State) -> Last
 {
     let y = state.y;
     let z = state.z;
-    let k = crate::key::next_key(suite, z, 0x80);
+    let k = keys::next_key(suite, z, 0x80);
     let n = cipher::size_of(suite);
     let t = crate::state::image(lent, suite, n, k, y);
     Last {

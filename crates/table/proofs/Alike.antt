@@ -10,12 +10,12 @@ use lib.Seq.{ext-getD, getD-take, getD-drop}
 use Rattle.words.specs.Bytes.{value, part, word, sameBytes}
 use Rattle.words.specs.Blocks.{filled}
 use Rattle.cipher.specs.Cipher.{nonceOf}
-use Rattle.table.specs.declared.row.Row.{Row}
+use Rattle.format.specs.declared.row.Row.{Row}
 use Rattle.table.specs.Search.{anyBelow}
-use Rattle.table.specs.Part.{stretch}
-use Rattle.table.specs.Format.{editionOf, countOf, totalOf, rowSizeOf, rowStart, restStart, rowAt, nonceStart, nonceAt, nonceReadAt, bodyEnd}
+use Rattle.format.specs.Part.{stretch}
+use Rattle.format.specs.Format.{editionOf, countOf, totalOf, rowSizeOf, rowStart, restStart, rowAt, nonceStart, nonceAt, nonceReadAt, bodyEnd}
 use Rattle.table.specs.Check.{outside, notAbove, badSuite, badLength, bodyStart, misplaced, unreadSet, clash, nonceSeen, badData, bodyNumber, rowNumber, headNumber}
-use Rattle.table.proofs.Rows.{row-below, row-late}
+use Rattle.format.proofs.Rows.{row-below, row-late}
 
 pub any-same : (p q : ℕ → Bool) (n : ℕ) → ((k : ℕ) → k < n → p k ≡ q k) → anyBelow p n ≡ anyBelow q n
 unfolding anyBelow

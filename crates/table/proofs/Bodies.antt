@@ -3,13 +3,12 @@ use Prim.Native.Nat.{ℕ, zero, suc, _+_, _-_, _≤_, _<_}
 use native.Mathlib.Nat.{le-of-suc-le-suc, eq-or-lt-of-le, not-suc-le-zero}
 use native.Mathlib.Omega.{arith}
 use mathlib.Core.Path.{_≡_, refl, sym, ap, _∙_}
-use mathlib.Core.List.{List, [], _++_}
+use mathlib.Core.List.{List, _++_}
 use mathlib.Core.Logic.{⊎-elim}
 use lib.ListN.{length, take, drop, take-append-drop, drop-of-length-le}
 use lib.Seq.{drop-drop}
 use lib.Dec.{eqb·suc-zero}
-use Rattle.table.specs.Part.{stretch}
-use Rattle.table.specs.Format.{countOf, firstEdition, newest, rowSizeOf, rowStart, rowAt, rowOf, bodyEnd}
+use Rattle.format.specs.Format.{countOf, firstEdition, newest, rowSizeOf, rowStart, rowAt, bodyEnd}
 use Rattle.table.specs.Check.{bodyStart}
 use Rattle.table.specs.Laid.{bodyAt, bodies, BodiesLaid}
 use Rattle.table.proofs.Passed.{Walked, passes}

@@ -9,13 +9,13 @@ use mathlib.Core.Logic.{_⊎_, inl, inr}
 use lib.ListN.{length, getD}
 use lib.Dec.{eqb}
 use borrow.Author.Tests.{eq-eqb, le-ltb}
-use Rattle.table.specs.declared.answers.Answer.{Answer}
+use Rattle.numbers.specs.declared.checked.Answer.{Answer}
 use Rattle.table.specs.Search.{firstOf}
-use Rattle.table.specs.Format.{editionOf, countOf, firstEdition, newest, rowSize, rowSizeOf, rowStart, rowAt, bodyEnd}
-use Rattle.table.specs.Answers.{answer}
+use Rattle.format.specs.Format.{editionOf, countOf, firstEdition, newest, rowSize, rowSizeOf, rowStart, rowAt, bodyEnd}
+use Rattle.numbers.specs.Answers.{answer}
 use Rattle.table.specs.Check.{outside, badData, rowNumber, endAnswer, rowsFrom, headNumber, checkBetween, checkAs, checkFile}
 use Rattle.table.proofs.Searches.{first-same, first-only}
-use Rattle.table.proofs.Rows.{row-broad, row-late}
+use Rattle.format.proofs.Rows.{row-broad, row-late}
 use Rattle.table.proofs.Passed.{Walked, Passes, passes, own-edition}
 use Rattle.table.proofs.Bodies.{apart, after-table}
 use Rattle.table.proofs.Alike.{Agree, AgreeTable, word-same, start-same, row-number-last, count-same, head-same}

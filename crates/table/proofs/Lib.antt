@@ -1,7 +1,4 @@
 pub mod Searches
-pub mod Numbers
-pub mod Rows
-pub mod Parts
 pub mod Sound
 pub mod Passed
 pub mod Nonces

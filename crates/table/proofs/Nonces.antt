@@ -5,35 +5,25 @@ use native.Mathlib.Decide.{decLt}
 use native.Mathlib.Omega.{arith}
 use mathlib.Core.Path.{_≡_, refl, sym, ap, ap₂, _∙_, subst}
 use mathlib.Core.Bool.{Bool, true, false, _&&_, true≢false, and-true, and-false}
-use mathlib.Core.List.{List, _++_}
-use lib.ListN.{length, take, drop, replicate, length-take}
-use lib.Seq.{take-append-seam, take-take}
+use mathlib.Core.List.{List}
+use lib.ListN.{length, take, replicate}
+use lib.Seq.{take-append-seam}
 use lib.Dec.{eqb}
 use borrow.Author.Tests.{eq-eqb, eqb-true, not-false}
 use Rattle.words.specs.Bytes.{sameBytes}
 use Rattle.words.proofs.Same.{same-refl, same-true}
 use Rattle.words.specs.Blocks.{filled}
 use Rattle.cipher.specs.Cipher.{nonceOf}
-use Rattle.cipher.proofs.Suites.{nonce-most}
-use Rattle.table.specs.declared.row.Row.{Row}
-use Rattle.table.specs.Part.{stretch}
-use Rattle.table.specs.Format.{rowAt, nonceStart, nonceAt, nonceReadAt}
+use Rattle.format.specs.declared.row.Row.{Row}
+use Rattle.format.specs.Format.{rowAt, nonceAt, nonceReadAt}
 use Rattle.table.specs.Check.{unreadSet, clash, nonceSeen}
-use Rattle.table.specs.Inside.{RowIn, Spared}
+use Rattle.format.specs.Inside.{RowIn}
+use Rattle.table.specs.Spared.{Spared}
 use Rattle.table.proofs.Searches.{any-hit}
-use Rattle.table.proofs.Rows.{nonce-length}
+use Rattle.format.proofs.Rows.{read-length}
 use Rattle.table.proofs.Passed.{Walked}
 
 -- ---- what is read
-
--- as many bytes as the suite's nonce has
-read-length : (w : ℕ) (f : List ℕ) (i s : ℕ) → RowIn w f i → length (take (nonceOf s) (nonceAt w f i)) ≡ nonceOf s
-read-length w f i s h = length-take (nonceOf s) (nonceAt w f i) ∙ omega (arith, nonce-length w f i h, nonce-most s)
-
--- the file's own bytes from the nonce's start on
-pub read-bytes : (w : ℕ) (f : List ℕ) (i s : ℕ) → stretch f (nonceStart w i) (nonceOf s) ≡ take (nonceOf s) (nonceAt w f i)
-unfolding nonceAt
-read-bytes w f i s = sym (take-take (nonceOf s) 16 (drop (nonceStart w i) f) (nonce-most s))
 
 -- filled up, bytes of one length are told apart as before
 filled-same : (s t : List ℕ) → length s ≡ length t → sameBytes (filled s) (filled t) ≡ sameBytes s t

@@ -9,9 +9,9 @@ use lib.ListN.{length}
 use lib.Dec.{eqb, ltb, lit≤}
 use borrow.Author.Tests.{eqb-false, not-true, ne-eqb}
 use Rattle.words.proofs.Ladder.{rung}
-use Rattle.table.specs.declared.answers.Answer.{Answer}
-use Rattle.table.specs.Format.{editionOf, countOf, totalOf, rowSizeOf, rowStart, rowAt}
-use Rattle.table.specs.Answers.{answer, Ranged}
+use Rattle.numbers.specs.declared.checked.Answer.{Answer}
+use Rattle.format.specs.Format.{editionOf, countOf, totalOf, rowSizeOf, rowStart, rowAt}
+use Rattle.numbers.specs.Answers.{answer, Ranged}
 use Rattle.table.specs.Check.{outside, notAbove, badSuite, badLength, misplaced, unreadSet, nonceSeen, badData, bodyStart, rowNumber, bodyNumber, headNumber, endAnswer, rowsFrom, checkBetween}
 use Rattle.table.proofs.Searches.{first-says}
 

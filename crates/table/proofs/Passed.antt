@@ -8,18 +8,18 @@ use mathlib.Core.Logic.{⊎-elim}
 use lib.ListN.{length}
 use lib.Dec.{eqb}
 use borrow.Author.Tests.{eqb-true, eqb-false, not-true, not-false, ne-eqb}
-use Rattle.table.specs.declared.answers.Answer.{Answer}
-use Rattle.table.specs.declared.answers.Fault.{Fault}
-use Rattle.table.specs.declared.answers.Refusal.{Refusal}
-use Rattle.table.specs.declared.answers.Checked.{Checked}
-use Rattle.table.specs.declared.answers.Checked.the-variants.{Passed, Refused}
-use Rattle.table.specs.Format.{editionOf, countOf, rowSizeOf}
-use Rattle.table.specs.Answers.{answer, faultNumber, refusalAnswer, checkedAnswer}
-use Rattle.table.specs.Inside.{EntryIn}
+use Rattle.numbers.specs.declared.checked.Answer.{Answer}
+use Rattle.numbers.specs.declared.checked.Fault.{Fault}
+use Rattle.numbers.specs.declared.checked.Refusal.{Refusal}
+use Rattle.numbers.specs.declared.checked.Checked.{Checked}
+use Rattle.numbers.specs.declared.checked.Checked.the-variants.{Passed, Refused}
+use Rattle.format.specs.Format.{editionOf, countOf, rowSizeOf}
+use Rattle.numbers.specs.Answers.{answer, faultNumber, refusalAnswer, checkedAnswer}
+use Rattle.format.specs.Inside.{EntryIn}
 use Rattle.table.specs.Check.{bodyStart, rowNumber, endAnswer, rowsFrom, headNumber, andThen, checkBetween}
 use Rattle.table.proofs.Searches.{first-hit, first-skip, first-end, first-says}
-use Rattle.table.proofs.Numbers.{fault-some, refusal-some}
-use Rattle.table.proofs.Rows.{row-in}
+use Rattle.numbers.proofs.Numbers.{fault-some, refusal-some}
+use Rattle.format.proofs.Rows.{row-in}
 use Rattle.table.proofs.Sound.{Headed, headed, Sound, sound}
 
 abbrev numberOf : Answer → ℕ

@@ -8,7 +8,7 @@ use mathlib.Core.List.{List}
 use mathlib.Core.Logic.{⊎-elim}
 use lib.Dec.{eqb·suc-zero}
 use borrow.Author.Tests.{leb-false}
-use Rattle.table.specs.Format.{rowAt}
+use Rattle.format.specs.Format.{rowAt}
 use Rattle.table.specs.Check.{notAbove}
 use Rattle.table.proofs.Passed.{Walked}
 

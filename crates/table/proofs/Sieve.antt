@@ -20,9 +20,9 @@ use Rattle.words.proofs.Bytes.{value-bytes}
 use Rattle.words.proofs.Blocks.{first-eight, last-eight}
 use Rattle.words.proofs.Tests.{both-true}
 use Rattle.words.proofs.Same.{same-true}
-use Rattle.table.specs.Format.{rowAt, nonceAt, nonceReadAt}
+use Rattle.format.specs.Format.{rowAt, nonceAt, nonceReadAt}
 use Rattle.table.specs.Check.{unreadSet, clash, nonceSeen}
-use Rattle.table.specs.Inside.{Spared}
+use Rattle.table.specs.Spared.{Spared}
 use Rattle.table.specs.Marks.{folded, mixed, markOf, wordOf, bitsOf, has, with, Sieved}
 use Rattle.table.proofs.Searches.{any-none}
 use Rattle.table.proofs.Nonces.{spare-nonce}

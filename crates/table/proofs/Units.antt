@@ -10,8 +10,8 @@ use lib.Seq.{getD-set-same, getD-set-other}
 use lib.Dec.{eqb}
 use borrow.Author.Tests.{not-false}
 use Rattle.words.proofs.Tests.{both-false}
-use Rattle.table.specs.Format.{countOf, rowSizeOf, rowAt, bodyEnd, dataJob, unitOf, isUnit}
-use Rattle.table.specs.Answers.{answer}
+use Rattle.format.specs.Format.{countOf, rowSizeOf, rowAt, bodyEnd, dataJob, unitOf, isUnit}
+use Rattle.numbers.specs.Answers.{answer}
 use Rattle.table.specs.Check.{badData, checkBetween}
 use Rattle.table.proofs.Passed.{Passes}
 use Rattle.table.proofs.Alike.{word-same}

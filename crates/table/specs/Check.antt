@@ -7,11 +7,11 @@ use lib.Dec.{ltb, leb, eqb}
 use Rattle.words.specs.Bytes.{sameBytes}
 use Rattle.words.specs.Blocks.{filled}
 use Rattle.cipher.specs.Cipher.{isSuite, limit}
-use Rattle.table.specs.declared.row.Row.{Row}
-use Rattle.table.specs.declared.answers.Answer.{Answer}
+use Rattle.format.specs.declared.row.Row.{Row}
+use Rattle.numbers.specs.declared.checked.Answer.{Answer}
 use Rattle.table.specs.Search.{anyBelow, firstOf}
-use Rattle.table.specs.Format.{editionOf, countOf, totalOf, firstEdition, newest, rowSizeOf, rowStart, rowAt, nonceAt, nonceReadAt, bodyEnd, dataJob, unitOf, isUnit}
-use Rattle.table.specs.Answers.{answer}
+use Rattle.format.specs.Format.{editionOf, countOf, totalOf, firstEdition, newest, rowSizeOf, rowStart, rowAt, nonceAt, nonceReadAt, bodyEnd, dataJob, unitOf, isUnit}
+use Rattle.numbers.specs.Answers.{answer}
 
 -- 25: job number not above the row before (row 0: any)
 unfoldable pub notAbove : ℕ → List ℕ → ℕ → Bool

@@ -3,8 +3,8 @@ use Prim.Native.Nat.{ℕ, zero, suc, _-_, _≤_, _<_}
 use mathlib.Core.Path.{_≡_}
 use mathlib.Core.List.{List, [], _++_}
 use lib.ListN.{length, take}
-use Rattle.table.specs.Part.{stretch}
-use Rattle.table.specs.Format.{countOf, rowSizeOf, rowStart, rowAt, rowOf, bodyEnd}
+use Rattle.format.specs.Part.{stretch}
+use Rattle.format.specs.Format.{countOf, rowSizeOf, rowStart, rowAt, rowOf, bodyEnd}
 use Rattle.table.specs.Check.{checkFile}
 
 -- the bytes of row i's body

@@ -1,8 +1,5 @@
 pub mod Search
-pub mod Part
-pub mod Format
-pub mod Answers
 pub mod Check
-pub mod Inside
+pub mod Spared
 pub mod Marks
 pub mod Laid

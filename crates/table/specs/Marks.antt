@@ -7,7 +7,7 @@ use lib.Bits.{bitOr, bitXor}
 use lib.Dec.{eqb}
 use lib.ListN.{getD, set, take, drop}
 use Rattle.words.specs.Bytes.{value}
-use Rattle.table.specs.Format.{rowAt, nonceAt}
+use Rattle.format.specs.Format.{rowAt, nonceAt}
 use Rattle.table.specs.Check.{unreadSet, nonceSeen}
 
 -- a nonce's two words as one

@@ -1,31 +1,28 @@
 // The table of contents of the plant's shift file: its rows, and the full check.
-pub mod answers;
-pub mod body;
 mod marks;
-pub mod row;
 pub mod rules;
 
-use answers::Checked;
-use answers::Refusal;
-use answers::RowCheck;
+use format::row::FIRST_EDITION;
+use format::row::NEWEST;
+use format::row::count;
+use format::row::get16;
+use format::row::get32;
+use format::row::row_size;
+use format::row::row_size_of;
+use format::row::row_start;
 use marks::has;
 use marks::mark;
 use marks::put;
-use row::FIRST_EDITION;
-use row::NEWEST;
-use row::count;
-use row::get16;
-use row::get32;
-use row::row_size;
-use row::row_size_of;
-use row::row_start;
+use numbers::checked::Checked;
+use numbers::checked::Refusal;
+use numbers::checked::RowCheck;
 use rules::body_start;
 use rules::check_row;
 use rules::outside;
 ghost use mathlib.Core.Path.{_≡_};
-ghost use Rattle.table.specs.Answers.{answer, checkedAnswer};
+ghost use Rattle.numbers.specs.Answers.{answer, checkedAnswer};
 ghost use Rattle.table.specs.Check.{headNumber, rowsFrom, checkBetween, checkAs, checkFile};
-ghost use Rattle.table.specs.Inside.{TableIn};
+ghost use Rattle.format.specs.Inside.{TableIn};
 
 // 20 to 24; the editions from low to high are taken.
 pub fn check_head(low: u16, high: u16, file: &[u8]) -> Checked

@@ -1,9 +1,9 @@
 // The filter before 29: each row leaves two bits of one of 128 words, its mark; a row whose bits are not both there clashes with none before it.
-use crate::row::nonce_block;
-use crate::row::row_at;
+use format::row::nonce_block;
+use format::row::row_at;
 ghost use mathlib.Core.Path.{_≡_};
 ghost use Prim.Native.Nat.{_<_};
-ghost use Rattle.table.specs.Inside.{RowIn};
+ghost use Rattle.format.specs.Inside.{RowIn};
 ghost use Rattle.table.specs.Marks.{folded, mixed, markOf, wordOf, bitsOf, has, with};
 
 // A nonce's two words as one: the second is turned, so that counters in both do not meet.

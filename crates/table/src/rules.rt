@@ -1,23 +1,24 @@
 // The rules of one row: numbers 25 to 30, and 34.
-use crate::answers::Fault;
-use crate::answers::RowCheck;
-use crate::row::Row;
-use crate::row::body_end;
-use crate::row::get32;
-use crate::row::nonce_block;
-use crate::row::read_block;
-use crate::row::row_at;
-use crate::row::row_start;
 use cipher::LIMIT;
+use format::row::Row;
+use format::row::body_end;
+use format::row::get32;
+use format::row::nonce_block;
+use format::row::read_block;
+use format::row::row_at;
+use format::row::row_start;
+use numbers::checked::Fault;
+use numbers::checked::RowCheck;
 ghost use mathlib.Core.Path.{_≡_};
 ghost use mathlib.Core.Bool.{false, _&&_};
 ghost use lib.Dec.{eqb};
 ghost use Prim.Native.Nat.{_+_, _≤_, _<_};
 ghost use lib.ListN.{length};
-ghost use Rattle.table.specs.Format.{rowAt};
-ghost use Rattle.table.specs.Answers.{rowNumberOf};
+ghost use Rattle.format.specs.Format.{rowAt};
+ghost use Rattle.numbers.specs.Answers.{rowNumberOf};
 ghost use Rattle.table.specs.Check.{notAbove, outside, badSuite, badLength, bodyStart, misplaced, unreadSet, clash, nonceSeen, badData, bodyNumber, rowNumber};
-ghost use Rattle.table.specs.Inside.{RowIn, TableIn, Spared};
+ghost use Rattle.format.specs.Inside.{RowIn, TableIn};
+ghost use Rattle.table.specs.Spared.{Spared};
 ghost use Rattle.table.specs.Marks.{Sieved};
 
 // 25: the job number is not above the row before's.

@@ -28,13 +28,13 @@ fn answer(suite: u8, key: [u8; 16]) {
         print_line(&columns::encrypt(key, block));
     }
     if suite == 2 {
-        print_line(&cham::c128::encrypt(key, read16()));
+        print_line(&cham128::encrypt(key, read16()));
     }
     if suite == 3 {
         print_line(&speck::encrypt(key, read8()));
     }
     if suite == 4 {
-        print_line(&cham::c64::encrypt(key, read8()));
+        print_line(&cham64::encrypt(key, read8()));
     }
 }
 

@@ -10,7 +10,7 @@ use lines::text::and_shown;
 use lines::text::answer;
 use lines::text::end;
 use lines::text::space;
-use table::answers::Answer;
+use numbers::checked::Answer;
 ghost use Prim.Native.Nat.{_≤_, _<_};
 ghost use lib.ListN.{length};
 

@@ -7,7 +7,7 @@ use lines::call::Call;
 use lines::text::and_shown;
 use lines::text::answer;
 use lines::text::end;
-use table::answers::Answer;
+use numbers::checked::Answer;
 
 fn said(a: Answer, out: &[u8], line: &mut [u8]) -> usize {
     let at = answer(line, 0, a.number, a.row);

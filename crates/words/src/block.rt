@@ -2,7 +2,6 @@
 ghost use mathlib.Core.Path.{_≡_};
 ghost use mathlib.Core.List.{[], _∷_, _++_};
 ghost use mathlib.Core.Logic.{_⊎_};
-ghost use Prim.Native.Nat.{_≤_};
 ghost use lib.ListN.{length, take};
 ghost use Rattle.words.specs.Bytes.{value, bytes, sameBytes};
 ghost use Rattle.words.specs.Xors.{xors};
@@ -176,63 +175,4 @@ pub fn fifteen(front: &[u8]) -> Block
     let lo = load8(&front[0..8]);
     let hi = load8(&front[7..15]);
     Block { a: lo, b: hi >> 8 }
-}
-
-// At most sixteen bytes, and zeros behind them, one by one.
-pub fn filled_bytes(front: &[u8]) -> [u8; 16]
-    requires { ⌜ length (now front) ≤ 16 ⌝ }
-    ensures { λ r. ⌜ r ≡ filled (now (front .entry)) ⌝ }
-{
-    let mut r = [0u8; 16];
-    let mut i: usize = 0;
-    while i < front.len() {
-        r[i] = front[i];
-        i += 1;
-    }
-    r
-}
-
-// At most sixteen bytes, and zeros behind them.
-pub fn filled(front: &[u8]) -> Block
-    requires { ⌜ length (now front) ≤ 16 ⌝ }
-    ensures { λ r. ⌜ wide r ≡ filled (now (front .entry)) ⌝ }
-{
-    if front.len() == 16 {
-        return whole(front);
-    }
-    if front.len() == 8 {
-        return whole(front);
-    }
-    if front.len() == 15 {
-        return fifteen(front);
-    }
-    block_of(filled_bytes(front))
-}
-
-// Writes the first bytes of sixteen, one by one.
-fn put_bytes(sixteen: [u8; 16], out: &mut [u8])
-    requires { ⌜ length (now out) ≤ 16 ⌝ }
-    ensures { λ _. ⌜ now (out .exit) ≡ take (length (now (out .entry))) sixteen ⌝ }
-{
-    let mut i: usize = 0;
-    while i < out.len() {
-        out[i] = sixteen[i];
-        i += 1;
-    }
-}
-
-// Writes the first bytes of a block.
-pub fn put(block: Block, out: &mut [u8])
-    requires { ⌜ length (now out) ≤ 16 ⌝ }
-    ensures { λ _. ⌜ now (out .exit) ≡ take (length (now (out .entry))) (wide block) ⌝ }
-{
-    if out.len() == 16 {
-        put_whole(block, out);
-        return;
-    }
-    if out.len() == 8 {
-        put_whole(block, out);
-        return;
-    }
-    put_bytes(bytes_of(block), out);
 }

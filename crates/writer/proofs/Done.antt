@@ -6,10 +6,10 @@ use mathlib.Core.List.{List, [], _∷_}
 use lib.ListN.{length}
 use types.Run.{OneOf, miss}
 use denote.Enum.Declared.{tagOf}
-use Rattle.table.specs.declared.answers.Answer.{Answer}
-use Rattle.table.specs.Format.{countOf}
+use Rattle.numbers.specs.declared.checked.Answer.{Answer}
+use Rattle.format.specs.Format.{countOf}
 use Rattle.table.specs.Check.{checkAs}
-use Rattle.table.proofs.Numbers.{refusal-some}
+use Rattle.numbers.proofs.Numbers.{refusal-some}
 use Rattle.table.proofs.Passed.{passes}
 use Rattle.draft.specs.Answers.{sealAnswer, openAnswer}
 use Rattle.draft.proofs.Pieces.{entry-at}

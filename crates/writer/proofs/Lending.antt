@@ -9,10 +9,10 @@ use lib.Seq.{take-at, take-take, drop-at, drop-drop, drop-length, length-take-le
 use borrow.Rule.Slice.PartMut.{putMid, post-is, take-put, drop-put}
 use Rattle.cipher.specs.Cipher.{Seals, sizeOf, limit}
 use Rattle.comet.specs.Answers.{Sealed, Opened, openedAs}
-use Rattle.table.specs.declared.row.Row.{Row}
-use Rattle.table.specs.Part.{stretch}
-use Rattle.table.specs.Format.{rowSizeOf, rowOf, textOf, bodyEnd}
-use Rattle.table.specs.Inside.{EntryIn}
+use Rattle.format.specs.declared.row.Row.{Row}
+use Rattle.format.specs.Part.{stretch}
+use Rattle.format.specs.Format.{rowSizeOf, rowOf, textOf, bodyEnd}
+use Rattle.format.specs.Inside.{EntryIn}
 use Rattle.shift.specs.Opening.{entrySealingAs, entryOpening}
 use Rattle.draft.specs.Put.{put}
 use Rattle.draft.specs.Files.{pieceStart, textAs, tagAs, pieceAs, entryOut, entryTag, sealedPiece, draftPiece}

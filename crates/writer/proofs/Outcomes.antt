@@ -6,9 +6,9 @@ use mathlib.Core.List.{List}
 use lib.Dec.{eqb}
 use borrow.Author.Tests.{ne-eqb}
 use Rattle.words.specs.Outcome.{OneOutcome}
-use Rattle.table.specs.declared.answers.Answer.{Answer}
-use Rattle.table.proofs.Numbers.{refusal-some}
-use Rattle.table.proofs.Outcomes.{refusalOf, refusal-back, unlike, answer-one}
+use Rattle.numbers.specs.declared.checked.Answer.{Answer}
+use Rattle.numbers.proofs.Numbers.{refusal-some}
+use Rattle.numbers.proofs.Outcomes.{refusalOf, refusal-back, unlike, answer-one}
 use mathlib.Core.Logic.{inl, inr}
 use lib.Dec.{lit<}
 use Rattle.writer.specs.declared.answers.Written.{Written}

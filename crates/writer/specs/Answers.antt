@@ -1,6 +1,6 @@
 -- Number and row of each case of the writer's answer: 25 to 30, 34, 33, 10 and 8 carry their row, every other number 0.
-use Rattle.table.specs.declared.answers.Answer.{Answer}
-use Rattle.table.specs.Answers.{answer, refusalAnswer}
+use Rattle.numbers.specs.declared.checked.Answer.{Answer}
+use Rattle.numbers.specs.Answers.{answer, refusalAnswer}
 use Rattle.writer.specs.declared.answers.Written.{Written}
 use Rattle.writer.specs.declared.answers.Written.the-variants as written
 

@@ -4,9 +4,9 @@ use mathlib.Core.Path.{_≡_}
 use mathlib.Core.List.{List}
 use lib.ListN.{length}
 use Rattle.cipher.specs.Cipher.{Seals, sizeOf}
-use Rattle.table.specs.declared.row.Row.{Row}
-use Rattle.table.specs.Format.{rowSizeOf, rowOf}
-use Rattle.table.specs.Inside.{EntryIn}
+use Rattle.format.specs.declared.row.Row.{Row}
+use Rattle.format.specs.Format.{rowSizeOf, rowOf}
+use Rattle.format.specs.Inside.{EntryIn}
 
 -- every row below n is one that sealer and opener take
 pub record RowsIn (f : List ℕ) (n : ℕ) : Type 0 where

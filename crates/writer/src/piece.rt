@@ -1,7 +1,7 @@
 // Text and tag of a row are one piece: the text is sealed in its place, under a suite that the caller names.
+use format::row::Row;
+use runs::copy;
 use shift::lend::seal_as;
-use table::row::Row;
-use words::runs::copy;
 ghost use mathlib.Core.Path.{_≡_};
 ghost use lib.ListN.{take};
 ghost use Rattle.draft.specs.Files.{pieceAs};

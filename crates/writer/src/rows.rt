@@ -1,19 +1,19 @@
 // The rows, from the file into the output: text and tag of each are replaced.
 use crate::answers::Written;
 use crate::piece::seal_into;
-use comet::Verdict;
+use format::body::text_of;
+use format::body::text_start;
+use numbers::verdict::Verdict;
+use runs::copy;
+use runs::wipe;
 use shift::lend::open_row;
 use shift::lend::row_of;
-use table::body::text_of;
-use table::body::text_start;
-use words::runs::copy;
-use words::zeros::wipe;
 ghost use mathlib.Core.Path.{_≡_};
 ghost use mathlib.Core.Bool.{true};
 ghost use Prim.Native.Nat.{_≤_};
 ghost use lib.ListN.{length};
 ghost use Rattle.cipher.specs.Cipher.{Seals};
-ghost use Rattle.table.specs.Format.{rowOf};
+ghost use Rattle.format.specs.Format.{rowOf};
 ghost use Rattle.draft.specs.Put.{put, putAll};
 ghost use Rattle.draft.specs.Files.{inEdition, pieceStart, sealedPiece, draftPiece};
 ghost use Rattle.draft.specs.Answers.{tagRight, wrongFrom, leaves, FileWritten};

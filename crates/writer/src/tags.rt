@@ -1,12 +1,12 @@
 // 33: a draft's tags are zero.
 use crate::answers::Written;
+use format::body::tag_of;
+use runs::all_zero;
 use shift::lend::row_of;
-use table::body::tag_of;
-use words::runs::all_zero;
 ghost use mathlib.Core.Path.{_≡_};
 ghost use mathlib.Core.Bool.{not};
-ghost use Rattle.table.specs.Format.{rowSizeOf};
-ghost use Rattle.table.specs.Inside.{EntryIn};
+ghost use Rattle.format.specs.Format.{rowSizeOf};
+ghost use Rattle.format.specs.Inside.{EntryIn};
 ghost use Rattle.draft.specs.Answers.{tagSet, setFrom};
 ghost use Rattle.writer.specs.Answers.{writtenAnswer};
 ghost use Rattle.writer.specs.Inside.{RowsIn};

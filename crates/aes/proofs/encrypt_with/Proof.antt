@@ -1,7 +1,7 @@
 -- `aes::encrypt_with` meets its contract. The loop's invariant: k is round key i, s the state after i rounds, rc the round constant of the next turn.
 use borrow.Author.Needs.{needs}
 use mathlib.Core.Path.{_≡_, refl, sym, subst}
-use Prim.Native.Nat.{ℕ, _+_, _≤_, _<_, _-_}
+use Prim.Native.Nat.{ℕ, _≤_, _<_, _-_}
 use native.Mathlib.Omega.{arith}
 use lib.ListN.{length}
 use Rattle.fips197.specs.Cipher.{power}

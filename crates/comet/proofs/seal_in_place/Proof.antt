@@ -2,9 +2,11 @@
 use borrow.Author.Needs.{needs}
 use denote.Ref.{now}
 use mathlib.Core.Path.{sym, ap, _∙_}
-use Rattle.comet.specs.Answers.{numberOf, Sealed}
+use Rattle.numbers.specs.Verdicts.{numberOf}
+use Rattle.comet.specs.Answers.{Sealed}
 use Rattle.comet.specs.Counted.{Counting}
-use Rattle.comet.proofs.Refuse.{done-zero, other-some, sealing-kept}
+use Rattle.numbers.proofs.Refuse.{done-zero, other-some}
+use Rattle.comet.proofs.Left.{sealing-kept}
 use Rattle.comet.proofs.seal_in_place.Statement.{statement}
 use Rattle.comet.proofs.seal_in_place.Tie as tie
 

@@ -7,7 +7,8 @@ use native.Mathlib.Omega.{arith}
 use Prim.Native.Nat.{ℕ}
 use Rattle.words.specs.Blocks.{wide}
 use Rattle.cipher.proofs.Suites.{size-most}
-use Rattle.comet.proofs.Refuse.{Passed, passed, sealing-done}
+use Rattle.numbers.proofs.Refuse.{Passed, passed}
+use Rattle.comet.proofs.Left.{sealing-done}
 use Rattle.comet.proofs.Counts.{counting, calls-all}
 use borrow.Author.Needs.{needs}
 use Rattle.comet.proofs.seal_with.Statement.{statement}

@@ -6,9 +6,10 @@ use mathlib.Core.Bool.{true}
 use mathlib.Core.List.{List}
 use mathlib.Core.Path.{_≡_, sym, ap, _∙_, subst}
 use Prim.Native.Nat.{ℕ}
-use Rattle.comet.specs.Answers.{numberOf, refusal}
+use Rattle.numbers.specs.Verdicts.{numberOf, refusal}
 use Rattle.comet.specs.Counted.{openingCounted}
-use Rattle.comet.proofs.Refuse.{passed, done-zero, other-some, opening-kept}
+use Rattle.numbers.proofs.Refuse.{passed, done-zero, other-some}
+use Rattle.comet.proofs.Left.{opening-kept}
 use Rattle.comet.proofs.Counts.{counting, calls-none, opening-same}
 use Rattle.comet.proofs.unseal_counted.Statement.{statement}
 use Rattle.comet.proofs.unseal_counted.Tie as tie

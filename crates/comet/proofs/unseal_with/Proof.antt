@@ -13,7 +13,8 @@ use Rattle.cipher.proofs.Suites.{full-two}
 use Rattle.mode.specs.Mode.{textOut, tagOut}
 use Rattle.comet.specs.Answers.{Opened, openedAs, opening}
 use Rattle.comet.specs.Counted.{callsOf}
-use Rattle.comet.proofs.Refuse.{Passed, passed, opening-done}
+use Rattle.numbers.proofs.Refuse.{Passed, passed}
+use Rattle.comet.proofs.Left.{opening-done}
 use Rattle.comet.proofs.Counts.{counting, calls-all}
 use borrow.Author.Needs.{needs}
 use Rattle.comet.proofs.unseal_with.Statement.{statement}

@@ -5,8 +5,10 @@ use lib.ListN.{length}
 use mathlib.Core.Bool.{true}
 use mathlib.Core.Path.{_≡_, sym, ap, _∙_}
 use Rattle.cipher.proofs.Suites.{none-ready}
-use Rattle.comet.specs.Answers.{numberOf, refusal, Opened, verifying}
-use Rattle.comet.proofs.Refuse.{done-zero, other-some, opening-kept}
+use Rattle.numbers.specs.Verdicts.{numberOf, refusal}
+use Rattle.comet.specs.Answers.{Opened, verifying}
+use Rattle.numbers.proofs.Refuse.{done-zero, other-some}
+use Rattle.comet.proofs.Left.{opening-kept}
 use Rattle.comet.proofs.verify.Statement.{statement}
 use Rattle.comet.proofs.verify.Tie as tie
 

@@ -12,7 +12,8 @@ use Rattle.cipher.specs.Cipher.{cipherOf}
 use Rattle.cipher.proofs.Suites.{full-two}
 use Rattle.mode.specs.Mode.{textOut, tagOut}
 use Rattle.comet.specs.Answers.{Opened, openedAs, verifying}
-use Rattle.comet.proofs.Refuse.{Passed, passed, opening-done}
+use Rattle.numbers.proofs.Refuse.{Passed, passed}
+use Rattle.comet.proofs.Left.{opening-done}
 use Rattle.comet.proofs.verify_with.Statement.{statement}
 use Rattle.comet.proofs.verify_with.Tie as tie
 

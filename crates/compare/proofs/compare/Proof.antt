@@ -1,6 +1,6 @@
 -- A refused file stops the comparison, the first before the second; two files that pass are listed.
 use mathlib.Core.Path.{sym, ap, _∙_}
-use Rattle.table.specs.Answers.{checkedAnswer}
+use Rattle.numbers.specs.Answers.{checkedAnswer}
 use Rattle.table.proofs.Passed.{passed-zero}
 use Rattle.compare.proofs.Cases.{first-refused, second-refused}
 use borrow.Author.Needs.{needs}

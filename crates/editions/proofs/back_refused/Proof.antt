@@ -2,8 +2,8 @@
 use Prim.Native.Nat.{ℕ}
 use mathlib.Core.Path.{_≡_, sym, ap, _∙_}
 use denote.Ref.{now}
-use Rattle.table.specs.Answers.{answer}
-use Rattle.table.specs.Format.{countOf, newest}
+use Rattle.numbers.specs.Answers.{answer}
+use Rattle.format.specs.Format.{countOf, newest}
 use Rattle.table.proofs.Passed.{passed-zero, refused-stands}
 use Rattle.editions.specs.Answers.{movedAnswer, stationsFrom, lengthAnswer, backAnswer}
 use Rattle.editions.proofs.Done.{source, not-done, station-stands}

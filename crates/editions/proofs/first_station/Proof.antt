@@ -4,7 +4,7 @@ use mathlib.Core.Path.{_≡_, sym, _∙_}
 use native.Mathlib.Omega.{arith}
 use borrow.Author.Needs.{needs}
 use borrow.Author.Tests.{eq-eqb, ne-eqb}
-use Rattle.table.proofs.Rows.{row-in}
+use Rattle.format.proofs.Rows.{row-in}
 use Rattle.table.proofs.Searches.{first-hit, first-skip, first-end}
 use Rattle.editions.specs.Answers.{stationsFrom}
 use Rattle.editions.proofs.first_station.Statement.{statement}

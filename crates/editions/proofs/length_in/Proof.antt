@@ -3,8 +3,8 @@ use Prim.Native.Nat.{_<_}
 use mathlib.Core.Path.{_≡_, _∙_}
 use native.Mathlib.Omega.{arith}
 use denote.Ref.{now}
-use Rattle.table.specs.Format.{editionOf, countOf, rowSize, rowSizeOf, rowStart}
-use Rattle.table.proofs.Rows.{rows-small}
+use Rattle.format.specs.Format.{editionOf, countOf, rowSize, rowSizeOf, rowStart}
+use Rattle.format.proofs.Rows.{rows-small}
 use Rattle.editions.specs.Files.{carried}
 use Rattle.editions.proofs.Done.{table-small, length-is}
 use borrow.Author.Needs.{needs}

@@ -1,8 +1,8 @@
 -- A refused header has no length; else it is that in the other edition, which the row's size tells.
 use mathlib.Core.Path.{sym, ap, _∙_}
 use denote.Ref.{now}
-use Rattle.table.specs.Format.{firstEdition, newest}
-use Rattle.table.specs.Answers.{checkedAnswer}
+use Rattle.format.specs.Format.{firstEdition, newest}
+use Rattle.numbers.specs.Answers.{checkedAnswer}
 use Rattle.table.proofs.Passed.{passed-zero}
 use Rattle.editions.proofs.Done.{tabled, length-none, length-back, length-up}
 use borrow.Author.Needs.{needs}

@@ -4,7 +4,7 @@ use mathlib.Core.Path.{ap}
 use native.Mathlib.Omega.{arith}
 use lib.ListN.{length}
 use denote.Ref.{now}
-use Rattle.table.specs.Format.{rowStart}
+use Rattle.format.specs.Format.{rowStart}
 use Rattle.editions.specs.Files.{carried}
 use Rattle.editions.proofs.Fronts.{file-put}
 use borrow.Author.Needs.{needs}

@@ -2,7 +2,7 @@
 use mathlib.Core.Path.{sym, ap, _∙_}
 use Prim.Native.Nat.{ℕ}
 use denote.Ref.{now}
-use Rattle.table.specs.Format.{firstEdition}
+use Rattle.format.specs.Format.{firstEdition}
 use Rattle.table.proofs.Passed.{passed-zero, refused-stands}
 use Rattle.editions.specs.Answers.{lengthAnswer, upAnswer}
 use Rattle.editions.proofs.Done.{source}

@@ -1,9 +1,8 @@
 -- The refusals in their order, and then all entries.
-use native.Mathlib.Omega.{arith}
 use mathlib.Core.Path.{sym, ap, _∙_}
 use denote.Ref.{now}
-use Rattle.table.specs.Format.{firstEdition, newest}
-use Rattle.table.specs.Answers.{checkedAnswer}
+use Rattle.format.specs.Format.{firstEdition, newest}
+use Rattle.numbers.specs.Answers.{checkedAnswer}
 use Rattle.table.proofs.Passed.{passed-zero, passes}
 use Rattle.reader.proofs.Fronts.{too-long, file-refused, ring-wrong, jobs-short, numbers-short, all-listed}
 use borrow.Author.Needs.{needs}

@@ -2,8 +2,8 @@
 use borrow.Author.Needs.{needs}
 use denote.Ref.{now}
 use mathlib.Core.Path.{sym, ap, ap₂, _∙_}
-use Rattle.table.specs.declared.answers.Answer.{Answer}
-use Rattle.table.specs.Format.{firstEdition}
+use Rattle.numbers.specs.declared.checked.Answer.{Answer}
+use Rattle.format.specs.Format.{firstEdition}
 use Rattle.draft.specs.Put.{putAll}
 use Rattle.draft.specs.Files.{pieceStart}
 use Rattle.draft.specs.Answers.{leaves}

@@ -2,10 +2,9 @@
 use Prim.Native.Nat.{ℕ}
 use mathlib.Core.Path.{sym, ap, _∙_}
 use native.Mathlib.Omega.{arith}
-use borrow.Author.Needs.{needs}
 use denote.Ref.{now}
-use Rattle.table.specs.declared.row.Row.{Row}
-use Rattle.table.proofs.Rows.{row-in}
+use Rattle.format.specs.declared.row.Row.{Row}
+use Rattle.format.proofs.Rows.{row-in}
 use Rattle.search.specs.Halving.{jobsOf}
 use Rattle.search.proofs.Halves.{Halfway, halfway-start, halfway-hit, halfway-up, halfway-down, halfway-end}
 use Rattle.search.proofs.halve.Statement.{statement}

@@ -2,8 +2,8 @@
 use mathlib.Core.Path.{sym, ap, _∙_}
 use denote.Ref.{now}
 use lib.ListN.{length}
-use Rattle.table.specs.Format.{firstEdition, newest}
-use Rattle.table.specs.Answers.{checkedAnswer}
+use Rattle.format.specs.Format.{firstEdition, newest}
+use Rattle.numbers.specs.Answers.{checkedAnswer}
 use Rattle.table.proofs.Sound.{headed}
 use Rattle.table.proofs.Passed.{passed-zero}
 use Rattle.search.specs.Halving.{Walk}

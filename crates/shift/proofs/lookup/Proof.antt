@@ -3,7 +3,7 @@ use mathlib.Core.Path.{sym}
 use native.Mathlib.Omega.{arith}
 use denote.Ref.{now}
 use Rattle.shift.specs.Lookup.{lookupJob}
-use Rattle.table.specs.Format.{firstEdition, newest}
+use Rattle.format.specs.Format.{firstEdition, newest}
 use Rattle.table.proofs.Passed.{passes, passed-zero, refused-stands}
 use borrow.Author.Needs.{needs}
 use Rattle.shift.proofs.lookup.Statement.{statement}

@@ -2,7 +2,7 @@
 use denote.Ref.{now}
 use mathlib.Core.Path.{ap, _∙_}
 use borrow.Author.Needs.{needs}
-use Rattle.table.specs.declared.answers.Answer.{Answer}
+use Rattle.numbers.specs.declared.checked.Answer.{Answer}
 use Rattle.shift.specs.Opening.{foundOpening, jobOpening}
 use Rattle.shift.proofs.open_job.Statement.{statement}
 use Rattle.shift.proofs.open_job.Tie as tie

@@ -2,7 +2,7 @@
 use mathlib.Core.Path.{sym, ap, _∙_}
 use native.Mathlib.Omega.{arith}
 use denote.Ref.{now}
-use Rattle.table.specs.Answers.{checkedAnswer}
+use Rattle.numbers.specs.Answers.{checkedAnswer}
 use Rattle.table.specs.Check.{checkBetween}
 use Rattle.table.proofs.Sound.{headed}
 use Rattle.table.proofs.Passed.{passed-zero, refused-stands}

@@ -2,7 +2,7 @@
 -- Each way out is the test that led there, with those before it.
 use borrow.Author.Tests.{lt-ltb, le-ltb, eq-eqb, ne-eqb}
 use Rattle.table.specs.Check.{headNumber}
-use Rattle.table.proofs.Rows.{rows-small}
+use Rattle.format.proofs.Rows.{rows-small}
 use borrow.Author.Needs.{needs}
 use Rattle.table.proofs.check_head.Statement.{statement}
 use Rattle.table.proofs.check_head.Tie as tie

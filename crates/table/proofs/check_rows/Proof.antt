@@ -6,11 +6,11 @@ use native.Mathlib.Omega.{arith}
 use borrow.Author.Needs.{needs}
 use borrow.Author.Tests.{eq-eqb, ne-eqb}
 use denote.Ref.{now}
-use Rattle.table.specs.Answers.{rowNumberOf}
+use Rattle.numbers.specs.Answers.{rowNumberOf}
 use Rattle.table.specs.Check.{bodyStart, rowsFrom, endAnswer}
-use Rattle.table.specs.Inside.{Spared}
+use Rattle.table.specs.Spared.{Spared}
 use Rattle.table.specs.Marks.{has, with, Sieved}
-use Rattle.table.proofs.Rows.{row-in}
+use Rattle.format.proofs.Rows.{row-in}
 use Rattle.table.proofs.Sound.{sound}
 use Rattle.table.proofs.Passed.{rows-bad, rows-sound, rows-end}
 use Rattle.table.proofs.Nonces.{spared-none, spared-more}

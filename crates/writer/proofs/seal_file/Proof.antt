@@ -5,8 +5,8 @@ use mathlib.Core.List.{List}
 use mathlib.Core.Path.{sym, ap, ap₂, _∙_}
 use native.Mathlib.Omega.{arith}
 use Prim.Native.Nat.{ℕ}
-use Rattle.table.specs.Answers.{answer}
-use Rattle.table.specs.Format.{firstEdition}
+use Rattle.numbers.specs.Answers.{answer}
+use Rattle.format.specs.Format.{firstEdition}
 use Rattle.draft.specs.Put.{putAll}
 use Rattle.draft.specs.Files.{draftEdition, inEdition, pieceStart, sealedPiece, sealedFile}
 use Rattle.draft.specs.Answers.{writes}

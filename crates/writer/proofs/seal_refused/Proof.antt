@@ -3,8 +3,8 @@ use borrow.Author.Needs.{needs}
 use denote.Ref.{now}
 use mathlib.Core.Path.{_≡_, sym, ap, _∙_}
 use Prim.Native.Nat.{ℕ}
-use Rattle.table.specs.Answers.{answer}
-use Rattle.table.specs.Format.{countOf}
+use Rattle.numbers.specs.Answers.{answer}
+use Rattle.format.specs.Format.{countOf}
 use Rattle.table.proofs.Passed.{passed-zero, refused-stands}
 use Rattle.draft.specs.Files.{draftEdition}
 use Rattle.draft.specs.Answers.{sealAnswer, setFrom, retiredFrom}

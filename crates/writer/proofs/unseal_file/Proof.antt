@@ -3,8 +3,8 @@ use borrow.Author.Needs.{needs}
 use denote.Ref.{now}
 use mathlib.Core.Path.{sym, ap, _∙_}
 use native.Mathlib.Omega.{arith}
-use Rattle.table.specs.declared.answers.Answer.{Answer}
-use Rattle.table.specs.Format.{firstEdition}
+use Rattle.numbers.specs.declared.checked.Answer.{Answer}
+use Rattle.format.specs.Format.{firstEdition}
 use Rattle.draft.specs.Put.{putAll}
 use Rattle.draft.specs.Files.{draftEdition, inEdition, pieceStart, draftPiece, draftFile}
 use Rattle.draft.specs.Answers.{wrongFrom, leaves}

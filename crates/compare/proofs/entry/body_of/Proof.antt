@@ -1,5 +1,5 @@
 -- A body ends in the file, and not before it starts.
-use Rattle.table.specs.Format.{bodyEnd}
+use Rattle.format.specs.Format.{bodyEnd}
 use native.Mathlib.Omega.{arith}
 use borrow.Author.Needs.{needs}
 use Rattle.compare.proofs.entry.body_of.Statement.{statement}

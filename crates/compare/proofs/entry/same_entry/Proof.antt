@@ -1,7 +1,7 @@
 -- The tests in the order of the definition, on rows, stations, nonces and bodies that lie in their files.
 use mathlib.Core.Path.{sym, _∙_}
 use borrow.Author.Tests.{not-true, not-false, eq-eqb, ne-eqb}
-use Rattle.table.specs.Format.{nonceAt}
+use Rattle.format.specs.Format.{nonceAt}
 use Rattle.compare.specs.Comparing.{sameEntry}
 use borrow.Author.Needs.{needs}
 use Rattle.compare.proofs.entry.same_entry.Statement.{statement}

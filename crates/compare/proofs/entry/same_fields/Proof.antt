@@ -3,7 +3,7 @@ use Rattle.compare.specs.Comparing.{sameFields}
 use mathlib.Core.Path.{_≡_}
 use borrow.Author.Tests.{eq-eqb, ne-eqb}
 use lib.Dec.{eqb}
-use Rattle.table.specs.declared.row.Row.{Row}
+use Rattle.format.specs.declared.row.Row.{Row}
 use Rattle.compare.proofs.entry.same_fields.Statement.{statement}
 use Rattle.compare.proofs.entry.same_fields.Tie as tie
 

@@ -1,7 +1,7 @@
 -- The lower job is in its file alone; equal jobs are in both, and their entries are compared.
 use native.Mathlib.Omega.{arith}
 use denote.Ref.{now}
-use Rattle.table.specs.Format.{firstEdition, newest}
+use Rattle.format.specs.Format.{firstEdition, newest}
 use Rattle.table.proofs.Passed.{passes, entry-in}
 use Rattle.compare.proofs.Passing.{few-rows}
 use Rattle.compare.proofs.Turns.{first-case, second-case, both-case}

@@ -1,7 +1,7 @@
 -- The row lies in a file that passes.
 use Rattle.compare.specs.Comparing.{jobAt}
 use Rattle.table.proofs.Passed.{passes, entry-in}
-use Rattle.table.specs.Format.{firstEdition, newest}
+use Rattle.format.specs.Format.{firstEdition, newest}
 use denote.Ref.{now}
 use Rattle.compare.proofs.merge.job_of.Statement.{statement}
 use Rattle.compare.proofs.merge.job_of.Tie as tie

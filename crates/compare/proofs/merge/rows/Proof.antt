@@ -1,6 +1,6 @@
 -- The header was checked: 20 and 22.
 use Rattle.table.proofs.Passed.{passes}
-use Rattle.table.specs.Format.{firstEdition, newest}
+use Rattle.format.specs.Format.{firstEdition, newest}
 use denote.Ref.{now}
 use Rattle.compare.proofs.merge.rows.Statement.{statement}
 use Rattle.compare.proofs.merge.rows.Tie as tie

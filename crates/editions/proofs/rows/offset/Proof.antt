@@ -3,8 +3,8 @@ use Prim.Native.Nat.{ℕ}
 use mathlib.Core.Path.{ap}
 use native.Mathlib.Omega.{arith}
 use borrow.Author.Needs.{needs}
-use Rattle.table.specs.declared.row.Row.{Row}
-use Rattle.table.proofs.Rows.{row-in}
+use Rattle.format.specs.declared.row.Row.{Row}
+use Rattle.format.proofs.Rows.{row-in}
 use Rattle.editions.specs.Files.{carried}
 use Rattle.editions.proofs.rows.offset.Statement.{statement}
 use Rattle.editions.proofs.rows.offset.Tie as tie

@@ -5,7 +5,7 @@ use mathlib.Core.List.{_++_}
 use native.Mathlib.Omega.{arith}
 use lib.ListN.{length, take}
 use denote.Ref.{now}
-use Rattle.table.specs.Format.{rowStart}
+use Rattle.format.specs.Format.{rowStart}
 use Rattle.editions.specs.Files.{movedRows}
 use Rattle.editions.proofs.Fronts.{rows-start, rows-put}
 use borrow.Author.Needs.{needs}

@@ -27,7 +27,6 @@ use denote.Ref.{NamedLft, now}
 use denote.Signature.{namedLft}
 use denote.Slice.{sliceVal, ShrSlice}
 use denote.Steps.{only, peeks, heard, nothing}
-use denote.Struct.Declared.{Declared}
 use denote.Struct.Laws as LL
 use denote.Struct.Rest.{all-own, own-open, own-shut}
 use denote.Triple.Statement.{Contract, Triple}

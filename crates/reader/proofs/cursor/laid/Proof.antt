@@ -1,8 +1,8 @@
 -- A refused header lays no rows down; else it says how many.
 use mathlib.Core.Path.{sym, ap, _∙_}
 use denote.Ref.{now}
-use Rattle.table.specs.Format.{firstEdition, newest}
-use Rattle.table.specs.Answers.{checkedAnswer}
+use Rattle.format.specs.Format.{firstEdition, newest}
+use Rattle.numbers.specs.Answers.{checkedAnswer}
 use Rattle.table.proofs.Sound.{headed}
 use Rattle.table.proofs.Passed.{passed-zero}
 use Rattle.reader.proofs.Asking.{laid-none, laid-all}

@@ -1,6 +1,6 @@
 -- The row's fields, its station and its nonce's place, each by its own function.
 use denote.Ref.{now}
-use Rattle.table.specs.Inside.{RowIn}
+use Rattle.format.specs.Inside.{RowIn}
 use borrow.Author.Needs.{needs}
 use Rattle.reader.proofs.cursor.listed_at.Statement.{statement}
 use Rattle.reader.proofs.cursor.listed_at.Tie as tie

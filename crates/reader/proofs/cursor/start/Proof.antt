@@ -1,8 +1,8 @@
 -- A refused file has no rows; one that passes has its header.
 use mathlib.Core.Path.{sym, ap, _∙_}
 use denote.Ref.{now}
-use Rattle.table.specs.Format.{firstEdition, newest}
-use Rattle.table.specs.Answers.{checkedAnswer}
+use Rattle.format.specs.Format.{firstEdition, newest}
+use Rattle.numbers.specs.Answers.{checkedAnswer}
 use Rattle.table.proofs.Passed.{passed-zero, passes}
 use Rattle.reader.proofs.Asking.{rows-none, rows-all}
 use borrow.Author.Needs.{needs}

@@ -4,8 +4,8 @@ use native.Mathlib.Omega.{arith}
 use mathlib.Core.Path.{_≡_, ap}
 use denote.Ref.{now}
 use borrow.Author.Needs.{needs}
-use Rattle.table.specs.declared.row.Row.{Row}
-use Rattle.table.specs.Format.{firstEdition, newest, countOf}
+use Rattle.format.specs.declared.row.Row.{Row}
+use Rattle.format.specs.Format.{firstEdition, newest, countOf}
 use Rattle.table.proofs.Passed.{passes, entry-in}
 use Rattle.reader.specs.Reporting.{jobOf, tagNumber, front}
 use Rattle.reader.proofs.Fronts.{front-none, front-step, front-length}

@@ -6,8 +6,8 @@ use mathlib.Core.Path.{sym, ap, ap₂, _∙_}
 use native.Mathlib.Omega.{arith}
 use Prim.Native.Nat.{_+_, _-_}
 use borrow.Rule.Slice.PartMut.{putMid, same-len-mid}
-use Rattle.comet.specs.Answers.{numberOf}
-use Rattle.comet.proofs.Refuse.{other-some}
+use Rattle.numbers.specs.Verdicts.{numberOf}
+use Rattle.numbers.proofs.Refuse.{other-some}
 use Rattle.shift.proofs.Entries.{lendable}
 use Rattle.draft.specs.Put.{put}
 use Rattle.writer.proofs.Lending.{open-told, put-over}

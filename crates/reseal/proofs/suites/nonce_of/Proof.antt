@@ -3,7 +3,7 @@ use denote.Ref.{now}
 use mathlib.Core.Path.{ap, _∙_}
 use Prim.Native.Nat.{ℕ}
 use Rattle.words.proofs.Fill.{full-zeros}
-use Rattle.table.specs.Format.{nonceAt}
+use Rattle.format.specs.Format.{nonceAt}
 use borrow.Author.Needs.{needs}
 use Rattle.reseal.proofs.suites.nonce_of.Statement.{statement}
 use Rattle.reseal.proofs.suites.nonce_of.Tie as tie

@@ -6,7 +6,7 @@ use native.Mathlib.Omega.{arith}
 use borrow.Author.Needs.{needs}
 use denote.Ref.{now}
 use Rattle.table.specs.Search.{anyBelow}
-use Rattle.table.specs.Format.{rowSizeOf}
+use Rattle.format.specs.Format.{rowSizeOf}
 use Rattle.table.specs.Check.{clash, nonceSeen}
 use Rattle.table.proofs.Searches.{any-more, any-hit}
 use Rattle.reseal.specs.Files.{retabled}

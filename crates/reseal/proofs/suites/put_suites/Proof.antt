@@ -5,7 +5,7 @@ use lib.ListN.{length}
 use mathlib.Core.Path.{_≡_, refl, ap, _∙_}
 use native.Mathlib.Omega.{arith}
 use Prim.Native.Nat.{ℕ, _≤_, _-_}
-use Rattle.table.proofs.Rows.{row-in}
+use Rattle.format.proofs.Rows.{row-in}
 use Rattle.draft.specs.Put.{putAll}
 use Rattle.reseal.specs.Files.{resuited}
 use Rattle.reseal.proofs.Lending.{head-fits, table-row, suite-step}

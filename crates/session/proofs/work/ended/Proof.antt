@@ -1,5 +1,4 @@
 -- `session::work::ended` meets its contract.
-use borrow.Author.Needs.{needs}
 use mathlib.Core.Path.{refl}
 use Rattle.words.specs.Bytes.{bytes}
 use Rattle.session.proofs.work.ended.Statement.{statement}

@@ -1,10 +1,9 @@
 -- `session::work::packed` meets its contract.
 use borrow.Author.Needs.{needs}
-use mathlib.Core.Path.{_≡_, ap}
+use mathlib.Core.Path.{ap}
 use mathlib.Core.List.{List}
 use Prim.Native.Nat.{ℕ}
 use Rattle.words.specs.Blocks.{wide}
-use Rattle.session.specs.Value.{Value}
 use Rattle.session.proofs.work.packed.Statement.{statement}
 use Rattle.session.proofs.work.packed.Tie as tie
 

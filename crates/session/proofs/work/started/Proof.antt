@@ -2,12 +2,11 @@
 use borrow.Author.Needs.{needs}
 use denote.Ref.{now}
 use lib.ListN.{length, replicate}
-use mathlib.Core.List.{List, []}
-use mathlib.Core.Path.{_≡_, refl, sym, ap, ap₂, _∙_, subst}
-use Prim.Native.Nat.{ℕ}
+use mathlib.Core.List.{[]}
+use mathlib.Core.Path.{refl, sym, ap, _∙_}
 use Rattle.cipher.proofs.Suites.{seals-has}
 use Rattle.mode.specs.Walk.{States}
-use Rattle.session.specs.Value.{Value, Given, valueOf, over, gave, fresh, startNumber, starting}
+use Rattle.session.specs.Value.{Value, valueOf, over, gave, fresh, startNumber, starting}
 use Rattle.session.proofs.Refuse.{start-passed, answer-done}
 use Rattle.session.proofs.work.started.Statement.{statement}
 use Rattle.session.proofs.work.started.Tie as tie

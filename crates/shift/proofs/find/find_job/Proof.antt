@@ -6,7 +6,7 @@ use borrow.Author.Needs.{needs}
 use borrow.Author.Tests.{eq-eqb, ne-eqb}
 use Rattle.shift.specs.Lookup.{findFrom}
 use Rattle.table.proofs.Searches.{first-hit, first-skip, first-end}
-use Rattle.table.proofs.Rows.{row-in}
+use Rattle.format.proofs.Rows.{row-in}
 use Rattle.shift.proofs.find.find_job.Statement.{statement}
 use Rattle.shift.proofs.find.find_job.Tie as tie
 

@@ -1,6 +1,6 @@
 -- The suite reads at most sixteen bytes.
 use native.Mathlib.Omega.{arith}
-use Rattle.table.specs.Format.{nonceAt}
+use Rattle.format.specs.Format.{nonceAt}
 use Rattle.cipher.proofs.Suites.{nonce-most}
 use borrow.Author.Needs.{needs}
 use Rattle.shift.proofs.lend.nonce_read.Statement.{statement}

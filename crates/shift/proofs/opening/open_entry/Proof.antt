@@ -2,8 +2,8 @@
 use mathlib.Core.Path.{ap, _∙_}
 use borrow.Author.Tests.{ne-eqb, eq-eqb}
 use denote.Ref.{now}
-use Rattle.comet.proofs.Refuse.{other-some}
-use Rattle.table.specs.declared.row.Row.{Row}
+use Rattle.numbers.proofs.Refuse.{other-some}
+use Rattle.format.specs.declared.row.Row.{Row}
 use Rattle.shift.specs.Opening.{rowOpening}
 use Rattle.shift.proofs.Entries.{lendable, row-told, row-eight}
 use borrow.Author.Needs.{needs}

@@ -2,7 +2,7 @@
 use mathlib.Core.Path.{ap, _∙_}
 use borrow.Author.Needs.{needs}
 use Rattle.amend.specs.Amending.{AmendedOpening}
-use Rattle.table.proofs.Outcomes.{same-answer}
+use Rattle.numbers.proofs.Outcomes.{same-answer}
 use Rattle.snoekeldraf.proofs.AmendedRows.{open-amended-row}
 use Rattle.snoekeldraf.proofs.amending.shift_open_amended.Statement.{statement}
 use Rattle.snoekeldraf.proofs.amending.shift_open_amended.Tie as tie

@@ -2,7 +2,7 @@
 use mathlib.Core.Path.{ap, _∙_}
 use borrow.Author.Needs.{needs}
 use Rattle.shift.specs.Opening.{JobOpened}
-use Rattle.table.proofs.Outcomes.{same-answer}
+use Rattle.numbers.proofs.Outcomes.{same-answer}
 use Rattle.snoekeldraf.proofs.Rows.{job-row}
 use Rattle.snoekeldraf.proofs.file.shift_open_job.Statement.{statement}
 use Rattle.snoekeldraf.proofs.file.shift_open_job.Tie as tie

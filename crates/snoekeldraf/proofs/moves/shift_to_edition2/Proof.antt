@@ -2,7 +2,7 @@
 use mathlib.Core.Path.{ap, _∙_}
 use borrow.Author.Needs.{needs}
 use Rattle.editions.specs.Answers.{FileMoved}
-use Rattle.table.proofs.Outcomes.{same-answer}
+use Rattle.numbers.proofs.Outcomes.{same-answer}
 use Rattle.snoekeldraf.proofs.Rows.{up-row}
 use Rattle.snoekeldraf.proofs.moves.shift_to_edition2.Statement.{statement}
 use Rattle.snoekeldraf.proofs.moves.shift_to_edition2.Tie as tie

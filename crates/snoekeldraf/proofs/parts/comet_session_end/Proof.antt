@@ -1,8 +1,6 @@
 -- `snoekeldraf::parts::comet_session_end` meets its contract: the library's, on the flat value.
 use denote.Ref.{now}
-use mathlib.Core.List.{List, []}
-use mathlib.Core.Path.{_≡_, ap, _∙_}
-use Prim.Native.Nat.{ℕ}
+use mathlib.Core.Path.{ap, _∙_}
 use Rattle.session.specs.Value.{Value, ending}
 use Rattle.snoekeldraf.proofs.Steps.{handed-gives}
 use borrow.Author.Needs.{needs}

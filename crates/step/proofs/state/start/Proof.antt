@@ -3,11 +3,10 @@ use borrow.Author.Needs.{needs}
 use denote.Ref.{now}
 use lib.ListN.{length, take, replicate}
 use lib.Seq.{take-all}
-use mathlib.Core.List.{List, [], _∷_, _++_}
+use mathlib.Core.List.{_++_}
 use mathlib.Core.Path.{_≡_, refl, sym, ap, ap₂, _∙_}
 use native.Mathlib.Omega.{arith}
 use Prim.Native.Nat.{ℕ, _+_, _-_}
-use Rattle.words.specs.Blocks.{wide}
 use Rattle.words.specs.Bytes.{bytes}
 use Rattle.words.specs.Xors.{xors}
 use Rattle.words.proofs.Blocks.{first-eight}

@@ -5,7 +5,7 @@ use lib.ListN.{length, take, replicate, take-append-drop}
 use lib.Seq.{length-take-le}
 use mathlib.Core.List.{List, _++_}
 use mathlib.Core.Logic.{⊎-elim}
-use mathlib.Core.Path.{_≡_, sym, ap, ap₂, _∙_}
+use mathlib.Core.Path.{sym, ap, ap₂, _∙_}
 use native.Mathlib.Omega.{arith}
 use Prim.Native.Nat.{ℕ, _-_, _≤_}
 use Rattle.words.specs.Blocks.{wide}

@@ -2,7 +2,7 @@
 use native.Mathlib.Omega.{arith}
 use mathlib.Core.Path.{ap₂, _∙_}
 use Prim.Native.Nat.{ℕ}
-use Rattle.table.specs.declared.row.Row.{Row}
+use Rattle.format.specs.declared.row.Row.{Row}
 use Rattle.table.specs.Marks.{markOf, mixed}
 use Rattle.table.proofs.Sieve.{block-word}
 use borrow.Author.Needs.{needs}

@@ -2,7 +2,7 @@
 use mathlib.Core.Path.{sym, _∙_}
 use denote.Ref.{now}
 use Rattle.table.specs.Check.{bodyNumber}
-use Rattle.table.proofs.Rows.{row-in}
+use Rattle.format.proofs.Rows.{row-in}
 use Rattle.table.proofs.Sound.{head-in}
 use Rattle.table.proofs.Nonces.{spared-more}
 use Rattle.table.proofs.rules.check_body.Statement.{statement}

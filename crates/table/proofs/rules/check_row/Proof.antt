@@ -1,7 +1,7 @@
 -- The first of the tests that holds gives the number; what it leaves is the body's.
 use mathlib.Core.Path.{sym, _∙_}
 use Rattle.table.specs.Check.{rowNumber}
-use Rattle.table.proofs.Rows.{row-in}
+use Rattle.format.proofs.Rows.{row-in}
 use borrow.Author.Needs.{needs}
 use Rattle.table.proofs.rules.check_row.Statement.{statement}
 use Rattle.table.proofs.rules.check_row.Tie as tie

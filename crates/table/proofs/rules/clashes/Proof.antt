@@ -2,7 +2,7 @@
 use mathlib.Core.Path.{sym, ap₂, _∙_}
 use denote.Ref.{now}
 use Rattle.words.specs.Bytes.{sameBytes}
-use Rattle.table.proofs.Rows.{row-in}
+use Rattle.format.proofs.Rows.{row-in}
 use Rattle.table.proofs.Nonces.{clash-keys, clash-none}
 use borrow.Author.Needs.{needs}
 use Rattle.table.proofs.rules.clashes.Statement.{statement}

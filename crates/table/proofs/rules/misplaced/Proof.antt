@@ -1,7 +1,7 @@
 -- Each way out is the test that led there.
 use borrow.Author.Tests.{eq-eqb, ne-eqb}
 use Rattle.table.specs.Check.{misplaced}
-use Rattle.table.proofs.Rows.{row-in}
+use Rattle.format.proofs.Rows.{row-in}
 use borrow.Author.Needs.{needs}
 use Rattle.table.proofs.rules.misplaced.Statement.{statement}
 use Rattle.table.proofs.rules.misplaced.Tie as tie

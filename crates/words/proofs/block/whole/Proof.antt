@@ -8,7 +8,6 @@ use denote.Ref.{now}
 use Rattle.words.specs.Bytes.{bytes}
 use Rattle.words.proofs.Fill.{full-zeros}
 use Rattle.words.proofs.Blocks.{is-eight}
-use borrow.Author.Needs.{needs}
 use Rattle.words.proofs.block.whole.Statement.{statement}
 use Rattle.words.proofs.block.whole.Tie as tie
 

@@ -8,8 +8,8 @@ use native.Mathlib.Omega.{arith}
 use Prim.Native.Nat.{ℕ, _+_, _-_, _≤_}
 use borrow.Rule.Slice.PartMut.{same-len-mid}
 use Rattle.cipher.specs.Cipher.{limit}
-use Rattle.table.specs.Part.{stretch}
-use Rattle.table.proofs.Rows.{stretch-length}
+use Rattle.format.specs.Part.{stretch}
+use Rattle.format.proofs.Rows.{stretch-length}
 use Rattle.shift.proofs.Entries.{lendable}
 use Rattle.draft.specs.Files.{pieceAs}
 use Rattle.writer.proofs.Lending.{seal-told, part-is, put-both}

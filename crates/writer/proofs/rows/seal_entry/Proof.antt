@@ -7,8 +7,8 @@ use mathlib.Core.Path.{_≡_, ap, ap₂, _∙_}
 use native.Mathlib.Omega.{arith}
 use Prim.Native.Nat.{ℕ, _+_, _-_, _≤_}
 use borrow.Rule.Slice.PartMut.{putMid, same-len-mid}
-use Rattle.table.specs.Part.{stretch}
-use Rattle.table.proofs.Rows.{stretch-length}
+use Rattle.format.specs.Part.{stretch}
+use Rattle.format.proofs.Rows.{stretch-length}
 use Rattle.draft.specs.Put.{put}
 use Rattle.writer.proofs.Lending.{body-fits, front-is, put-over, row-sealed}
 use Rattle.writer.proofs.rows.seal_entry.Statement.{statement}

@@ -9,13 +9,13 @@ use native.Mathlib.Omega.{arith}
 use Prim.Native.Nat.{ℕ, _+_, _-_, _≤_}
 use borrow.Rule.Slice.PartMut.{putMid, same-len-mid}
 use Rattle.cipher.specs.Cipher.{sizeOf}
-use Rattle.table.specs.declared.row.Row.{Row}
-use Rattle.table.specs.Part.{stretch}
-use Rattle.table.proofs.Rows.{stretch-length}
+use Rattle.format.specs.declared.row.Row.{Row}
+use Rattle.format.specs.Part.{stretch}
+use Rattle.format.proofs.Rows.{stretch-length}
 use Rattle.draft.specs.Put.{put}
 use Rattle.shift.proofs.Entries.{lendable}
-use Rattle.comet.specs.Answers.{numberOf}
-use Rattle.comet.proofs.Refuse.{other-some}
+use Rattle.numbers.specs.Verdicts.{numberOf}
+use Rattle.numbers.proofs.Refuse.{other-some}
 use Rattle.writer.proofs.Lending.{body-fits, open-told, put-two, row-opened}
 use Rattle.writer.proofs.rows.unseal_entry.Statement.{statement}
 use Rattle.writer.proofs.rows.unseal_entry.Tie as tie

@@ -9,8 +9,8 @@ use mathlib.Core.Path.{_≡_, refl, sym, ap, _∙_}
 use native.Mathlib.Numerals.{add-one}
 use native.Mathlib.Omega.{arith}
 use Prim.Native.Nat.{ℕ, _≤_, _-_}
-use Rattle.table.specs.declared.answers.Answer.{Answer}
-use Rattle.table.specs.Answers.{answer}
+use Rattle.numbers.specs.declared.checked.Answer.{Answer}
+use Rattle.numbers.specs.Answers.{answer}
 use Rattle.table.proofs.Searches.{first-hit, first-skip, first-end}
 use Rattle.draft.specs.Put.{put, putAll}
 use Rattle.draft.specs.Files.{pieceStart, draftPiece}

@@ -3,7 +3,7 @@ use borrow.Author.Needs.{needs}
 use mathlib.Core.Bool.{not}
 use mathlib.Core.Path.{ap, _∙_}
 use Rattle.cipher.specs.Cipher.{seals}
-use Rattle.table.specs.declared.row.Row.{Row}
+use Rattle.format.specs.declared.row.Row.{Row}
 use Rattle.draft.specs.Answers.{rowRetired}
 use Rattle.writer.proofs.suites.row_seals.Statement.{statement}
 use Rattle.writer.proofs.suites.row_seals.Tie as tie

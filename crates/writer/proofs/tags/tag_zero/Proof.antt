@@ -8,9 +8,9 @@ use mathlib.Core.Path.{_≡_, ap, ap₂, _∙_}
 use Prim.Native.Nat.{ℕ, _+_}
 use Rattle.words.specs.Bytes.{sameBytes}
 use Rattle.cipher.specs.Cipher.{sizeOf}
-use Rattle.table.specs.declared.row.Row.{Row}
-use Rattle.table.specs.Format.{tagOf}
-use Rattle.table.proofs.Rows.{stretch-length}
+use Rattle.format.specs.declared.row.Row.{Row}
+use Rattle.format.specs.Format.{tagOf}
+use Rattle.format.proofs.Rows.{stretch-length}
 use Rattle.draft.specs.Answers.{tagSet}
 use Rattle.writer.proofs.Lending.{body-fits}
 use Rattle.writer.proofs.tags.tag_zero.Statement.{statement}

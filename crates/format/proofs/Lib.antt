@@ -1,0 +1,3 @@
+pub mod Rows
+pub mod Parts
+pub mod Outcomes

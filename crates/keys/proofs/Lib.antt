@@ -1,0 +1,3 @@
+mod Halves
+mod Byte15
+pub mod Outcomes

@@ -1,0 +1,90 @@
+// The numbers of the four calls, from the suite, the totals and the lengths: the first that applies.
+use cipher::LIMIT;
+ghost use mathlib.Core.Path.{_≡_};
+ghost use Rattle.session.specs.Value.{sound, startNumber, dataNumber, textNumber, endNumber};
+
+// The number of a start, from the lengths of key and nonce: what a call under a key has of the sealer's ladder.
+pub(crate) fn start_number(suite: u8, key: usize, nonce: usize) -> u8
+    ensures { λ r. ⌜ r ≡ startNumber suite key nonce ⌝ }
+{
+    numbers::verdict::under_key(false, suite, key, nonce).number()
+}
+
+// Whether a session is one that goes on.
+fn goes_on(suite: u8, ad_total: usize, text_total: usize) -> bool
+    ensures { λ r. ⌜ r ≡ sound suite «ad_total» «text_total» ⌝ }
+{
+    let b = cipher::seals(suite);
+    if !b {
+        return false;
+    }
+    if LIMIT < ad_total {
+        return false;
+    }
+    text_total <= LIMIT
+}
+
+// The number of a part of associated data, from its length.
+pub(crate) fn data_number(suite: u8, ad_total: usize, text_total: usize, part: usize) -> u8
+    ensures { λ r. ⌜ r ≡ dataNumber suite «ad_total» «text_total» part ⌝ }
+{
+    let b = goes_on(suite, ad_total, text_total);
+    if !b {
+        return 9;
+    }
+    if text_total != 0 {
+        return 9;
+    }
+    if LIMIT - ad_total < part {
+        return 4;
+    }
+    0
+}
+
+// The number of a part of message, from the lengths of part and output.
+pub(crate) fn text_number(
+    suite: u8,
+    ad_total: usize,
+    text_total: usize,
+    part: usize,
+    out: usize,
+) -> u8
+    ensures { λ r. ⌜ r ≡ textNumber suite «ad_total» «text_total» part out ⌝ }
+{
+    let b = goes_on(suite, ad_total, text_total);
+    if !b {
+        return 9;
+    }
+    if LIMIT - text_total < part {
+        return 5;
+    }
+    let n = cipher::size_of(suite);
+    if out < part + (n - 1) {
+        return 6;
+    }
+    0
+}
+
+// The number of the end, from the lengths of output and tag buffer.
+pub(crate) fn end_number(
+    suite: u8,
+    ad_total: usize,
+    text_total: usize,
+    out: usize,
+    tag: usize,
+) -> u8
+    ensures { λ r. ⌜ r ≡ endNumber suite «ad_total» «text_total» out tag ⌝ }
+{
+    let b = goes_on(suite, ad_total, text_total);
+    if !b {
+        return 9;
+    }
+    let n = cipher::size_of(suite);
+    if out < n {
+        return 6;
+    }
+    if tag != n {
+        return 7;
+    }
+    0
+}
