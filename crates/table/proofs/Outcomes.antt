@@ -10,8 +10,6 @@ use Rattle.table.proofs.check_as.Kinds as check-as-kinds
 use Rattle.table.proofs.check_as.Reads as check-as-reads
 use Rattle.table.proofs.check.Kinds as check-kinds
 use Rattle.table.proofs.check.Reads as check-reads
-use Rattle.table.proofs.rules.nonce_seen.Kinds as nonce-seen-kinds
-use Rattle.table.proofs.rules.nonce_seen.Reads as nonce-seen-reads
 
 pub check-head : OneOutcome check-head-kinds.ps check-head-kinds.r check-head-reads.Pre check-head-reads.Post
 check-head κs a h x y = (checked-one (x .ensures ∙ sym (y .ensures)), refl)
@@ -24,6 +22,3 @@ check-as κs a h x y = (checked-one (x .ensures ∙ sym (y .ensures)), refl)
 
 pub check : OneOutcome check-kinds.ps check-kinds.r check-reads.Pre check-reads.Post
 check κs a h x y = (checked-one (x .ensures ∙ sym (y .ensures)), refl)
-
-pub nonce-seen : OneOutcome nonce-seen-kinds.ps nonce-seen-kinds.r nonce-seen-reads.Pre nonce-seen-reads.Post
-nonce-seen κs a h x y = (x .ensures ∙ sym (y .ensures), refl)

@@ -1,6 +1,6 @@
 // The table of contents of the plant's shift file: its rows, and the full check.
 mod marks;
-pub mod rules;
+mod rules;
 
 use format::row::FIRST_EDITION;
 use format::row::NEWEST;

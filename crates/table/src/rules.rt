@@ -123,7 +123,7 @@ fn clashes(size: usize, file: &[u8], rows: usize, index: usize, other: usize) ->
 }
 
 // 29: the row clashes with an earlier one.
-pub fn nonce_seen(size: usize, file: &[u8], rows: usize, index: usize) -> bool
+fn nonce_seen(size: usize, file: &[u8], rows: usize, index: usize) -> bool
     requires { ⌜ TableIn size (now file) rows × ((index < rows) × Spared size (now file) (index + 1)) ⌝ }
     ensures { λ r. ⌜ r ≡ nonceSeen size (now (file .entry)) index ⌝ }
 {
