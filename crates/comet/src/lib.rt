@@ -12,7 +12,7 @@ ghost use mathlib.Core.Bool.{true, false};
 ghost use Prim.Native.Nat.{_≤_};
 ghost use lib.ListN.{length, take};
 ghost use Rattle.words.specs.Blocks.{wide};
-ghost use Rattle.cipher.specs.Cipher.{Ready, IsSuite, sizeOf, nonceOf, cipherOf, limit};
+ghost use Rattle.cipher.specs.Cipher.{Ready, IsSuite, sizeOf, nonceOf, cipherOf, limit, lends};
 ghost use Rattle.mode.specs.Mode.{textOut, tagOut, calls};
 ghost use Rattle.step.specs.Two.{Clean};
 ghost use Rattle.numbers.specs.Verdicts.{numberOf, refusal};
@@ -70,6 +70,23 @@ fn seal_with(
     }
 }
 
+// Seals text in its place under tables, which stand in a function of their own: no other suite's call has room for them.
+fn seal_lent(
+    suite: u8,
+    key: &[u8],
+    nonce: &[u8],
+    ad: &[u8],
+    text: &mut [u8],
+    tag: &mut [u8],
+) -> Counted
+    requires { ⌜ (lends suite ≡ true) × (refusal false suite (length (now key)) (length (now nonce)) (length (now ad)) (length (now text)) (length (now text)) (length (now tag)) ≡ 0) ⌝ }
+    ensures { λ r. ⌜ _≡_ {A = Counting Sealed} (record { leaves = record { number = numberOf (r .verdict); out = now (text .exit); tag = now (tag .exit) }; calls = r .calls })
+        (sealingCounted suite (now (key .entry)) (now (nonce .entry)) (now (ad .entry)) (now (text .entry)) (now (text .entry)) (now (tag .entry))) ⌝ }
+{
+    let lent = cipher::tables(suite);
+    seal_with(&lent, suite, key, nonce, ad, text, tag)
+}
+
 // Seals text in its place, once every length is right. Only a suite whose engine is lent tables pays for them.
 fn seal_taken(
     suite: u8,
@@ -84,8 +101,7 @@ fn seal_taken(
         (sealingCounted suite (now (key .entry)) (now (nonce .entry)) (now (ad .entry)) (now (text .entry)) (now (text .entry)) (now (tag .entry))) ⌝ }
 {
     if cipher::lends(suite) {
-        let lent = cipher::tables(suite);
-        return seal_with(&lent, suite, key, nonce, ad, text, tag);
+        return seal_lent(suite, key, nonce, ad, text, tag);
     }
     seal_with(&[], suite, key, nonce, ad, text, tag)
 }
@@ -197,6 +213,23 @@ fn unseal_with(
     }
 }
 
+// Opens text in its place under tables, which stand in a function of their own: no other suite's call has room for them.
+fn unseal_lent(
+    suite: u8,
+    key: &[u8],
+    nonce: &[u8],
+    ad: &[u8],
+    text: &mut [u8],
+    tag: &[u8],
+) -> Counted
+    requires { ⌜ (lends suite ≡ true) × (refusal true suite (length (now key)) (length (now nonce)) (length (now ad)) (length (now text)) (length (now text)) (length (now tag)) ≡ 0) ⌝ }
+    ensures { λ r. ⌜ _≡_ {A = Counting Opened} (record { leaves = record { number = numberOf (r .verdict); out = now (text .exit) }; calls = r .calls })
+        (openingCounted suite (now (key .entry)) (now (nonce .entry)) (now (ad .entry)) (now (text .entry)) (now (tag .entry)) (now (text .entry))) ⌝ }
+{
+    let lent = cipher::tables(suite);
+    unseal_with(&lent, suite, key, nonce, ad, text, tag)
+}
+
 // Opens text in its place, once every length is right. Only a suite whose engine is lent tables pays for them.
 fn unseal_taken(
     suite: u8,
@@ -211,8 +244,7 @@ fn unseal_taken(
         (openingCounted suite (now (key .entry)) (now (nonce .entry)) (now (ad .entry)) (now (text .entry)) (now (tag .entry)) (now (text .entry))) ⌝ }
 {
     if cipher::lends(suite) {
-        let lent = cipher::tables(suite);
-        return unseal_with(&lent, suite, key, nonce, ad, text, tag);
+        return unseal_lent(suite, key, nonce, ad, text, tag);
     }
     unseal_with(&[], suite, key, nonce, ad, text, tag)
 }
