@@ -25,7 +25,7 @@ pub struct Counted {
     pub calls: u64,
 }
 
-// What goes out in the text's place, the tag and the count of the calls, once every length is right: the cipher is lent what it needs.
+// What goes out in the text's place, the tag and the count of the calls, once every length is right: the cipher is lent what it needs. Where there is nothing, nobody is asked, and the states stay in registers.
 fn crypt(
     lent: &[Lent],
     opening: bool,
@@ -41,10 +41,14 @@ fn crypt(
     ensures rest { λ r. ⌜ Clean suite (r .tag)
         × (r .calls ≡ length (calls (cipherOf suite) opening (now (key .entry)) (now (nonce .entry)) (now (ad .entry)) (now (text .entry)))) ⌝ }
 {
-    let s = step::state::start(lent, suite, key, nonce);
-    let d = text::absorb_all(lent, false, suite, s, 0x08, 0x10, ad);
-    let t = text::crypt_all(lent, opening, suite, d, text);
-    step::tag::tag_of(lent, suite, t)
+    let mut s = step::state::start(lent, suite, key, nonce);
+    if ad.len() != 0 {
+        s = text::absorb_all(lent, false, suite, s, 0x08, 0x10, ad);
+    }
+    if text.len() != 0 {
+        s = text::crypt_all(lent, opening, suite, s, text);
+    }
+    step::tag::tag_of(lent, suite, s)
 }
 
 // Seals text in its place, once every length is right: the cipher is lent what it needs.
@@ -332,10 +336,14 @@ fn tag_under(lent: &[Lent], suite: u8, key: &[u8], nonce: &[u8], ad: &[u8], text
     ensures tag { λ r. ⌜ take (sizeOf suite) (wide r) ≡ tagOut (cipherOf suite) true (now (key .entry)) (now (nonce .entry)) (now (ad .entry)) (now (text .entry)) ⌝ }
     ensures rest { λ r. ⌜ Clean suite r ⌝ }
 {
-    let s = step::state::start(lent, suite, key, nonce);
-    let d = text::absorb_all(lent, false, suite, s, 0x08, 0x10, ad);
-    let t = text::absorb_all(lent, true, suite, d, 0x20, 0x40, text);
-    let l = step::tag::tag_of(lent, suite, t);
+    let mut s = step::state::start(lent, suite, key, nonce);
+    if ad.len() != 0 {
+        s = text::absorb_all(lent, false, suite, s, 0x08, 0x10, ad);
+    }
+    if text.len() != 0 {
+        s = text::absorb_all(lent, true, suite, s, 0x20, 0x40, text);
+    }
+    let l = step::tag::tag_of(lent, suite, s);
     l.tag
 }
 

@@ -1,4 +1,4 @@
-// The whole blocks of a text, one step each, by loops that test no block's length: what the one-call sealer, the opener and the sessions have in common. The direction stands in each loop as a literal, and nobody else calls the full block's steps, so the compiler puts them into the loops.
+// The whole blocks of a text, one step each, by loops that test no block's length: what the one-call sealer, the opener and the sessions have in common. The direction stands in each loop as a literal, and nobody else calls the full block's steps, so the compiler puts them into the loops. The suites over Speck have loops of their own, on words (crate pairs), which put the first block's mark in before them and count the calls behind them.
 use cipher::Lent;
 use pairs::Halves;
 use pairs::absorb_pair;
