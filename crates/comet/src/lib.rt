@@ -67,7 +67,7 @@ fn seal_with(
 {
     let t = crypt(lent, false, suite, key, nonce, ad, text);
     let g = t.tag;
-    runs::put(g, tag);
+    words::block::put_whole(g, tag);
     Counted {
         verdict: Verdict::Done,
         calls: t.calls,
