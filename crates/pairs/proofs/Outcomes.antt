@@ -6,7 +6,6 @@ use Prim.Native.Nat.{ℕ, _^_, _<_}
 use native.Mathlib.Omega.{arith}
 use Rattle.words.specs.Outcome.{OneOutcome}
 use Rattle.words.specs.declared.block.Block.{Block}
-use Rattle.words.specs.Blocks.{wide}
 use Rattle.words.proofs.Blocks.{wide-told}
 use Rattle.cipher.specs.Cipher.{sizeOf}
 use Rattle.cipher.proofs.Suites.{speck-three, speck-size}

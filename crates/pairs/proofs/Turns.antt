@@ -1,6 +1,6 @@
 -- One turn on words is one step of the walk: Speck's rounds in two parts give X, and what is XORed with it, and with its shuffle, is the walk's.
 use mathlib.Core.Path.{_≡_, sym, ap, ap₂, _∙_}
-use mathlib.Core.Bool.{Bool, true, false}
+use mathlib.Core.Bool.{true}
 use mathlib.Core.List.{List, _++_}
 use Prim.Native.Nat.{ℕ, _^_, _<_}
 use native.Mathlib.Omega.{arith}
@@ -18,8 +18,8 @@ use Rattle.speck.specs.Onward.{pairIs, keysAre, scheduleOn, roundsOn}
 use Rattle.speck.specs.declared.Pair.{Pair}
 use Rattle.speck.specs.declared.Running.{Running}
 use Rattle.speck.proofs.Onward.{image-in-parts}
-use Rattle.mode.specs.Words.{shuffle, pad}
-use Rattle.mode.specs.Walk.{States, blockKey, blockZ, imageOf, turned, hidden}
+use Rattle.mode.specs.Words.{shuffle}
+use Rattle.mode.specs.Walk.{blockKey, blockZ, imageOf, turned, hidden}
 use Rattle.mode.proofs.Words.{pad-full}
 use Rattle.step.proofs.Turns.{states-path}
 use Rattle.pairs.specs.declared.Halves.{Halves}

@@ -13,7 +13,7 @@ ghost use Rattle.cipher.specs.Cipher.{sizeOf, versionOf, cipherOf, bySpeck};
 ghost use Rattle.speck.specs.Speck.{start, bytesOf};
 ghost use Rattle.speck.specs.Onward.{pairIs, keysAre};
 ghost use Rattle.mode.specs.Words.{shuffle};
-ghost use Rattle.mode.specs.Walk.{blockKey, blockZ, turned, hidden, messageOf};
+ghost use Rattle.mode.specs.Walk.{blockKey, blockZ, hidden};
 ghost use Rattle.keys.specs.Held.{markedBefore, heldBack, Held};
 ghost use Rattle.step.specs.Two.{Holds};
 ghost use Rattle.pairs.specs.Halves.{twoHalves, markIn, Turned};

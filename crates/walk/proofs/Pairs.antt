@@ -20,7 +20,7 @@ use Rattle.cipher.specs.Cipher.{Version, one, two, Cipher, sizeOf, versionOf, c
 use Rattle.speck.specs.Speck.{State as Words, bytesOf}
 use Rattle.speck.specs.Onward.{pairIs}
 use Rattle.mode.specs.Words.{shuffle, pad}
-use Rattle.mode.specs.Walk.{States, whole, rest, blockKey, blockZ, keptBehind, imageOf, turned, hidden, messageOf, walked, covered}
+use Rattle.mode.specs.Walk.{States, whole, rest, blockZ, keptBehind, imageOf, turned, hidden, messageOf, walked, covered}
 use Rattle.mode.proofs.Blocks.{first-blocks}
 use Rattle.mode.proofs.Cut.{length-whole}
 use Rattle.keys.specs.Held.{markedBefore, heldBack, Held}

@@ -8,7 +8,7 @@ use mathlib.Core.List.{List}
 use lib.ListN.{length}
 use native.Mathlib.Nat.{mod-lt}
 use native.Mathlib.Omega.{arith}
-use Prim.Native.Nat.{ℕ, _+_, _-_, _^_, _≤_, _<_}
+use Prim.Native.Nat.{ℕ, _+_, _^_, _≤_, _<_}
 use Rattle.words.specs.Words.{add}
 use Rattle.words.proofs.Lists.{nil-of}
 use Rattle.cipher.specs.Cipher.{sizeOf, cipherOf}

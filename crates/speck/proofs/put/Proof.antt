@@ -4,9 +4,8 @@ use Rattle.words.specs.Bytes.{bytes}
 use Rattle.words.proofs.Lists.{overwrite}
 use Rattle.speck.specs.Speck.{bytesOf}
 use Rattle.speck.specs.Onward.{pairIs}
-use Prim.Native.Nat.{_-_}
 use native.Mathlib.Omega.{arith}
-use lib.ListN.{length, length-set}
+use lib.ListN.{length-set}
 use borrow.Author.Needs.{needs}
 use Rattle.speck.proofs.put.Statement.{statement}
 use Rattle.speck.proofs.put.Tie as tie

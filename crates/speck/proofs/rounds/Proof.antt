@@ -1,7 +1,7 @@
 -- `speck::rounds` meets its contract: before round i the loop holds schedule and state as many rounds on as i is past the start.
 use borrow.Author.Needs.{needs}
 use Prim.Native.Nat.{ℕ, suc, _≤_, _+_, _-_}
-use mathlib.Core.Path.{_≡_, refl, sym, ap, ap₂, _∙_}
+use mathlib.Core.Path.{_≡_, sym, ap, ap₂, _∙_}
 use native.Mathlib.Omega.{arith}
 use Rattle.speck.specs.Speck.{State, Schedule, round, next}
 use Rattle.speck.specs.Onward.{pairIs, keysAre, scheduleOn, roundsOn}
