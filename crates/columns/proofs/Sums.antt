@@ -1,7 +1,8 @@
 -- What four bytes bring, added up, is the mixed column.
 use mathlib.Core.Path.{_≡_, ap, ap₂, _∙_}
 use mathlib.Core.List.{List, [], _∷_}
-use Prim.Native.Nat.{ℕ, _+_, _-_, _/_, _%_, _<_}
+use Prim.Native.Nat.{ℕ, zero, suc, _+_, _-_, _*_, _/_, _%_, _^_, _<_}
+use native.Mathlib.Omega.{arith}
 use lib.ListN.{getD}
 use Rattle.words.specs.Words.{xor}
 use Rattle.words.specs.Bytes.{value, bytes}
@@ -14,6 +15,7 @@ use Rattle.fips197.specs.Cipher.{mixed}
 use Rattle.fips197.proofs.Field.{one-product, product-byte}
 use Rattle.fips197.proofs.Steps.{all-from}
 use Rattle.aes.specs.Columns.{mixColumn}
+use Rattle.aes.proofs.Column.{row-is}
 use Rattle.columns.specs.Tables.{multiple, share}
 
 -- a share is four bytes
@@ -43,7 +45,13 @@ summed x y z u a b c d p q r s =
     ∙ ap₂ xors (bytes-xor 4 (xor x y) z ∙ ap₂ xors (bytes-xor 4 x y ∙ ap₂ xors p q) r) s
     ∙ shares a b c d
 
--- the second byte of what row 0 brings is the byte itself
-pub once-is : (e s : ℕ) → bytes 4 e ≡ share 0 s → e / 256 % 256 ≡ s
-unfolding bytes
-once-is e s h = ap (λ (l : List ℕ). getD l 1 0) h ∙ one-product s
+-- what a byte brings from two rows on has the byte itself in row k
+own-row : (k s : ℕ) → k < 4 → getD (share ((k + 2) % 4) s) k 0 ≡ s
+own-row zero s h = one-product s
+own-row (suc zero) s h = one-product s
+own-row (suc (suc zero)) s h = one-product s
+own-row (suc (suc (suc zero))) s h = one-product s
+own-row (suc (suc (suc (suc k)))) s h = absurd (omega (arith, h))
+
+pub once-in : (k e s : ℕ) → k < 4 → bytes 4 e ≡ share ((k + 2) % 4) s → e / 2 ^ (8 * k) % 256 ≡ s
+once-in k e s h q = row-is k e h ∙ ap (λ (l : List ℕ). getD l k 0) q ∙ own-row k s h

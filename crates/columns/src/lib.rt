@@ -32,12 +32,12 @@ fn mixed(t: &Tables, a: u32, b: u32, c: u32, d: u32) -> u32
     entry(t, 0, a, 0) ^ entry(t, 1, b, 1) ^ entry(t, 2, c, 2) ^ entry(t, 3, d, 3)
 }
 
-// The S-box at the byte in row k of a column: the second byte of its entry for place 0, where the multiple is 01.
+// The S-box at the byte in row k of a column: the table two places on has the multiple 01 in row k, so no byte is moved.
 fn sub_byte(t: &Tables, x: u32, k: u32) -> u8
     requires { ⌜ IsTables (now t) × (k < 4) ⌝ }
     ensures { λ r. ⌜ r ≡ subByte (row k x) ⌝ }
 {
-    ((entry(t, 0, x, k) >> 8) % 256) as u8
+    ((entry(t, (k + 2) % 4, x, k) >> (8 * k)) % 256) as u8
 }
 
 // SubBytes and ShiftRows of one column, as above.

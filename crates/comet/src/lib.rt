@@ -12,7 +12,7 @@ ghost use mathlib.Core.Bool.{true, false};
 ghost use Prim.Native.Nat.{_≤_};
 ghost use lib.ListN.{length, take};
 ghost use Rattle.words.specs.Blocks.{wide};
-ghost use Rattle.cipher.specs.Cipher.{Ready, IsSuite, sizeOf, nonceOf, cipherOf, limit};
+ghost use Rattle.cipher.specs.Cipher.{Ready, IsSuite, sizeOf, nonceOf, cipherOf, limit, lends};
 ghost use Rattle.mode.specs.Mode.{textOut, tagOut, calls};
 ghost use Rattle.step.specs.Two.{Clean};
 ghost use Rattle.numbers.specs.Verdicts.{numberOf, refusal};
@@ -25,7 +25,7 @@ pub struct Counted {
     pub calls: u64,
 }
 
-// What goes out in the text's place, the tag and the count of the calls, once every length is right: the cipher is lent what it needs.
+// What goes out in the text's place, the tag and the count of the calls, once every length is right: the cipher is lent what it needs. Where there is nothing, nobody is asked, and the states stay in registers.
 fn crypt(
     lent: &[Lent],
     opening: bool,
@@ -41,10 +41,14 @@ fn crypt(
     ensures rest { λ r. ⌜ Clean suite (r .tag)
         × (r .calls ≡ length (calls (cipherOf suite) opening (now (key .entry)) (now (nonce .entry)) (now (ad .entry)) (now (text .entry)))) ⌝ }
 {
-    let s = step::state::start(lent, suite, key, nonce);
-    let d = text::absorb_all(lent, false, suite, s, 0x08, 0x10, ad);
-    let t = text::crypt_all(lent, opening, suite, d, text);
-    step::tag::tag_of(lent, suite, t)
+    let mut s = step::state::start(lent, suite, key, nonce);
+    if ad.len() != 0 {
+        s = text::absorb_all(lent, false, suite, s, 0x08, 0x10, ad);
+    }
+    if text.len() != 0 {
+        s = text::crypt_all(lent, opening, suite, s, text);
+    }
+    step::tag::tag_of(lent, suite, s)
 }
 
 // Seals text in its place, once every length is right: the cipher is lent what it needs.
@@ -63,11 +67,28 @@ fn seal_with(
 {
     let t = crypt(lent, false, suite, key, nonce, ad, text);
     let g = t.tag;
-    runs::put(g, tag);
+    words::block::put_whole(g, tag);
     Counted {
         verdict: Verdict::Done,
         calls: t.calls,
     }
+}
+
+// Seals text in its place under tables, which stand in a function of their own: no other suite's call has room for them.
+fn seal_lent(
+    suite: u8,
+    key: &[u8],
+    nonce: &[u8],
+    ad: &[u8],
+    text: &mut [u8],
+    tag: &mut [u8],
+) -> Counted
+    requires { ⌜ (lends suite ≡ true) × (refusal false suite (length (now key)) (length (now nonce)) (length (now ad)) (length (now text)) (length (now text)) (length (now tag)) ≡ 0) ⌝ }
+    ensures { λ r. ⌜ _≡_ {A = Counting Sealed} (record { leaves = record { number = numberOf (r .verdict); out = now (text .exit); tag = now (tag .exit) }; calls = r .calls })
+        (sealingCounted suite (now (key .entry)) (now (nonce .entry)) (now (ad .entry)) (now (text .entry)) (now (text .entry)) (now (tag .entry))) ⌝ }
+{
+    let lent = cipher::tables(suite);
+    seal_with(&lent, suite, key, nonce, ad, text, tag)
 }
 
 // Seals text in its place, once every length is right. Only a suite whose engine is lent tables pays for them.
@@ -84,8 +105,7 @@ fn seal_taken(
         (sealingCounted suite (now (key .entry)) (now (nonce .entry)) (now (ad .entry)) (now (text .entry)) (now (text .entry)) (now (tag .entry))) ⌝ }
 {
     if cipher::lends(suite) {
-        let lent = cipher::tables(suite);
-        return seal_with(&lent, suite, key, nonce, ad, text, tag);
+        return seal_lent(suite, key, nonce, ad, text, tag);
     }
     seal_with(&[], suite, key, nonce, ad, text, tag)
 }
@@ -197,6 +217,23 @@ fn unseal_with(
     }
 }
 
+// Opens text in its place under tables, which stand in a function of their own: no other suite's call has room for them.
+fn unseal_lent(
+    suite: u8,
+    key: &[u8],
+    nonce: &[u8],
+    ad: &[u8],
+    text: &mut [u8],
+    tag: &[u8],
+) -> Counted
+    requires { ⌜ (lends suite ≡ true) × (refusal true suite (length (now key)) (length (now nonce)) (length (now ad)) (length (now text)) (length (now text)) (length (now tag)) ≡ 0) ⌝ }
+    ensures { λ r. ⌜ _≡_ {A = Counting Opened} (record { leaves = record { number = numberOf (r .verdict); out = now (text .exit) }; calls = r .calls })
+        (openingCounted suite (now (key .entry)) (now (nonce .entry)) (now (ad .entry)) (now (text .entry)) (now (tag .entry)) (now (text .entry))) ⌝ }
+{
+    let lent = cipher::tables(suite);
+    unseal_with(&lent, suite, key, nonce, ad, text, tag)
+}
+
 // Opens text in its place, once every length is right. Only a suite whose engine is lent tables pays for them.
 fn unseal_taken(
     suite: u8,
@@ -211,8 +248,7 @@ fn unseal_taken(
         (openingCounted suite (now (key .entry)) (now (nonce .entry)) (now (ad .entry)) (now (text .entry)) (now (tag .entry)) (now (text .entry))) ⌝ }
 {
     if cipher::lends(suite) {
-        let lent = cipher::tables(suite);
-        return unseal_with(&lent, suite, key, nonce, ad, text, tag);
+        return unseal_lent(suite, key, nonce, ad, text, tag);
     }
     unseal_with(&[], suite, key, nonce, ad, text, tag)
 }
@@ -300,10 +336,14 @@ fn tag_under(lent: &[Lent], suite: u8, key: &[u8], nonce: &[u8], ad: &[u8], text
     ensures tag { λ r. ⌜ take (sizeOf suite) (wide r) ≡ tagOut (cipherOf suite) true (now (key .entry)) (now (nonce .entry)) (now (ad .entry)) (now (text .entry)) ⌝ }
     ensures rest { λ r. ⌜ Clean suite r ⌝ }
 {
-    let s = step::state::start(lent, suite, key, nonce);
-    let d = text::absorb_all(lent, false, suite, s, 0x08, 0x10, ad);
-    let t = text::absorb_all(lent, true, suite, d, 0x20, 0x40, text);
-    let l = step::tag::tag_of(lent, suite, t);
+    let mut s = step::state::start(lent, suite, key, nonce);
+    if ad.len() != 0 {
+        s = text::absorb_all(lent, false, suite, s, 0x08, 0x10, ad);
+    }
+    if text.len() != 0 {
+        s = text::absorb_all(lent, true, suite, s, 0x20, 0x40, text);
+    }
+    let l = step::tag::tag_of(lent, suite, s);
     l.tag
 }
 

@@ -4,6 +4,7 @@ use step::block::absorb_short;
 use step::block::crypt_short;
 use step::state::State;
 ghost use mathlib.Core.Path.{_≡_};
+ghost use Prim.Native.Nat.{_<_};
 ghost use lib.ListN.{length};
 ghost use Rattle.words.specs.Words.{add};
 ghost use Rattle.cipher.specs.Cipher.{Ready, IsSuite, sizeOf, cipherOf};
@@ -25,9 +26,6 @@ pub(crate) fn absorb_all(
     ensures state { λ r. ⌜ twoOf suite r ≡ walked (cipherOf suite) opening first short (twoOf suite s) (blocks (sizeOf suite) (now (b .entry))) ⌝ }
     ensures calls { λ r. ⌜ r .calls ≡ add 64 (s .calls) (length (blocks (sizeOf suite) (now (b .entry)))) ⌝ }
 {
-    if b.len() == 0 {
-        return s;
-    }
     let w = walk::absorb(lent, opening, suite, s, first, b);
     let t = w.s;
     let m = w.mark;
@@ -38,17 +36,14 @@ pub(crate) fn absorb_all(
     t
 }
 
-// All blocks of a text, a call each: what goes out takes its place.
+// All blocks of a text that is not empty, a call each: what goes out takes its place.
 pub(crate) fn crypt_all(lent: &[Lent], opening: bool, suite: u8, s: State, text: &mut [u8]) -> State
-    requires { ⌜ Ready suite (now lent) × IsSuite suite ⌝ }
+    requires { ⌜ Ready suite (now lent) × IsSuite suite × (0 < length (now text)) ⌝ }
     ensures text { λ _. ⌜ now (text .exit) ≡ covered (cipherOf suite) opening 0x20 0x40 (twoOf suite s) (blocks (sizeOf suite) (now (text .entry))) ⌝ }
     ensures state { λ r. ⌜ (twoOf suite r ≡ walked (cipherOf suite) opening 0x20 0x40 (twoOf suite s) (blocks (sizeOf suite) (now (text .entry))))
         × (r .calls ≡ add 64 (s .calls) (length (blocks (sizeOf suite) (now (text .entry))))) ⌝ }
 {
     let end = text.len();
-    if end == 0 {
-        return s;
-    }
     if end < cipher::size_of(suite) {
         return crypt_short(lent, opening, suite, s, 0x20 ^ 0x40, text);
     }

@@ -1,3 +1,4 @@
 mod Halves
 mod Byte15
+pub mod Held
 pub mod Outcomes

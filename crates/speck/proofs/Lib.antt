@@ -1,3 +1,4 @@
 pub mod Parts
+pub mod Onward
 pub mod Injective
 pub mod Outcomes

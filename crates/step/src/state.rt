@@ -24,7 +24,9 @@ pub fn start(lent: &[Lent], suite: u8, key: &[u8], nonce: &[u8]) -> State
     let k = words::block::sixteen(key);
     if cipher::size_of(suite) == 16 {
         let v = words::block::sixteen(nonce);
-        let z = cipher::encipher16(lent, suite, k, v);
+        // Made anew where it is lent: what a call is lent is stored where it was made, and a block of 8 bytes needs no store.
+        let key = Block { a: k.a, b: k.b };
+        let z = cipher::encipher16(lent, suite, key, v);
         return State {
             y: k,
             z: z,
@@ -49,7 +51,13 @@ pub(crate) fn image(lent: &[Lent], suite: u8, n: usize, key: Block, block: Block
     ensures rest { λ r. ⌜ Clean suite r ⌝ }
 {
     if n == 16 {
-        return cipher::encipher16(lent, suite, key, block);
+        // As in `start`.
+        let k = Block { a: key.a, b: key.b };
+        let b = Block {
+            a: block.a,
+            b: block.b,
+        };
+        return cipher::encipher16(lent, suite, k, b);
     }
     Block {
         a: cipher::encipher8(suite, key.a, key.b, block.a),

@@ -1,3 +1,4 @@
 pub mod Front
 pub mod Going
+mod Pairs
 pub mod Outcomes

@@ -8,14 +8,8 @@ use Rattle.comet.proofs.seal_taken.Tie as tie
 lends-requires : tie.Need-lends-requires
 lends-requires c κs = search needs
 
-tables-requires : tie.Need-tables-requires
-tables-requires c κs = sym (c .before .lends .ensures) ∙ c .if1 .taken
-
-slice-aggregate-seal-with : tie.Need-slice-aggregate-seal-with
-slice-aggregate-seal-with c = search needs
-
-seal-with-requires : tie.Need-seal-with-requires
-seal-with-requires c κs = (c .before .before .before .tables .ensures, c .before .before .before .before .before .before .before .before .before .before .before .pre)
+seal-lent-requires : tie.Need-seal-lent-requires
+seal-lent-requires c κs = (sym (c .before .before .before .lends .ensures) ∙ c .before .before .if1 .taken, c .before .before .before .before .before .before .before .before .before .pre)
 
 same-length : tie.Need-same-length
 same-length c = search needs
@@ -26,11 +20,11 @@ same-length-2 c = search needs
 returns : tie.Need-returns
 returns c = search needs
 
-slice-aggregate-seal-with-2 : tie.Need-slice-aggregate-seal-with-2
-slice-aggregate-seal-with-2 c = search needs
+slice-aggregate-seal-with : tie.Need-slice-aggregate-seal-with
+slice-aggregate-seal-with c = search needs
 
-seal-with-requires-2 : tie.Need-seal-with-requires-2
-seal-with-requires-2 c κs =
+seal-with-requires : tie.Need-seal-with-requires
+seal-with-requires c κs =
     let st = c .before .before .before .before .before .before .before .before .before .before in
     (none-ready (st .args .suite) (sym (c .before .before .before .before .lends .ensures) ∙ c .before .before .before .if1 .left), st .pre)
 
@@ -48,14 +42,12 @@ seal-taken-spec =
     tie.close
     (tie.spec
     lends-requires
-    tables-requires
-    slice-aggregate-seal-with
-    seal-with-requires
+    seal-lent-requires
     same-length
     same-length-2
     returns
-    slice-aggregate-seal-with-2
-    seal-with-requires-2
+    slice-aggregate-seal-with
+    seal-with-requires
     same-length-3
     same-length-4
     returns-2)

@@ -3,10 +3,9 @@ use denote.Ref.{now}
 use lib.ListN.{length, take}
 use mathlib.Core.Bool.{false}
 use mathlib.Core.Path.{refl, sym, ap, _∙_}
-use native.Mathlib.Omega.{arith}
 use Prim.Native.Nat.{ℕ}
 use Rattle.words.specs.Blocks.{wide}
-use Rattle.cipher.proofs.Suites.{size-most}
+use Rattle.cipher.proofs.Suites.{full-two}
 use Rattle.numbers.proofs.Refuse.{Passed, passed}
 use Rattle.comet.proofs.Left.{sealing-done}
 use Rattle.comet.proofs.Counts.{counting, calls-all}
@@ -25,10 +24,10 @@ crypt-requires c κs =
     let p = ok st in
     (st .pre .0, p .suite, p .key, p .nonce, p .extra, p .text)
 
-put-requires : tie.Need-put-requires
-put-requires c κs =
+put-whole-requires : tie.Need-put-whole-requires
+put-whole-requires c κs =
     let st = c .before .before .before .before .before .before .before .before .before .before .before in
-    omega (arith, ok st .tag, size-most (st .args .suite))
+    full-two (length (now (st .args .tag))) (st .args .suite) (ok st .tag)
 
 same-length : tie.Need-same-length
 same-length c = search needs
@@ -44,8 +43,8 @@ returns c =
     counting
     (sealing-done (x .suite) (now (x .key)) (now (x .nonce)) (now (x .ad)) (now (x .text)) (now (x .text)) (now (x .tag)) 0 (sym (st .pre .1))
     refl _ _ (t .ensures .0)
-    (c .before .before .put .ensures ∙ ap (λ (n : ℕ). take n (wide (t .result .tag))) (ok st .tag) ∙ t .ensures .1 .0))
+    (c .before .before .put-whole .ensures ∙ ap (λ (n : ℕ). take n (wide (t .result .tag))) (ok st .tag) ∙ t .ensures .1 .0))
     (t .ensures .1 .1 .1 ∙ calls-all false (x .suite) (now (x .key)) (now (x .nonce)) (now (x .ad)) (now (x .text)) _ _ 0 (sym (st .pre .1)) refl)
 
 pub seal-with-spec : {M : Type 1} → statement M
-seal-with-spec = tie.close (tie.spec crypt-requires put-requires same-length same-length-2 returns)
+seal-with-spec = tie.close (tie.spec crypt-requires put-whole-requires same-length same-length-2 returns)

@@ -8,14 +8,8 @@ use Rattle.comet.proofs.unseal_taken.Tie as tie
 lends-requires : tie.Need-lends-requires
 lends-requires c κs = search needs
 
-tables-requires : tie.Need-tables-requires
-tables-requires c κs = sym (c .before .lends .ensures) ∙ c .if1 .taken
-
-slice-aggregate-unseal-with : tie.Need-slice-aggregate-unseal-with
-slice-aggregate-unseal-with c = search needs
-
-unseal-with-requires : tie.Need-unseal-with-requires
-unseal-with-requires c κs = (c .before .before .tables .ensures, c .before .before .before .before .before .before .before .before .before .before .pre)
+unseal-lent-requires : tie.Need-unseal-lent-requires
+unseal-lent-requires c κs = (sym (c .before .before .lends .ensures) ∙ c .before .if1 .taken, c .before .before .before .before .before .before .before .before .pre)
 
 same-length : tie.Need-same-length
 same-length c = search needs
@@ -23,11 +17,11 @@ same-length c = search needs
 returns : tie.Need-returns
 returns c = search needs
 
-slice-aggregate-unseal-with-2 : tie.Need-slice-aggregate-unseal-with-2
-slice-aggregate-unseal-with-2 c = search needs
+slice-aggregate-unseal-with : tie.Need-slice-aggregate-unseal-with
+slice-aggregate-unseal-with c = search needs
 
-unseal-with-requires-2 : tie.Need-unseal-with-requires-2
-unseal-with-requires-2 c κs =
+unseal-with-requires : tie.Need-unseal-with-requires
+unseal-with-requires c κs =
     let st = c .before .before .before .before .before .before .before .before .before in
     (none-ready (st .args .suite) (sym (c .before .before .before .lends .ensures) ∙ c .before .before .if1 .left), st .pre)
 
@@ -42,12 +36,10 @@ unseal-taken-spec =
     tie.close
     (tie.spec
     lends-requires
-    tables-requires
-    slice-aggregate-unseal-with
-    unseal-with-requires
+    unseal-lent-requires
     same-length
     returns
-    slice-aggregate-unseal-with-2
-    unseal-with-requires-2
+    slice-aggregate-unseal-with
+    unseal-with-requires
     same-length-2
     returns-2)

@@ -2,7 +2,7 @@
 use borrow.Author.Needs.{needs}
 use denote.Ref.{now}
 use lib.ListN.{length}
-use mathlib.Core.Path.{_≡_, sym}
+use mathlib.Core.Path.{_≡_}
 use native.Mathlib.Omega.{arith}
 use Prim.Native.Nat.{_<_}
 use Rattle.words.specs.Words.{xor}
@@ -11,19 +11,10 @@ use Rattle.cipher.proofs.Lawful.{lawful}
 use Rattle.mode.specs.Walk.{rest}
 use Rattle.mode.proofs.Chain.{some}
 use Rattle.step.specs.Two.{twoOf}
-use Rattle.walk.proofs.Front.{left, left-long, left-short, walk-none}
-use Rattle.comet.proofs.Turns.{last-walk, none-walk, last-count, none-count, empty-count}
+use Rattle.walk.proofs.Front.{left, left-long, left-short}
+use Rattle.comet.proofs.Turns.{last-walk, none-walk, last-count, none-count}
 use Rattle.comet.proofs.text.absorb_all.Statement.{statement}
 use Rattle.comet.proofs.text.absorb_all.Tie as tie
-
-returns : tie.Need-returns
-returns c =
-    let a = c .before .before .args in
-    let n = sizeOf (a .suite) in
-    let pos = some (cipherOf (a .suite)) (lawful (a .suite)) in (
-      sym (walk-none (cipherOf (a .suite)) pos (a .opening) (a .short) (a .first) (twoOf (a .suite) (a .s)) (now (a .b)) (c .if1 .taken)),
-      empty-count n pos (now (a .b)) (a .s .calls) (c .if1 .taken) (omega arith),
-    )
 
 absorb-requires : tie.Need-absorb-requires
 absorb-requires c κs = search needs
@@ -39,35 +30,35 @@ part-absorb-short-end c = search needs
 
 absorb-short-requires : tie.Need-absorb-short-requires
 absorb-short-requires c κs =
-    let st = c .before .before .before .before .before .before in
+    let st = c .before .before .before .before .before in
     let w = c .before .before .before .absorb in
     let suite = st .args .suite in
     (st .pre .0, st .pre .1, left-short (sizeOf suite) (some (cipherOf suite) (lawful suite)) (now (st .args .b)) (w .result .at) (w .ensures .gone))
 
-returns-2 : tie.Need-returns-2
+returns : tie.Need-returns
 unfolding xor
-returns-2 c =
-    let a = c .before .before .before .before .before .before .before .args in
+returns c =
+    let a = c .before .before .before .before .before .before .args in
     let w = c .before .before .before .before .absorb in
     let n = sizeOf (a .suite) in
     let b = now (a .b) in
     let i = w .result .at in
     let pos = some (cipherOf (a .suite)) (lawful (a .suite)) in
-    let more : 0 < length (rest n b) = omega (arith, left-long n pos b i (w .ensures .gone), c .before .before .if2 .taken) in (
+    let more : 0 < length (rest n b) = omega (arith, left-long n pos b i (w .ensures .gone), c .before .before .if1 .taken) in (
       last-walk (cipherOf (a .suite)) pos (a .opening) (a .first) (a .short) (twoOf (a .suite) (a .s)) b (twoOf (a .suite) (w .result .s)) (w .result .mark) (w .ensures .two (a .short)) (w .ensures .next)
           _ (left n pos b i (w .ensures .gone)) more _ (c .absorb-short .ensures .two),
       last-count n pos b (w .result .s .calls) (a .s .calls) (w .ensures .made) more _ (c .absorb-short .ensures .made),
     )
 
-returns-3 : tie.Need-returns-3
-returns-3 c =
-    let a = c .before .before .before .before .before .args in
+returns-2 : tie.Need-returns-2
+returns-2 c =
+    let a = c .before .before .before .before .args in
     let w = c .before .before .absorb in
     let n = sizeOf (a .suite) in
     let b = now (a .b) in
     let i = w .result .at in
     let pos = some (cipherOf (a .suite)) (lawful (a .suite)) in
-    let none : length (rest n b) ≡ 0 = omega (arith, left-long n pos b i (w .ensures .gone), c .if2 .left) in (
+    let none : length (rest n b) ≡ 0 = omega (arith, left-long n pos b i (w .ensures .gone), c .if1 .left) in (
       none-walk (cipherOf (a .suite)) pos (a .opening) (a .first) (a .short) (twoOf (a .suite) (a .s)) b (twoOf (a .suite) (w .result .s)) (w .result .mark) (w .ensures .two (a .short)) (w .ensures .next) none,
       none-count n pos b (w .result .s .calls) (a .s .calls) (w .ensures .made) none,
     )
@@ -76,11 +67,10 @@ pub absorb-all-spec : {M : Type 1} → statement M
 absorb-all-spec =
     tie.close
     (tie.spec
-    returns
     absorb-requires
     sub-absorb-short
     part-absorb-short-start
     part-absorb-short-end
     absorb-short-requires
-    returns-2
-    returns-3)
+    returns
+    returns-2)

@@ -7,21 +7,20 @@ use mathlib.Core.Path.{_≡_, sym, ap, _∙_}
 use native.Mathlib.Omega.{arith}
 use Prim.Native.Nat.{ℕ, _-_, _<_}
 use Rattle.words.specs.Words.{xor}
-use Rattle.words.proofs.Lists.{nil-of}
 use Rattle.cipher.specs.Cipher.{Cipher, sizeOf, cipherOf}
 use Rattle.cipher.proofs.Lawful.{lawful}
 use Rattle.mode.specs.Walk.{States, rest}
 use Rattle.mode.proofs.Chain.{some}
 use Rattle.mode.proofs.Cut.{rest-less}
 use Rattle.step.specs.Two.{twoOf}
-use Rattle.walk.proofs.Front.{left-long, walk-none, cover-none, walk-short, cover-short}
-use Rattle.comet.proofs.Turns.{lent, last-walk, last-out, none-walk, none-out, last-count, none-count, empty-count, short-count}
+use Rattle.walk.proofs.Front.{left-long, walk-short, cover-short}
+use Rattle.comet.proofs.Turns.{lent, last-walk, last-out, none-walk, none-out, last-count, none-count, short-count}
 use Rattle.comet.proofs.text.crypt_all.Statement.{statement}
 use Rattle.comet.proofs.text.crypt_all.Tie as tie
 
 module _ (g : tie.After-crypt) where
   abbrev st : tie.Start
-  st = g .before .before .before .before .before .before
+  st = g .before .before .before .before .before
 
   abbrev κ : Cipher
   κ = cipherOf (st .args .suite)
@@ -53,38 +52,26 @@ module _ (g : tie.After-crypt) where
       let w = g .crypt .ensures .1 in
       lent κ pos (st .args .opening) 0x20 0x40 S l U (g .crypt .result .mark) (w .two 0x40) (w .next) o i (g .crypt .ensures .0 0x40) (g .crypt .kept .1 .1 .1 .1 .1 .0) (w .gone)
 
-returns : tie.Need-returns
-returns c =
-    let a = c .before .before .args in
-    let pos = some (cipherOf (a .suite)) (lawful (a .suite)) in
-    let l = now (a .text) in (
-      nil-of l (c .if1 .taken) ∙ sym (cover-none (cipherOf (a .suite)) pos (a .opening) 0x40 0x20 (twoOf (a .suite) (a .s)) l (c .if1 .taken)),
-      (
-        sym (walk-none (cipherOf (a .suite)) pos (a .opening) 0x40 0x20 (twoOf (a .suite) (a .s)) l (c .if1 .taken)),
-        empty-count (sizeOf (a .suite)) pos l (a .s .calls) (c .if1 .taken) (omega arith),
-      ),
-    )
-
 size-of-requires : tie.Need-size-of-requires
 size-of-requires c κs = search needs
 
 crypt-short-requires : tie.Need-crypt-short-requires
 crypt-short-requires c κs =
-    let st = c .before .before .before .before .before in
-    (st .pre .0, st .pre .1, omega (arith, c .before .if2 .taken, c .before .before .size-of .ensures .0))
+    let st = c .before .before .before .before in
+    (st .pre .0, st .pre .1, omega (arith, c .before .if1 .taken, c .before .before .size-of .ensures .0))
 
 same-length : tie.Need-same-length
 same-length c = search needs
 
-returns-2 : tie.Need-returns-2
+returns : tie.Need-returns
 unfolding xor
-returns-2 c =
-    let a = c .before .before .before .before .before .before .before .before .args in
+returns c =
+    let a = c .before .before .before .before .before .before .before .args in
     let pos = some (cipherOf (a .suite)) (lawful (a .suite)) in
     let l = now (a .text) in
     let call = c .before .before .crypt-short in
-    let more : 0 < length l = omega (arith, c .before .before .before .before .before .before .if1 .left) in
-    let less : length l < sizeOf (a .suite) = omega (arith, c .before .before .before .before .if2 .taken, c .before .before .before .before .before .size-of .ensures .0) in (
+    let more : 0 < length l = c .before .before .before .before .before .before .before .pre .2 in
+    let less : length l < sizeOf (a .suite) = omega (arith, c .before .before .before .before .if1 .taken, c .before .before .before .before .before .size-of .ensures .0) in (
       call .ensures .0 ∙ sym (cover-short (cipherOf (a .suite)) pos (a .opening) 0x40 0x20 (twoOf (a .suite) (a .s)) l more less),
       (
         call .ensures .1 .two ∙ sym (walk-short (cipherOf (a .suite)) pos (a .opening) 0x40 0x20 (twoOf (a .suite) (a .s)) l more less),
@@ -112,15 +99,15 @@ crypt-short-requires-2 c κs =
 same-length-2 : tie.Need-same-length-2
 same-length-2 c = search needs
 
-returns-3 : tie.Need-returns-3
+returns-2 : tie.Need-returns-2
 unfolding xor
-returns-3 c =
+returns-2 c =
     let g = c .before .before .before .before .before .before .before .before in
     let w = g .crypt .ensures .1 in
     let m = g .crypt .result .mark in
     let d = st g .args .opening in
     let call = c .before .before .crypt-short2 in
-    let more : 0 < length (rest (n g) (l g)) = omega (arith, left-long (n g) (pos g) (l g) (i g) (w .gone), c .before .before .before .before .if3 .taken) in (
+    let more : 0 < length (rest (n g) (l g)) = omega (arith, left-long (n g) (pos g) (l g) (i g) (w .gone), c .before .before .before .before .if2 .taken) in (
       last-out (κ g) (pos g) d 0x20 0x40 (S g) (l g) (U g) m (w .two 0x40) (w .next) (o g) (i g) (g .crypt .ensures .0 0x40) (g .crypt .kept .1 .1 .1 .1 .1 .0) (w .gone) more _ (call .ensures .0),
       (
         last-walk (κ g) (pos g) d 0x20 0x40 (S g) (l g) (U g) m (w .two 0x40) (w .next) _ (lent-is g) more _ (call .ensures .1 .two),
@@ -131,13 +118,13 @@ returns-3 c =
 same-length-3 : tie.Need-same-length-3
 same-length-3 c = search needs
 
-returns-4 : tie.Need-returns-4
-returns-4 c =
+returns-3 : tie.Need-returns-3
+returns-3 c =
     let g = c .before .before .before .before in
     let w = g .crypt .ensures .1 in
     let m = g .crypt .result .mark in
     let d = st g .args .opening in
-    let none : length (rest (n g) (l g)) ≡ 0 = omega (arith, left-long (n g) (pos g) (l g) (i g) (w .gone), c .if3 .left) in (
+    let none : length (rest (n g) (l g)) ≡ 0 = omega (arith, left-long (n g) (pos g) (l g) (i g) (w .gone), c .if2 .left) in (
       none-out (κ g) (pos g) d 0x20 0x40 (S g) (l g) (U g) m (w .two 0x40) (w .next) (o g) (i g) (g .crypt .ensures .0 0x40) (g .crypt .kept .1 .1 .1 .1 .1 .0) (w .gone) none,
       (
         none-walk (κ g) (pos g) d 0x20 0x40 (S g) (l g) (U g) m (w .two 0x40) (w .next) none,
@@ -149,17 +136,16 @@ pub crypt-all-spec : {M : Type 1} → statement M
 crypt-all-spec =
     tie.close
     (tie.spec
-    returns
     size-of-requires
     crypt-short-requires
     same-length
-    returns-2
+    returns
     crypt-requires
     sub-crypt-short
     part-crypt-short-start
     part-crypt-short-end
     crypt-short-requires-2
     same-length-2
-    returns-3
+    returns-2
     same-length-3
-    returns-4)
+    returns-3)
