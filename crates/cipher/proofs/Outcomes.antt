@@ -21,8 +21,6 @@ use Rattle.cipher.proofs.nonce_size.Kinds as nonce-size-kinds
 use Rattle.cipher.proofs.nonce_size.Reads as nonce-size-reads
 use Rattle.cipher.proofs.is_second.Kinds as is-second-kinds
 use Rattle.cipher.proofs.is_second.Reads as is-second-reads
-use Rattle.cipher.proofs.is_speck.Kinds as is-speck-kinds
-use Rattle.cipher.proofs.is_speck.Reads as is-speck-reads
 use Rattle.cipher.proofs.lends.Kinds as lends-kinds
 use Rattle.cipher.proofs.lends.Reads as lends-reads
 use Rattle.cipher.proofs.tables.Kinds as tables-kinds
@@ -56,9 +54,6 @@ nonce-size κs a h x y = (x .ensures ∙ sym (y .ensures), refl)
 
 pub is-second : OneOutcome is-second-kinds.ps is-second-kinds.r is-second-reads.Pre is-second-reads.Post
 is-second κs a h x y = (x .ensures ∙ sym (y .ensures), refl)
-
-pub is-speck : OneOutcome is-speck-kinds.ps is-speck-kinds.r is-speck-reads.Pre is-speck-reads.Post
-is-speck κs a h x y = (x .ensures ∙ sym (y .ensures), refl)
 
 pub lends : OneOutcome lends-kinds.ps lends-kinds.r lends-reads.Pre lends-reads.Post
 lends κs a h x y = (x .ensures ∙ sym (y .ensures), refl)

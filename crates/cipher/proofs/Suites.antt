@@ -6,13 +6,13 @@ use mathlib.Core.Logic.{_⊎_, inl, inr}
 use Prim.Native.Nat.{ℕ, _≤_, _<_}
 use native.Mathlib.Omega.{arith}
 use native.Mathlib.Decide.{decLe}
-use lib.Dec.{leb, ltb, eqb}
-use borrow.Author.Tests.{le-leb, lt-leb, le-ltb, lt-ltb, eqb-true, eq-eqb, ne-eqb, not-false}
+use lib.Dec.{leb, eqb}
+use borrow.Author.Tests.{le-leb, lt-leb, eqb-true, eq-eqb, ne-eqb, not-false}
 use Rattle.words.proofs.Tests.{both-true}
 use Rattle.fips197.specs.Cipher.{cipher}
 use Rattle.cham.specs.Cham.{cham}
 use Rattle.speck.specs.Speck.{speck}
-use Rattle.cipher.specs.Cipher.{Version, one, two, isTwo, BlockCipher, aes128, cham128, speck64, cham64, imageOf, isLent, isSpeck, Facts, facts, factsOf, sizeOf, nonceOf, engineOf, versionOf, lends, bySpeck, Ready, isSuite, IsSuite, retired, seals, Seals}
+use Rattle.cipher.specs.Cipher.{Version, one, two, isTwo, BlockCipher, aes128, cham128, speck64, cham64, imageOf, isLent, Facts, facts, factsOf, sizeOf, nonceOf, engineOf, versionOf, lends, Ready, isSuite, IsSuite, retired, seals, Seals}
 
 abbrev pub Engine : Type 0
 Engine = List ℕ → List ℕ → List ℕ
@@ -244,50 +244,6 @@ engine-3 s e n =
 pub engine-4 : (s : ℕ) → s ≡ 4 → engineOf s ≡ cham 16
 unfolding engineOf
 engine-4 s e = ap (λ (f : Facts). imageOf (f .engine)) (line-4 s e)
-
--- ---- Speck
-
-abbrev speckBy : Facts → Bool
-speckBy f = isSpeck (f .engine)
-
-pub speck-three : (s : ℕ) → s ≡ 3 → bySpeck s ≡ true
-unfolding bySpeck
-speck-three s e = ap speckBy (line-3 s e)
-
-pub speck-other : (s : ℕ) → (s ≡ 3 → ⊥) → bySpeck s ≡ ltb 5 s
-unfolding bySpeck
-speck-other s n =
-    elim (decLe s 1) [
-      | yes a ↦ ap speckBy (line-1 s a) ∙ sym (le-ltb 5 s (omega arith))
-      | no a ↦ elim (decLe s 2) [
-        | yes b ↦ ap speckBy (line-2 s (omega arith) b) ∙ sym (le-ltb 5 s (omega arith))
-        | no b ↦ elim (decLe s 4) [
-          | yes c ↦ ap speckBy (line-4 s (omega (arith, n))) ∙ sym (le-ltb 5 s (omega arith))
-          | no c ↦ elim (decLe s 5) [
-            | yes d ↦ ap speckBy (line-5 s (omega arith)) ∙ sym (le-ltb 5 s d)
-            | no d ↦ ap speckBy (line-6 s (omega arith)) ∙ sym (lt-ltb 5 s (omega arith))
-          ]
-        ]
-      ]
-    ]
-
-abbrev SpeckSize : Facts → Type 0
-SpeckSize f = isSpeck (f .engine) ≡ true → f .block ≡ 8
-
-pub speck-size : (s : ℕ) → bySpeck s ≡ true → sizeOf s ≡ 8
-unfolding bySpeck sizeOf
-speck-size =
-    each SpeckSize (λ e. absurd (false≢true e)) (λ e. absurd (false≢true e)) (λ e. refl) (λ e. refl) (λ e. absurd (false≢true e)) (λ e. refl)
-
-pub speck-engine : (s : ℕ) → bySpeck s ≡ true → engineOf s ≡ speck
-unfolding bySpeck engineOf
-speck-engine s = by (factsOf s .engine)
-  where
-    by : (c : BlockCipher) → isSpeck c ≡ true → imageOf c ≡ speck
-    by aes128 e = absurd (false≢true e)
-    by cham128 e = absurd (false≢true e)
-    by speck64 e = refl
-    by cham64 e = absurd (false≢true e)
 
 -- ---- what they are lent
 

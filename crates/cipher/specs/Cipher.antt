@@ -55,13 +55,6 @@ isLent cham128 = false
 isLent speck64 = false
 isLent cham64 = false
 
--- whether it is Speck, whose blocks are two words
-abbrev pub isSpeck : BlockCipher → Bool
-isSpeck aes128 = false
-isSpeck cham128 = false
-isSpeck speck64 = true
-isSpeck cham64 = false
-
 -- what a suite has: block, nonce and tag in bytes, its version of COMET, and its cipher
 pub record Facts : Type 0 where
   pub block : ℕ
@@ -141,10 +134,6 @@ isTwo two = true
 -- whether the suite's engine is lent anything
 unfoldable pub lends : ℕ → Bool
 lends s = isLent (factsOf s .engine)
-
--- whether the suite's cipher is Speck
-unfoldable pub bySpeck : ℕ → Bool
-bySpeck s = isSpeck (factsOf s .engine)
 
 abbrev pub Full : List (List (List ℕ)) → Type 0
 Full t = (length t ≡ 1) × IsTables (getD t 0 [])

@@ -10,7 +10,7 @@ ghost use Rattle.words.specs.Blocks.{wide};
 ghost use Rattle.fips197.specs.Cipher.{cipher};
 ghost use Rattle.cham.specs.Cham.{cham};
 ghost use Rattle.speck.specs.Speck.{speck};
-ghost use Rattle.cipher.specs.Cipher.{lends, Full, Ready, isSuite, IsSuite, isTwo, sizeOf, nonceOf, versionOf, cipherOf, seals, bySpeck};
+ghost use Rattle.cipher.specs.Cipher.{lends, Full, Ready, isSuite, IsSuite, isTwo, sizeOf, nonceOf, versionOf, cipherOf, seals};
 
 // The most bytes of associated data, and the most of a message.
 pub const LIMIT: usize = 65536;
@@ -58,16 +58,6 @@ pub fn is_second(suite: u8) -> bool
     ensures { λ r. ⌜ r ≡ isTwo (versionOf suite) ⌝ }
 {
     4 < suite
-}
-
-// Whether the suite's cipher is Speck.
-pub fn is_speck(suite: u8) -> bool
-    ensures { λ r. ⌜ r ≡ bySpeck suite ⌝ }
-{
-    if suite == 3 {
-        return true;
-    }
-    5 < suite
 }
 
 // What an engine is lent, made once a message: a slice of one, or of none where the suite's engine is lent nothing.

@@ -74,7 +74,7 @@ fn seal_with(
     }
 }
 
-// Seals text in its place under tables, which stand in a function of their own: no other suite's call has room for them.
+// Seals text in its place under tables: a function of its own, so that the way of the other suites copies no slice for it.
 fn seal_lent(
     suite: u8,
     key: &[u8],
@@ -217,7 +217,7 @@ fn unseal_with(
     }
 }
 
-// Opens text in its place under tables, which stand in a function of their own: no other suite's call has room for them.
+// Opens text in its place under tables: a function of its own, so that the way of the other suites copies no slice for it.
 fn unseal_lent(
     suite: u8,
     key: &[u8],

@@ -97,11 +97,11 @@ small k h = (omega arith, omega arith)
 pair-fits : (a h : ℕ) → a < 2 ^ 64 → h < 2 ^ 56 → a + 2 ^ 64 * h < 2 ^ 120
 pair-fits a h ha hh = omega arith
 
-pub wide-fits : (a b : ℕ) → a < 2 ^ 64 → b < 2 ^ 64 → b % 2 ^ 56 % 2 ^ 55 * 2 + a / 2 ^ 63 + b / 2 ^ 56 * 2 ^ 56 < 2 ^ 64
+wide-fits : (a b : ℕ) → a < 2 ^ 64 → b < 2 ^ 64 → b % 2 ^ 56 % 2 ^ 55 * 2 + a / 2 ^ 63 + b / 2 ^ 56 * 2 ^ 56 < 2 ^ 64
 wide-fits a b ha hb = sum-fits (b % 2 ^ 56 % 2 ^ 55 * 2 + a / 2 ^ 63) (b / 2 ^ 56) (upper-fits a (b % 2 ^ 56) ha (omega arith)) (omega arith)
 
 -- the low 120 bits doubled
-pub double-wide : (a b : ℕ) → a < 2 ^ 64 → b < 2 ^ 64
+double-wide : (a b : ℕ) → a < 2 ^ 64 → b < 2 ^ 64
     → bytes 8 (xor (a * 2 % 2 ^ 64) (b % 2 ^ 56 / 2 ^ 55 * 0x245)) ++ bytes 8 (b % 2 ^ 56 % 2 ^ 55 * 2 + a / 2 ^ 63 + b / 2 ^ 56 * 2 ^ 56)
     ≡ doubled two (bytes 8 a ++ bytes 8 b)
 unfolding onLow
@@ -131,3 +131,29 @@ double-wide a b ha hb =
     ∙ ap₂ (λ (y z : List ℕ). bytes 15 (double120 (value y)) ++ z) (take-at F (bytes 1 t) 15 lf) (drop-at F (bytes 1 t) 15 lf)
     ∙ ap (λ (y : ℕ). bytes 15 (double120 y) ++ bytes 1 t) vf
     ∙ ap (λ (y : List ℕ). y ++ bytes 1 t) eb)
+
+-- ---- the same as the code adds it up: what stands below the bit that drops out, twice
+
+bit-is : (b : ℕ) → b / 2 ^ 55 % 2 ≡ b % 2 ^ 56 / 2 ^ 55
+bit-is b = omega arith
+
+below-is : (b : ℕ) → b % 2 ^ 55 ≡ b % 2 ^ 56 % 2 ^ 55
+below-is b = omega arith
+
+top-is : (b : ℕ) → (b / 2 ^ 55 - b / 2 ^ 55 % 2) * 2 ^ 55 ≡ b / 2 ^ 56 * 2 ^ 56
+top-is b = omega arith
+
+twice : (l c t : ℕ) → l + c + (l + t) ≡ l * 2 + c + t
+twice l c t = omega arith
+
+upper-is : (a b : ℕ) → b % 2 ^ 55 + a / 2 ^ 63 + (b % 2 ^ 55 + (b / 2 ^ 55 - b / 2 ^ 55 % 2) * 2 ^ 55) ≡ b % 2 ^ 56 % 2 ^ 55 * 2 + a / 2 ^ 63 + b / 2 ^ 56 * 2 ^ 56
+upper-is a b =
+    twice (b % 2 ^ 55) (a / 2 ^ 63) ((b / 2 ^ 55 - b / 2 ^ 55 % 2) * 2 ^ 55) ∙ ap₂ (λ (l t : ℕ). l * 2 + a / 2 ^ 63 + t) (below-is b) (top-is b)
+
+pub twice-fits : (a b : ℕ) → a < 2 ^ 64 → b < 2 ^ 64 → b % 2 ^ 55 + a / 2 ^ 63 + (b % 2 ^ 55 + (b / 2 ^ 55 - b / 2 ^ 55 % 2) * 2 ^ 55) < 2 ^ 64
+twice-fits a b ha hb = rw (upper-is a b) (wide-fits a b ha hb)
+
+pub double-twice : (a b : ℕ) → a < 2 ^ 64 → b < 2 ^ 64
+    → bytes 8 (xor (a * 2 % 2 ^ 64) (b / 2 ^ 55 % 2 * 0x245)) ++ bytes 8 (b % 2 ^ 55 + a / 2 ^ 63 + (b % 2 ^ 55 + (b / 2 ^ 55 - b / 2 ^ 55 % 2) * 2 ^ 55))
+    ≡ doubled two (bytes 8 a ++ bytes 8 b)
+double-twice a b ha hb = ap₂ (λ (x y : ℕ). bytes 8 (xor (a * 2 % 2 ^ 64) (x * 0x245)) ++ bytes 8 y) (bit-is b) (upper-is a b) ∙ double-wide a b ha hb

@@ -1,4 +1,3 @@
 mod Halves
 mod Byte15
-pub mod Held
 pub mod Outcomes

@@ -1,6 +1,5 @@
 -- Every public function of `keys` leaves one outcome: the bytes of a block tell it.
 use mathlib.Core.Path.{_≡_, refl, sym, ap, _∙_}
-use Prim.Native.Nat.{ℕ, _/_, _^_}
 use native.Mathlib.Omega.{arith}
 use Rattle.words.specs.Outcome.{OneOutcome}
 use Rattle.words.specs.declared.block.Block.{Block}
@@ -9,16 +8,10 @@ use Rattle.words.proofs.Blocks.{wide-told}
 use Rattle.cipher.specs.Cipher.{versionOf}
 use Rattle.mode.specs.Walk.{keptBehind}
 use Rattle.keys.specs.declared.Keyed.{Keyed}
-use Rattle.keys.specs.declared.Holding.{Holding}
-use Rattle.keys.specs.declared.Passing.{Passing}
 use Rattle.keys.proofs.next_key.Kinds as next-key-kinds
 use Rattle.keys.proofs.next_key.Reads as next-key-reads
 use Rattle.keys.proofs.block_key.Kinds as block-key-kinds
 use Rattle.keys.proofs.block_key.Reads as block-key-reads
-use Rattle.keys.proofs.before.Kinds as before-kinds
-use Rattle.keys.proofs.before.Reads as before-reads
-use Rattle.keys.proofs.passing_key.Kinds as passing-key-kinds
-use Rattle.keys.proofs.passing_key.Reads as passing-key-reads
 
 pub next-key : OneOutcome next-key-kinds.ps next-key-kinds.r next-key-reads.Pre next-key-reads.Post
 next-key κs a h x y = (wide-told (x .result) (y .result) (omega arith) (omega arith) (omega arith) (omega arith) (x .ensures ∙ sym (y .ensures)), refl)
@@ -32,20 +25,3 @@ block-key κs a h x y =
     let k = wide-told (x .result .key) (y .result .key) (omega arith) (omega arith) (omega arith) (omega arith) (x .ensures .0 ∙ sym (y .ensures .0)) in
     let z = x .ensures .1 ∙ ap (λ (b : Block). keptBehind (versionOf (a .0)) (a .1 .1 .0) (wide b)) k ∙ sym (y .ensures .1) in
     (keyed-path k (wide-told (x .result .z) (y .result .z) (omega arith) (omega arith) (omega arith) (omega arith) z), refl)
-
-holding-path : {x y : Block} {u v : ℕ} → x ≡ y → u ≡ v → _≡_ {A = Holding} (record { z = x; held = u }) (record { z = y; held = v })
-holding-path p q = λ i. record { z = p i; held = q i }
-
-pub before : OneOutcome before-kinds.ps before-kinds.r before-reads.Pre before-reads.Post
-before κs a h x y =
-    let z = wide-told (x .result .z) (y .result .z) (omega arith) (omega arith) (omega arith) (omega arith) (x .ensures .0 ∙ sym (y .ensures .0)) in
-    (holding-path z (x .ensures .1 ∙ sym (y .ensures .1)), refl)
-
-passing-path : {x y u v : Block} {m n : ℕ} → x ≡ y → u ≡ v → m ≡ n → _≡_ {A = Passing} (record { key = x; z = u; held = m }) (record { key = y; z = v; held = n })
-passing-path p q r = λ i. record { key = p i; z = q i; held = r i }
-
-pub passing-key : OneOutcome passing-key-kinds.ps passing-key-kinds.r passing-key-reads.Pre passing-key-reads.Post
-passing-key κs a h x y =
-    let k = wide-told (x .result .key) (y .result .key) (omega arith) (omega arith) (omega arith) (omega arith) (x .ensures .0 ∙ sym (y .ensures .0)) in
-    let z = x .ensures .1 .0 ∙ ap (λ (b : Block). keptBehind (versionOf (a .0)) (a .1 .1 .0 / 2 ^ 56) (wide b)) k ∙ sym (y .ensures .1 .0) in
-    (passing-path k (wide-told (x .result .z) (y .result .z) (omega arith) (omega arith) (omega arith) (omega arith) z) (x .ensures .1 .1 ∙ sym (y .ensures .1 .1)), refl)

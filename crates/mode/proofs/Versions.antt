@@ -24,7 +24,7 @@ marked-twice : (a b : ℕ) (z : List ℕ) → marked b (marked a z) ≡ marked (
 unfolding marked
 marked-twice a b z = put-twice z 15 a b
 
-pub marked-none : (z : List ℕ) → marked 0 z ≡ z
+marked-none : (z : List ℕ) → marked 0 z ≡ z
 unfolding marked
 marked-none z = ap (set z 15) (zero-r (getD z 15 0)) ∙ set-getD z 15 0
 

@@ -15,9 +15,9 @@ use Rattle.speck.specs.Speck.{State, upper, lower, round, start, schedul
 use Rattle.speck.proofs.Parts.{same-state}
 
 -- both words are below 2 ^ 32
-pub record Small (x : State) : Type 0 where
-  pub hi : x .x1 < 2 ^ 32
-  pub lo : x .x0 < 2 ^ 32
+record Small (x : State) : Type 0 where
+  hi : x .x1 < 2 ^ 32
+  lo : x .x0 < 2 ^ 32
 
 state-small : (l : List ℕ) → AllBytes l → Small (stateOf l)
 state-small l h = record { hi = word-lt 4 l 4 h; lo = word-lt 4 l 0 h }
@@ -61,13 +61,13 @@ module _ (key : List ℕ) (hk : AllBytes key) where
       (rounds-small x sx i (omega arith)) (rounds-small y sy i (omega arith)) e)
 
 -- a state is known by its bytes
-pub bytes-tell : (x y : State) → Small x → Small y → bytesOf x ≡ bytesOf y → x ≡ y
+bytes-tell : (x y : State) → Small x → Small y → bytesOf x ≡ bytesOf y → x ≡ y
 bytes-tell x y sx sy e =
     let p = append-inj (bytes 4 (x .x0)) (bytes 4 (x .x1)) (bytes 4 (y .x0)) (bytes 4 (y .x1)) (length-bytes 4 (x .x0) ∙ sym (length-bytes 4 (y .x0))) e in
     same-state (bytes-inj 4 (sx .hi) (sy .hi) (p .1)) (bytes-inj 4 (sx .lo) (sy .lo) (p .0))
 
 -- and a block by its words
-pub whole : (l : List ℕ) → length l ≡ 8 → AllBytes l → bytesOf (stateOf l) ≡ l
+whole : (l : List ℕ) → length l ≡ 8 → AllBytes l → bytesOf (stateOf l) ≡ l
 whole l n h =
     ap₂ (λ (p q : List ℕ). p ++ q) (unpack 4 l 0 h (omega arith)) (unpack 4 l 4 h (omega arith)) ∙ two-takes 4 l n
 

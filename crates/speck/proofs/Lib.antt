@@ -1,4 +1,3 @@
 pub mod Parts
-pub mod Onward
 pub mod Injective
 pub mod Outcomes

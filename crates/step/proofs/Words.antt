@@ -79,15 +79,17 @@ high-fits x y p q = omega arith
 pub half-fits : (b t : ℕ) → b < 2 ^ 64 → t < 0x1_0000_0000 → b / 0x1_0000_0000 + 0x1_0000_0000 * t < 2 ^ 64
 half-fits b t h k = high-fits (b / 0x1_0000_0000) t (omega arith) k
 
-pub quarter-fits : (a t : ℕ) → a < 2 ^ 64 → t < 0x1_0000 → a / 0x1_0000_0000 / 0x1_0000 + 0x1_0000 * t < 2 ^ 64
-quarter-fits a t h k =
-    let p : a / 0x1_0000_0000 / 0x1_0000 + 0x1_0000 * t < 0x1_0000_0000 = low-fits (a / 0x1_0000_0000) t (omega arith) k in
-    omega (arith, p)
+pub quarter-fits : (a : ℕ) → a < 2 ^ 64 → a / 0x1_0000_0000 / 0x1_0000 + 0x1_0000_0000 * (a % 0x1_0000_0000) < 2 ^ 64
+quarter-fits a h = high-fits (a / 0x1_0000_0000 / 0x1_0000) (a % 0x1_0000_0000) (omega arith) (omega arith)
 
-pub join-fits : (a t : ℕ) → a < 2 ^ 64 → t < 0x1_0000 → a / 0x1_0000_0000 / 0x1_0000 + 0x1_0000 * t + 0x1_0000_0000 * (a % 0x1_0000_0000) < 2 ^ 64
+-- the halves added first, and the rotated word last
+pub last-added : (a t : ℕ) → a / 0x1_0000_0000 / 0x1_0000 + 0x1_0000_0000 * (a % 0x1_0000_0000) + 0x1_0000 * t ≡ a / 0x1_0000_0000 / 0x1_0000 + 0x1_0000 * t + 0x1_0000_0000 * (a % 0x1_0000_0000)
+last-added a t = omega arith
+
+pub join-fits : (a t : ℕ) → a < 2 ^ 64 → t < 0x1_0000 → a / 0x1_0000_0000 / 0x1_0000 + 0x1_0000_0000 * (a % 0x1_0000_0000) + 0x1_0000 * t < 2 ^ 64
 join-fits a t h k =
     let p : a / 0x1_0000_0000 / 0x1_0000 + 0x1_0000 * t < 0x1_0000_0000 = low-fits (a / 0x1_0000_0000) t (omega arith) k in
-    high-fits (a / 0x1_0000_0000 / 0x1_0000 + 0x1_0000 * t) (a % 0x1_0000_0000) p (omega arith)
+    rw (last-added a t) (high-fits (a / 0x1_0000_0000 / 0x1_0000 + 0x1_0000 * t) (a % 0x1_0000_0000) p (omega arith))
 
 -- ---- padding
 

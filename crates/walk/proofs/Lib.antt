@@ -1,4 +1,3 @@
 pub mod Front
 pub mod Going
-mod Pairs
 pub mod Outcomes

@@ -1,10 +1,5 @@
-// The whole blocks of a text, one step each, by loops that test no block's length: what the one-call sealer, the opener and the sessions have in common. The direction stands in each loop as a literal, and nobody else calls the full block's steps, so the compiler puts them into the loops. The suites over Speck have loops of their own, on words (crate pairs), which put the first block's mark in before them and count the calls behind them.
+// The whole blocks of a text, one step each, by loops that test no block's length: what the one-call sealer, the opener and the sessions have in common. The direction stands in each loop as a literal, and nobody else calls the full block's steps, so the compiler puts them into the loops.
 use cipher::Lent;
-use pairs::Halves;
-use pairs::absorb_pair;
-use pairs::open_pair;
-use pairs::seal_pair;
-use pairs::verify_pair;
 use step::block::absorb_full;
 use step::block::open_full;
 use step::block::seal_full;
@@ -13,12 +8,10 @@ use step::state::State;
 ghost use mathlib.Core.Path.{_≡_};
 ghost use mathlib.Core.Bool.{true, false};
 ghost use mathlib.Core.List.{_++_};
-ghost use Prim.Native.Nat.{ℕ, _-_, _/_, _%_};
-ghost use Rattle.words.specs.Words.{add};
-ghost use Rattle.cipher.specs.Cipher.{Ready, IsSuite, sizeOf, cipherOf, bySpeck};
+ghost use Prim.Native.Nat.{ℕ};
+ghost use Rattle.cipher.specs.Cipher.{Ready, IsSuite, sizeOf, cipherOf};
 ghost use Rattle.mode.specs.Walk.{rest, covered};
-ghost use Rattle.step.specs.Two.{twoOf, Holds};
-ghost use Rattle.pairs.specs.Halves.{twoHalves};
+ghost use Rattle.step.specs.Two.{twoOf};
 ghost use Rattle.walk.specs.Behind.{wholes, Passed};
 
 // What stands behind the whole blocks: the state, the mark that the next block takes as the first, and how many bytes have gone in.
@@ -88,63 +81,6 @@ fn verify_blocks(lent: &[Lent], suite: u8, s: State, m: u8, b: &[u8]) -> Behind
     }
 }
 
-// What stands behind the blocks of a text of `end` bytes, from so many cipher calls on: the count is made once, and not in the loop.
-fn after(t: Halves, calls: u64, end: usize) -> Behind
-    ensures s { λ r. ⌜ ((suite : ℕ) → sizeOf suite ≡ 8 → Holds suite (r .s) (twoHalves t) (add 64 calls (end / 8))) ⌝ }
-    ensures rest { λ r. ⌜ (r .mark ≡ 0) × (r .at ≡ end - end % 8) ⌝ }
-{
-    let s = pairs::state_of(t, std::num::wrapping_add_u64(calls, (end / 8) as u64));
-    Behind {
-        s: s,
-        mark: 0,
-        at: end - end % 8,
-    }
-}
-
-// Blocks of associated data under Speck.
-fn absorb_pairs(suite: u8, s: State, m: u8, b: &[u8]) -> Behind
-    requires { ⌜ bySpeck suite ≡ true ⌝ }
-    ensures { λ r. ⌜ Passed suite false m s (now (b .entry)) r ⌝ }
-{
-    let end = b.len();
-    if end < 8 {
-        return Behind {
-            s: s,
-            mark: m,
-            at: 0,
-        };
-    }
-    let mut t = pairs::halves_of(suite, s, m);
-    let mut e: usize = 8;
-    while e <= end {
-        t = absorb_pair(suite, t, &b[e - 8..e]);
-        e += 8;
-    }
-    after(t, s.calls, end)
-}
-
-// Blocks of ciphertext under Speck, whose message goes in.
-fn verify_pairs(suite: u8, s: State, m: u8, b: &[u8]) -> Behind
-    requires { ⌜ bySpeck suite ≡ true ⌝ }
-    ensures { λ r. ⌜ Passed suite true m s (now (b .entry)) r ⌝ }
-{
-    let end = b.len();
-    if end < 8 {
-        return Behind {
-            s: s,
-            mark: m,
-            at: 0,
-        };
-    }
-    let mut t = pairs::halves_of(suite, s, m);
-    let mut e: usize = 8;
-    while e <= end {
-        t = verify_pair(suite, t, &b[e - 8..e]);
-        e += 8;
-    }
-    after(t, s.calls, end)
-}
-
 // The whole blocks go in, the first under the mark, and nothing is written: of associated data as they are, of ciphertext that is opened the message's.
 pub fn absorb(
     lent: &[Lent],
@@ -157,12 +93,6 @@ pub fn absorb(
     requires { ⌜ Ready suite (now lent) × IsSuite suite ⌝ }
     ensures { λ r. ⌜ Passed suite opening mark state (now (bytes .entry)) r ⌝ }
 {
-    if cipher::is_speck(suite) {
-        if opening {
-            return verify_pairs(suite, state, mark, bytes);
-        }
-        return absorb_pairs(suite, state, mark, bytes);
-    }
     if opening {
         return verify_blocks(lent, suite, state, mark, bytes);
     }
@@ -231,52 +161,6 @@ fn open_blocks(lent: &[Lent], suite: u8, s: State, m: u8, text: &mut [u8]) -> Be
     }
 }
 
-// Blocks of a message under Speck, sealed.
-fn seal_pairs(suite: u8, s: State, m: u8, text: &mut [u8]) -> Behind
-    requires { ⌜ bySpeck suite ≡ true ⌝ }
-    ensures text { λ _. ⌜ ((short : ℕ) → now (text .exit) ≡ covered (cipherOf suite) false m short (twoOf suite s) (wholes (sizeOf suite) (now (text .entry))) ++ rest (sizeOf suite) (now (text .entry))) ⌝ }
-    ensures state { λ r. ⌜ Passed suite false m s (now (text .entry)) r ⌝ }
-{
-    let end = text.len();
-    if end < 8 {
-        return Behind {
-            s: s,
-            mark: m,
-            at: 0,
-        };
-    }
-    let mut t = pairs::halves_of(suite, s, m);
-    let mut e: usize = 8;
-    while e <= end {
-        t = seal_pair(suite, t, &mut text[e - 8..e]);
-        e += 8;
-    }
-    after(t, s.calls, end)
-}
-
-// Blocks of ciphertext under Speck, opened.
-fn open_pairs(suite: u8, s: State, m: u8, text: &mut [u8]) -> Behind
-    requires { ⌜ bySpeck suite ≡ true ⌝ }
-    ensures text { λ _. ⌜ ((short : ℕ) → now (text .exit) ≡ covered (cipherOf suite) true m short (twoOf suite s) (wholes (sizeOf suite) (now (text .entry))) ++ rest (sizeOf suite) (now (text .entry))) ⌝ }
-    ensures state { λ r. ⌜ Passed suite true m s (now (text .entry)) r ⌝ }
-{
-    let end = text.len();
-    if end < 8 {
-        return Behind {
-            s: s,
-            mark: m,
-            at: 0,
-        };
-    }
-    let mut t = pairs::halves_of(suite, s, m);
-    let mut e: usize = 8;
-    while e <= end {
-        t = open_pair(suite, t, &mut text[e - 8..e]);
-        e += 8;
-    }
-    after(t, s.calls, end)
-}
-
 // The whole blocks of a text go in, the first under the mark, and what goes out for them takes their place; what lies behind them stays.
 pub fn crypt(
     lent: &[Lent],
@@ -290,12 +174,6 @@ pub fn crypt(
     ensures text { λ _. ⌜ ((short : ℕ) → now (text .exit) ≡ covered (cipherOf suite) opening mark short (twoOf suite state) (wholes (sizeOf suite) (now (text .entry))) ++ rest (sizeOf suite) (now (text .entry))) ⌝ }
     ensures state { λ r. ⌜ Passed suite opening mark state (now (text .entry)) r ⌝ }
 {
-    if cipher::is_speck(suite) {
-        if opening {
-            return open_pairs(suite, state, mark, text);
-        }
-        return seal_pairs(suite, state, mark, text);
-    }
     if opening {
         return open_blocks(lent, suite, state, mark, text);
     }
