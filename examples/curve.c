@@ -35,12 +35,14 @@ int main(void) {
     static const uint8_t ad[5] = {7, 0, 0, 0, 1}; /* job 7, newton-metres */
     uint8_t curve[CURVE], text[CURVE + BLOCK], tag[BLOCK];
     size_t sealed = 0; /* bytes of ciphertext so far */
+    comet_session session;
+    uint32_t count;
 
-    comet_step step = comet_session_start(SUITE, key, sizeof key, nonce, sizeof nonce);
-    if (step.number != 0) return refused("starting", step.number);
-    step = comet_session_data(step.next, ad, 4); /* the job, and then the unit */
-    if (step.number == 0) step = comet_session_data(step.next, ad + 4, 1);
-    if (step.number != 0) return refused("the associated data", step.number);
+    uint32_t number = comet_session_start(&session, SUITE, key, sizeof key, nonce, sizeof nonce);
+    if (number != 0) return refused("starting", number);
+    number = comet_session_data(&session, ad, 4); /* the job, and then the unit */
+    if (number == 0) number = comet_session_data(&session, ad + 4, 1);
+    if (number != 0) return refused("the associated data", number);
 
     for (int i = 0; i < VALUES; i += AT_ONCE) {
         int some = VALUES - i < AT_ONCE ? VALUES - i : AT_ONCE;
@@ -48,22 +50,20 @@ int main(void) {
             curve[2 * j] = (uint8_t)measured(j);
             curve[2 * j + 1] = (uint8_t)(measured(j) >> 8);
         }
-        step = comet_session_part(step.next, curve + 2 * i, 2 * (size_t)some, text + sealed, sizeof text - sealed);
-        if (step.number != 0) return refused("a part of the curve", step.number);
-        sealed += step.count;
+        number = comet_session_part(&session, curve + 2 * i, 2 * (size_t)some, text + sealed, sizeof text - sealed, &count);
+        if (number != 0) return refused("a part of the curve", number);
+        sealed += count;
     }
-    comet_session last = step.next;
-    step = comet_session_end(last, text + sealed, BLOCK - 1, tag, sizeof tag);
-    printf("ending with too little room gives %u\n", step.number);
-    step = comet_session_end(step.next, text + sealed, sizeof text - sealed, tag, sizeof tag);
-    if (step.number != 0) return refused("ending", step.number);
-    sealed += step.count;
-    printf("sealed %zu bytes while measuring; the end gave the last %zu\n", sealed, step.count);
-    step = comet_session_part(step.next, curve, 2, text, sizeof text);
-    printf("a part behind the end gives %u\n", step.number);
+    number = comet_session_end(&session, text + sealed, BLOCK - 1, tag, sizeof tag, &count);
+    printf("ending with too little room gives %u\n", number);
+    number = comet_session_end(&session, text + sealed, sizeof text - sealed, tag, sizeof tag, &count);
+    if (number != 0) return refused("ending", number);
+    sealed += count;
+    printf("sealed %zu bytes while measuring; the end gave the last %u\n", sealed, count);
+    number = comet_session_part(&session, curve, 2, text, sizeof text, &count);
+    printf("a part behind the end gives %u\n", number);
 
-    uint32_t number = comet_verify(SUITE, key, sizeof key, nonce, sizeof nonce, ad, sizeof ad,
-                                   text, sealed, tag, sizeof tag);
+    number = comet_verify(SUITE, key, sizeof key, nonce, sizeof nonce, ad, sizeof ad, text, sealed, tag, sizeof tag);
     printf("verifying gives %u\n", number);
     number = comet_open_in_place(SUITE, key, sizeof key, nonce, sizeof nonce, ad, sizeof ad,
                                  text, sealed, tag, sizeof tag);

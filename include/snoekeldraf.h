@@ -4,9 +4,12 @@
  * What the caller owes, since nothing in C checks it:
  *   - a pointer to bytes has the length that stands beside it, and leads to that many bytes, for the whole call;
  *     where the length is 0 nothing is read or written through the pointer;
- *   - what is written (out, text of the functions in place, tag of the sealer, row, places and lengths) overlaps nothing
- *     else that is passed: a record is sealed or opened in place by comet_seal_in_place and comet_open_in_place alone;
+ *   - what is written (out, text of the functions in place, tag of the sealer, session, count, row, places and lengths)
+ *     overlaps nothing else that is passed: a record is sealed or opened in place by comet_seal_in_place and
+ *     comet_open_in_place alone;
+ *   - a pointer to a session or a number is not null, and is aligned for it;
  *   - suite is one byte, and C cuts a larger number to its lowest eight bits before the call: 257 would be suite 1.
+ * A length has 64 bits on every processor, also where size_t has 32.
  * The functions keep nothing from one call to the next, need no memory but the stack, and call memcpy and memset alone.
  * Nothing is promised of the time that a call takes.
  * Stack of a call with all that it calls, in bytes, measured on the archive for x86-64 and no promise; 4 KiB of the larger
@@ -34,7 +37,6 @@
 #ifndef SNOEKELDRAF_H
 #define SNOEKELDRAF_H
 
-#include <stddef.h>
 #include <stdint.h>
 
 #ifdef __cplusplus
@@ -58,98 +60,88 @@ extern "C" {
  * After 0, out is the ciphertext and tag the tag, both written whole; after 1 to 7 and 10, out and tag are as they were.
  */
 uint32_t comet_seal(uint8_t suite,
-                    const uint8_t *key, size_t key_len,
-                    const uint8_t *nonce, size_t nonce_len,
-                    const uint8_t *ad, size_t ad_len,
-                    const uint8_t *msg, size_t msg_len,
-                    uint8_t *out, size_t out_len,
-                    uint8_t *tag, size_t tag_len);
+                    const uint8_t *key, uint64_t key_len,
+                    const uint8_t *nonce, uint64_t nonce_len,
+                    const uint8_t *ad, uint64_t ad_len,
+                    const uint8_t *msg, uint64_t msg_len,
+                    uint8_t *out, uint64_t out_len,
+                    uint8_t *tag, uint64_t tag_len);
 
 /* Opens the ciphertext text with the associated data ad, if tag is its tag.
  * After 0, out is the message, written whole; after 1 to 7, out is as it was; after 8, every byte of out is 0.
  */
 uint32_t comet_open(uint8_t suite,
-                    const uint8_t *key, size_t key_len,
-                    const uint8_t *nonce, size_t nonce_len,
-                    const uint8_t *ad, size_t ad_len,
-                    const uint8_t *text, size_t text_len,
-                    const uint8_t *tag, size_t tag_len,
-                    uint8_t *out, size_t out_len);
+                    const uint8_t *key, uint64_t key_len,
+                    const uint8_t *nonce, uint64_t nonce_len,
+                    const uint8_t *ad, uint64_t ad_len,
+                    const uint8_t *text, uint64_t text_len,
+                    const uint8_t *tag, uint64_t tag_len,
+                    uint8_t *out, uint64_t out_len);
 
 /* Seals text in its place: as comet_seal with text for the message and for its output.
  * After 0, text is the ciphertext and tag the tag, both written whole; after any other number, text and tag are as they were.
  */
 uint32_t comet_seal_in_place(uint8_t suite,
-                             const uint8_t *key, size_t key_len,
-                             const uint8_t *nonce, size_t nonce_len,
-                             const uint8_t *ad, size_t ad_len,
-                             uint8_t *text, size_t text_len,
-                             uint8_t *tag, size_t tag_len);
+                             const uint8_t *key, uint64_t key_len,
+                             const uint8_t *nonce, uint64_t nonce_len,
+                             const uint8_t *ad, uint64_t ad_len,
+                             uint8_t *text, uint64_t text_len,
+                             uint8_t *tag, uint64_t tag_len);
 
 /* Opens text in its place, if tag is its tag: as comet_open with text for the ciphertext and for its output.
  * After 0, text is the message; after 1 to 5 and 7, it is as it was; after 8, every byte of it is 0.
  */
 uint32_t comet_open_in_place(uint8_t suite,
-                             const uint8_t *key, size_t key_len,
-                             const uint8_t *nonce, size_t nonce_len,
-                             const uint8_t *ad, size_t ad_len,
-                             uint8_t *text, size_t text_len,
-                             const uint8_t *tag, size_t tag_len);
+                             const uint8_t *key, uint64_t key_len,
+                             const uint8_t *nonce, uint64_t nonce_len,
+                             const uint8_t *ad, uint64_t ad_len,
+                             uint8_t *text, uint64_t text_len,
+                             const uint8_t *tag, uint64_t tag_len);
 
 /* Whether the record is genuine: the number that comet_open gives with an output of text_len bytes, 0 or 1 to 5, 7, 8.
  * No message is written anywhere.
  */
 uint32_t comet_verify(uint8_t suite,
-                      const uint8_t *key, size_t key_len,
-                      const uint8_t *nonce, size_t nonce_len,
-                      const uint8_t *ad, size_t ad_len,
-                      const uint8_t *text, size_t text_len,
-                      const uint8_t *tag, size_t tag_len);
+                      const uint8_t *key, uint64_t key_len,
+                      const uint8_t *nonce, uint64_t nonce_len,
+                      const uint8_t *ad, uint64_t ad_len,
+                      const uint8_t *text, uint64_t text_len,
+                      const uint8_t *tag, uint64_t tag_len);
 
 /* As comet_seal and comet_open, and *calls is how many block cipher calls were made; it is written always.
  * With a and m the block counts of associated data and text (16 bytes a block for suites 1, 2 and 5, else 8; the last may
  * be short, and no bytes are no block) it is a + m + 2 after 0 and after 8, and 0 after 1 to 7 and 10.
  */
 uint32_t comet_seal_counted(uint8_t suite,
-                            const uint8_t *key, size_t key_len,
-                            const uint8_t *nonce, size_t nonce_len,
-                            const uint8_t *ad, size_t ad_len,
-                            const uint8_t *msg, size_t msg_len,
-                            uint8_t *out, size_t out_len,
-                            uint8_t *tag, size_t tag_len,
+                            const uint8_t *key, uint64_t key_len,
+                            const uint8_t *nonce, uint64_t nonce_len,
+                            const uint8_t *ad, uint64_t ad_len,
+                            const uint8_t *msg, uint64_t msg_len,
+                            uint8_t *out, uint64_t out_len,
+                            uint8_t *tag, uint64_t tag_len,
                             uint64_t *calls);
 
 uint32_t comet_open_counted(uint8_t suite,
-                            const uint8_t *key, size_t key_len,
-                            const uint8_t *nonce, size_t nonce_len,
-                            const uint8_t *ad, size_t ad_len,
-                            const uint8_t *text, size_t text_len,
-                            const uint8_t *tag, size_t tag_len,
-                            uint8_t *out, size_t out_len,
+                            const uint8_t *key, uint64_t key_len,
+                            const uint8_t *nonce, uint64_t nonce_len,
+                            const uint8_t *ad, uint64_t ad_len,
+                            const uint8_t *text, uint64_t text_len,
+                            const uint8_t *tag, uint64_t tag_len,
+                            uint8_t *out, uint64_t out_len,
                             uint64_t *calls);
 
 /* Sealing in parts: a session seals a record while its message is still being measured, and comet_open opens it.
  *
- * A session is a plain struct that goes in and comes back by value: each call hands back a step, and its session `next`
- * takes the place of the one that was given. The fields are for the functions alone, and hold what the key makes: keep
- * them as secret as the key. Any value may arrive: one whose suite seals no record (is not 1 to 6, or is 4) or whose
- * totals are over 65,536 (as a session that was refused at the start, or has ended) is answered by 9; any other is taken
- * as what it says. Going on from one session value twice, with different messages, is sealing two records with one key and
- * one nonce.
+ * The caller owns the session, nine 64-bit words, and passes a pointer to it. Each call reads the words and overwrites
+ * them with the next session. They hold key material: keep them as secret as the key, and call comet_session_wipe on a
+ * session that is abandoned. Never copy them: continuing two copies with different messages seals two records with one
+ * key and one nonce.
+ * The functions accept any nine words. Words that are no session in progress get number 9: nine zeros, a suite that seals
+ * no record (not 1 to 6, or 4), or a total over 65,536. All other words are taken as what they say.
  */
 typedef struct {
-    uint8_t suite;
-    uint64_t y0, y1, z0, z1;
-    uint8_t held[16];  /* bytes that are in no whole block yet */
-    size_t ad_total;   /* bytes of associated data so far */
-    size_t text_total; /* bytes of message so far */
+    uint64_t word[9]; /* 0 suite; 1, 2 Y; 3, 4 Z; 5, 6 bytes in no whole block yet; 7, 8 totals of ad and message */
 } comet_session;
-
-typedef struct {
-    comet_session next;
-    uint32_t number;
-    size_t count; /* how many bytes were written, at out's start */
-} comet_step;
 
 /* Numbers of a session: the first that applies, in the order that stands with each function.
  *   0  done
@@ -161,35 +153,41 @@ typedef struct {
  *   5  more than 65,536 bytes of message in all
  *   6  out_len is too small
  *   7  tag_len is not the suite's
- *   9  the session was refused or has ended; for comet_session_data also: a byte of the message has come
- * After any number but 0, next is the session that was given (after a refused start: one that answers 9 to every call),
- * count is 0, and out and tag are as they were: the call may be made again.
+ *   9  the session was refused, has ended or was wiped; for comet_session_data also: a byte of the message has come
+ * After any number but 0, session, out and tag are as they were (after a refused start, session is nine zeros), and the
+ * call may be made again. *count is written always: how many bytes stand at out's start, 0 after every number but 0.
  */
 
-/* Starts a session: 1, 10, 2, 3. */
-comet_step comet_session_start(uint8_t suite,
-                               const uint8_t *key, size_t key_len,
-                               const uint8_t *nonce, size_t nonce_len);
+/* Starts a session: 1, 10, 2, 3. What session held before does not matter. */
+uint32_t comet_session_start(comet_session *session,
+                             uint8_t suite,
+                             const uint8_t *key, uint64_t key_len,
+                             const uint8_t *nonce, uint64_t nonce_len);
 
 /* Brings a part of the associated data, of any length, as long as no byte of the message has come: 9, 4. */
-comet_step comet_session_data(comet_session session, const uint8_t *ad, size_t ad_len);
+uint32_t comet_session_data(comet_session *session, const uint8_t *ad, uint64_t ad_len);
 
 /* Brings a part of the message, of any length: 9, 5, 6. out needs room for the part and one block less a byte
  * (msg_len + 15 or msg_len + 7). After 0 the ciphertext of the blocks that the part completes stands at out's start,
- * count bytes of it; the bytes behind it are as they were. An empty part changes nothing and does not begin the message.
+ * *count bytes of it; the bytes behind it are as they were. An empty part changes nothing and does not begin the message.
  */
-comet_step comet_session_part(comet_session session,
-                              const uint8_t *msg, size_t msg_len,
-                              uint8_t *out, size_t out_len);
+uint32_t comet_session_part(comet_session *session,
+                            const uint8_t *msg, uint64_t msg_len,
+                            uint8_t *out, uint64_t out_len,
+                            uint32_t *count);
 
 /* Ends: 9, 6, 7. out needs room for one block (16 or 8 bytes). After 0 the rest of the ciphertext stands at out's start,
- * count bytes of it, less than a block; the bytes behind it are as they were; tag is the tag, written whole; next answers
- * 9 to every call. The counted bytes of all calls, joined, are the ciphertext that comet_seal gives for the joined
- * associated data and message, and the tag is its tag.
+ * *count bytes of it, less than a block; the bytes behind it are as they were; tag is the tag, written whole; session is
+ * nine zeros. The counted bytes of all calls, joined, are the ciphertext that comet_seal gives for the joined associated
+ * data and message, and the tag is its tag.
  */
-comet_step comet_session_end(comet_session session,
-                             uint8_t *out, size_t out_len,
-                             uint8_t *tag, size_t tag_len);
+uint32_t comet_session_end(comet_session *session,
+                           uint8_t *out, uint64_t out_len,
+                           uint8_t *tag, uint64_t tag_len,
+                           uint32_t *count);
+
+/* Wipes a session: session is nine zeros. */
+void comet_session_wipe(comet_session *session);
 
 /* Numbers of the shift file and its tools. The check gives 20 to 24 first, then for each row from row 0 the numbers 25, 26,
  * 27, 28, 34, 29 and 30 in this order, then 31. Which others a function gives, and in which order, stands with it. A number
@@ -219,25 +217,25 @@ comet_step comet_session_end(comet_session session,
  */
 
 /* The full check. *row is written always: the row, counted from 0, after 25 to 30 and 34, and 0 after every other number. */
-uint32_t shift_check(const uint8_t *file, size_t file_len, uint32_t *row);
+uint32_t shift_check(const uint8_t *file, uint64_t file_len, uint32_t *row);
 
 /* The full check, and then the row that has the job.
  * *row is written always: the row found after 0, the row at fault after 25 to 30 and 34, and 0 after every other number.
  */
-uint32_t shift_lookup(const uint8_t *file, size_t file_len, uint32_t job, uint32_t *row);
+uint32_t shift_lookup(const uint8_t *file, uint64_t file_len, uint32_t job, uint32_t *row);
 
 /* The lookup, with its number, and then where the job's associated data lies: *len bytes from file + *at.
  * They are not yet shown to be genuine: shift_open_job compares the tag. *at and *len are written always: 0 and 0 after
  * every number but 0.
  */
-uint32_t shift_associated(const uint8_t *file, size_t file_len, uint32_t job, uint32_t *at, uint32_t *len);
+uint32_t shift_associated(const uint8_t *file, uint64_t file_len, uint32_t job, uint32_t *at, uint32_t *len);
 
 /* The lookup, with its number and row, and then where the job's entry lies: its associated data is *ad_len bytes from
  * file + *ad_at, its text (the ciphertext, as long as the message) *text_len bytes from file + *text_at. Neither is yet
  * shown to be genuine. All five are written always: *row as by shift_lookup; the places and lengths are 0 after every
  * number but 0.
  */
-uint32_t shift_entry(const uint8_t *file, size_t file_len, uint32_t job, uint32_t *row,
+uint32_t shift_entry(const uint8_t *file, uint64_t file_len, uint32_t job, uint32_t *row,
                      uint32_t *ad_at, uint32_t *ad_len, uint32_t *text_at, uint32_t *text_len);
 
 /* Opens one job: the lookup, then 2, 6 and 8 in this order. The ring is 16 keys; key k is its bytes 16k to 16k + 15.
@@ -245,10 +243,10 @@ uint32_t shift_entry(const uint8_t *file, size_t file_len, uint32_t job, uint32_
  * After 0, out is the message, written whole; after 8, every byte of out is 0; after every other number, out is as it was.
  * *row is written always: the row at fault after 25 to 30 and 34, and 0 after every other number, 0 too.
  */
-uint32_t shift_open_job(const uint8_t *file, size_t file_len,
-                        const uint8_t *ring, size_t ring_len,
+uint32_t shift_open_job(const uint8_t *file, uint64_t file_len,
+                        const uint8_t *ring, uint64_t ring_len,
                         uint32_t job,
-                        uint8_t *out, size_t out_len,
+                        uint8_t *out, uint64_t out_len,
                         uint32_t *row);
 
 /* The writer. A draft is a shift file with edition 0, plaintext where the ciphertext goes, and zero tags. Numbers, in this
@@ -266,17 +264,17 @@ uint32_t shift_open_job(const uint8_t *file, size_t file_len,
 /* Seals a draft: out is the sealed file. The edition is 1, ciphertext and tag stand in their places, and every other byte
  * is the draft's.
  */
-uint32_t shift_seal_file(const uint8_t *draft, size_t draft_len,
-                         const uint8_t *ring, size_t ring_len,
-                         uint8_t *out, size_t out_len,
+uint32_t shift_seal_file(const uint8_t *draft, uint64_t draft_len,
+                         const uint8_t *ring, uint64_t ring_len,
+                         uint8_t *out, uint64_t out_len,
                          uint32_t *row);
 
 /* Gives the draft of a sealed file back: out is the draft. Where no entry has suite 4, sealing it with the same ring gives
  * the file; where one has, sealing it is 10.
  */
-uint32_t shift_unseal_file(const uint8_t *file, size_t file_len,
-                           const uint8_t *ring, size_t ring_len,
-                           uint8_t *out, size_t out_len,
+uint32_t shift_unseal_file(const uint8_t *file, uint64_t file_len,
+                           const uint8_t *ring, uint64_t ring_len,
+                           uint8_t *out, uint64_t out_len,
                            uint32_t *row);
 
 /* Suite 4 is retired: seals the suite 4 entries of a file again as suite 3, with the same key number, nonce, associated
@@ -292,9 +290,9 @@ uint32_t shift_unseal_file(const uint8_t *file, size_t file_len,
  *   0   done: out is written whole; it passes shift_check and has no suite 4 row
  * out may not overlap file or ring. Messages stand nowhere but in out, and nothing else of their length is taken.
  */
-uint32_t shift_reseal(const uint8_t *file, size_t file_len,
-                      const uint8_t *ring, size_t ring_len,
-                      uint8_t *out, size_t out_len,
+uint32_t shift_reseal(const uint8_t *file, uint64_t file_len,
+                      const uint8_t *ring, uint64_t ring_len,
+                      uint8_t *out, uint64_t out_len,
                       uint32_t *row);
 
 /* Finds a job without walking the file: 20 to 24 alone, and then the table is halved. From c rows at row s it looks at
@@ -304,7 +302,7 @@ uint32_t shift_reseal(const uint8_t *file, size_t file_len,
  * Both are written always: *row is the row found after 0, and 0 after every other number; *looked is how many rows were
  * looked at, at most 10, and 0 after 20 to 24.
  */
-uint32_t shift_search(const uint8_t *file, size_t file_len, uint32_t job, uint32_t *row, uint32_t *looked);
+uint32_t shift_search(const uint8_t *file, uint64_t file_len, uint32_t job, uint32_t *row, uint32_t *looked);
 
 /* Amendments: a small file that replaces some jobs of the day's. The current entry of a job is the amendment's if it has
  * the job, else the day's. Numbers, in this order: the full check of the amendment (*file 1, *row as by shift_check), the
@@ -313,8 +311,8 @@ uint32_t shift_search(const uint8_t *file, size_t file_len, uint32_t job, uint32
  * row there; its associated data is *len bytes from amendment + *at or from day + *at. It is not yet shown to be genuine.
  * All four are written always: *at and *len are 0 after every number but 0.
  */
-uint32_t shift_amended(const uint8_t *amendment, size_t amendment_len,
-                       const uint8_t *day, size_t day_len,
+uint32_t shift_amended(const uint8_t *amendment, uint64_t amendment_len,
+                       const uint8_t *day, uint64_t day_len,
                        uint32_t job,
                        uint32_t *file, uint32_t *row, uint32_t *at, uint32_t *len);
 
@@ -322,11 +320,11 @@ uint32_t shift_amended(const uint8_t *amendment, size_t amendment_len,
  * file that holds the entry. After 0, 2, 6 and 8, *file is that file and *row 0. out is as shift_open_job leaves it:
  * written whole after 0, zeros after 8, as it was after every other number.
  */
-uint32_t shift_open_amended(const uint8_t *amendment, size_t amendment_len,
-                            const uint8_t *day, size_t day_len,
-                            const uint8_t *ring, size_t ring_len,
+uint32_t shift_open_amended(const uint8_t *amendment, uint64_t amendment_len,
+                            const uint8_t *day, uint64_t day_len,
+                            const uint8_t *ring, uint64_t ring_len,
                             uint32_t job,
-                            uint8_t *out, size_t out_len,
+                            uint8_t *out, uint64_t out_len,
                             uint32_t *file, uint32_t *row);
 
 /* The moves between editions. Edition 2 has a station number in every row, four bytes more. Numbers, in this order; out
@@ -343,18 +341,18 @@ uint32_t shift_open_amended(const uint8_t *amendment, size_t amendment_len,
 /* How long the file is once it is moved, from edition 1 to 2 or from 2 to 1: the out_len of its move. 0 where one of 20 to
  * 24 applies to it: its move is refused then, whatever out_len is. The rows are not looked at.
  */
-size_t shift_moved_length(const uint8_t *file, size_t file_len);
+uint64_t shift_moved_length(const uint8_t *file, uint64_t file_len);
 
 /* From edition 1 to 2, station 0 in every row. The bodies are kept byte for byte; check, lookup, search and opening give
  * of out what they give of the file.
  */
-uint32_t shift_to_edition2(const uint8_t *file, size_t file_len,
-                           uint8_t *out, size_t out_len,
+uint32_t shift_to_edition2(const uint8_t *file, uint64_t file_len,
+                           uint8_t *out, uint64_t out_len,
                            uint32_t *row);
 
 /* From edition 2 to 1. Moving there and back gives the old file. */
-uint32_t shift_to_edition1(const uint8_t *file, size_t file_len,
-                           uint8_t *out, size_t out_len,
+uint32_t shift_to_edition1(const uint8_t *file, uint64_t file_len,
+                           uint8_t *out, uint64_t out_len,
                            uint32_t *row);
 
 /* Compares two files. Job numbers are written in rising order from the front of three lists: those only in the first file
@@ -367,11 +365,11 @@ uint32_t shift_to_edition1(const uint8_t *file, size_t file_len,
  * The five are written always; the counts are 0 after every number but 0. Every refusal leaves the lists unchanged, and 0
  * leaves the places past a count. A file has at most 512 rows, so lists of 512 places never give 36.
  */
-uint32_t shift_compare(const uint8_t *first, size_t first_len,
-                       const uint8_t *second, size_t second_len,
-                       uint32_t *only_first, size_t only_first_len,
-                       uint32_t *only_second, size_t only_second_len,
-                       uint32_t *differ, size_t differ_len,
+uint32_t shift_compare(const uint8_t *first, uint64_t first_len,
+                       const uint8_t *second, uint64_t second_len,
+                       uint32_t *only_first, uint64_t only_first_len,
+                       uint32_t *only_second, uint64_t only_second_len,
+                       uint32_t *differ, uint64_t differ_len,
                        uint32_t *first_count, uint32_t *second_count, uint32_t *differ_count,
                        uint32_t *file, uint32_t *row);
 
@@ -385,10 +383,10 @@ uint32_t shift_compare(const uint8_t *first, size_t first_len,
  * *count and *row are written always, and are 0 where nothing else is said. Every refusal leaves both lists unchanged, and 0
  * leaves the places past the count. No message is written anywhere.
  */
-uint32_t shift_report(const uint8_t *file, size_t file_len,
-                      const uint8_t *ring, size_t ring_len,
-                      uint32_t *jobs, size_t jobs_len,
-                      uint8_t *numbers, size_t numbers_len,
+uint32_t shift_report(const uint8_t *file, uint64_t file_len,
+                      const uint8_t *ring, uint64_t ring_len,
+                      uint32_t *jobs, uint64_t jobs_len,
+                      uint8_t *numbers, uint64_t numbers_len,
                       uint32_t *count, uint32_t *row);
 
 #ifdef __cplusplus

@@ -1,13 +1,14 @@
 -- The functions that C links (crate `snoekeldraf`): each asks nothing and leaves one outcome, and what it answers and leaves is the definition's value.
 use mathlib.Core.Path.{_≡_}
-use Prim.Native.Nat.{ℕ}
+use Prim.Native.Nat.{ℕ, _<_}
 use mathlib.Core.List.{List, []}
-use lib.ListN.{length}
+use lib.ListN.{length, getD, replicate}
 use contract.Lifetimes.{Lfts}
 use denote.Ref.{RefT, now}
 use Rattle.comet.specs.Answers.{Sealed, sealing, Opened, opening, verifying}
 use Rattle.comet.specs.Counted.{Counting, sealingCounted, openingCounted}
 use Rattle.session.specs.Value.{starting, dataPart, textPart, ending}
+use Rattle.session.specs.Calls.{Shut}
 use Rattle.numbers.specs.Answers.{answer}
 use Rattle.table.specs.Check.{checkFile}
 use Rattle.shift.specs.declared.answers.Entry.{Entry}
@@ -21,8 +22,7 @@ use Rattle.amend.specs.Amending.{AmendedOpening, amendedOpening}
 use Rattle.editions.specs.Answers.{movedLength, FileMoved, toEdition2, toEdition1}
 use Rattle.compare.specs.Comparing.{Comparison, comparison}
 use Rattle.reader.specs.Reporting.{Report, reporting}
-use Rattle.snoekeldraf.specs.declared.parts.CometSession.{CometSession}
-use Rattle.snoekeldraf.specs.Flat.{flat, flatGives}
+use Rattle.snoekeldraf.specs.Words.{Nine, ofWords, wordsOf, after, inWords}
 use Rattle.snoekeldraf.specs.Located.{Located, locating}
 use Rattle.snoekeldraf.specs.Amended.{Placed, placing}
 use Rattle.promises.specs.Contracts as the
@@ -40,6 +40,7 @@ pub record CInterface : Type 0 where
   pub comet-session-data : Answers the.comet-session-data
   pub comet-session-part : Answers the.comet-session-part
   pub comet-session-end : Answers the.comet-session-end
+  pub comet-session-wipe : Answers the.comet-session-wipe
   pub shift-check : Answers the.shift-check
   pub shift-lookup : Answers the.shift-lookup
   pub shift-associated : Answers the.shift-associated
@@ -81,17 +82,22 @@ pub record CRoutines : Type 0 where
       let (_, (_, (_, (_, (_, (_, (out′, (calls′, _)))))))) = x .last in
       _≡_ {A = Counting Opened} (record { leaves = record { number = x .result; out = out′ }; calls = calls′ })
       (openingCounted suite (now key) (now nonce) (now ad) (now text) (now tag) (now out))
-  -- a session's four calls
-  pub comet-session-start : (κs : Lfts 2) (suite : ℕ) (key nonce : RefT (List ℕ)) (x : Gave the.comet-session-start κs (suite, (key, (nonce, tt)))) →
-      flatGives (x .result) [] [] ≡ starting suite (now key) (now nonce)
-  pub comet-session-data : (κs : Lfts 1) (s : CometSession) (part : RefT (List ℕ)) (x : Gave the.comet-session-data κs (s, (part, tt))) →
-      flatGives (x .result) [] [] ≡ dataPart (flat s) (now part)
-  pub comet-session-part : (κs : Lfts 2) (s : CometSession) (part out : RefT (List ℕ)) (x : Gave the.comet-session-part κs (s, (part, (out, tt)))) →
-      let (_, (_, (out′, _))) = x .last in
-      flatGives (x .result) out′ [] ≡ textPart (flat s) (now part) (now out)
-  pub comet-session-end : (κs : Lfts 2) (s : CometSession) (out tag : RefT (List ℕ)) (x : Gave the.comet-session-end κs (s, (out, (tag, tt)))) →
-      let (_, (out′, (tag′, _))) = x .last in
-      flatGives (x .result) out′ tag′ ≡ ending (flat s) (now out) (now tag)
+  -- a session's calls, on the value that its nine words stand for; after each, the words are the next session's own and stand for it; and the wipe
+  pub comet-session-start : (κs : Lfts 3) (state : RefT (List ℕ)) (suite : ℕ) (key nonce : RefT (List ℕ)) (x : Gave the.comet-session-start κs (state, (suite, (key, (nonce, tt))))) →
+      let (state′, _) = x .last in
+      after (x .result) 0 state′ [] [] ≡ inWords (starting suite (now key) (now nonce))
+  pub comet-session-data : (κs : Lfts 2) (state part : RefT (List ℕ)) (x : Gave the.comet-session-data κs (state, (part, tt))) →
+      let (state′, _) = x .last in
+      after (x .result) 0 state′ [] [] ≡ inWords (dataPart (ofWords (now state)) (now part))
+  pub comet-session-part : (κs : Lfts 4) (state part out : RefT (List ℕ)) (count : RefT ℕ) (x : Gave the.comet-session-part κs (state, (part, (out, (count, tt))))) →
+      let (state′, (_, (out′, (count′, _)))) = x .last in
+      after (x .result) count′ state′ out′ [] ≡ inWords (textPart (ofWords (now state)) (now part) (now out))
+  pub comet-session-end : (κs : Lfts 4) (state out tag : RefT (List ℕ)) (count : RefT ℕ) (x : Gave the.comet-session-end κs (state, (out, (tag, (count, tt))))) →
+      let (state′, (out′, (tag′, (count′, _)))) = x .last in
+      after (x .result) count′ state′ out′ tag′ ≡ inWords (ending (ofWords (now state)) (now out) (now tag))
+  pub comet-session-wipe : (κs : Lfts 1) (state : RefT (List ℕ)) (x : Gave the.comet-session-wipe κs (state, tt)) →
+      let (state′, _) = x .last in
+      state′ ≡ replicate 9 0
   -- the shift file; the search
   pub shift-check : (κs : Lfts 2) (file : RefT (List ℕ)) (row : RefT ℕ) (x : Gave the.shift-check κs (file, (row, tt))) →
       let (_, (row′, _)) = x .last in
@@ -150,3 +156,21 @@ pub record CRoutines : Type 0 where
   pub shift-report : (κs : Lfts 6) (file ring jobs numbers : RefT (List ℕ)) (count row : RefT ℕ) (x : Gave the.shift-report κs (file, (ring, (jobs, (numbers, (count, (row, tt))))))) →
       let (_, (_, (jobs′, (numbers′, (count′, (row′, _)))))) = x .last in
       _≡_ {A = Report} (record { said = record { number = x .result; row = row′; count = count′ }; jobs = jobs′; numbers = numbers′ }) (reporting (now file) (now ring) (now jobs) (now numbers))
+
+-- what the definitions leave of a session's nine words, whatever they hold
+pub record CSessions : Type 0 where
+  -- nine words are those of the session that they stand for, so no two stand for one
+  pub own : (w : List ℕ) → Nine w → wordsOf (ofWords w) ≡ w
+  -- nine zeros are a session that answers 9 to every call; so is a first word over 255
+  pub dead : Shut (ofWords (replicate 9 0))
+  pub no-suite : (w : List ℕ) → 255 < getD w 0 0 → Shut (ofWords w)
+  -- a refused start and an accepted end leave nine zeros
+  pub start-refused : (suite : ℕ) (key nonce : List ℕ) → (starting suite key nonce .number ≡ 0 → ⊥) → inWords (starting suite key nonce) .words ≡ replicate 9 0
+  pub ended : (w out tag : List ℕ) → ending (ofWords w) out tag .number ≡ 0 → inWords (ending (ofWords w) out tag) .words ≡ replicate 9 0
+  -- any other refused call leaves words, output and tag as they were, count 0
+  pub data-refused : (w p : List ℕ) → Nine w → (dataPart (ofWords w) p .number ≡ 0 → ⊥)
+      → inWords (dataPart (ofWords w) p) ≡ after (dataPart (ofWords w) p .number) 0 w [] []
+  pub part-refused : (w p out : List ℕ) → Nine w → (textPart (ofWords w) p out .number ≡ 0 → ⊥)
+      → inWords (textPart (ofWords w) p out) ≡ after (textPart (ofWords w) p out .number) 0 w out []
+  pub end-refused : (w out tag : List ℕ) → Nine w → (ending (ofWords w) out tag .number ≡ 0 → ⊥)
+      → inWords (ending (ofWords w) out tag) ≡ after (ending (ofWords w) out tag .number) 0 w out tag

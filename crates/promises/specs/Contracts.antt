@@ -84,6 +84,8 @@ use Rattle.snoekeldraf.proofs.parts.comet_session_part.Kinds as comet-session-p
 use Rattle.snoekeldraf.proofs.parts.comet_session_part.Reads as comet-session-part-reads
 use Rattle.snoekeldraf.proofs.parts.comet_session_end.Kinds as comet-session-end-kinds
 use Rattle.snoekeldraf.proofs.parts.comet_session_end.Reads as comet-session-end-reads
+use Rattle.snoekeldraf.proofs.parts.comet_session_wipe.Kinds as comet-session-wipe-kinds
+use Rattle.snoekeldraf.proofs.parts.comet_session_wipe.Reads as comet-session-wipe-reads
 use Rattle.snoekeldraf.proofs.file.shift_check.Kinds as shift-check-kinds
 use Rattle.snoekeldraf.proofs.file.shift_check.Reads as shift-check-reads
 use Rattle.snoekeldraf.proofs.file.shift_lookup.Kinds as shift-lookup-kinds
@@ -239,16 +241,19 @@ abbrev pub comet-open-counted : Contract
 comet-open-counted = record { lifetimes = 7; params = comet-open-counted-kinds.ps; result = comet-open-counted-kinds.r; Pre = comet-open-counted-reads.Pre; Post = comet-open-counted-reads.Post }
 
 abbrev pub comet-session-start : Contract
-comet-session-start = record { lifetimes = 2; params = comet-session-start-kinds.ps; result = comet-session-start-kinds.r; Pre = comet-session-start-reads.Pre; Post = comet-session-start-reads.Post }
+comet-session-start = record { lifetimes = 3; params = comet-session-start-kinds.ps; result = comet-session-start-kinds.r; Pre = comet-session-start-reads.Pre; Post = comet-session-start-reads.Post }
 
 abbrev pub comet-session-data : Contract
-comet-session-data = record { lifetimes = 1; params = comet-session-data-kinds.ps; result = comet-session-data-kinds.r; Pre = comet-session-data-reads.Pre; Post = comet-session-data-reads.Post }
+comet-session-data = record { lifetimes = 2; params = comet-session-data-kinds.ps; result = comet-session-data-kinds.r; Pre = comet-session-data-reads.Pre; Post = comet-session-data-reads.Post }
 
 abbrev pub comet-session-part : Contract
-comet-session-part = record { lifetimes = 2; params = comet-session-part-kinds.ps; result = comet-session-part-kinds.r; Pre = comet-session-part-reads.Pre; Post = comet-session-part-reads.Post }
+comet-session-part = record { lifetimes = 4; params = comet-session-part-kinds.ps; result = comet-session-part-kinds.r; Pre = comet-session-part-reads.Pre; Post = comet-session-part-reads.Post }
 
 abbrev pub comet-session-end : Contract
-comet-session-end = record { lifetimes = 2; params = comet-session-end-kinds.ps; result = comet-session-end-kinds.r; Pre = comet-session-end-reads.Pre; Post = comet-session-end-reads.Post }
+comet-session-end = record { lifetimes = 4; params = comet-session-end-kinds.ps; result = comet-session-end-kinds.r; Pre = comet-session-end-reads.Pre; Post = comet-session-end-reads.Post }
+
+abbrev pub comet-session-wipe : Contract
+comet-session-wipe = record { lifetimes = 1; params = comet-session-wipe-kinds.ps; result = comet-session-wipe-kinds.r; Pre = comet-session-wipe-reads.Pre; Post = comet-session-wipe-reads.Post }
 
 abbrev pub shift-check : Contract
 shift-check = record { lifetimes = 2; params = shift-check-kinds.ps; result = shift-check-kinds.r; Pre = shift-check-reads.Pre; Post = shift-check-reads.Post }

@@ -5,6 +5,7 @@ pub mod Refuse
 pub mod Flush
 pub mod Parts
 pub mod Count
+pub mod AnyValue
 pub mod Accepts
 pub mod Whatever
 pub mod Outcomes

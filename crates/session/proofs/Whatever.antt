@@ -48,7 +48,7 @@ over-end : (out tag : List ℕ) → ending over out tag .next ≡ over
 unfolding ending endNumber seals isSuite
 over-end out tag = refl
 
-over-shut : Shut over
+pub over-shut : Shut over
 unfolding dataPart dataNumber textPart textNumber ending endNumber seals isSuite
 over-shut = ((λ p. refl), (λ p out. refl), (λ out tag. refl))
 

@@ -2,5 +2,5 @@ pub mod Rows
 pub mod AmendedRows
 pub mod Lists
 pub mod Reports
-pub mod Steps
+pub mod Words
 pub mod Outcomes

@@ -1,20 +1,15 @@
 -- One outcome for each input: a contract says what the number and every lent output equal, so any two outcomes that it allows are equal.
 use mathlib.Core.Path.{_≡_, refl, sym, ap, ap₂, _∙_}
-use Prim.Native.Nat.{ℕ, _^_, _<_}
-use native.Mathlib.Omega.{arith}
+use Prim.Native.Nat.{ℕ}
 use mathlib.Core.List.{List}
 use Rattle.words.specs.Outcome.{OneOutcome}
-use Rattle.words.proofs.Blocks.{wide-told}
 use Rattle.comet.specs.Answers.{Sealed, Opened}
 use Rattle.comet.specs.Counted.{Counting}
-use Rattle.session.specs.Value.{Value, Given}
 use Rattle.numbers.specs.declared.checked.Answer.{Answer}
 use Rattle.shift.specs.declared.answers.Entry.{Entry}
 use Rattle.shift.specs.Opening.{JobOpened}
 use Rattle.snoekeldraf.specs.Located.{Located}
-use Rattle.snoekeldraf.specs.declared.parts.CometSession.{CometSession}
-use Rattle.snoekeldraf.specs.declared.parts.CometStep.{CometStep}
-use Rattle.snoekeldraf.specs.Flat.{flat, flatGives}
+use Rattle.snoekeldraf.specs.Words.{InWords}
 use Rattle.snoekeldraf.proofs.record.comet_seal.Kinds as seal-kinds
 use Rattle.snoekeldraf.proofs.record.comet_seal.Reads as seal-reads
 use Rattle.snoekeldraf.proofs.record.comet_open.Kinds as open-kinds
@@ -37,6 +32,8 @@ use Rattle.snoekeldraf.proofs.parts.comet_session_part.Kinds as session
 use Rattle.snoekeldraf.proofs.parts.comet_session_part.Reads as session-part-reads
 use Rattle.snoekeldraf.proofs.parts.comet_session_end.Kinds as session-end-kinds
 use Rattle.snoekeldraf.proofs.parts.comet_session_end.Reads as session-end-reads
+use Rattle.snoekeldraf.proofs.parts.comet_session_wipe.Kinds as session-wipe-kinds
+use Rattle.snoekeldraf.proofs.parts.comet_session_wipe.Reads as session-wipe-reads
 use Rattle.snoekeldraf.proofs.file.shift_check.Kinds as check-kinds
 use Rattle.snoekeldraf.proofs.file.shift_check.Reads as check-reads
 use Rattle.snoekeldraf.proofs.file.shift_lookup.Kinds as lookup-kinds
@@ -134,50 +131,28 @@ shift-open-job κs a h x y =
     let e = x .ensures ∙ sym (y .ensures) in
     (ap (λ (w : JobOpened). w .answer .number) e, ap (λ (w : JobOpened). (tt, (tt, (tt, (w .out, (w .answer .row, tt)))))) e)
 
--- ---- sessions
-
--- the four numbers of Y and Z are of 64 bits
-record Words (s : CometSession) : Type 0 where
-  y0 : s .y0 < 256 ^ 8
-  y1 : s .y1 < 256 ^ 8
-  z0 : s .z0 < 256 ^ 8
-  z1 : s .z1 < 256 ^ 8
-
--- a struct is told by its value, whose lists are the bytes of its numbers
-session-told : (s t : CometSession) → Words s → Words t → flat s ≡ flat t → s ≡ t
-session-told s t p q e =
-    let ey = wide-told (record { a = s .y0; b = s .y1 }) (record { a = t .y0; b = t .y1 }) (p .y0) (p .y1) (q .y0) (q .y1) (ap (λ (v : Value). v .Y) e) in
-    let ez = wide-told (record { a = s .z0; b = s .z1 }) (record { a = t .z0; b = t .z1 }) (p .z0) (p .z1) (q .z0) (q .z1) (ap (λ (v : Value). v .Z) e) in
-    λ i. record { suite = e i .suite; y0 = ey i .a; y1 = ey i .b; z0 = ez i .a; z1 = ez i .b; held = e i .held; «ad_total» = e i .«ad_total»; «text_total» = e i .«text_total» }
-
-step-told : (x y : CometStep) (o t o′ t′ : List ℕ) → Words (x .next) → Words (y .next) → flatGives x o t ≡ flatGives y o′ t′ → x ≡ y
-step-told x y o t o′ t′ p q e =
-    let en : x .next ≡ y .next = session-told (x .next) (y .next) p q (ap (λ (g : Given). g .next) e) in
-    λ i. record { next = en i; number = e i .number; count = e i .count }
-
 pub comet-session-start : OneOutcome session-start-kinds.ps session-start-kinds.r session-start-reads.Pre session-start-reads.Post
-comet-session-start κs a h x y = (
-  step-told (x .result) (y .result) _ _ _ _ (record { y0 = omega arith; y1 = omega arith; z0 = omega arith; z1 = omega arith }) (record { y0 = omega arith; y1 = omega arith; z0 = omega arith; z1 = omega arith }) (x .ensures ∙ sym (y .ensures)),
-  refl,
-)
+comet-session-start κs a h x y =
+    let e = x .ensures ∙ sym (y .ensures) in
+    (ap (λ (w : InWords). w .given .number) e, ap (λ (w : InWords). (w .words, (tt, (tt, (tt, tt))))) e)
 
 pub comet-session-data : OneOutcome session-data-kinds.ps session-data-kinds.r session-data-reads.Pre session-data-reads.Post
-comet-session-data κs a h x y = (
-  step-told (x .result) (y .result) _ _ _ _ (record { y0 = omega arith; y1 = omega arith; z0 = omega arith; z1 = omega arith }) (record { y0 = omega arith; y1 = omega arith; z0 = omega arith; z1 = omega arith }) (x .ensures ∙ sym (y .ensures)),
-  refl,
-)
+comet-session-data κs a h x y =
+    let e = x .ensures ∙ sym (y .ensures) in
+    (ap (λ (w : InWords). w .given .number) e, ap (λ (w : InWords). (w .words, (tt, tt))) e)
 
 pub comet-session-part : OneOutcome session-part-kinds.ps session-part-kinds.r session-part-reads.Pre session-part-reads.Post
-comet-session-part κs a h x y = (
-  step-told (x .result) (y .result) _ _ _ _ (record { y0 = omega arith; y1 = omega arith; z0 = omega arith; z1 = omega arith }) (record { y0 = omega arith; y1 = omega arith; z0 = omega arith; z1 = omega arith }) (x .ensures ∙ sym (y .ensures)),
-  ap (λ (g : Given). (tt, (tt, (g .out, tt)))) (x .ensures ∙ sym (y .ensures)),
-)
+comet-session-part κs a h x y =
+    let e = x .ensures ∙ sym (y .ensures) in
+    (ap (λ (w : InWords). w .given .number) e, ap (λ (w : InWords). (w .words, (tt, (w .given .out, (w .given .count, tt))))) e)
 
 pub comet-session-end : OneOutcome session-end-kinds.ps session-end-kinds.r session-end-reads.Pre session-end-reads.Post
-comet-session-end κs a h x y = (
-  step-told (x .result) (y .result) _ _ _ _ (record { y0 = omega arith; y1 = omega arith; z0 = omega arith; z1 = omega arith }) (record { y0 = omega arith; y1 = omega arith; z0 = omega arith; z1 = omega arith }) (x .ensures ∙ sym (y .ensures)),
-  ap (λ (g : Given). (tt, (g .out, (g .tag, tt)))) (x .ensures ∙ sym (y .ensures)),
-)
+comet-session-end κs a h x y =
+    let e = x .ensures ∙ sym (y .ensures) in
+    (ap (λ (w : InWords). w .given .number) e, ap (λ (w : InWords). (w .words, (w .given .out, (w .given .tag, (w .given .count, tt))))) e)
+
+pub comet-session-wipe : OneOutcome session-wipe-kinds.ps session-wipe-kinds.r session-wipe-reads.Pre session-wipe-reads.Post
+comet-session-wipe κs a h x y = (refl, ap (λ (w : List ℕ). (w, tt)) (x .ensures ∙ sym (y .ensures)))
 
 pub shift-seal-file : OneOutcome seal-file-kinds.ps seal-file-kinds.r seal-file-reads.Pre seal-file-reads.Post
 shift-seal-file κs a h x y =

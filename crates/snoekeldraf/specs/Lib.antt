@@ -1,3 +1,3 @@
-pub mod Flat
+pub mod Words
 pub mod Located
 pub mod Amended

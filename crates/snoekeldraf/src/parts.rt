@@ -1,119 +1,138 @@
-// Sealing in parts: the session goes in and comes back by value, a plain struct. Any value of it may arrive.
+// Sealing in parts: the caller owns the session as nine words, and every call borrows them. Any nine words may arrive.
 use session::Session;
-use session::Step;
 use words::block::Block;
 ghost use mathlib.Core.Path.{_≡_};
 ghost use mathlib.Core.List.{[]};
+ghost use Prim.Native.Nat.{_<_};
+ghost use lib.ListN.{getD, replicate};
 ghost use Rattle.session.specs.Value.{starting, dataPart, textPart, ending};
 ghost use Rattle.session.specs.Structs.{asValue};
-ghost use Rattle.snoekeldraf.specs.Flat.{flat, flatGives};
+ghost use Rattle.snoekeldraf.specs.Words.{ofWords, wordsOf, after, inWords};
 
-// The C struct comet_session.
-#[repr(C)]
-pub struct CometSession {
-    pub suite: u8,
-    pub y0: u64,
-    pub y1: u64,
-    pub z0: u64,
-    pub z1: u64,
-    pub held: [u8; 16],
-    pub ad_total: usize,
-    pub text_total: usize,
-}
-
-// The C struct comet_step.
-#[repr(C)]
-pub struct CometStep {
-    pub next: CometSession,
-    pub number: u32,
-    pub count: usize,
-}
-
-// The session that a C struct stands for.
-fn raised(s: CometSession) -> Session
-    ensures { λ r. ⌜ asValue r ≡ flat s ⌝ }
+// The nine words by value: nine of them, and each of 64 bits.
+fn copied(state: &[u64; 9]) -> [u64; 9]
+    ensures { λ r. ⌜ r ≡ now (state .entry) ⌝ }
 {
-    let held = s.held;
+    *state
+}
+
+// The session that nine words stand for.
+fn session_of(w: [u64; 9]) -> Session
+    requires { ⌜ getD w 0 0 < 256 ⌝ }
+    ensures { λ r. ⌜ asValue r ≡ ofWords w ⌝ }
+{
+    let held = words::block::bytes_of(Block { a: w[5], b: w[6] });
     Session {
-        suite: s.suite,
-        y: Block { a: s.y0, b: s.y1 },
-        z: Block { a: s.z0, b: s.z1 },
+        suite: w[0] as u8,
+        y: Block { a: w[1], b: w[2] },
+        z: Block { a: w[3], b: w[4] },
         held: held,
-        ad_total: s.ad_total,
-        text_total: s.text_total,
+        ad_total: w[7] as usize,
+        text_total: w[8] as usize,
     }
 }
 
-// A session as a C struct.
-fn flattened(s: Session) -> CometSession
-    ensures { λ r. ⌜ flat r ≡ asValue s ⌝ }
+// The nine words of a session.
+fn words_of(s: Session) -> [u64; 9]
+    ensures words { λ r. ⌜ r ≡ wordsOf (asValue s) ⌝ }
+    ensures session { λ r. ⌜ ofWords r ≡ asValue s ⌝ }
 {
     let y = s.y;
     let z = s.z;
     let held = s.held;
-    CometSession {
-        suite: s.suite,
-        y0: y.a,
-        y1: y.b,
-        z0: z.a,
-        z1: z.b,
-        held: held,
-        ad_total: s.ad_total,
-        text_total: s.text_total,
-    }
+    let h = words::block::block_of(held);
+    [
+        s.suite as u64,
+        y.a,
+        y.b,
+        z.a,
+        z.b,
+        h.a,
+        h.b,
+        s.ad_total as u64,
+        s.text_total as u64,
+    ]
 }
 
-// A step as a C struct.
-fn handed(r: Step) -> CometStep
-    ensures number { λ f. ⌜ f .number ≡ r .number ⌝ }
-    ensures count { λ f. ⌜ f .count ≡ r .count ⌝ }
-    ensures next { λ f. ⌜ flat (f .next) ≡ asValue (r .next) ⌝ }
-{
-    let next = r.next;
-    let f = flattened(next);
-    CometStep {
-        next: f,
-        number: r.number as u32,
-        count: r.count,
-    }
-}
-
-// A session's start.
+// Starts a session; a refused start leaves nine zeros, which every later call answers by 9.
 #[no_mangle]
-pub extern "C" fn comet_session_start(suite: u8, key: &[u8], nonce: &[u8]) -> CometStep
-    ensures { λ r. ⌜ flatGives r [] [] ≡ starting suite (now (key .entry)) (now (nonce .entry)) ⌝ }
+pub extern "C" fn comet_session_start(
+    state: &mut [u64; 9],
+    suite: u8,
+    key: &[u8],
+    nonce: &[u8],
+) -> u32
+    ensures { λ r. ⌜ after r 0 (now (state .exit)) [] [] ≡ inWords (starting suite (now (key .entry)) (now (nonce .entry))) ⌝ }
 {
     let r = Session::start(suite, key, nonce);
-    handed(r)
+    let next = r.next;
+    *state = words_of(next);
+    r.number as u32
 }
 
 // A part of the associated data.
 #[no_mangle]
-pub extern "C" fn comet_session_data(session: CometSession, ad: &[u8]) -> CometStep
-    ensures { λ r. ⌜ flatGives r [] [] ≡ dataPart (flat session) (now (ad .entry)) ⌝ }
+pub extern "C" fn comet_session_data(state: &mut [u64; 9], ad: &[u8]) -> u32
+    ensures { λ r. ⌜ after r 0 (now (state .exit)) [] [] ≡ inWords (dataPart (ofWords (now (state .entry))) (now (ad .entry))) ⌝ }
 {
-    let r = raised(session).associated(ad);
-    handed(r)
+    let w = copied(state);
+    if w[0] > 255 {
+        return 9;
+    }
+    let r = session_of(w).associated(ad);
+    let next = r.next;
+    *state = words_of(next);
+    r.number as u32
 }
 
 // A part of the message.
 #[no_mangle]
-pub extern "C" fn comet_session_part(session: CometSession, msg: &[u8], out: &mut [u8]) -> CometStep
-    ensures { λ r. ⌜ flatGives r (now (out .exit)) [] ≡ textPart (flat session) (now (msg .entry)) (now (out .entry)) ⌝ }
+pub extern "C" fn comet_session_part(
+    state: &mut [u64; 9],
+    msg: &[u8],
+    out: &mut [u8],
+    count: &mut u32,
+) -> u32
+    ensures { λ r. ⌜ after r (now (count .exit)) (now (state .exit)) (now (out .exit)) [] ≡ inWords (textPart (ofWords (now (state .entry))) (now (msg .entry)) (now (out .entry))) ⌝ }
 {
-    let r = raised(session).message(msg, out);
-    handed(r)
+    let w = copied(state);
+    if w[0] > 255 {
+        *count = 0;
+        return 9;
+    }
+    let r = session_of(w).message(msg, out);
+    let next = r.next;
+    *state = words_of(next);
+    *count = r.count as u32;
+    r.number as u32
 }
 
-// The end: the rest of the ciphertext into out, and the tag.
+// The end: the rest of the ciphertext into out, and the tag; the session is over.
 #[no_mangle]
 pub extern "C" fn comet_session_end(
-    session: CometSession,
+    state: &mut [u64; 9],
     out: &mut [u8],
     tag: &mut [u8],
-) -> CometStep
-    ensures { λ r. ⌜ flatGives r (now (out .exit)) (now (tag .exit)) ≡ ending (flat session) (now (out .entry)) (now (tag .entry)) ⌝ }
+    count: &mut u32,
+) -> u32
+    ensures { λ r. ⌜ after r (now (count .exit)) (now (state .exit)) (now (out .exit)) (now (tag .exit)) ≡ inWords (ending (ofWords (now (state .entry))) (now (out .entry)) (now (tag .entry))) ⌝ }
 {
-    let r = raised(session).finish(out, tag);
-    handed(r)
+    let w = copied(state);
+    if w[0] > 255 {
+        *count = 0;
+        return 9;
+    }
+    let r = session_of(w).finish(out, tag);
+    let next = r.next;
+    *state = words_of(next);
+    *count = r.count as u32;
+    r.number as u32
+}
+
+// Wipes a session: nine zeros, which every later call answers by 9.
+#[no_mangle]
+pub extern "C" fn comet_session_wipe(state: &mut [u64; 9])
+    ensures { λ _. ⌜ now (state .exit) ≡ replicate 9 0 ⌝ }
+{
+    *state = [0u64; 9];
 }
