@@ -17,7 +17,8 @@
  *   comet_seal, comet_open and those in place or counted, comet_verify,
  *   comet_session_start, comet_session_data                                                5,400
  *   comet_session_part, comet_session_end                                                  9,300
- *   shift_open_job, shift_open_amended, shift_seal_file, shift_unseal_file, shift_report    5,600
+ *   shift_open_job, shift_verified, shift_open_amended, shift_seal_file, shift_unseal_file,
+ *   shift_report                                                                           5,600
  *   every other shift_ function, shift_reseal among them                                   1,600
  *
  * Suite        1 AES-128   2 CHAM-128/128   3 Speck-64/128   4 CHAM-64/128
@@ -225,7 +226,7 @@ uint32_t shift_check(const uint8_t *file, uint64_t file_len, uint32_t *row);
 uint32_t shift_lookup(const uint8_t *file, uint64_t file_len, uint32_t job, uint32_t *row);
 
 /* The lookup, with its number, and then where the job's associated data lies: *len bytes from file + *at.
- * They are not yet shown to be genuine: shift_open_job compares the tag. *at and *len are written always: 0 and 0 after
+ * They are not yet shown to be genuine: shift_verified and shift_open_job compare the tag. *at and *len are written always: 0 and 0 after
  * every number but 0.
  */
 uint32_t shift_associated(const uint8_t *file, uint64_t file_len, uint32_t job, uint32_t *at, uint32_t *len);
@@ -248,6 +249,16 @@ uint32_t shift_open_job(const uint8_t *file, uint64_t file_len,
                         uint32_t job,
                         uint8_t *out, uint64_t out_len,
                         uint32_t *row);
+
+/* Where a job's associated data lies, once its tag is shown to be right: the lookup, then 2 and 8 in this order. It is *len
+ * bytes from file + *at, of an entry whose tag was compared under the ring's key, as shift_open_job compares it; no message
+ * is written anywhere. Number and *row are shift_open_job's with an output of the message's length. All three are written
+ * always: *at and *len are 0 after every number but 0.
+ */
+uint32_t shift_verified(const uint8_t *file, uint64_t file_len,
+                        const uint8_t *ring, uint64_t ring_len,
+                        uint32_t job,
+                        uint32_t *row, uint32_t *at, uint32_t *len);
 
 /* The writer. A draft is a shift file with edition 0, plaintext where the ciphertext goes, and zero tags. Numbers, in this
  * order; out is as it was after every number but 0 and 8. *row is written always: the row after 25 to 30, 34, 33, 10

@@ -34,6 +34,7 @@ c-interface = record {
   shift-associated = record { asks-nothing = λ κs a. tt; one-outcome = one.shift-associated };
   shift-entry = record { asks-nothing = λ κs a. tt; one-outcome = one.shift-entry };
   shift-open-job = record { asks-nothing = λ κs a. tt; one-outcome = one.shift-open-job };
+  shift-verified = record { asks-nothing = λ κs a. tt; one-outcome = one.shift-verified };
   shift-search = record { asks-nothing = λ κs a. tt; one-outcome = one.shift-search };
   shift-seal-file = record { asks-nothing = λ κs a. tt; one-outcome = one.shift-seal-file };
   shift-unseal-file = record { asks-nothing = λ κs a. tt; one-outcome = one.shift-unseal-file };
@@ -66,6 +67,7 @@ c-routines = record {
   shift-associated = λ κs file job at len x. x .ensures;
   shift-entry = λ κs file job row ad-at ad-len text-at text-len x. x .ensures;
   shift-open-job = λ κs file ring job out row x. x .ensures;
+  shift-verified = λ κs file ring job row at len x. x .ensures;
   shift-search = λ κs file job row looked x. x .ensures;
   shift-seal-file = λ κs draft ring out row x. x .ensures;
   shift-unseal-file = λ κs file ring out row x. x .ensures;

@@ -41,6 +41,7 @@ entry-points =
       lookup = record { asks-nothing = λ κs a. tt; one-outcome = shift.lookup };
       entry = record { asks-nothing = λ κs a. tt; one-outcome = shift.entry };
       open-job = record { asks-nothing = λ κs a. tt; one-outcome = shift.open-job };
+      verified = record { asks-nothing = λ κs a. tt; one-outcome = shift.verified };
       session-start = record { asks-nothing = λ κs a. tt; one-outcome = session.start };
       session-data = record { asks-nothing = λ κs a. tt; one-outcome = session.associated };
       session-part = record { asks-nothing = λ κs a. tt; one-outcome = session.message };

@@ -19,6 +19,7 @@ routines = record {
   entry = λ κs file job x. x .ensures;
   associated = λ κs file job x. x .ensures;
   open-job = λ κs file ring job out x. x .ensures;
+  verified = λ κs file ring job x. x .ensures;
   search = λ κs file job x. x .ensures;
   seal-file = λ κs draft ring out x. x .ensures;
   unseal-file = λ κs file ring out x. x .ensures;

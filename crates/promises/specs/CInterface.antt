@@ -15,6 +15,8 @@ use Rattle.shift.specs.declared.answers.Entry.{Entry}
 use Rattle.shift.specs.Lookup.{lookupJob}
 use Rattle.shift.specs.Entry.{entryOf}
 use Rattle.shift.specs.Opening.{left, jobOpening}
+use Rattle.shift.specs.declared.answers.Genuine.{Genuine}
+use Rattle.shift.specs.Genuine.{jobVerifying}
 use Rattle.search.specs.Halving.{searching}
 use Rattle.draft.specs.Answers.{writes, fileSealing, fileUnsealing}
 use Rattle.reseal.specs.Answers.{fileResealing}
@@ -46,6 +48,7 @@ pub record CInterface : Type 0 where
   pub shift-associated : Answers the.shift-associated
   pub shift-entry : Answers the.shift-entry
   pub shift-open-job : Answers the.shift-open-job
+  pub shift-verified : Answers the.shift-verified
   pub shift-search : Answers the.shift-search
   pub shift-seal-file : Answers the.shift-seal-file
   pub shift-unseal-file : Answers the.shift-unseal-file
@@ -114,6 +117,9 @@ pub record CRoutines : Type 0 where
   pub shift-open-job : (κs : Lfts 4) (file ring : RefT (List ℕ)) (job : ℕ) (out : RefT (List ℕ)) (row : RefT ℕ) (x : Gave the.shift-open-job κs (file, (ring, (job, (out, (row, tt)))))) →
       let (_, (_, (_, (out′, (row′, _))))) = x .last in
       left (answer (x .result) row′) out′ ≡ jobOpening (now file) (now ring) job (now out)
+  pub shift-verified : (κs : Lfts 5) (file ring : RefT (List ℕ)) (job : ℕ) (row at len : RefT ℕ) (x : Gave the.shift-verified κs (file, (ring, (job, (row, (at, (len, tt))))))) →
+      let (_, (_, (_, (row′, (at′, (len′, _)))))) = x .last in
+      _≡_ {A = Genuine} (record { number = x .result; row = row′; «ad_at» = at′; «ad_len» = len′ }) (jobVerifying (now file) (now ring) job)
   pub shift-search : (κs : Lfts 3) (file : RefT (List ℕ)) (job : ℕ) (row looked : RefT ℕ) (x : Gave the.shift-search κs (file, (job, (row, (looked, tt))))) →
       let (_, (_, (row′, (looked′, _)))) = x .last in
       (answer (x .result) row′ ≡ searching (now file) job .says) × (looked′ ≡ length (searching (now file) job .rows))

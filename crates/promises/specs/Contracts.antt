@@ -34,6 +34,8 @@ use Rattle.shift.proofs.associated.Kinds as associated-kinds
 use Rattle.shift.proofs.associated.Reads as associated-reads
 use Rattle.shift.proofs.open_job.Kinds as open-job-kinds
 use Rattle.shift.proofs.open_job.Reads as open-job-reads
+use Rattle.shift.proofs.verified.Kinds as verified-kinds
+use Rattle.shift.proofs.verified.Reads as verified-reads
 use Rattle.search.proofs.search.Kinds as search-kinds
 use Rattle.search.proofs.search.Reads as search-reads
 use Rattle.writer.proofs.seal_file.Kinds as seal-file-kinds
@@ -96,6 +98,8 @@ use Rattle.snoekeldraf.proofs.file.shift_entry.Kinds as shift-entry-kinds
 use Rattle.snoekeldraf.proofs.file.shift_entry.Reads as shift-entry-reads
 use Rattle.snoekeldraf.proofs.file.shift_open_job.Kinds as shift-open-job-kinds
 use Rattle.snoekeldraf.proofs.file.shift_open_job.Reads as shift-open-job-reads
+use Rattle.snoekeldraf.proofs.file.shift_verified.Kinds as shift-verified-kinds
+use Rattle.snoekeldraf.proofs.file.shift_verified.Reads as shift-verified-reads
 use Rattle.snoekeldraf.proofs.halving.shift_search.Kinds as shift-search-kinds
 use Rattle.snoekeldraf.proofs.halving.shift_search.Reads as shift-search-reads
 use Rattle.snoekeldraf.proofs.drafts.shift_seal_file.Kinds as shift-seal-file-kinds
@@ -174,6 +178,9 @@ associated = record { lifetimes = 1; params = associated-kinds.ps; result = asso
 
 abbrev pub open-job : Contract
 open-job = record { lifetimes = 3; params = open-job-kinds.ps; result = open-job-kinds.r; Pre = open-job-reads.Pre; Post = open-job-reads.Post }
+
+abbrev pub verified : Contract
+verified = record { lifetimes = 2; params = verified-kinds.ps; result = verified-kinds.r; Pre = verified-reads.Pre; Post = verified-reads.Post }
 
 abbrev pub search : Contract
 search = record { lifetimes = 1; params = search-kinds.ps; result = search-kinds.r; Pre = search-reads.Pre; Post = search-reads.Post }
@@ -269,6 +276,9 @@ shift-entry = record { lifetimes = 6; params = shift-entry-kinds.ps; result = sh
 
 abbrev pub shift-open-job : Contract
 shift-open-job = record { lifetimes = 4; params = shift-open-job-kinds.ps; result = shift-open-job-kinds.r; Pre = shift-open-job-reads.Pre; Post = shift-open-job-reads.Post }
+
+abbrev pub shift-verified : Contract
+shift-verified = record { lifetimes = 5; params = shift-verified-kinds.ps; result = shift-verified-kinds.r; Pre = shift-verified-reads.Pre; Post = shift-verified-reads.Post }
 
 abbrev pub shift-search : Contract
 shift-search = record { lifetimes = 3; params = shift-search-kinds.ps; result = shift-search-kinds.r; Pre = shift-search-reads.Pre; Post = shift-search-reads.Post }

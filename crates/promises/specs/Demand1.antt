@@ -40,6 +40,7 @@ pub record EntryPoints : Type 0 where
   pub entry : Answers the.entry
   pub associated : AnswersPart the.associated (λ κs r. r)
   pub open-job : Answers the.open-job
+  pub verified : Answers the.verified
   -- of document 02, W2: a session's four calls
   pub session-start : Answers the.session-start
   pub session-data : Answers the.session-data

@@ -18,6 +18,7 @@ use Rattle.shift.specs.Answers.{foundAnswer, openedAnswer}
 use Rattle.shift.specs.Lookup.{lookupJob}
 use Rattle.shift.specs.Entry.{dataStart, dataLength, entryOf}
 use Rattle.shift.specs.Opening.{left, jobOpening}
+use Rattle.shift.specs.Genuine.{jobVerifying}
 use Rattle.search.specs.Halving.{searching}
 use Rattle.draft.specs.Answers.{writes, fileSealing, fileUnsealing}
 use Rattle.writer.specs.Answers.{writtenAnswer}
@@ -79,6 +80,8 @@ pub record Routines : Type 0 where
   pub open-job : (κs : Lfts 3) (file ring : RefT (List ℕ)) (job : ℕ) (out : RefT (List ℕ)) (x : Gave the.open-job κs (file, (ring, (job, (out, tt))))) →
       let (_, (_, (_, (out′, _)))) = x .last in
       left (openedAnswer (x .result)) out′ ≡ jobOpening (now file) (now ring) job (now out)
+  pub verified : (κs : Lfts 2) (file ring : RefT (List ℕ)) (job : ℕ) (x : Gave the.verified κs (file, (ring, (job, tt)))) →
+      x .result ≡ jobVerifying (now file) (now ring) job
   pub search : (κs : Lfts 1) (file : RefT (List ℕ)) (job : ℕ) (x : Gave the.search κs (file, (job, tt))) →
       (foundAnswer (x .result .found) ≡ searching (now file) job .says) × (x .result .looked ≡ length (searching (now file) job .rows))
   -- W4: the writer; W7: the reseal pass

@@ -4,6 +4,7 @@ pub mod Finding
 pub mod Numbered
 pub mod Entries
 pub mod Jobs
+pub mod Tested
 pub mod Changed
 pub mod Units
 pub mod Nonces

@@ -32,6 +32,10 @@ use Rattle.shift.proofs.found.entry_found.Kinds as entry-found-kinds
 use Rattle.shift.proofs.found.entry_found.Reads as entry-found-reads
 use Rattle.shift.proofs.found.open_found.Kinds as open-found-kinds
 use Rattle.shift.proofs.found.open_found.Reads as open-found-reads
+use Rattle.shift.proofs.verified.Kinds as verified-kinds
+use Rattle.shift.proofs.verified.Reads as verified-reads
+use Rattle.shift.proofs.testing.verify_found.Kinds as verify-found-kinds
+use Rattle.shift.proofs.testing.verify_found.Reads as verify-found-reads
 use Rattle.shift.proofs.lend.row_of.Kinds as row-of-kinds
 use Rattle.shift.proofs.lend.row_of.Reads as row-of-reads
 use Rattle.shift.proofs.lend.seal_as.Kinds as seal-as-kinds
@@ -102,6 +106,12 @@ pub open-found : OneOutcome open-found-kinds.ps open-found-kinds.r open-found-re
 open-found κs a h x y =
     let e = x .ensures ∙ sym (y .ensures) in
     (opened-one (ap (λ (z : JobOpened). z .answer) e), ap (λ (z : JobOpened). (tt, (tt, (tt, (z .out, tt))))) e)
+
+pub verified : OneOutcome verified-kinds.ps verified-kinds.r verified-reads.Pre verified-reads.Post
+verified κs a h x y = (x .ensures ∙ sym (y .ensures), refl)
+
+pub verify-found : OneOutcome verify-found-kinds.ps verify-found-kinds.r verify-found-reads.Pre verify-found-reads.Post
+verify-found κs a h x y = (x .ensures ∙ sym (y .ensures), refl)
 
 pub found-answer : OneOutcome found-kinds.ps found-kinds.r found-reads.Pre found-reads.Post
 found-answer κs a h x y = (answer-one (x .ensures) (y .ensures), refl)

@@ -2,6 +2,7 @@ pub mod Answers
 pub mod Lookup
 pub mod Entry
 pub mod Opening
+pub mod Genuine
 pub mod Nonces
 pub mod Inside
 pub mod Promised

@@ -58,3 +58,12 @@ pub struct Entry {
     pub text_at: u32,
     pub text_len: u32,
 }
+
+// A job's associated data, whose tag is right: number and row as opening the job gives them, and where in the file the
+// associated data lies; 0 after every number but 0.
+pub struct Genuine {
+    pub number: u8,
+    pub row: usize,
+    pub ad_at: u32,
+    pub ad_len: u32,
+}

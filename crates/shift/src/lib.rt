@@ -4,9 +4,11 @@ mod find;
 pub mod found;
 pub mod lend;
 mod opening;
+pub mod testing;
 
 use answers::Entry;
 use answers::Found;
+use answers::Genuine;
 use answers::JobAnswer;
 use format::row::count;
 use format::row::row_size_of;
@@ -19,6 +21,7 @@ ghost use Rattle.shift.specs.Answers.{foundAnswer, openedAnswer};
 ghost use Rattle.shift.specs.Lookup.{lookupJob};
 ghost use Rattle.shift.specs.Entry.{dataStart, dataLength, entryOf};
 ghost use Rattle.shift.specs.Opening.{JobOpened, jobOpening};
+ghost use Rattle.shift.specs.Genuine.{jobVerifying};
 
 // The full check, and then the row that has the job, or 32.
 pub fn lookup(file: &[u8], job: u32) -> Found
@@ -53,4 +56,11 @@ pub fn open_job(file: &[u8], ring: &[u8], job: u32, out: &mut [u8]) -> JobAnswer
     ensures { λ r. ⌜ _≡_ {A = JobOpened} (record { answer = openedAnswer r; out = now (out .exit) }) (jobOpening (now (file .entry)) (now (ring .entry)) job (now (out .entry))) ⌝ }
 {
     found::open_found(file, ring, lookup(file, job), out)
+}
+
+// Where a job's associated data lies, once its tag is compared: the full check, 32, then 2, 8.
+pub fn verified(file: &[u8], ring: &[u8], job: u32) -> Genuine
+    ensures { λ r. ⌜ r ≡ jobVerifying (now (file .entry)) (now (ring .entry)) job ⌝ }
+{
+    testing::verify_found(file, ring, lookup(file, job))
 }

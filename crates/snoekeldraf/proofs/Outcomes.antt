@@ -7,6 +7,7 @@ use Rattle.comet.specs.Answers.{Sealed, Opened}
 use Rattle.comet.specs.Counted.{Counting}
 use Rattle.numbers.specs.declared.checked.Answer.{Answer}
 use Rattle.shift.specs.declared.answers.Entry.{Entry}
+use Rattle.shift.specs.declared.answers.Genuine.{Genuine}
 use Rattle.shift.specs.Opening.{JobOpened}
 use Rattle.snoekeldraf.specs.Located.{Located}
 use Rattle.snoekeldraf.specs.Words.{InWords}
@@ -44,6 +45,8 @@ use Rattle.snoekeldraf.proofs.file.shift_entry.Kinds as entry-kinds
 use Rattle.snoekeldraf.proofs.file.shift_entry.Reads as entry-reads
 use Rattle.snoekeldraf.proofs.file.shift_open_job.Kinds as open-job-kinds
 use Rattle.snoekeldraf.proofs.file.shift_open_job.Reads as open-job-reads
+use Rattle.snoekeldraf.proofs.file.shift_verified.Kinds as verified-kinds
+use Rattle.snoekeldraf.proofs.file.shift_verified.Reads as verified-reads
 use Rattle.editions.specs.Answers.{FileMoved}
 use Rattle.draft.specs.Answers.{FileWritten}
 use Rattle.snoekeldraf.proofs.drafts.shift_seal_file.Kinds as seal-file-kinds
@@ -130,6 +133,11 @@ pub shift-open-job : OneOutcome open-job-kinds.ps open-job-kinds.r open-job-read
 shift-open-job κs a h x y =
     let e = x .ensures ∙ sym (y .ensures) in
     (ap (λ (w : JobOpened). w .answer .number) e, ap (λ (w : JobOpened). (tt, (tt, (tt, (w .out, (w .answer .row, tt)))))) e)
+
+pub shift-verified : OneOutcome verified-kinds.ps verified-kinds.r verified-reads.Pre verified-reads.Post
+shift-verified κs a h x y =
+    let e = x .ensures ∙ sym (y .ensures) in
+    (ap (λ (w : Genuine). w .number) e, ap (λ (w : Genuine). (tt, (tt, (tt, (w .row, (w .«ad_at», (w .«ad_len», tt))))))) e)
 
 pub comet-session-start : OneOutcome session-start-kinds.ps session-start-kinds.r session-start-reads.Pre session-start-reads.Post
 comet-session-start κs a h x y =

@@ -17,7 +17,8 @@ use Rattle.table.proofs.Searches.{first-says}
 use Rattle.table.proofs.Sound.{headed}
 use Rattle.table.proofs.Passed.{passes, both-zero}
 use Rattle.shift.specs.Lookup.{findFrom, lookupJob}
-use Rattle.shift.specs.Opening.{entryOpening, left, rowOpening, jobOpening}
+use Rattle.shift.specs.Opening.{entryOpening, left, rowOpening, jobOpening, entryVerifying}
+use Rattle.shift.specs.Genuine.{withheld, rowVerifying, jobVerifying}
 use Rattle.draft.specs.Files.{draftEdition}
 use Rattle.editions.specs.Files.{moved}
 use Rattle.editions.specs.Answers.{stationsFrom, lengthAnswer, upAnswer, backAnswer, toEdition2, toEdition1}
@@ -86,6 +87,24 @@ job-row f ring job out₀ = go (eqb (lookupJob f job .number) 0)
   where
     go : (b : Bool) → cond b (rowOpening f ring (lookupJob f job .row) out₀) (left (lookupJob f job) out₀) .answer .row ≤ 512
     go true = omega (arith, opened-row f ring (lookupJob f job .row) out₀)
+    go false = lookup-row f job
+
+tested-row : (f ring : List ℕ) (i : ℕ) → rowVerifying f ring i .row ≡ 0
+unfolding rowVerifying
+tested-row f ring i = go (eqb (length ring) 256) (eqb (entryVerifying f ring i) 0)
+  where
+    go : (b c : Bool)
+        → cond (not b) (withheld 2 0) (cond (not c) (withheld (entryVerifying f ring i) 0) (record { number = 0; row = 0; «ad_at» = rowOf f i .«ad_at»; «ad_len» = rowOf f i .«ad_len» })) .row ≡ 0
+    go false c = refl
+    go true false = refl
+    go true true = refl
+
+pub verified-row : (f ring : List ℕ) (job : ℕ) → jobVerifying f ring job .row ≤ 512
+unfolding jobVerifying
+verified-row f ring job = go (eqb (lookupJob f job .number) 0)
+  where
+    go : (b : Bool) → cond b (rowVerifying f ring (lookupJob f job .row)) (withheld (lookupJob f job .number) (lookupJob f job .row)) .row ≤ 512
+    go true = omega (arith, tested-row f ring (lookupJob f job .row))
     go false = lookup-row f job
 
 -- the writer's answers

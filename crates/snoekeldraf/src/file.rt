@@ -5,9 +5,11 @@ ghost use Prim.Native.Nat.{_≤_};
 ghost use Rattle.numbers.specs.Answers.{answer};
 ghost use Rattle.table.specs.Check.{checkFile};
 ghost use Rattle.shift.specs.declared.answers.Entry.{Entry};
+ghost use Rattle.shift.specs.declared.answers.Genuine.{Genuine};
 ghost use Rattle.shift.specs.Lookup.{lookupJob};
 ghost use Rattle.shift.specs.Entry.{entryOf};
 ghost use Rattle.shift.specs.Opening.{JobOpened, jobOpening};
+ghost use Rattle.shift.specs.Genuine.{jobVerifying};
 ghost use Rattle.snoekeldraf.specs.Located.{Located, locating};
 
 // Writes the row that an answer carries, and gives its number.
@@ -89,4 +91,24 @@ pub extern "C" fn shift_open_job(
         (jobOpening (now (file .entry)) (now (ring .entry)) job (now (out .entry))) ⌝ }
 {
     say(shift::open_job(file, ring, job, out).answer(), row)
+}
+
+// Where the job's associated data lies, once its tag is compared: the full check, 32, then 2, 8; 0 and 0 after every number but 0.
+#[no_mangle]
+pub extern "C" fn shift_verified(
+    file: &[u8],
+    ring: &[u8],
+    job: u32,
+    row: &mut u32,
+    at: &mut u32,
+    len: &mut u32,
+) -> u32
+    ensures { λ r. ⌜ _≡_ {A = Genuine} (record { number = r; row = now (row .exit); «ad_at» = now (at .exit); «ad_len» = now (len .exit) })
+        (jobVerifying (now (file .entry)) (now (ring .entry)) job) ⌝ }
+{
+    let g = shift::verified(file, ring, job);
+    *row = g.row as u32;
+    *at = g.ad_at;
+    *len = g.ad_len;
+    g.number as u32
 }
