@@ -5,7 +5,7 @@ use crate::shift::{edition, open_job, rows, Row};
 use crate::show::hex;
 
 /// The longest file that these programs take, and those that write a file.
-pub const ROOM: usize = 524_288;
+pub const ROOM: usize = 1_048_576;
 
 /// Bytes as text where every one is a space or a visible character of ASCII, and else in hex.
 fn bytes_line(name: &str, bytes: &[u8]) -> String {

@@ -122,14 +122,14 @@ fn the_longest_message() {
     }
 }
 
-/// A good file of eight jobs, 1 to 8, that is so long.
+/// A good file of twenty jobs, 1 to 20, that is so long.
 fn of_length(length: usize) -> Vec<u8> {
     let ring = samples::ring();
     let entry = |job: u32| Entry::new(job, 6, 0, 2, [job as u8; 16], b"");
-    let mut plan = Plan::new((1..=8).map(entry).collect());
+    let mut plan = Plan::new((1..=20).map(entry).collect());
     let left = length - plan.file(&ring).len();
     for (i, entry) in plan.entries.iter_mut().enumerate() {
-        entry.message = vec![b'.'; left / 8 + (i < left % 8) as usize];
+        entry.message = vec![b'.'; left / 20 + (i < left % 20) as usize];
     }
     let file = plan.file(&ring);
     assert_eq!((file.len(), shift::check(&file)), (length, (0, 0)));
@@ -147,7 +147,7 @@ fn unreadable_and_oversized() {
     folder.put("ring", &ring);
     folder.put("day", &day);
     folder.put("just", &of_length(ROOM));
-    folder.put("over", &of_length(ROOM + 1));
+    folder.put("over", &[of_length(ROOM), vec![0]].concat());
     std::fs::create_dir(folder.0.join("folder")).unwrap();
     assert_eq!(folder.printed("job", &["just", "ring", "3"]), printed::job(&folder.get("just"), &ring, 3));
     assert_eq!(folder.printed("current", &["day", "just", "ring", "3"])[..6], *"0 2 0\n");

@@ -1,8 +1,7 @@
 // Moves a shift file to another edition: convert FILE OUT from edition 1 to 2, convert back FILE OUT from edition 2 to 1.
 //
 // Prints number and row on one line; the file OUT is made where the number is 0, and else left alone. A file that cannot
-// be read counts as zero bytes. The program takes files up to 524,288 bytes, half the format's limit (longer: 20): the
-// prover can carry no array of twice that.
+// be read counts as zero bytes. The program takes files up to the format's 1,048,576 bytes (longer: 20).
 use numbers::checked::Answer;
 ghost use Prim.Native.Nat.{_≤_};
 
@@ -27,12 +26,18 @@ fn run_in(back: bool, file: &[u8], i: usize, out: &mut [u8]) {
     }
 }
 
+// Zeros for a moved file: 1,048,576 bytes, and 512 stations more. A function of its own: the prover carries no array of this
+// length that stands in the body where it is used.
+fn moved_room() -> [u8; 1050624] {
+    [0u8; 1050624]
+}
+
 // Argument i names the file, the next one the output.
 fn convert(back: bool, i: usize)
     requires { ⌜ i ≤ 2 ⌝ }
 {
     let mut f = lines::read::file_room();
-    let mut o = [0u8; 526336];
+    let mut o = moved_room();
     let file = args::load(i, &mut f);
     run_in(back, file, i + 1, &mut o);
 }

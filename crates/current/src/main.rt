@@ -2,7 +2,7 @@
 //
 // Prints number, file (1 the amendment, 2 the day's, 0 where neither has the job) and row on one line and, where the
 // number is 0, what the entry holds, a line for each thing (`printed::current`). A file that cannot be read counts as zero
-// bytes. The program takes files up to 524,288 bytes each, as `job` does (longer: 20).
+// bytes. The program takes files up to the format's 1,048,576 bytes each (longer: 20).
 fn run<'a>(amendment: &'a [u8], day: &'a [u8], job: u32) {
     let mut r = [0u8; 257];
     let mut out = printed::page();

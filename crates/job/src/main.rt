@@ -1,8 +1,7 @@
 // Opens one job of a shift file: job FILE RING JOB.
 //
 // Prints number and row on one line and, where the number is 0, what the entry holds, a line for each thing (`printed::job`).
-// A file that cannot be read counts as zero bytes. The program takes files up to 524,288 bytes, half the format's limit
-// (longer: 20): the prover can carry no array of twice that.
+// A file that cannot be read counts as zero bytes. The program takes files up to the format's 1,048,576 bytes (longer: 20).
 fn main() {
     let job = args::job(3);
     if os::arg_count() != 4 || 4294967295 < job {

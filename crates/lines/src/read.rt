@@ -3,11 +3,11 @@ use libc::STDIN_FILENO;
 ghost use mathlib.Core.Path.{_≡_};
 ghost use lib.ListN.{take, replicate};
 
-// Zeros for a file of 524,288 bytes, and one byte more: the prover can carry no array of twice that.
-pub fn file_room() -> [u8; 524289]
-    ensures { λ r. ⌜ r ≡ replicate 524289 0 ⌝ }
+// Zeros for a file of 1,048,576 bytes, the format's limit, and one byte more.
+pub fn file_room() -> [u8; 1048577]
+    ensures { λ r. ⌜ r ≡ replicate 1048577 0 ⌝ }
 {
-    [0u8; 524289]
+    [0u8; 1048577]
 }
 
 // The first len bytes of buf, or all of it where it has no more.

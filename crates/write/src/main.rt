@@ -2,8 +2,7 @@
 // write reseal FILE RING OUT seals its suite 4 entries again as suite 3.
 //
 // Prints number and row on one line; the file OUT is made where the number is 0, and else left alone. A file that cannot
-// be read counts as zero bytes. The program takes files up to 524,288 bytes, half the format's limit (longer: 20): the
-// prover can carry no array of twice that.
+// be read counts as zero bytes. The program takes files up to the format's 1,048,576 bytes (longer: 20).
 use numbers::checked::Answer;
 ghost use Prim.Native.Nat.{_≤_};
 

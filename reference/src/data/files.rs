@@ -4,7 +4,6 @@ use super::{parts_of, samples, Part};
 use crate::calls::{Case, FileCall, REFERENCE};
 use crate::comet::{block_size, fitting_tag, nonce_size, LIMIT, SUITES};
 use crate::plan::{row_at, Entry, Plan};
-use crate::printed::ROOM;
 use crate::random::Random;
 use crate::shift::{self, fields_at, EDITIONS};
 
@@ -457,7 +456,7 @@ pub fn damaged_calls() -> [FileCall; 3] {
 pub fn parts() -> [Part; 2] {
     let (mut calls, damaged) = (calls(), damaged_calls());
     // the comparison runs the longer ones
-    calls.retain(|call| call.file.len() <= ROOM);
+    calls.retain(|call| call.file.len() <= 524_288);
     let [mut stdin, mut stdout] = parts_of(&calls);
     for call in damaged {
         stdin.1.extend(call.record_as(1));
