@@ -413,7 +413,7 @@ fn every_number_has_a_meaning() {
     let table = std::fs::read_to_string(root().join("library/words.c")).unwrap();
     for number in [0, 2, 6, 8, 10].into_iter().chain(20..=36) {
         let starts = [format!("    WORDS({number}, \""), format!("    FILE_WORDS({number}, \"")];
-        let lines = table.lines().filter(|line| line.ends_with("\")") && starts.iter().any(|start| line.starts_with(start)));
-        assert_eq!(lines.count(), 1, "{number}");
+        let is_its = |line: &&str| line.ends_with("\")") && starts.iter().any(|start| line.starts_with(start));
+        assert_eq!(table.lines().filter(is_its).count(), 1, "{number}");
     }
 }
