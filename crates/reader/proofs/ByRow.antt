@@ -15,20 +15,20 @@ use Rattle.numbers.specs.declared.checked.Answer.{Answer}
 use Rattle.numbers.specs.declared.checked.Refusal.{Refusal}
 use Rattle.numbers.specs.Answers.{answer, refusalAnswer}
 use Rattle.numbers.proofs.Numbers.{refusal-some}
-use Rattle.format.specs.Format.{firstEdition, newest, countOf, rowSizeOf, restStart, nonceStart, rowOf, bodyEnd}
+use Rattle.format.specs.Format.{firstEdition, newest, countOf, rowSizeOf, restStart, nonceStart, rowOf, stationOf, bodyEnd}
 use Rattle.format.proofs.Rows.{row-in}
 use Rattle.table.proofs.Sound.{headed}
-use Rattle.table.proofs.Passed.{passes, entry-in}
-use Rattle.shift.specs.declared.answers.Entry.{Entry}
+use Rattle.table.specs.Check.{checkFile}
+use Rattle.table.proofs.Passed.{passes, both-zero, entry-in}
 use Rattle.shift.proofs.Lookups.{holding}
-use Rattle.shift.proofs.Places.{text-low, places-found}
+use Rattle.shift.proofs.Places.{places-found}
 use Rattle.shift.specs.Lookup.{lookupJob}
 use Rattle.reader.specs.declared.cursor.Given.the-variants.{Row, Ended}
 use Rattle.reader.specs.declared.Reader.{Reader}
 use Rattle.reader.specs.declared.Asked.{Asked}
 use Rattle.reader.specs.declared.contents.RowFields.{RowFields}
 use Rattle.reader.specs.Reading.{rowsLaid, listedOf, readerOf, nextOf, asks}
-use Rattle.reader.specs.Contents.{headStatus, noHeader, headerOf, headerAnswer, noFields, fieldsOf, rowAnswer, rowAnswers, asFields, entryFrom, HeaderGiven, RowsAsRead, TextFollows, RowAsEntry}
+use Rattle.reader.specs.Contents.{headStatus, noHeader, headerOf, headerAnswer, noFields, fieldsOf, rowAnswer, rowAnswers, asFields, entryFrom, HeaderGiven, RowsAsRead, RowGiven, RowAsEntry}
 use Rattle.reader.proofs.Asking.{laid-all, both-all, moved, going, made, others-ended}
 
 abbrev numberOf : Answer → ℕ
@@ -111,17 +111,34 @@ rows-as-read s k z = read-on k (readerOf s) (passes firstEdition newest (now s) 
 pub header-given : HeaderGiven
 header-given f z = header-goes f (passes firstEdition newest f z .zero)
 
-pub text-follows : TextFollows
+-- the fields of a row with a text's offset
+abbrev textAt : List ℕ → ℕ → ℕ → RowFields
+textAt f i t =
+    record {
+      status = 0;
+      job = rowOf f i .job;
+      station = stationOf f i;
+      suite = rowOf f i .suite;
+      «key_number» = rowOf f i .key;
+      «nonce_at» = nonceStart (rowSizeOf f) i;
+      «ad_at» = rowOf f i .«ad_at»;
+      «ad_len» = rowOf f i .«ad_len»;
+      «text_at» = t;
+      «text_len» = rowOf f i .«text_len»;
+    }
+
+-- a body lies in the file, so its text starts at an offset of 32 bits
+pub row-given : RowGiven
 unfolding bodyEnd
-text-follows f i z l =
+row-given f i z l =
     let p = passes firstEdition newest f z in
     let low : rowOf f i .«ad_at» + rowOf f i .«ad_len» < 2 ^ 32 = omega (arith, entry-in firstEdition newest f p i l .body-in, p .head .short) in
-    ap (λ (x : RowFields). x .«text_at») (row-goes f i (p .zero) l) ∙ mod-eq-of-lt low
+    row-goes f i (p .zero) l ∙ ap (textAt f i) (mod-eq-of-lt low)
 
 pub row-as-entry : RowAsEntry
+unfolding lookupJob
 row-as-entry f job i q =
     let h = holding f job i q in
-    let g = row-goes f i (h .file .zero) (h .within) in
-    let low : rowOf f i .«ad_at» + rowOf f i .«ad_len» < 2 ^ 32 = omega (arith, text-low f job i q) in
-    let places : ℕ → Entry = λ t. record { number = 0; row = i; «ad_at» = rowOf f i .«ad_at»; «ad_len» = rowOf f i .«ad_len»; «text_at» = t; «text_len» = rowOf f i .«text_len» } in
-    (ap (λ (x : RowFields). x .job) g ∙ h .right, sym (places-found f (lookupJob f job) i q) ∙ sym (ap (entryFrom i) g ∙ ap places (mod-eq-of-lt low)))
+    let b = both-zero (checkFile f) _ (ap numberOf q) in
+    let g = row-given f i (b .0) (h .within) in
+    (ap (λ (x : RowFields). x .job) g ∙ h .right, sym (places-found f (lookupJob f job) i q) ∙ sym (ap (entryFrom i) g))

@@ -5,7 +5,7 @@ use mathlib.Core.Bool.{cond}
 use mathlib.Core.List.{List, [], _∷_, map}
 use lib.Dec.{ltb, eqb}
 use denote.Ref.{RefT, now}
-use Rattle.format.specs.Format.{editionOf, countOf, firstEdition, newest, rowOf}
+use Rattle.format.specs.Format.{editionOf, countOf, firstEdition, newest, rowSizeOf, nonceStart, rowOf, stationOf}
 use Rattle.numbers.specs.Answers.{answer}
 use Rattle.table.specs.Check.{headNumber, checkFile}
 use Rattle.shift.specs.declared.answers.Entry.{Entry}
@@ -79,9 +79,25 @@ HeaderGiven = (f : List ℕ) → checkFile f .number ≡ 0 → headerAnswer f �
 abbrev pub RowsAsRead : Type 0
 RowsAsRead = (s : RefT (List ℕ)) (k : ℕ) → checkFile (now s) .number ≡ 0 → rowAnswers (now s) 0 k ≡ map asFields (asks k (readerOf s))
 
--- on a file that passes the check the text's offset does not wrap
-abbrev pub TextFollows : Type 0
-TextFollows = (f : List ℕ) (i : ℕ) → checkFile f .number ≡ 0 → i < countOf f → rowAnswer f i .«text_at» ≡ rowOf f i .«ad_at» + rowOf f i .«ad_len»
+-- the fields of row i of a file that passes the check: the text follows the associated data, and nothing wraps
+abbrev pub rowFields : List ℕ → ℕ → RowFields
+rowFields f i =
+    let r = rowOf f i in
+    record {
+      status = 0;
+      job = r .job;
+      station = stationOf f i;
+      suite = r .suite;
+      «key_number» = r .key;
+      «nonce_at» = nonceStart (rowSizeOf f) i;
+      «ad_at» = r .«ad_at»;
+      «ad_len» = r .«ad_len»;
+      «text_at» = r .«ad_at» + r .«ad_len»;
+      «text_len» = r .«text_len»;
+    }
+
+abbrev pub RowGiven : Type 0
+RowGiven = (f : List ℕ) (i : ℕ) → checkFile f .number ≡ 0 → i < countOf f → rowAnswer f i ≡ rowFields f i
 
 -- where a job's entry lies, as row i says it
 abbrev pub entryFrom : ℕ → RowFields → Entry
