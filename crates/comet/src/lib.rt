@@ -76,7 +76,7 @@ fn crypt_with(
     step::tag::tag_of(lent, suite, s)
 }
 
-// `crypt_with` under the tables that the suite needs: only suites 1 and 5 spend time on filling them. The compiler inlines this function, so the stack frame of every suite has room for them.
+// `crypt_with` under the tables that the suite needs: only suites 1 and 5 spend time on filling them. Their 4 KiB are in this function's stack frame, whichever the suite.
 fn crypt(opening: bool, suite: u8, key: &[u8], nonce: &[u8], ad: &[u8], text: &mut [u8]) -> Last
     requires { ⌜ IsSuite suite × (length (now key) ≡ 16) × (length (now nonce) ≡ nonceOf suite) × (length (now ad) ≤ limit) × (length (now text) ≤ limit) ⌝ }
     ensures text { λ _. ⌜ now (text .exit) ≡ textOut (cipherOf suite) opening (now (key .entry)) (now (nonce .entry)) (now (ad .entry)) (now (text .entry)) ⌝ }
