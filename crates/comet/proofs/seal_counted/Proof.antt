@@ -21,13 +21,13 @@ module _ (m : tie.At-match-keys1) where
   -- nothing was refused
   zero : refusal false (x .args .suite) (length (now (x .args .key))) (length (now (x .args .nonce))) (length (now (x .args .ad)))
       (length (now (x .args .msg))) (length (now (x .args .out))) (length (now (x .args .tag))) ≡ 0
-  zero = sym (m .before .refused .ensures) ∙ done-zero (m .before .refused .result) (m .match .keys1)
+  zero = sym (m .before .refused-for .ensures) ∙ done-zero (m .before .refused-for .result) (m .match .keys1)
 
   room : length (now (x .args .out)) ≡ length (now (x .args .msg))
   room = passed _ _ _ _ _ _ _ _ zero .room
 
-refused-requires : tie.Need-refused-requires
-refused-requires c κs = search needs
+refused-for-requires : tie.Need-refused-for-requires
+refused-for-requires c κs = search needs
 
 enum-told : tie.Need-enum-told
 enum-told c = search needs
@@ -35,11 +35,11 @@ enum-told c = search needs
 returns : tie.Need-returns
 returns c =
     let x = c .before .before .before .before .before .before .before .before .args in
-    let a = c .before .refused .result in
+    let a = c .before .refused-for .result in
     counting
-    (sealing-kept (x .suite) (now (x .key)) (now (x .nonce)) (now (x .ad)) (now (x .msg)) (now (x .out)) (now (x .tag)) (numberOf a) (c .before .refused .ensures)
+    (sealing-kept (x .suite) (now (x .key)) (now (x .nonce)) (now (x .ad)) (now (x .msg)) (now (x .out)) (now (x .tag)) (numberOf a) (c .before .refused-for .ensures)
     (other-some a (c .match .keys2)))
-    (calls-none false (x .suite) (now (x .key)) (now (x .nonce)) (now (x .ad)) (now (x .msg)) _ _ (numberOf a) (c .before .refused .ensures) (other-some a (c .match .keys2)))
+    (calls-none false (x .suite) (now (x .key)) (now (x .nonce)) (now (x .ad)) (now (x .msg)) _ _ (numberOf a) (c .before .refused-for .ensures) (other-some a (c .match .keys2)))
 
 copy-requires : tie.Need-copy-requires
 copy-requires c κs = room (c .before .before)
@@ -69,4 +69,4 @@ returns-2 c =
 pub seal-counted-spec : {M : Type 1} → statement M
 seal-counted-spec =
     tie.close
-    (tie.spec refused-requires enum-told returns copy-requires seal-taken-requires same-length same-length-2 returns-2)
+    (tie.spec refused-for-requires enum-told returns copy-requires seal-taken-requires same-length same-length-2 returns-2)

@@ -10,8 +10,8 @@ use Rattle.comet.proofs.Left.{sealing-kept}
 use Rattle.comet.proofs.seal_in_place.Statement.{statement}
 use Rattle.comet.proofs.seal_in_place.Tie as tie
 
-refused-requires : tie.Need-refused-requires
-refused-requires c κs = search needs
+refused-for-requires : tie.Need-refused-for-requires
+refused-for-requires c κs = search needs
 
 enum-told : tie.Need-enum-told
 enum-told c = search needs
@@ -19,13 +19,13 @@ enum-told c = search needs
 returns : tie.Need-returns
 returns c =
     let x = c .before .before .before .before .before .before .before .args in
-    let a = c .before .refused .result in
-    sealing-kept (x .suite) (now (x .key)) (now (x .nonce)) (now (x .ad)) (now (x .text)) (now (x .text)) (now (x .tag)) (numberOf a) (c .before .refused .ensures) (other-some a (c .match .keys2))
+    let a = c .before .refused-for .result in
+    sealing-kept (x .suite) (now (x .key)) (now (x .nonce)) (now (x .ad)) (now (x .text)) (now (x .text)) (now (x .tag)) (numberOf a) (c .before .refused-for .ensures) (other-some a (c .match .keys2))
 
 seal-taken-requires : tie.Need-seal-taken-requires
 seal-taken-requires c κs =
     let m = c .before .before .before in
-    sym (m .before .refused .ensures) ∙ done-zero (m .before .refused .result) (m .match .keys1)
+    sym (m .before .refused-for .ensures) ∙ done-zero (m .before .refused-for .result) (m .match .keys1)
 
 same-length : tie.Need-same-length
 same-length c = search needs
@@ -38,4 +38,4 @@ returns-2 c = ap (λ (w : Counting Sealed). w .leaves) (c .before .before .befor
 
 pub seal-in-place-spec : {M : Type 1} → statement M
 seal-in-place-spec =
-    tie.close (tie.spec refused-requires enum-told returns seal-taken-requires same-length same-length-2 returns-2)
+    tie.close (tie.spec refused-for-requires enum-told returns seal-taken-requires same-length same-length-2 returns-2)
