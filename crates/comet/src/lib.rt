@@ -45,7 +45,7 @@ fn crypt(
     if ad.len() != 0 {
         s = text::absorb_all(lent, false, suite, s, 0x08, 0x10, ad);
     }
-    if text.len() != 0 {
+    if 0 < text.len() {
         s = text::crypt_all(lent, opening, suite, s, text);
     }
     step::tag::tag_of(lent, suite, s)

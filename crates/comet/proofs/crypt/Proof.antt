@@ -88,10 +88,10 @@ module _ (k : tie.Joined2) where
         ap (λ (s : State). s .calls) (w .6) ∙ w .2 .ensures .1 .1,
         ap length (w .5) ∙ w .2 .kept .1 .1 .1 .1 .0,
       ))
-      (λ w. (
-        w .1 ∙ nil-of text (w .0 .left) ∙ sym (cover-none (cipherOf (suite j)) (pos j) d 0x40 0x20 (twoOf (suite j) (j .if1 .s)) text (w .0 .left)),
-        ap (twoOf (suite j)) (w .2) ∙ sym (walk-none (cipherOf (suite j)) (pos j) d 0x40 0x20 (twoOf (suite j) (j .if1 .s)) text (w .0 .left)),
-        ap (λ (s : State). s .calls) (w .2) ∙ empty-count (sizeOf (suite j)) (pos j) text (j .if1 .s .calls) (w .0 .left) (small (j .if1 .s .calls) _ _ (read-is j .1)),
+      (λ w. let z : length text ≡ 0 = omega (arith, w .0 .left) in (
+        w .1 ∙ nil-of text z ∙ sym (cover-none (cipherOf (suite j)) (pos j) d 0x40 0x20 (twoOf (suite j) (j .if1 .s)) text z),
+        ap (twoOf (suite j)) (w .2) ∙ sym (walk-none (cipherOf (suite j)) (pos j) d 0x40 0x20 (twoOf (suite j) (j .if1 .s)) text z),
+        ap (λ (s : State). s .calls) (w .2) ∙ empty-count (sizeOf (suite j)) (pos j) text (j .if1 .s .calls) z (small (j .if1 .s .calls) _ _ (read-is j .1)),
         ap length (w .1),
       ))
       (k .if2 .came)
