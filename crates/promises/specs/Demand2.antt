@@ -23,6 +23,13 @@ Accepting =
     → (opening suite key nonce ad c t out₀ .number ≡ 0)
     ↔ ((m : List ℕ) × AllBytes m × (ciphertext (cipherOf suite) key nonce ad m ≡ c) × (tag (cipherOf suite) key nonce ad m ≡ t))
 
+-- where the suite seals, said of the sealer itself: the pair is accepted exactly if the sealer gives it, with 0, for some message
+abbrev pub AcceptsSealed : Type 0
+AcceptsSealed =
+    (suite : ℕ) (key nonce ad c t out₀ : List ℕ) → Input suite key nonce ad c → Seals suite → length out₀ ≡ length c → length t ≡ sizeOf suite
+    → (opening suite key nonce ad c t out₀ .number ≡ 0)
+    ↔ ((m : List ℕ) × (out₁ : List ℕ) × (tag₁ : List ℕ) × AllBytes m × (sealing suite key nonce ad m out₁ tag₁ ≡ record { number = 0; out = c; tag = t }))
+
 -- and that message is what the opener returns
 abbrev pub Returning : Type 0
 Returning =

@@ -57,9 +57,9 @@ pub fn open_full(lent: &[Lent], suite: u8, state: State, mark: u8, block: &mut [
     let x = t.y;
     let c = words::block::whole(block);
     let h = crate::shuffle::shuffled(suite, x, block.len());
-    let p = words::block::xor(c, h);
-    words::block::put_whole(p, block);
-    crate::state::mix(t, p)
+    let message = words::block::xor(c, h);
+    words::block::put_whole(message, block);
+    crate::state::mix(t, message)
 }
 
 // A short block of associated data, or of ciphertext whose message's block goes in and is written nowhere.
