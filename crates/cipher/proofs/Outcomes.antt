@@ -5,11 +5,11 @@ use Prim.Native.Nat.{ℕ, zero, suc, _<_}
 use native.Mathlib.Omega.{arith}
 use lib.ListN.{getD}
 use lib.Seq.{ext-getD}
-use Rattle.words.specs.Outcome.{OneOutcome}
-use Rattle.words.proofs.Bytes.{bytes-inj}
-use Rattle.words.proofs.Lists.{parts-told}
-use Rattle.words.proofs.Blocks.{wide-told}
-use Rattle.columns.proofs.Table.{table-only}
+use Rattle.block.specs.Outcome.{OneOutcome}
+use Rattle.block.proofs.Bytes.{bytes-inj}
+use Rattle.block.proofs.Lists.{parts-told}
+use Rattle.block.proofs.Blocks.{wide-told}
+use Rattle.aes_tables.proofs.Table.{table-only}
 use Rattle.cipher.specs.Cipher.{Full, sizeOf}
 use Rattle.cipher.proofs.is_suite.Kinds as is-suite-kinds
 use Rattle.cipher.proofs.is_suite.Reads as is-suite-reads

@@ -8,9 +8,9 @@ use native.Mathlib.Omega.{arith}
 use native.Mathlib.Decide.{decLe}
 use lib.Dec.{leb, eqb}
 use borrow.Author.Tests.{le-leb, lt-leb, eqb-true, eq-eqb, ne-eqb, not-false}
-use Rattle.words.proofs.Tests.{both-true}
-use Rattle.fips197.specs.Cipher.{cipher}
-use Rattle.cham.specs.Cham.{cham}
+use Rattle.block.proofs.Tests.{both-true}
+use Rattle.aes_spec.specs.Cipher.{cipher}
+use Rattle.cham_spec.specs.Cham.{cham}
 use Rattle.speck.specs.Speck.{speck}
 use Rattle.cipher.specs.Cipher.{Version, one, two, isTwo, BlockCipher, aes128, cham128, speck64, cham64, imageOf, isLent, Facts, facts, factsOf, sizeOf, nonceOf, engineOf, versionOf, lends, Ready, isSuite, IsSuite, retired, seals, Seals}
 

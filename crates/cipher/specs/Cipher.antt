@@ -5,11 +5,11 @@ use mathlib.Core.Logic.{_⊎_}
 use Prim.Native.Nat.{ℕ}
 use lib.Dec.{leb, eqb}
 use lib.ListN.{length, getD}
-use Rattle.words.specs.Bytes.{AllBytes}
+use Rattle.block.specs.Bytes.{AllBytes}
 use mathlib.Core.Bool.{Bool, true, false, cond, _&&_, not}
-use Rattle.fips197.specs.Cipher.{cipher}
-use Rattle.columns.specs.Tables.{IsTables}
-use Rattle.cham.specs.Cham.{cham}
+use Rattle.aes_spec.specs.Cipher.{cipher}
+use Rattle.aes_tables.specs.Tables.{IsTables}
+use Rattle.cham_spec.specs.Cham.{cham}
 use Rattle.speck.specs.Speck.{speck}
 
 -- a block of n bytes

@@ -1,14 +1,14 @@
 // The block ciphers of the six suites, under one promise.
-use words::block::Block;
+use block::Block;
 ghost use mathlib.Core.Path.{_≡_};
 ghost use mathlib.Core.Bool.{true};
 ghost use mathlib.Core.List.{_++_};
 ghost use Prim.Native.Nat.{_-_, _≤_, _<_};
 ghost use lib.ListN.{take, drop, replicate};
-ghost use Rattle.words.specs.Bytes.{bytes};
-ghost use Rattle.words.specs.Blocks.{wide};
-ghost use Rattle.fips197.specs.Cipher.{cipher};
-ghost use Rattle.cham.specs.Cham.{cham};
+ghost use Rattle.block.specs.Bytes.{bytes};
+ghost use Rattle.block.specs.Blocks.{wide};
+ghost use Rattle.aes_spec.specs.Cipher.{cipher};
+ghost use Rattle.cham_spec.specs.Cham.{cham};
 ghost use Rattle.speck.specs.Speck.{speck};
 ghost use Rattle.cipher.specs.Cipher.{lends, Full, Ready, isSuite, IsSuite, isTwo, sizeOf, nonceOf, versionOf, cipherOf, seals};
 
@@ -61,7 +61,7 @@ pub fn is_second(suite: u8) -> bool
 }
 
 // What an engine is lent, made once a message: a slice of one, or of none where the suite's engine is lent nothing.
-pub type Lent = columns::Tables;
+pub type Lent = aes_tables::Tables;
 
 // Whether the suite's engine is lent anything.
 pub fn lends(suite: u8) -> bool
@@ -77,40 +77,40 @@ pub fn tables(suite: u8) -> [Lent; 1]
     requires { ⌜ lends suite ≡ true ⌝ }
     ensures { λ r. ⌜ Ready suite r ⌝ }
 {
-    [columns::tables()]
+    [aes_tables::tables()]
 }
 
 fn by_aes(lent: &[Lent], key: Block, block: Block) -> Block
     requires { ⌜ Full (now lent) ⌝ }
     ensures { λ r. ⌜ wide r ≡ cipher (wide key) (wide block) ⌝ }
 {
-    let k = words::block::bytes_of(key);
-    let b = words::block::bytes_of(block);
-    words::block::block_of(columns::encrypt_with(&lent[0], k, b))
+    let k = block::bytes_of(key);
+    let b = block::bytes_of(block);
+    block::block_of(aes_tables::encrypt_with(&lent[0], k, b))
 }
 
 fn by_cham128(key: Block, block: Block) -> Block
     ensures { λ r. ⌜ wide r ≡ cham 32 (wide key) (wide block) ⌝ }
 {
-    let k = words::block::bytes_of(key);
-    let b = words::block::bytes_of(block);
-    words::block::block_of(cham128::encrypt(k, b))
+    let k = block::bytes_of(key);
+    let b = block::bytes_of(block);
+    block::block_of(cham128::encrypt(k, b))
 }
 
 fn by_speck(key0: u64, key1: u64, block: u64) -> u64
     ensures { λ r. ⌜ bytes 8 r ≡ speck (bytes 8 key0 ++ bytes 8 key1) (bytes 8 block) ⌝ }
 {
-    let k = words::block::bytes_of(Block { a: key0, b: key1 });
-    let b = words::block::bytes8(block);
-    words::block::number8(speck::encrypt(k, b))
+    let k = block::bytes_of(Block { a: key0, b: key1 });
+    let b = block::bytes8(block);
+    block::number8(speck::encrypt(k, b))
 }
 
 fn by_cham64(key0: u64, key1: u64, block: u64) -> u64
     ensures { λ r. ⌜ bytes 8 r ≡ cham 16 (bytes 8 key0 ++ bytes 8 key1) (bytes 8 block) ⌝ }
 {
-    let k = words::block::bytes_of(Block { a: key0, b: key1 });
-    let b = words::block::bytes8(block);
-    words::block::number8(cham64::encrypt(k, b))
+    let k = block::bytes_of(Block { a: key0, b: key1 });
+    let b = block::bytes8(block);
+    block::number8(cham64::encrypt(k, b))
 }
 
 // The image of a block of 16 bytes.

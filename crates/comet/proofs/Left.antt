@@ -6,11 +6,11 @@ use native.Mathlib.Nat.{not-suc-le-zero}
 use native.Mathlib.Omega.{arith}
 use mathlib.Core.List.{List}
 use lib.ListN.{length, replicate}
-use Rattle.words.specs.Bytes.{sameBytes}
+use Rattle.block.specs.Bytes.{sameBytes}
 use Rattle.cipher.specs.Cipher.{cipherOf}
 use Rattle.mode.specs.Mode.{ciphertext, tag, textOut, tagOut}
-use Rattle.numbers.specs.Verdicts.{refusal}
-use Rattle.numbers.proofs.Refuse.{passed}
+use Rattle.status.specs.Verdicts.{refusal}
+use Rattle.status.proofs.Refuse.{passed}
 use Rattle.comet.specs.Answers.{Sealed, sealedAs, sealing, Opened, openedAs, opening}
 
 -- ---- the sealer

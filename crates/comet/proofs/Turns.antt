@@ -8,17 +8,17 @@ use mathlib.Core.List.{List, [], _++_, append-nil}
 use lib.ListN.{length, take, drop, length-append, drop-of-length-le}
 use lib.Seq.{take-at, take-all, drop-at}
 use borrow.Rule.Slice.PartMut.{postOf, putMid, post-is}
-use Rattle.words.proofs.Lists.{nil-of}
+use Rattle.block.proofs.Lists.{nil-of}
 use lib.Dec.{ltb}
-use Rattle.words.specs.Words.{xor, add}
+use Rattle.block.specs.Words.{xor, add}
 use Rattle.cipher.specs.Cipher.{Cipher}
 use Rattle.mode.specs.Blocks.{blocks}
 use Rattle.mode.specs.Walk.{States, whole, rest, turned, hidden, messageOf, walked, covered}
 use Rattle.mode.proofs.Cut.{rest-less, blocks-whole-rest}
 use Rattle.mode.proofs.Walk.{later, later-first, walked-append, covered-append}
-use Rattle.step.specs.Two.{oneMore}
-use Rattle.walk.specs.Behind.{wholes}
-use Rattle.walk.proofs.Front.{one-block, no-block, left-within, left-long, walk-short, cover-short, walk-none, cover-none}
+use Rattle.block_step.specs.Two.{oneMore}
+use Rattle.block_walk.specs.Behind.{wholes}
+use Rattle.block_walk.proofs.Front.{one-block, no-block, left-within, left-long, walk-short, cover-short, walk-none, cover-none}
 
 -- u and k: the states and the mark behind the whole blocks of l
 module _ (κ : Cipher) (pos : 0 < κ .size) (d : Bool) (first short : ℕ) (s : States) (l : List ℕ)

@@ -3,9 +3,9 @@ use mathlib.Core.Bool.{Bool, true, false}
 use Prim.Native.Nat.{ℕ, zero, suc}
 use mathlib.Core.List.{List}
 use lib.ListN.{length, replicate}
-use Rattle.words.specs.Bytes.{sameBytes}
+use Rattle.block.specs.Bytes.{sameBytes}
 use Rattle.cipher.specs.Cipher.{cipherOf}
-use Rattle.numbers.specs.Verdicts.{refusal}
+use Rattle.status.specs.Verdicts.{refusal}
 use Rattle.mode.specs.Mode.{ciphertext, tag, textOut, tagOut}
 
 -- what a call of the sealer gives and leaves

@@ -5,7 +5,7 @@ use mathlib.Core.List.{List}
 use lib.ListN.{length}
 use Rattle.cipher.specs.Cipher.{cipherOf}
 use Rattle.mode.specs.Mode.{calls}
-use Rattle.numbers.specs.Verdicts.{refusal}
+use Rattle.status.specs.Verdicts.{refusal}
 use Rattle.comet.specs.Answers.{Sealed, sealing, Opened, opening}
 
 -- what a call leaves, and how many cipher calls it took

@@ -1,9 +1,9 @@
 // The sealer and the opener: COMET under every suite.
+use block::Block;
+use block_step::tag::Last;
 use cipher::Lent;
-use numbers::verdict::Verdict;
-use numbers::verdict::refused;
-use step::tag::Last;
-use words::block::Block;
+use status::verdict::Verdict;
+use status::verdict::refused;
 
 mod text;
 
@@ -11,11 +11,11 @@ ghost use mathlib.Core.Path.{_≡_};
 ghost use mathlib.Core.Bool.{true, false};
 ghost use Prim.Native.Nat.{_≤_};
 ghost use lib.ListN.{length, take};
-ghost use Rattle.words.specs.Blocks.{wide};
+ghost use Rattle.block.specs.Blocks.{wide};
 ghost use Rattle.cipher.specs.Cipher.{Ready, IsSuite, sizeOf, nonceOf, cipherOf, limit};
 ghost use Rattle.mode.specs.Mode.{textOut, tagOut, calls};
-ghost use Rattle.step.specs.Two.{Clean};
-ghost use Rattle.numbers.specs.Verdicts.{numberOf, refusal};
+ghost use Rattle.block_step.specs.Two.{Clean};
+ghost use Rattle.status.specs.Verdicts.{numberOf, refusal};
 ghost use Rattle.comet.specs.Answers.{Sealed, sealing, Opened, opening, verifying};
 ghost use Rattle.comet.specs.Counted.{Counting, sealingCounted, openingCounted};
 
@@ -66,14 +66,14 @@ fn crypt_with(
     ensures rest { λ r. ⌜ Clean suite (r .tag)
         × (r .calls ≡ length (calls (cipherOf suite) opening (now (key .entry)) (now (nonce .entry)) (now (ad .entry)) (now (text .entry)))) ⌝ }
 {
-    let mut s = step::state::start(lent, suite, key, nonce);
+    let mut s = block_step::state::start(lent, suite, key, nonce);
     if ad.len() != 0 {
         s = text::absorb_all(lent, false, suite, s, 0x08, 0x10, ad);
     }
     if 0 < text.len() {
         s = text::crypt_all(lent, opening, suite, s, text);
     }
-    step::tag::tag_of(lent, suite, s)
+    block_step::tag::tag_of(lent, suite, s)
 }
 
 // `crypt_with` under the tables that the suite needs: only suites 1 and 5 spend time on filling them. Their 4 KiB are in this function's stack frame, whichever the suite.
@@ -106,7 +106,7 @@ fn seal_taken(
 {
     let t = crypt(false, suite, key, nonce, ad, text);
     let g = t.tag;
-    words::block::put_whole(g, tag);
+    block::put_whole(g, tag);
     Counted {
         verdict: Verdict::Done,
         calls: t.calls,
@@ -142,7 +142,7 @@ pub fn seal_counted(
             calls: 0,
         };
     };
-    runs::copy(msg, out);
+    byte_runs::copy(msg, out);
     seal_taken(suite, key, nonce, ad, out, tag)
 }
 
@@ -205,9 +205,9 @@ fn unseal_taken(
 {
     let t = crypt(true, suite, key, nonce, ad, text);
     let g = t.tag;
-    let right = step::tag::same(g, tag);
+    let right = block_step::tag::same(g, tag);
     if !right {
-        runs::wipe(text);
+        byte_runs::wipe(text);
         return Counted {
             verdict: Verdict::Forged,
             calls: t.calls,
@@ -248,7 +248,7 @@ pub fn unseal_counted(
             calls: 0,
         };
     };
-    runs::copy(text, out);
+    byte_runs::copy(text, out);
     unseal_taken(suite, key, nonce, ad, out, tag)
 }
 
@@ -302,14 +302,14 @@ fn tag_with(lent: &[Lent], suite: u8, key: &[u8], nonce: &[u8], ad: &[u8], text:
     ensures tag { λ r. ⌜ take (sizeOf suite) (wide r) ≡ tagOut (cipherOf suite) true (now (key .entry)) (now (nonce .entry)) (now (ad .entry)) (now (text .entry)) ⌝ }
     ensures rest { λ r. ⌜ Clean suite r ⌝ }
 {
-    let mut s = step::state::start(lent, suite, key, nonce);
+    let mut s = block_step::state::start(lent, suite, key, nonce);
     if ad.len() != 0 {
         s = text::absorb_all(lent, false, suite, s, 0x08, 0x10, ad);
     }
     if text.len() != 0 {
         s = text::absorb_all(lent, true, suite, s, 0x20, 0x40, text);
     }
-    let l = step::tag::tag_of(lent, suite, s);
+    let l = block_step::tag::tag_of(lent, suite, s);
     l.tag
 }
 
@@ -344,7 +344,7 @@ pub fn verify(suite: u8, key: &[u8], nonce: &[u8], ad: &[u8], text: &[u8], tag: 
         return a;
     };
     let g = tag_under(suite, key, nonce, ad, text);
-    let genuine = step::tag::same(g, tag);
+    let genuine = block_step::tag::same(g, tag);
     if !genuine {
         return Verdict::Forged;
     }

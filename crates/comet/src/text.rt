@@ -1,16 +1,16 @@
-// All blocks of the associated data and of the text, a step each: the whole ones (crate walk), and then the short one, if there is one.
+// All blocks of the associated data and of the text, a step each: the whole ones (crate block_walk), and then the short one, if there is one.
+use block_step::one_block::absorb_short;
+use block_step::one_block::crypt_short;
+use block_step::state::State;
 use cipher::Lent;
-use step::block::absorb_short;
-use step::block::crypt_short;
-use step::state::State;
 ghost use mathlib.Core.Path.{_≡_};
 ghost use Prim.Native.Nat.{_<_};
 ghost use lib.ListN.{length};
-ghost use Rattle.words.specs.Words.{add};
+ghost use Rattle.block.specs.Words.{add};
 ghost use Rattle.cipher.specs.Cipher.{Ready, IsSuite, sizeOf, cipherOf};
 ghost use Rattle.mode.specs.Blocks.{blocks};
 ghost use Rattle.mode.specs.Walk.{walked, covered};
-ghost use Rattle.step.specs.Two.{twoOf};
+ghost use Rattle.block_step.specs.Two.{twoOf};
 
 // All blocks of b go in, a call each, the first under the mark first and a short one under the mark short too; nothing is written.
 pub(crate) fn absorb_all(
@@ -26,7 +26,7 @@ pub(crate) fn absorb_all(
     ensures state { λ r. ⌜ twoOf suite r ≡ walked (cipherOf suite) opening first short (twoOf suite s) (blocks (sizeOf suite) (now (b .entry))) ⌝ }
     ensures calls { λ r. ⌜ r .calls ≡ add 64 (s .calls) (length (blocks (sizeOf suite) (now (b .entry)))) ⌝ }
 {
-    let w = walk::absorb(lent, opening, suite, s, first, b);
+    let w = block_walk::absorb(lent, opening, suite, s, first, b);
     let t = w.s;
     let m = w.mark;
     let i = w.at;
@@ -47,7 +47,7 @@ pub(crate) fn crypt_all(lent: &[Lent], opening: bool, suite: u8, s: State, text:
     if end < cipher::size_of(suite) {
         return crypt_short(lent, opening, suite, s, 0x20 ^ 0x40, text);
     }
-    let w = walk::crypt(lent, opening, suite, s, 0x20, text);
+    let w = block_walk::crypt(lent, opening, suite, s, 0x20, text);
     let t = w.s;
     let m = w.mark;
     let i = w.at;

@@ -8,8 +8,8 @@ use native.Mathlib.Decide.{decLe}
 use mathlib.Core.List.{List, [], _∷_, _++_, append-nil}
 use lib.ListN.{length, take, drop, length-drop, length-take, length-append, drop-of-length-le}
 use lib.Seq.{take-all, take-at, take-add, drop-at, drop-drop, length-take-le}
-use Rattle.words.specs.Bytes.{AllBytes}
-use Rattle.words.proofs.Lists.{nil-of, all-take, all-drop}
+use Rattle.block.specs.Bytes.{AllBytes}
+use Rattle.block.proofs.Lists.{nil-of, all-take, all-drop}
 use Rattle.mode.specs.Blocks.{chop, blocks, chopLengths, lengths}
 
 -- a part that ends where the list does

@@ -8,10 +8,10 @@ use native.Mathlib.Omega.{arith}
 use native.Mathlib.Decide.{decLe}
 use mathlib.Core.List.{List, [], _∷_, _++_}
 use lib.ListN.{length, take, drop, length-append, length-drop, length-take, take-append-drop}
-use Rattle.words.specs.Bytes.{AllBytes}
-use Rattle.words.specs.Xors.{xors}
-use Rattle.words.proofs.Lists.{nil-of, all-take, all-drop, all-append}
-use Rattle.words.proofs.Xors.{length-xors, all-xors, xors-cancel}
+use Rattle.block.specs.Bytes.{AllBytes}
+use Rattle.block.specs.Xors.{xors}
+use Rattle.block.proofs.Lists.{nil-of, all-take, all-drop, all-append}
+use Rattle.block.proofs.Xors.{length-xors, all-xors, xors-cancel}
 use Rattle.cipher.specs.Cipher.{Cipher, Lawful, Block}
 use Rattle.mode.specs.Blocks.{blocks}
 use Rattle.mode.specs.Words.{shuffle, pad}

@@ -6,7 +6,7 @@ use native.Mathlib.Omega.{arith}
 use mathlib.Core.List.{List, [], _∷_, _++_, append-assoc, append-nil}
 use lib.ListN.{length, take, drop, length-append, length-drop, take-append-drop}
 use lib.Seq.{take-append-add, drop-append-add, take-append-le, drop-append-le, length-take-le}
-use Rattle.words.proofs.Lists.{nil-of}
+use Rattle.block.proofs.Lists.{nil-of}
 use Rattle.mode.specs.Blocks.{blocks}
 use Rattle.mode.specs.Walk.{whole, rest}
 use Rattle.mode.proofs.Blocks.{blocks-nil, blocks-more}

@@ -7,8 +7,8 @@ use native.Mathlib.Omega.{arith}
 use mathlib.Core.List.{List, [], _∷_, _++_, append-assoc}
 use lib.ListN.{length, take, drop, drop-of-length-le}
 use lib.Seq.{take-at, length-take-le}
-use Rattle.words.specs.Bytes.{AllBytes}
-use Rattle.words.proofs.Lists.{all-take}
+use Rattle.block.specs.Bytes.{AllBytes}
+use Rattle.block.proofs.Lists.{all-take}
 use Rattle.cipher.specs.Cipher.{Cipher, Lawful, Block}
 use Rattle.mode.specs.Blocks.{blocks}
 use Rattle.mode.specs.Mode.{Chain, nonceSize, absorbed, masked, message, trail, after, crypted, afterData, textOut, tagOut}

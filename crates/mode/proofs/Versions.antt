@@ -5,8 +5,8 @@ use Prim.Native.Nat.{ℕ, zero, suc, _<_}
 use mathlib.Core.List.{List, [], _∷_}
 use lib.ListN.{getD, set}
 use lib.Seq.{set-getD}
-use Rattle.words.specs.Words.{xor}
-use Rattle.words.proofs.Xor.{assoc, zero-l, zero-r}
+use Rattle.block.specs.Words.{xor}
+use Rattle.block.proofs.XorLaws.{assoc, zero-l, zero-r}
 use Rattle.cipher.specs.Cipher.{Block, Version, one, two}
 use Rattle.mode.specs.Keys.{late, placed, marked, doubled, nextKey, keys}
 use Rattle.mode.specs.Walk.{blockKey, blockZ}

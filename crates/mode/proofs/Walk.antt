@@ -9,10 +9,10 @@ use mathlib.Core.List.{List, [], _∷_, _++_, append-assoc, append-nil}
 use lib.ListN.{length, take, drop, drop-of-length-le}
 use lib.Dec.{ltb}
 use borrow.Author.Tests.{lt-ltb, le-ltb}
-use Rattle.words.specs.Bytes.{AllBytes}
-use Rattle.words.proofs.Xor.{below, zero-r}
-use Rattle.words.specs.Words.{xor}
-use Rattle.words.specs.Xors.{xors}
+use Rattle.block.specs.Bytes.{AllBytes}
+use Rattle.block.proofs.XorLaws.{below, zero-r}
+use Rattle.block.specs.Words.{xor}
+use Rattle.block.specs.Xors.{xors}
 use Rattle.cipher.specs.Cipher.{Cipher, Lawful, Block}
 use Rattle.mode.specs.Blocks.{blocks, lengths}
 use Rattle.mode.specs.Words.{shuffle, pad}

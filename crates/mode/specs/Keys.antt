@@ -4,8 +4,8 @@ use mathlib.Core.List.{List, [], _∷_, _++_}
 use lib.ListN.{getD, set, take, drop}
 use lib.Dec.{ltb}
 use mathlib.Core.Bool.{cond}
-use Rattle.words.specs.Words.{xor}
-use Rattle.words.specs.Bytes.{value, bytes}
+use Rattle.block.specs.Words.{xor}
+use Rattle.block.specs.Bytes.{value, bytes}
 use Rattle.cipher.specs.Cipher.{Version, one, two}
 use Rattle.mode.specs.Words.{double, double120}
 use Rattle.mode.specs.Blocks.{lengths}

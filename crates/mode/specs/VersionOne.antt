@@ -5,9 +5,9 @@ use mathlib.Core.Bool.{Bool, cond}
 use mathlib.Core.List.{List, [], _∷_, _++_}
 use lib.ListN.{length, getD, set, take, drop, replicate}
 use lib.Dec.{eqb, ltb, leb}
-use Rattle.words.specs.Words.{xor}
-use Rattle.words.specs.Bytes.{value, bytes}
-use Rattle.words.specs.Xors.{xors}
+use Rattle.block.specs.Words.{xor}
+use Rattle.block.specs.Bytes.{value, bytes}
+use Rattle.block.specs.Xors.{xors}
 use Rattle.cipher.specs.Cipher.{Cipher, one}
 use Rattle.mode.specs.Blocks.{blocks}
 use Rattle.mode.specs.Words.{shuffle, pad}

@@ -8,17 +8,17 @@ use mathlib.Core.List.{List}
 use lib.ListN.{length}
 use lib.Dec.{eqb, ltb}
 use borrow.Author.Tests.{eqb-true, eqb-false, ne-eqb, not-true, not-false}
-use Rattle.words.specs.Blocks.{filled}
+use Rattle.block.specs.Blocks.{filled}
 use Rattle.cipher.proofs.Suites.{tag-size}
 use Rattle.cipher.specs.Cipher.{limit}
-use Rattle.format.specs.declared.row.Row.{Row}
-use Rattle.numbers.specs.declared.checked.Answer.{Answer}
-use Rattle.table.specs.Search.{anyBelow}
-use Rattle.format.specs.Format.{editionOf, countOf, totalOf, rowSizeOf, rowStart, rowOf, nonceAt, nonceReadAt, bodyEnd, dataJob, unitOf}
-use Rattle.numbers.specs.Answers.{answer}
-use Rattle.table.specs.Check.{notAbove, badSuite, badLength, bodyStart, misplaced, unreadSet, clash, nonceSeen, badData, bodyNumber, rowNumber, endAnswer, rowsFrom, headNumber, checkBetween}
-use Rattle.table.proofs.Searches.{any-some, any-hit, first-at, first-none}
-use Rattle.shift.specs.Nonces.{SameNonce}
+use Rattle.shift_format.specs.declared.row.Row.{Row}
+use Rattle.status.specs.declared.checked.Answer.{Answer}
+use Rattle.shift_check.specs.Search.{anyBelow}
+use Rattle.shift_format.specs.Format.{editionOf, countOf, totalOf, rowSizeOf, rowStart, rowOf, nonceAt, nonceReadAt, bodyEnd, dataJob, unitOf}
+use Rattle.status.specs.Answers.{answer}
+use Rattle.shift_check.specs.Check.{notAbove, badSuite, badLength, bodyStart, misplaced, unreadSet, clash, nonceSeen, badData, bodyNumber, rowNumber, endAnswer, rowsFrom, headNumber, checkBetween}
+use Rattle.shift_check.proofs.Searches.{any-some, any-hit, first-at, first-none}
+use Rattle.shift_jobs.specs.Nonces.{SameNonce}
 use Rattle.promises.specs.Tables.{None}
 use Rattle.promises.specs.Numbers.{tagSize, headTable, rowTable, endTable, SoundTo, CheckNumbers, Numbers}
 use Rattle.promises.proofs.Tables.{Tells, tells-eq, tells-lt, tells-le, tells-same, tells-not, tells-or, tells-and, tells-as, first-of, Rungs, ladder, numbersOf, fresh, fresh-some, not-given, By, lines, nothing}

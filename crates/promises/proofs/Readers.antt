@@ -6,7 +6,7 @@ use prog.Routine.{Routine}
 use prog.Wp.{Heap}
 use ghost.Atoms.{Atoms}
 use contract.Monad.{Fun}
-use Rattle.reader.proofs.Held as held
+use Rattle.shift_reader.proofs.Held as held
 use Rattle.promises.specs.Readers.{Readers}
 
 pub readers : {M : Type 1} (𝓤 : URA M) (H : Heap 𝓤) (A : Atoms 𝓤) (mem : Memory → SProp 𝓤) (run : Routine → Fun 𝓤) → Readers 𝓤 H A mem run

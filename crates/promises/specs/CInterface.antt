@@ -9,24 +9,24 @@ use Rattle.comet.specs.Answers.{Sealed, sealing, Opened, opening, verifying}
 use Rattle.comet.specs.Counted.{Counting, sealingCounted, openingCounted}
 use Rattle.session.specs.Value.{starting, dataPart, textPart, ending}
 use Rattle.session.specs.Calls.{Shut}
-use Rattle.numbers.specs.Answers.{answer}
-use Rattle.format.specs.Format.{editionOf, countOf, rowSizeOf, nonceStart, rowOf, stationOf}
-use Rattle.table.specs.Check.{checkFile}
-use Rattle.shift.specs.declared.answers.Entry.{Entry}
-use Rattle.shift.specs.Lookup.{lookupJob}
-use Rattle.shift.specs.Entry.{entryOf}
-use Rattle.shift.specs.Opening.{left, jobOpening}
-use Rattle.shift.specs.declared.answers.Genuine.{Genuine}
-use Rattle.shift.specs.Genuine.{jobVerifying}
-use Rattle.search.specs.Halving.{searching}
-use Rattle.draft.specs.Answers.{writes, fileSealing, fileUnsealing}
-use Rattle.reseal.specs.Answers.{fileResealing}
-use Rattle.amend.specs.Amending.{AmendedOpening, amendedOpening}
-use Rattle.editions.specs.Answers.{movedLength, FileMoved, toEdition2, toEdition1}
-use Rattle.compare.specs.Comparing.{Comparison, comparison}
-use Rattle.reader.specs.Reporting.{Report, reporting}
-use Rattle.reader.specs.declared.contents.HeaderFields.{HeaderFields}
-use Rattle.reader.specs.Contents.{headerAnswer, rowAnswer}
+use Rattle.status.specs.Answers.{answer}
+use Rattle.shift_format.specs.Format.{editionOf, countOf, rowSizeOf, nonceStart, rowOf, stationOf}
+use Rattle.shift_check.specs.Check.{checkFile}
+use Rattle.shift_jobs.specs.declared.answers.Entry.{Entry}
+use Rattle.shift_jobs.specs.Lookup.{lookupJob}
+use Rattle.shift_jobs.specs.Entry.{entryOf}
+use Rattle.shift_jobs.specs.Opening.{left, jobOpening}
+use Rattle.shift_jobs.specs.declared.answers.Genuine.{Genuine}
+use Rattle.shift_jobs.specs.Genuine.{jobVerifying}
+use Rattle.shift_search.specs.Halving.{searching}
+use Rattle.shift_draft.specs.Answers.{writes, fileSealing, fileUnsealing}
+use Rattle.shift_reseal.specs.Answers.{fileResealing}
+use Rattle.shift_amend.specs.Amending.{AmendedOpening, amendedOpening}
+use Rattle.shift_editions.specs.Answers.{movedLength, FileMoved, toEdition2, toEdition1}
+use Rattle.shift_compare.specs.Comparing.{Comparison, comparison}
+use Rattle.shift_reader.specs.Reporting.{Report, reporting}
+use Rattle.shift_reader.specs.declared.contents.HeaderFields.{HeaderFields}
+use Rattle.shift_reader.specs.Contents.{headerAnswer, rowAnswer}
 use Rattle.snoekeldraf.specs.Words.{Nine, ofWords, wordsOf, after, inWords}
 use Rattle.snoekeldraf.specs.Located.{Located, locating}
 use Rattle.snoekeldraf.specs.Amended.{Placed, placing}

@@ -7,7 +7,7 @@ use lib.ListN.{length, replicate}
 use contract.Lifetimes.{Lfts}
 use denote.Ref.{RefT, now}
 use borrow.Fn.Kinds.{Dens, resT}
-use Rattle.words.specs.Outcome.{Outcome, OneOutcome}
+use Rattle.block.specs.Outcome.{Outcome, OneOutcome}
 use Rattle.comet.specs.Answers.{Sealed, sealing, Opened, opening, verifying}
 use Rattle.promises.specs.Contracts.{Contract}
 use Rattle.promises.specs.Contracts as the

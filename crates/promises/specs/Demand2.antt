@@ -4,7 +4,7 @@ use mathlib.Core.Logic.{_↔_}
 use Prim.Native.Nat.{ℕ}
 use mathlib.Core.List.{List}
 use lib.ListN.{length}
-use Rattle.words.specs.Bytes.{AllBytes}
+use Rattle.block.specs.Bytes.{AllBytes}
 use Rattle.cipher.specs.Cipher.{Seals, cipherOf, sizeOf}
 use Rattle.mode.specs.Mode.{ciphertext, tag}
 use Rattle.comet.specs.Answers.{sealing, opening}

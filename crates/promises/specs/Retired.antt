@@ -1,4 +1,4 @@
--- W7 (document 02): suite 4 is retired. It seals no more, and opens as before. What the writer answers stands in `draft/specs/Promised.antt` (`SealCases`); what demand 2 says of it, in `Demand2.antt`.
+-- W7 (document 02): suite 4 is retired. It seals no more, and opens as before. What the writer answers stands in `shift_draft/specs/Promised.antt` (`SealCases`); what demand 2 says of it, in `Demand2.antt`.
 use mathlib.Core.Path.{_≡_}
 use mathlib.Core.Logic.{_↔_}
 use mathlib.Core.List.{List, []}

@@ -5,31 +5,31 @@ use mathlib.Core.List.{List, []}
 use lib.ListN.{length}
 use contract.Lifetimes.{Lfts}
 use denote.Ref.{RefT, now}
-use Rattle.numbers.specs.Verdicts.{numberOf}
+use Rattle.status.specs.Verdicts.{numberOf}
 use Rattle.comet.specs.Answers.{Sealed, sealing, Opened, opening, verifying}
 use Rattle.comet.specs.Counted.{Counting, sealingCounted, openingCounted}
 use Rattle.session.specs.declared.Session.{Session}
 use Rattle.session.specs.Value.{starting, dataPart, textPart, ending}
 use Rattle.session.specs.Structs.{asValue, gives}
-use Rattle.format.specs.Part.{PartOf}
-use Rattle.numbers.specs.Answers.{checkedAnswer}
-use Rattle.table.specs.Check.{checkFile}
-use Rattle.shift.specs.Answers.{foundAnswer, openedAnswer}
-use Rattle.shift.specs.Lookup.{lookupJob}
-use Rattle.shift.specs.Entry.{dataStart, dataLength, entryOf}
-use Rattle.shift.specs.Opening.{left, jobOpening}
-use Rattle.shift.specs.Genuine.{jobVerifying}
-use Rattle.search.specs.Halving.{searching}
-use Rattle.draft.specs.Answers.{writes, fileSealing, fileUnsealing}
-use Rattle.writer.specs.Answers.{writtenAnswer}
-use Rattle.reseal.specs.Answers.{fileResealing}
-use Rattle.amend.specs.Amending.{amendedEntry, CurrentPart, AmendedOpening, amendedOpening}
-use Rattle.editions.specs.Answers.{movedAnswer, movedLength, FileMoved, toEdition2, toEdition1}
-use Rattle.compare.specs.Comparing.{findingOf, Comparison, comparison}
-use Rattle.reader.specs.declared.cursor.Cursor.{Cursor}
-use Rattle.reader.specs.Reading.{startOf, askOf}
-use Rattle.reader.specs.Reporting.{saidOf, Report, reporting}
-use Rattle.reader.specs.Contents.{headerAnswer, rowAnswer}
+use Rattle.shift_format.specs.Part.{PartOf}
+use Rattle.status.specs.Answers.{checkedAnswer}
+use Rattle.shift_check.specs.Check.{checkFile}
+use Rattle.shift_jobs.specs.Answers.{foundAnswer, openedAnswer}
+use Rattle.shift_jobs.specs.Lookup.{lookupJob}
+use Rattle.shift_jobs.specs.Entry.{dataStart, dataLength, entryOf}
+use Rattle.shift_jobs.specs.Opening.{left, jobOpening}
+use Rattle.shift_jobs.specs.Genuine.{jobVerifying}
+use Rattle.shift_search.specs.Halving.{searching}
+use Rattle.shift_draft.specs.Answers.{writes, fileSealing, fileUnsealing}
+use Rattle.shift_writer.specs.Answers.{writtenAnswer}
+use Rattle.shift_reseal.specs.Answers.{fileResealing}
+use Rattle.shift_amend.specs.Amending.{amendedEntry, CurrentPart, AmendedOpening, amendedOpening}
+use Rattle.shift_editions.specs.Answers.{movedAnswer, movedLength, FileMoved, toEdition2, toEdition1}
+use Rattle.shift_compare.specs.Comparing.{findingOf, Comparison, comparison}
+use Rattle.shift_reader.specs.declared.cursor.Cursor.{Cursor}
+use Rattle.shift_reader.specs.Reading.{startOf, askOf}
+use Rattle.shift_reader.specs.Reporting.{saidOf, Report, reporting}
+use Rattle.shift_reader.specs.Contents.{headerAnswer, rowAnswer}
 use Rattle.promises.specs.Contracts as the
 use Rattle.promises.specs.Demand1.{Gave}
 

@@ -4,7 +4,7 @@ use mathlib.Core.Bool.{false}
 use Prim.Native.Nat.{ℕ, _+_, _-_, _<_}
 use mathlib.Core.List.{List, [], _∷_}
 use lib.ListN.{length, drop}
-use Rattle.words.specs.Bytes.{AllBytes}
+use Rattle.block.specs.Bytes.{AllBytes}
 use Rattle.cipher.specs.Cipher.{sizeOf, limit}
 use Rattle.comet.specs.Answers.{sealing, opening}
 use Rattle.session.specs.Value.{Value, Given, gave, starting, dataPart, textPart, ending}

@@ -8,13 +8,13 @@ use mathlib.Core.List.{List, [], _++_, append-assoc, append-nil}
 use lib.ListN.{length, take, drop, replicate, length-append, length-drop, take-append-drop, drop-of-length-le}
 use borrow.Rule.Slice.PartMut.{postOf, putMid, post-is}
 use lib.Seq.{take-at, drop-at, take-all, take-length, take-append-add, drop-append-add, length-take-le, paste}
-use Rattle.words.specs.Blocks.{filled}
-use Rattle.words.proofs.Lists.{drop-replicate}
+use Rattle.block.specs.Blocks.{filled}
+use Rattle.block.proofs.Lists.{drop-replicate}
 use Rattle.cipher.specs.Cipher.{Cipher}
 use Rattle.mode.specs.Blocks.{blocks}
 use Rattle.mode.proofs.Cut.{length-whole, cut-whole, cut-rest}
 use Rattle.mode.specs.Walk.{States, whole, rest, walked}
-use Rattle.walk.proofs.Front.{front-rest, front-walk, one-walk}
+use Rattle.block_walk.proofs.Front.{front-rest, front-walk, one-walk}
 use Rattle.session.specs.Value.{written}
 
 -- ---- bytes held

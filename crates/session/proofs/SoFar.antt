@@ -8,9 +8,9 @@ use mathlib.Core.List.{List, [], _∷_, _++_}
 use lib.ListN.{length, take, replicate, length-append}
 use lib.Seq.{take-at}
 use borrow.Author.Tests.{ne-eqb}
-use Rattle.words.specs.Bytes.{AllBytes}
-use Rattle.words.proofs.Lists.{all-take}
-use Rattle.words.specs.Blocks.{filled}
+use Rattle.block.specs.Bytes.{AllBytes}
+use Rattle.block.proofs.Lists.{all-take}
+use Rattle.block.specs.Blocks.{filled}
 use Rattle.cipher.specs.Cipher.{Cipher, Lawful, Block, cipherOf, nonceOf}
 use Rattle.cipher.proofs.Lawful.{lawful}
 use Rattle.mode.specs.Blocks.{blocks}
@@ -22,7 +22,7 @@ use Rattle.mode.specs.Walk.{States, whole, rest, walked, covered, tagged, origi
 use Rattle.session.specs.Value.{Value, fresh, states, heldOf, firstMark, dataStates, dataIn, begun, textStates, blocksOut, textIn, partOut, endOut, endTag}
 use Rattle.session.proofs.Joined.{dataSoFar, textSoFar, outSoFar, statesSoFar, soFar}
 use Rattle.mode.proofs.Cut.{length-rest, whole-short, rest-short, blocks-whole-rest, blocks-more-bytes, rest-more}
-use Rattle.step.proofs.Turns.{states-path}
+use Rattle.block_step.proofs.Turns.{states-path}
 use Rattle.mode.proofs.Walk.{walked-append, covered-append, Fine, walked-fine, later-first, text-walk, tag-walk}
 
 -- ---- a walk over the whole blocks of l goes on with what comes behind l

@@ -4,7 +4,7 @@ use mathlib.Core.Path.{_≡_}
 use mathlib.Core.Bool.{Bool, true, false}
 use mathlib.Core.List.{List, [], _∷_, _++_}
 use lib.ListN.{length, take}
-use Rattle.words.specs.Bytes.{AllBytes}
+use Rattle.block.specs.Bytes.{AllBytes}
 use Rattle.cipher.specs.Cipher.{Seals, cipherOf, sizeOf, nonceOf, limit}
 use Rattle.mode.specs.Mode.{ciphertext, tag}
 use Rattle.session.specs.Value.{Value, Given, starting, dataPart, textPart, ending}

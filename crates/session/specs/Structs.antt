@@ -1,7 +1,7 @@
 -- What the code's structs stand for.
 use Prim.Native.Nat.{ℕ}
 use mathlib.Core.List.{List}
-use Rattle.words.specs.Blocks.{wide}
+use Rattle.block.specs.Blocks.{wide}
 use Rattle.session.specs.declared.Session.{Session}
 use Rattle.session.specs.declared.Step.{Step}
 use Rattle.session.specs.Value.{Value, Given}

@@ -4,7 +4,7 @@ use mathlib.Core.Bool.{Bool, false, cond, not, _&&_}
 use mathlib.Core.List.{List, [], _∷_, _++_}
 use lib.ListN.{length, take, drop, replicate}
 use lib.Dec.{leb, ltb, eqb}
-use Rattle.words.specs.Blocks.{filled}
+use Rattle.block.specs.Blocks.{filled}
 use Rattle.cipher.specs.Cipher.{Cipher, IsSuite, seals, cipherOf, sizeOf, limit, underKey}
 use Rattle.mode.specs.Blocks.{blocks}
 use Rattle.mode.specs.Walk.{States, whole, rest, walked, covered, tagged, origin}

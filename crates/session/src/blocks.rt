@@ -1,19 +1,19 @@
-// Held bytes and a part behind them: the whole blocks go in (crate walk), and the rest is held.
+// Held bytes and a part behind them: the whole blocks go in (crate block_walk), and the rest is held.
+use block_step::one_block::crypt_short;
+use block_step::state::State;
+use block_walk::Behind;
 use cipher::Lent;
-use step::block::crypt_short;
-use step::state::State;
-use walk::Behind;
 ghost use mathlib.Core.Path.{_≡_};
 ghost use mathlib.Core.Bool.{false};
 ghost use mathlib.Core.List.{_++_};
 ghost use Prim.Native.Nat.{ℕ, _+_, _-_, _≤_, _<_};
 ghost use lib.ListN.{length, take};
-ghost use Rattle.words.specs.Blocks.{filled};
+ghost use Rattle.block.specs.Blocks.{filled};
 ghost use Rattle.cipher.specs.Cipher.{Ready, IsSuite, sizeOf, cipherOf};
 ghost use Rattle.mode.specs.Blocks.{blocks};
 ghost use Rattle.mode.specs.Walk.{whole, rest, walked, covered};
-ghost use Rattle.step.specs.Two.{twoOf};
-ghost use Rattle.walk.specs.Behind.{wholes, Passed};
+ghost use Rattle.block_step.specs.Two.{twoOf};
+ghost use Rattle.block_walk.specs.Behind.{wholes, Passed};
 ghost use Rattle.session.specs.Value.{written};
 
 // The two states, and what is held back.
@@ -27,7 +27,7 @@ fn joined(held: [u8; 16], h: usize, p: &[u8]) -> [u8; 16]
     requires { ⌜ h + length (now p) ≤ 16 ⌝ }
     ensures { λ r. ⌜ r ≡ filled (take h held ++ now (p .entry)) ⌝ }
 {
-    let mut r = runs::filled_bytes(&held[0..h]);
+    let mut r = byte_runs::filled_bytes(&held[0..h]);
     let mut j: usize = 0;
     while j < p.len() {
         r[h + j] = p[j];
@@ -42,10 +42,10 @@ fn absorb_blocks(lent: &[Lent], suite: u8, s: State, ad: &[u8]) -> Fed
     ensures states { λ r. ⌜ twoOf suite (r .s) ≡ walked (cipherOf suite) false 0 0x10 (twoOf suite s) (blocks (sizeOf suite) (whole (sizeOf suite) (now (ad .entry)))) ⌝ }
     ensures held { λ r. ⌜ r .held ≡ filled (rest (sizeOf suite) (now (ad .entry))) ⌝ }
 {
-    let w = walk::absorb(lent, false, suite, s, 0, ad);
+    let w = block_walk::absorb(lent, false, suite, s, 0, ad);
     let t = w.s;
     let i = w.at;
-    let h = runs::filled_bytes(&ad[i..ad.len()]);
+    let h = byte_runs::filled_bytes(&ad[i..ad.len()]);
     Fed { s: t, held: h }
 }
 
@@ -66,7 +66,7 @@ fn absorb_past(
     let n = cipher::size_of(suite);
     let need = n - h;
     let b = joined(held, h, &ad[0..need]);
-    let t = walk::absorb(lent, false, suite, s, m, &b[0..n]);
+    let t = block_walk::absorb(lent, false, suite, s, m, &b[0..n]);
     absorb_blocks(lent, suite, t.s, &ad[need..ad.len()])
 }
 
@@ -101,8 +101,8 @@ fn gather(held: [u8; 16], h: usize, p: &[u8], out: &mut [u8])
     ensures { λ _. ⌜ now (out .exit) ≡ take h held ++ now (p .entry) ⌝ }
 {
     let end = out.len();
-    runs::copy(&held[0..h], &mut out[0..h]);
-    runs::copy(p, &mut out[h..end]);
+    byte_runs::copy(&held[0..h], &mut out[0..h]);
+    byte_runs::copy(p, &mut out[h..end]);
 }
 
 // The whole blocks of text are sealed in their place, the first under the mark m: the cipher is lent what it needs.
@@ -113,9 +113,9 @@ fn crypt_blocks(suite: u8, s: State, m: u8, text: &mut [u8]) -> Behind
 {
     if cipher::lends(suite) {
         let lent = cipher::tables(suite);
-        return walk::crypt(&lent, false, suite, s, m, text);
+        return block_walk::crypt(&lent, false, suite, s, m, text);
     }
-    walk::crypt(&[], false, suite, s, m, text)
+    block_walk::crypt(&[], false, suite, s, m, text)
 }
 
 // The whole blocks of h held bytes and then part go in, the first under the mark m, and their ciphertext out; the rest is held. Tables are made only where a block is completed.
@@ -149,7 +149,7 @@ pub(crate) fn crypt_part(
     gather(held, h, &part[0..e], &mut out[0..w]);
     let t = crypt_blocks(suite, s, m, &mut out[0..w]);
     let u = t.s;
-    let g = runs::filled_bytes(&part[e..part.len()]);
+    let g = byte_runs::filled_bytes(&part[e..part.len()]);
     Made {
         s: u,
         held: g,
@@ -175,6 +175,6 @@ pub(crate) fn last_in(
     if h == 0 {
         return s;
     }
-    runs::copy(&held[0..h], &mut out[0..h]);
+    byte_runs::copy(&held[0..h], &mut out[0..h]);
     crypt_short(lent, false, suite, s, m ^ 0x40, &mut out[0..h])
 }

@@ -7,7 +7,7 @@ ghost use Rattle.session.specs.Value.{sound, startNumber, dataNumber, te
 pub(crate) fn start_number(suite: u8, key: usize, nonce: usize) -> u8
     ensures { λ r. ⌜ r ≡ startNumber suite key nonce ⌝ }
 {
-    numbers::verdict::under_key(false, suite, key, nonce).number()
+    status::verdict::under_key(false, suite, key, nonce).number()
 }
 
 // Whether a session is one that goes on.

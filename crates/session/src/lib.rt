@@ -1,5 +1,5 @@
 // Sealing in parts: a session by value, handed back by every call.
-use words::block::Block;
+use block::Block;
 
 mod blocks;
 mod ladder;

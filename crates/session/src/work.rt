@@ -2,19 +2,19 @@
 use crate::Session;
 use crate::Step;
 use crate::blocks::Fed;
+use block::Block;
+use block_step::one_block::absorb_short;
+use block_step::state::State;
 use cipher::Lent;
-use step::block::absorb_short;
-use step::state::State;
-use words::block::Block;
 ghost use mathlib.Core.Path.{_≡_};
 ghost use mathlib.Core.Bool.{false};
 ghost use mathlib.Core.List.{[]};
 ghost use Prim.Native.Nat.{_<_};
 ghost use lib.ListN.{length, take};
-ghost use Rattle.words.specs.Blocks.{wide, filled};
+ghost use Rattle.block.specs.Blocks.{wide, filled};
 ghost use Rattle.cipher.specs.Cipher.{Ready, IsSuite, sizeOf, cipherOf};
 ghost use Rattle.mode.specs.Walk.{turned, messageOf};
-ghost use Rattle.step.specs.Two.{twoOf, Holds, oneMore};
+ghost use Rattle.block_step.specs.Two.{twoOf, Holds, oneMore};
 ghost use Rattle.session.specs.Value.{valueOf, over, gave, firstMark, begun, startNumber, starting, dataNumber, dataPart, textNumber, textPart, endNumber, ending};
 ghost use Rattle.session.specs.Structs.{asValue, gives};
 
@@ -79,7 +79,7 @@ pub(crate) fn started(lent: &[Lent], suite: u8, key: &[u8], nonce: &[u8]) -> Ste
     requires { ⌜ Ready suite (now lent) × (startNumber suite (length (now key)) (length (now nonce)) ≡ 0) ⌝ }
     ensures { λ r. ⌜ gives r [] [] ≡ starting suite (now (key .entry)) (now (nonce .entry)) ⌝ }
 {
-    let s = step::state::start(lent, suite, key, nonce);
+    let s = block_step::state::start(lent, suite, key, nonce);
     let z = [0u8; 16];
     let next = packed(suite, Fed { s: s, held: z }, 0, 0);
     Step {
@@ -225,9 +225,9 @@ pub(crate) fn close(lent: &[Lent], s: Session, out: &mut [u8], tag: &mut [u8]) -
     let m = first_mark(suite, 0x20, text_total);
     let h = text_total % n;
     let t = crate::blocks::last_in(lent, suite, two, m, held, h, out);
-    let l = step::tag::tag_of(lent, suite, t);
+    let l = block_step::tag::tag_of(lent, suite, t);
     let g = l.tag;
-    runs::put(g, tag);
+    byte_runs::put(g, tag);
     let next = ended();
     Step {
         next: next,

@@ -2,13 +2,13 @@
 use mathlib.Core.Path.{_≡_, refl, sym, ap, ap₂, _∙_}
 use Prim.Native.Nat.{ℕ}
 use mathlib.Core.List.{List}
-use Rattle.words.specs.Outcome.{OneOutcome}
+use Rattle.block.specs.Outcome.{OneOutcome}
 use Rattle.comet.specs.Answers.{Sealed, Opened}
 use Rattle.comet.specs.Counted.{Counting}
-use Rattle.numbers.specs.declared.checked.Answer.{Answer}
-use Rattle.shift.specs.declared.answers.Entry.{Entry}
-use Rattle.shift.specs.declared.answers.Genuine.{Genuine}
-use Rattle.shift.specs.Opening.{JobOpened}
+use Rattle.status.specs.declared.checked.Answer.{Answer}
+use Rattle.shift_jobs.specs.declared.answers.Entry.{Entry}
+use Rattle.shift_jobs.specs.declared.answers.Genuine.{Genuine}
+use Rattle.shift_jobs.specs.Opening.{JobOpened}
 use Rattle.snoekeldraf.specs.Located.{Located}
 use Rattle.snoekeldraf.specs.Words.{InWords}
 use Rattle.snoekeldraf.proofs.record.comet_seal.Kinds as seal-kinds
@@ -47,8 +47,8 @@ use Rattle.snoekeldraf.proofs.file.shift_open_job.Kinds as open-job-kin
 use Rattle.snoekeldraf.proofs.file.shift_open_job.Reads as open-job-reads
 use Rattle.snoekeldraf.proofs.file.shift_verified.Kinds as verified-kinds
 use Rattle.snoekeldraf.proofs.file.shift_verified.Reads as verified-reads
-use Rattle.editions.specs.Answers.{FileMoved}
-use Rattle.draft.specs.Answers.{FileWritten}
+use Rattle.shift_editions.specs.Answers.{FileMoved}
+use Rattle.shift_draft.specs.Answers.{FileWritten}
 use Rattle.snoekeldraf.proofs.drafts.shift_seal_file.Kinds as seal-file-kinds
 use Rattle.snoekeldraf.proofs.drafts.shift_seal_file.Reads as seal-file-reads
 use Rattle.snoekeldraf.proofs.drafts.shift_unseal_file.Kinds as unseal-file-kinds
@@ -63,19 +63,19 @@ use Rattle.snoekeldraf.proofs.renewal.shift_reseal.Kinds as reseal-kind
 use Rattle.snoekeldraf.proofs.renewal.shift_reseal.Reads as reseal-reads
 use Rattle.snoekeldraf.proofs.halving.shift_search.Kinds as search-kinds
 use Rattle.snoekeldraf.proofs.halving.shift_search.Reads as search-reads
-use Rattle.amend.specs.Amending.{AmendedOpening}
+use Rattle.shift_amend.specs.Amending.{AmendedOpening}
 use Rattle.snoekeldraf.specs.Amended.{Placed}
 use Rattle.snoekeldraf.proofs.amending.shift_amended.Kinds as amended-kinds
 use Rattle.snoekeldraf.proofs.amending.shift_amended.Reads as amended-reads
 use Rattle.snoekeldraf.proofs.amending.shift_open_amended.Kinds as open-amended-kinds
 use Rattle.snoekeldraf.proofs.amending.shift_open_amended.Reads as open-amended-reads
-use Rattle.compare.specs.Comparing.{Comparison}
+use Rattle.shift_compare.specs.Comparing.{Comparison}
 use Rattle.snoekeldraf.proofs.listing.shift_compare.Kinds as compare-kinds
 use Rattle.snoekeldraf.proofs.listing.shift_compare.Reads as compare-reads
-use Rattle.reader.specs.Reporting.{Report}
+use Rattle.shift_reader.specs.Reporting.{Report}
 use Rattle.snoekeldraf.proofs.reporting.shift_report.Kinds as report-kinds
 use Rattle.snoekeldraf.proofs.reporting.shift_report.Reads as report-reads
-use Rattle.reader.specs.declared.contents.HeaderFields.{HeaderFields}
+use Rattle.shift_reader.specs.declared.contents.HeaderFields.{HeaderFields}
 use Rattle.snoekeldraf.specs.Fields.{InFields}
 use Rattle.snoekeldraf.proofs.contents.shift_rows.Kinds as rows-kinds
 use Rattle.snoekeldraf.proofs.contents.shift_rows.Reads as rows-reads

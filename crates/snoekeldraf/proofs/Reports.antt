@@ -6,12 +6,12 @@ use mathlib.Core.List.{List}
 use lib.ListN.{length}
 use lib.Dec.{ltb, eqb, lit≤}
 use borrow.Author.Tests.{eqb-true, not-false}
-use Rattle.format.specs.Format.{countOf, firstEdition, newest}
-use Rattle.numbers.specs.Answers.{answer}
-use Rattle.table.specs.Check.{checkFile}
-use Rattle.table.proofs.Passed.{passes}
-use Rattle.reader.specs.declared.answers.Said.{Said}
-use Rattle.reader.specs.Reporting.{jobOf, tagNumber, front, entries, Report, stopped, longest, reporting}
+use Rattle.shift_format.specs.Format.{countOf, firstEdition, newest}
+use Rattle.status.specs.Answers.{answer}
+use Rattle.shift_check.specs.Check.{checkFile}
+use Rattle.shift_check.proofs.Passed.{passes}
+use Rattle.shift_reader.specs.declared.answers.Said.{Said}
+use Rattle.shift_reader.specs.Reporting.{jobOf, tagNumber, front, entries, Report, stopped, longest, reporting}
 use Rattle.snoekeldraf.proofs.Rows.{check-row}
 
 pub record Small (s : Said) : Type 0 where

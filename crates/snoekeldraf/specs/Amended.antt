@@ -1,7 +1,7 @@
 -- What `shift_amended` gives: the current entry's associated data as a place in the file that holds it, since C has no parts of a buffer (document 02, W11).
 use Prim.Native.Nat.{ℕ}
 use mathlib.Core.List.{List}
-use Rattle.amend.specs.Amending.{amendedEntry}
+use Rattle.shift_amend.specs.Amending.{amendedEntry}
 
 -- number, file and row, and where in that file the associated data starts and how long it is
 pub record Placed : Type 0 where

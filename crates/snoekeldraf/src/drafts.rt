@@ -1,8 +1,8 @@
 // The writer of shift files.
 use crate::file::say;
 ghost use mathlib.Core.Path.{_≡_};
-ghost use Rattle.numbers.specs.Answers.{answer};
-ghost use Rattle.draft.specs.Answers.{FileWritten, fileSealing, fileUnsealing};
+ghost use Rattle.status.specs.Answers.{answer};
+ghost use Rattle.shift_draft.specs.Answers.{FileWritten, fileSealing, fileUnsealing};
 
 // Seals a draft into out: the checks with 0 for the edition, 33, 10, 2, 6.
 #[no_mangle]
@@ -10,7 +10,7 @@ pub extern "C" fn shift_seal_file(draft: &[u8], ring: &[u8], out: &mut [u8], row
     ensures { λ r. ⌜ _≡_ {A = FileWritten} (record { answer = answer r (now (row .exit)); out = now (out .exit) })
         (fileSealing (now (draft .entry)) (now (ring .entry)) (now (out .entry))) ⌝ }
 {
-    say(writer::seal_file(draft, ring, out).answer(), row)
+    say(shift_writer::seal_file(draft, ring, out).answer(), row)
 }
 
 // Gives the draft of a file back, into out: the checks, 2, 6, 8.
@@ -19,5 +19,5 @@ pub extern "C" fn shift_unseal_file(file: &[u8], ring: &[u8], out: &mut [u8], ro
     ensures { λ r. ⌜ _≡_ {A = FileWritten} (record { answer = answer r (now (row .exit)); out = now (out .exit) })
         (fileUnsealing (now (file .entry)) (now (ring .entry)) (now (out .entry))) ⌝ }
 {
-    say(writer::unseal_file(file, ring, out).answer(), row)
+    say(shift_writer::unseal_file(file, ring, out).answer(), row)
 }

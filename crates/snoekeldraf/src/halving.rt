@@ -2,15 +2,15 @@
 use crate::file::say;
 ghost use mathlib.Core.Path.{_≡_};
 ghost use lib.ListN.{length};
-ghost use Rattle.numbers.specs.Answers.{answer};
-ghost use Rattle.search.specs.Halving.{searching};
+ghost use Rattle.status.specs.Answers.{answer};
+ghost use Rattle.shift_search.specs.Halving.{searching};
 
 // Numbers 20 to 24, and then the row that halving finds, or 32; and how many rows were looked at.
 #[no_mangle]
 pub extern "C" fn shift_search(file: &[u8], job: u32, row: &mut u32, looked: &mut u32) -> u32
     ensures { λ r. ⌜ (answer r (now (row .exit)) ≡ searching (now (file .entry)) job .says) × (now (looked .exit) ≡ length (searching (now (file .entry)) job .rows)) ⌝ }
 {
-    let s = search::search(file, job);
+    let s = shift_search::search(file, job);
     *looked = s.looked as u32;
     let found = s.found;
     say(found.answer(), row)

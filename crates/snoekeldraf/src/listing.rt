@@ -1,6 +1,6 @@
 // The comparison of two shift files.
 ghost use mathlib.Core.Path.{_≡_};
-ghost use Rattle.compare.specs.Comparing.{Comparison, comparison};
+ghost use Rattle.shift_compare.specs.Comparing.{Comparison, comparison};
 
 // The first file's refusal, the second's, 36 where a list is longer than its buffer, else the three lists and their lengths.
 #[no_mangle]
@@ -31,7 +31,7 @@ pub extern "C" fn shift_compare(
     })
         (comparison (now (first .entry)) (now (second .entry)) (now («only_first» .entry)) (now («only_second» .entry)) (now (differ .entry))) ⌝ }
 {
-    let t = compare::compare(first, second, only_first, only_second, differ).finding();
+    let t = shift_compare::compare(first, second, only_first, only_second, differ).finding();
     *first_count = t.first as u32;
     *second_count = t.second as u32;
     *differ_count = t.differ as u32;

@@ -1,6 +1,6 @@
 // Sealing in parts: the caller owns the session as nine words, and every call borrows them. Any nine words may arrive.
+use block::Block;
 use session::Session;
-use words::block::Block;
 ghost use mathlib.Core.Path.{_≡_};
 ghost use mathlib.Core.List.{[]};
 ghost use Prim.Native.Nat.{_<_};
@@ -21,7 +21,7 @@ fn session_of(w: [u64; 9]) -> Session
     requires { ⌜ getD w 0 0 < 256 ⌝ }
     ensures { λ r. ⌜ asValue r ≡ ofWords w ⌝ }
 {
-    let held = words::block::bytes_of(Block { a: w[5], b: w[6] });
+    let held = block::bytes_of(Block { a: w[5], b: w[6] });
     Session {
         suite: w[0] as u8,
         y: Block { a: w[1], b: w[2] },
@@ -40,7 +40,7 @@ fn words_of(s: Session) -> [u64; 9]
     let y = s.y;
     let z = s.z;
     let held = s.held;
-    let h = words::block::block_of(held);
+    let h = block::block_of(held);
     [
         s.suite as u64,
         y.a,

@@ -1,8 +1,8 @@
 -- Speck-64/128 of the Speck paper, in the words of document 01, "The four ciphers": words of 32 bits, 27 rounds.
 use mathlib.Core.List.{List, _++_}
 use Prim.Native.Nat.{ℕ, zero, suc}
-use Rattle.words.specs.Words.{rotl, rotr, add, xor}
-use Rattle.words.specs.Bytes.{bytes, word}
+use Rattle.block.specs.Words.{rotl, rotr, add, xor}
+use Rattle.block.specs.Bytes.{bytes, word}
 
 -- the state (X1, X0)
 pub record State : Type 0 where

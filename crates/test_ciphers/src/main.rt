@@ -16,16 +16,16 @@ fn read16() -> [u8; 16] {
 
 fn print_line(b: &[u8]) {
     let mut out = [0u8; 33];
-    let n = lines::text::hex(&mut out, 0, b);
-    let n = lines::text::end(&mut out, n);
-    lines::text::write(&out, n);
+    let n = program_text::text::hex(&mut out, 0, b);
+    let n = program_text::text::end(&mut out, n);
+    program_text::text::write(&out, n);
 }
 
 fn answer(suite: u8, key: [u8; 16]) {
     if suite == 1 {
         let block = read16();
-        print_line(&aes::encrypt(key, block));
-        print_line(&columns::encrypt(key, block));
+        print_line(&aes_plain::encrypt(key, block));
+        print_line(&aes_tables::encrypt(key, block));
     }
     if suite == 2 {
         print_line(&cham128::encrypt(key, read16()));

@@ -7,11 +7,11 @@
 // writing alone holds 0xa5 before the call.
 use comet::Counted;
 use libc::STDIN_FILENO;
-use lines::call::Call;
-use lines::text::and_number;
-use lines::text::and_shown;
-use lines::text::end;
-use lines::text::number;
+use program_text::call::Call;
+use program_text::text::and_number;
+use program_text::text::and_shown;
+use program_text::text::end;
+use program_text::text::number;
 
 // Number and count.
 fn counted(a: Counted, line: &mut [u8]) -> usize {
@@ -206,16 +206,16 @@ fn run(c: Call, line: &mut [u8]) -> usize {
     let mut v = [0u8; 40];
     let mut a = [0u8; 65537];
     let mut t = [0u8; 65537];
-    let key = lines::read::field(&mut k, c.first);
-    let nonce = lines::read::field(&mut v, c.second);
-    let ad = lines::read::field(&mut a, c.third);
+    let key = program_text::read::field(&mut k, c.first);
+    let nonce = program_text::read::field(&mut v, c.second);
+    let ad = program_text::read::field(&mut a, c.third);
     if key.len() != c.first || nonce.len() != c.second || ad.len() != c.third {
         return 0;
     }
     if 3 < c.op {
         return in_place(c, key, nonce, ad, line);
     }
-    let text = lines::read::field(&mut t, c.fourth);
+    let text = program_text::read::field(&mut t, c.fourth);
     if text.len() != c.fourth {
         return 0;
     }
@@ -226,11 +226,11 @@ fn run(c: Call, line: &mut [u8]) -> usize {
 fn turn() -> bool {
     let mut head = [0u8; 30];
     let mut line = [0u8; 512];
-    if !lines::call::next(&mut head) {
+    if !program_text::call::next(&mut head) {
         return false;
     }
-    let n = run(lines::call::call_of(&head), &mut line);
-    lines::call::done(&line, n)
+    let n = run(program_text::call::call_of(&head), &mut line);
+    program_text::call::done(&line, n)
 }
 
 // Nothing says that an input ends, so the calls are counted down from a number that no input reaches.

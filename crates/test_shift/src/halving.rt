@@ -1,13 +1,13 @@
 // The search by halving. Job: the first one; numbers: the length of the file and how many jobs; the file follows.
 //
 // A line for each job from the first on: number, row, how many rows were looked at.
-use lines::call::Call;
-use lines::text::and_number;
-use lines::text::answer;
-use lines::text::end;
+use program_text::call::Call;
+use program_text::text::and_number;
+use program_text::text::answer;
+use program_text::text::end;
 
 fn one(file: &[u8], job: u32, line: &mut [u8], at: usize) -> usize {
-    let s = search::search(file, job);
+    let s = shift_search::search(file, job);
     let found = s.found;
     let a = found.answer();
     let at = answer(line, at, a.number, a.row);
@@ -34,7 +34,7 @@ fn searches(file: &[u8], first: u32, count: usize, line: &mut [u8]) -> usize {
 // Reads the file of a call into f and runs it; no line where f has no room or the input ends.
 fn run_in(f: &mut [u8], c: Call, line: &mut [u8]) -> usize {
     let n = c.first;
-    let file = lines::read::field(f, n);
+    let file = program_text::read::field(f, n);
     if file.len() != n {
         return 0;
     }
@@ -42,6 +42,6 @@ fn run_in(f: &mut [u8], c: Call, line: &mut [u8]) -> usize {
 }
 
 pub(crate) fn run(c: Call, line: &mut [u8]) -> usize {
-    let mut f = lines::read::file_room();
+    let mut f = program_text::read::file_room();
     run_in(&mut f, c, line)
 }

@@ -11,7 +11,7 @@ mod opening;
 mod printing;
 mod report;
 
-use lines::call::Call;
+use program_text::call::Call;
 
 // No line where a buffer has no room, the input ends, or there is no such op.
 fn run(c: Call, line: &mut [u8]) -> usize {
@@ -35,12 +35,12 @@ fn run(c: Call, line: &mut [u8]) -> usize {
 // Reads a call and runs it; false at the end of the input.
 fn turn() -> bool {
     let mut head = [0u8; 30];
-    let mut line = printed::page();
-    if !lines::call::next(&mut head) {
+    let mut line = program_reports::page();
+    if !program_text::call::next(&mut head) {
         return false;
     }
-    let n = run(lines::call::call_of(&head), &mut line);
-    lines::call::done(&line, n)
+    let n = run(program_text::call::call_of(&head), &mut line);
+    program_text::call::done(&line, n)
 }
 
 // Nothing says that an input ends, so the calls are counted down from a number that no input reaches.

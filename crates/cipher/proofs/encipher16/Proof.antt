@@ -1,7 +1,7 @@
 -- `cipher::encipher16` meets its contract: the test finds the suite's engine.
 use borrow.Author.Needs.{needs}
 use mathlib.Core.Path.{sym, ap, _∙_}
-use Rattle.words.specs.Blocks.{wide}
+use Rattle.block.specs.Blocks.{wide}
 use Rattle.cipher.proofs.Suites.{Engine, engine-1, engine-2}
 use Rattle.cipher.proofs.encipher16.Statement.{statement}
 use Rattle.cipher.proofs.encipher16.Tie as tie

@@ -9,8 +9,8 @@ use lib.ListN.{length}
 use native.Mathlib.Nat.{mod-lt}
 use native.Mathlib.Omega.{arith}
 use Prim.Native.Nat.{ℕ, _+_, _^_, _≤_, _<_}
-use Rattle.words.specs.Words.{add}
-use Rattle.words.proofs.Lists.{nil-of}
+use Rattle.block.specs.Words.{add}
+use Rattle.block.proofs.Lists.{nil-of}
 use Rattle.cipher.specs.Cipher.{sizeOf, cipherOf}
 use Rattle.cipher.proofs.Lawful.{lawful}
 use Rattle.mode.specs.Blocks.{blocks}
@@ -18,9 +18,9 @@ use Rattle.mode.specs.Walk.{States, walked, covered, tagged, dataDone}
 use Rattle.mode.proofs.Chain.{some}
 use Rattle.mode.proofs.Walk.{text-walk, tag-walk}
 use Rattle.mode.proofs.Calls.{calls-count}
-use Rattle.walk.proofs.Front.{walk-none, cover-none}
-use Rattle.step.specs.declared.state.State.{State}
-use Rattle.step.specs.Two.{twoOf}
+use Rattle.block_walk.proofs.Front.{walk-none, cover-none}
+use Rattle.block_step.specs.declared.state.State.{State}
+use Rattle.block_step.specs.Two.{twoOf}
 use Rattle.comet.specs.Answers.{opening}
 use Rattle.comet.proofs.Counts.{count-most, count-all}
 use Rattle.comet.proofs.Turns.{empty-count}

@@ -4,9 +4,9 @@ use lib.ListN.{length, take}
 use mathlib.Core.Bool.{false}
 use mathlib.Core.Path.{refl, sym, ap, _∙_}
 use Prim.Native.Nat.{ℕ}
-use Rattle.words.specs.Blocks.{wide}
+use Rattle.block.specs.Blocks.{wide}
 use Rattle.cipher.proofs.Suites.{full-two}
-use Rattle.numbers.proofs.Refuse.{Passed, passed}
+use Rattle.status.proofs.Refuse.{Passed, passed}
 use Rattle.comet.proofs.Left.{sealing-done}
 use Rattle.comet.proofs.Counts.{counting, calls-all}
 use borrow.Author.Needs.{needs}

@@ -10,8 +10,8 @@ use Rattle.mode.specs.Blocks.{blocks}
 use Rattle.mode.specs.Walk.{States, walked, tagged, dataDone}
 use Rattle.mode.proofs.Chain.{some}
 use Rattle.mode.proofs.Walk.{tag-walk}
-use Rattle.walk.proofs.Front.{walk-none}
-use Rattle.step.specs.Two.{twoOf}
+use Rattle.block_walk.proofs.Front.{walk-none}
+use Rattle.block_step.specs.Two.{twoOf}
 use Rattle.comet.proofs.tag_with.Statement.{statement}
 use Rattle.comet.proofs.tag_with.Tie as tie
 

@@ -6,9 +6,9 @@ use mathlib.Core.Bool.{true}
 use mathlib.Core.List.{List}
 use mathlib.Core.Path.{_≡_, sym, ap, _∙_, subst}
 use Prim.Native.Nat.{ℕ}
-use Rattle.numbers.specs.Verdicts.{numberOf, refusal}
+use Rattle.status.specs.Verdicts.{numberOf, refusal}
 use Rattle.comet.specs.Counted.{openingCounted}
-use Rattle.numbers.proofs.Refuse.{passed, done-zero, other-some}
+use Rattle.status.proofs.Refuse.{passed, done-zero, other-some}
 use Rattle.comet.proofs.Left.{opening-kept}
 use Rattle.comet.proofs.Counts.{counting, calls-none, opening-same}
 use Rattle.comet.proofs.unseal_counted.Statement.{statement}

@@ -2,10 +2,10 @@
 use borrow.Author.Needs.{needs}
 use denote.Ref.{now}
 use mathlib.Core.Path.{sym, ap, _∙_}
-use Rattle.numbers.specs.Verdicts.{numberOf}
+use Rattle.status.specs.Verdicts.{numberOf}
 use Rattle.comet.specs.Answers.{Opened}
 use Rattle.comet.specs.Counted.{Counting}
-use Rattle.numbers.proofs.Refuse.{done-zero, other-some}
+use Rattle.status.proofs.Refuse.{done-zero, other-some}
 use Rattle.comet.proofs.Left.{opening-kept}
 use Rattle.comet.proofs.unseal_in_place.Statement.{statement}
 use Rattle.comet.proofs.unseal_in_place.Tie as tie

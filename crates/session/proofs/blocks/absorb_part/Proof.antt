@@ -8,12 +8,12 @@ use mathlib.Core.List.{List, _++_}
 use mathlib.Core.Path.{_≡_, sym, ap, _∙_}
 use native.Mathlib.Omega.{arith}
 use Prim.Native.Nat.{ℕ, _<_}
-use Rattle.words.specs.Blocks.{filled}
+use Rattle.block.specs.Blocks.{filled}
 use Rattle.cipher.specs.Cipher.{sizeOf, cipherOf}
 use Rattle.cipher.proofs.Suites.{none-ready}
-use Rattle.step.specs.Two.{twoOf}
+use Rattle.block_step.specs.Two.{twoOf}
 use Rattle.mode.proofs.Cut.{rest-short}
-use Rattle.walk.proofs.Front.{short-walk}
+use Rattle.block_walk.proofs.Front.{short-walk}
 use Rattle.session.proofs.blocks.absorb_part.Statement.{statement}
 use Rattle.session.proofs.blocks.absorb_part.Tie as tie
 

@@ -9,7 +9,7 @@ use lib.ListN.{length, take, drop, set, getD, length-take}
 use lib.Seq.{paste, paste-zero, paste-suc, length-take-le}
 use borrow.Author.Needs.{needs}
 use denote.Ref.{now}
-use Rattle.words.specs.Blocks.{filled}
+use Rattle.block.specs.Blocks.{filled}
 use Rattle.session.proofs.Hold.{joined-is}
 use Rattle.session.proofs.blocks.joined.Statement.{statement}
 use Rattle.session.proofs.blocks.joined.Tie as tie

@@ -3,7 +3,7 @@ use borrow.Author.Needs.{needs}
 use mathlib.Core.Path.{ap}
 use mathlib.Core.List.{List}
 use Prim.Native.Nat.{ℕ}
-use Rattle.words.specs.Blocks.{wide}
+use Rattle.block.specs.Blocks.{wide}
 use Rattle.session.proofs.work.packed.Statement.{statement}
 use Rattle.session.proofs.work.packed.Tie as tie
 

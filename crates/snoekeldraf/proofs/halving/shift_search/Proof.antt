@@ -2,8 +2,8 @@
 use Prim.Native.Nat.{_≤_}
 use native.Mathlib.Omega.{arith}
 use mathlib.Core.Path.{_∙_}
-use Rattle.search.proofs.Promised.{ten-looks, says-low}
-use Rattle.numbers.proofs.Outcomes.{same-answer}
+use Rattle.shift_search.proofs.Promised.{ten-looks, says-low}
+use Rattle.status.proofs.Outcomes.{same-answer}
 use borrow.Author.Needs.{needs}
 use Rattle.snoekeldraf.proofs.halving.shift_search.Statement.{statement}
 use Rattle.snoekeldraf.proofs.halving.shift_search.Tie as tie

@@ -10,7 +10,7 @@ use Rattle.snoekeldraf.specs.Words.{Nine, ofWords}
 use Rattle.snoekeldraf.proofs.Words.{handed, stays}
 use Rattle.session.specs.Value.{Value, Given, ending}
 use Rattle.session.proofs.AnyValue.{end-shut, end-few}
-use Rattle.words.proofs.Blocks.{length-wide}
+use Rattle.block.proofs.Blocks.{length-wide}
 use native.Mathlib.Omega.{arith}
 use borrow.Author.Needs.{needs}
 use Rattle.snoekeldraf.proofs.parts.comet_session_end.Statement.{statement}

@@ -3,7 +3,7 @@ use mathlib.Core.Path.{ap}
 use mathlib.Core.List.{List, _++_}
 use Prim.Native.Nat.{ℕ}
 use lib.ListN.{getD}
-use Rattle.words.specs.Bytes.{bytes}
+use Rattle.block.specs.Bytes.{bytes}
 use borrow.Author.Needs.{needs}
 use Rattle.snoekeldraf.proofs.parts.session_of.Statement.{statement}
 use Rattle.snoekeldraf.proofs.parts.session_of.Tie as tie

@@ -1,0 +1,6 @@
+// The block step of COMET: the two states Y and Z, a block put in, what goes out for it, and the tag.
+pub mod one_block;
+mod pad;
+mod shuffle;
+pub mod state;
+pub mod tag;

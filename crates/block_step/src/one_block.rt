@@ -1,0 +1,114 @@
+// One block of associated data or of text, full or short, by one cipher call: a full one goes by whole words. What goes out for a block of text takes its place.
+use crate::state::State;
+use cipher::Lent;
+ghost use mathlib.Core.Path.{_≡_};
+ghost use mathlib.Core.Bool.{true, false};
+ghost use Prim.Native.Nat.{_<_};
+ghost use lib.ListN.{length};
+ghost use Rattle.cipher.specs.Cipher.{Ready, IsSuite, sizeOf, cipherOf};
+ghost use Rattle.mode.specs.Walk.{turned, hidden, messageOf};
+ghost use Rattle.block_step.specs.Two.{twoOf, Holds, oneMore};
+
+// A full block of associated data, under its mark.
+pub fn absorb_full(lent: &[Lent], suite: u8, state: State, mark: u8, block: &[u8]) -> State
+    requires { ⌜ Ready suite (now lent) × IsSuite suite × (length (now block) ≡ sizeOf suite) ⌝ }
+    ensures { λ r. ⌜ Holds suite r (turned (cipherOf suite) mark (twoOf suite state) (messageOf (cipherOf suite) false mark (twoOf suite state) (now (block .entry)))) (oneMore (state .calls)) ⌝ }
+{
+    let t = crate::state::turn(lent, suite, state, mark, block.len());
+    let p = block::whole(block);
+    crate::state::mix(t, p)
+}
+
+// A full block of ciphertext, whose message's block goes in and is written nowhere.
+pub fn verify_full(lent: &[Lent], suite: u8, state: State, mark: u8, block: &[u8]) -> State
+    requires { ⌜ Ready suite (now lent) × IsSuite suite × (length (now block) ≡ sizeOf suite) ⌝ }
+    ensures { λ r. ⌜ Holds suite r (turned (cipherOf suite) mark (twoOf suite state) (messageOf (cipherOf suite) true mark (twoOf suite state) (now (block .entry)))) (oneMore (state .calls)) ⌝ }
+{
+    let t = crate::state::turn(lent, suite, state, mark, block.len());
+    let x = t.y;
+    let c = block::whole(block);
+    let h = crate::shuffle::shuffled(suite, x, block.len());
+    let p = block::xor(c, h);
+    crate::state::mix(t, p)
+}
+
+// A full block of a message: it goes in, and its ciphertext takes its place.
+pub fn seal_full(lent: &[Lent], suite: u8, state: State, mark: u8, block: &mut [u8]) -> State
+    requires { ⌜ Ready suite (now lent) × IsSuite suite × (length (now block) ≡ sizeOf suite) ⌝ }
+    ensures text { λ _. ⌜ now (block .exit) ≡ hidden (cipherOf suite) mark (twoOf suite state) (now (block .entry)) ⌝ }
+    ensures state { λ r. ⌜ Holds suite r (turned (cipherOf suite) mark (twoOf suite state) (messageOf (cipherOf suite) false mark (twoOf suite state) (now (block .entry)))) (oneMore (state .calls)) ⌝ }
+{
+    let t = crate::state::turn(lent, suite, state, mark, block.len());
+    let x = t.y;
+    let p = block::whole(block);
+    let h = crate::shuffle::shuffled(suite, x, block.len());
+    let c = block::xor(p, h);
+    block::put_whole(c, block);
+    crate::state::mix(t, p)
+}
+
+// A full block of ciphertext: its message's block takes its place, and goes in.
+pub fn open_full(lent: &[Lent], suite: u8, state: State, mark: u8, block: &mut [u8]) -> State
+    requires { ⌜ Ready suite (now lent) × IsSuite suite × (length (now block) ≡ sizeOf suite) ⌝ }
+    ensures text { λ _. ⌜ now (block .exit) ≡ hidden (cipherOf suite) mark (twoOf suite state) (now (block .entry)) ⌝ }
+    ensures state { λ r. ⌜ Holds suite r (turned (cipherOf suite) mark (twoOf suite state) (messageOf (cipherOf suite) true mark (twoOf suite state) (now (block .entry)))) (oneMore (state .calls)) ⌝ }
+{
+    let t = crate::state::turn(lent, suite, state, mark, block.len());
+    let x = t.y;
+    let c = block::whole(block);
+    let h = crate::shuffle::shuffled(suite, x, block.len());
+    let message = block::xor(c, h);
+    block::put_whole(message, block);
+    crate::state::mix(t, message)
+}
+
+// A short block of associated data, or of ciphertext whose message's block goes in and is written nowhere.
+pub fn absorb_short(
+    lent: &[Lent],
+    opening: bool,
+    suite: u8,
+    state: State,
+    mark: u8,
+    block: &[u8],
+) -> State
+    requires { ⌜ Ready suite (now lent) × IsSuite suite × (length (now block) < sizeOf suite) ⌝ }
+    ensures { λ r. ⌜ Holds suite r (turned (cipherOf suite) mark (twoOf suite state) (messageOf (cipherOf suite) opening mark (twoOf suite state) (now (block .entry)))) (oneMore (state .calls)) ⌝ }
+{
+    let n = cipher::size_of(suite);
+    let t = crate::state::turn(lent, suite, state, mark, n);
+    let p = byte_runs::filled(block);
+    if opening {
+        let x = t.y;
+        let h = crate::shuffle::shuffled(suite, x, n);
+        let c = block::xor(p, h);
+        return crate::state::mix(t, crate::pad::padded(c, block.len()));
+    }
+    crate::state::mix(t, crate::pad::padded(p, block.len()))
+}
+
+// A short block of text: what goes out takes its place, and the message's block goes in.
+pub fn crypt_short(
+    lent: &[Lent],
+    opening: bool,
+    suite: u8,
+    state: State,
+    mark: u8,
+    block: &mut [u8],
+) -> State
+    requires { ⌜ Ready suite (now lent) × IsSuite suite × (length (now block) < sizeOf suite) ⌝ }
+    ensures text { λ _. ⌜ now (block .exit) ≡ hidden (cipherOf suite) mark (twoOf suite state) (now (block .entry)) ⌝ }
+    ensures state { λ r. ⌜ Holds suite r (turned (cipherOf suite) mark (twoOf suite state) (messageOf (cipherOf suite) opening mark (twoOf suite state) (now (block .entry)))) (oneMore (state .calls)) ⌝ }
+{
+    let k = block.len();
+    let n = cipher::size_of(suite);
+    let t = crate::state::turn(lent, suite, state, mark, n);
+    let x = t.y;
+    let p = byte_runs::filled(block);
+    let h = crate::shuffle::shuffled(suite, x, n);
+    let c = block::xor(p, h);
+    byte_runs::put(c, block);
+    if opening {
+        return crate::state::mix(t, crate::pad::padded(c, k));
+    }
+    crate::state::mix(t, crate::pad::padded(p, k))
+}

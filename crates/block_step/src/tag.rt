@@ -1,0 +1,45 @@
+// The tag: made, and compared whole.
+use crate::state::State;
+use block::Block;
+use cipher::Lent;
+ghost use mathlib.Core.Path.{_≡_};
+ghost use mathlib.Core.Logic.{_⊎_};
+ghost use Prim.Native.Nat.{_-_};
+ghost use lib.ListN.{length, take, drop, replicate};
+ghost use Rattle.block.specs.Blocks.{wide};
+ghost use Rattle.block.specs.Bytes.{sameBytes};
+ghost use Rattle.cipher.specs.Cipher.{Ready, IsSuite, sizeOf, cipherOf};
+ghost use Rattle.mode.specs.Walk.{tagged};
+ghost use Rattle.block_step.specs.Two.{twoOf, Clean, oneMore};
+
+// The tag, and how many cipher calls were made: its own is the last.
+pub struct Last {
+    pub tag: Block,
+    pub calls: u64,
+}
+
+// The tag of a state: the last call, under the last mark.
+pub fn tag_of(lent: &[Lent], suite: u8, state: State) -> Last
+    requires { ⌜ Ready suite (now lent) × IsSuite suite ⌝ }
+    ensures tag { λ r. ⌜ take (sizeOf suite) (wide (r .tag)) ≡ tagged (cipherOf suite) (twoOf suite state) ⌝ }
+    ensures rest { λ r. ⌜ Clean suite (r .tag) × (r .calls ≡ oneMore (state .calls)) ⌝ }
+{
+    let y = state.y;
+    let z = state.z;
+    let k = block_key::next_key(suite, z, 0x80);
+    let n = cipher::size_of(suite);
+    let t = crate::state::image(lent, suite, n, k, y);
+    Last {
+        tag: t,
+        calls: std::num::wrapping_add_u64(state.calls, 1),
+    }
+}
+
+// Whether the first bytes of the tag that was made are those of the given one, where zeros follow: every difference counts before the one test.
+pub fn same(made: Block, tag: &[u8]) -> bool
+    requires { ⌜ ((length (now tag) ≡ 16) ⊎ (length (now tag) ≡ 8)) × (drop (length (now tag)) (wide made) ≡ replicate (16 - length (now tag)) 0) ⌝ }
+    ensures { λ r. ⌜ r ≡ sameBytes (take (length (now (tag .entry))) (wide made)) (now (tag .entry)) ⌝ }
+{
+    let given = block::whole(tag);
+    block::same(made, given)
+}

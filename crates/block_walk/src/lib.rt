@@ -1,0 +1,181 @@
+// The whole blocks of a text, one step each, by loops that test no block's length: what the one-call sealer, the opener and the sessions have in common. The direction stands in each loop as a literal, and nobody else calls the full block's steps, so the compiler puts them into the loops.
+use block_step::one_block::absorb_full;
+use block_step::one_block::open_full;
+use block_step::one_block::seal_full;
+use block_step::one_block::verify_full;
+use block_step::state::State;
+use cipher::Lent;
+ghost use mathlib.Core.Path.{_≡_};
+ghost use mathlib.Core.Bool.{true, false};
+ghost use mathlib.Core.List.{_++_};
+ghost use Prim.Native.Nat.{ℕ};
+ghost use Rattle.cipher.specs.Cipher.{Ready, IsSuite, sizeOf, cipherOf};
+ghost use Rattle.mode.specs.Walk.{rest, covered};
+ghost use Rattle.block_step.specs.Two.{twoOf};
+ghost use Rattle.block_walk.specs.Behind.{wholes, Passed};
+
+// What stands behind the whole blocks: the state, the mark that the next block takes as the first, and how many bytes have gone in.
+pub struct Behind {
+    pub s: State,
+    pub mark: u8,
+    pub at: usize,
+}
+
+// Whole blocks of associated data.
+fn absorb_blocks(lent: &[Lent], suite: u8, s: State, m: u8, b: &[u8]) -> Behind
+    requires { ⌜ Ready suite (now lent) × IsSuite suite ⌝ }
+    ensures { λ r. ⌜ Passed suite false m s (now (b .entry)) r ⌝ }
+{
+    let n = cipher::size_of(suite);
+    if b.len() < n {
+        return Behind {
+            s: s,
+            mark: m,
+            at: 0,
+        };
+    }
+    let last = b.len() - n;
+    let mut t = s;
+    let mut k = m;
+    let mut i: usize = 0;
+    while i <= last {
+        let e = i + n;
+        t = absorb_full(lent, suite, t, k, &b[i..e]);
+        k = 0;
+        i = e;
+    }
+    Behind {
+        s: t,
+        mark: k,
+        at: i,
+    }
+}
+
+// Whole blocks of ciphertext, whose message goes in.
+fn verify_blocks(lent: &[Lent], suite: u8, s: State, m: u8, b: &[u8]) -> Behind
+    requires { ⌜ Ready suite (now lent) × IsSuite suite ⌝ }
+    ensures { λ r. ⌜ Passed suite true m s (now (b .entry)) r ⌝ }
+{
+    let n = cipher::size_of(suite);
+    if b.len() < n {
+        return Behind {
+            s: s,
+            mark: m,
+            at: 0,
+        };
+    }
+    let last = b.len() - n;
+    let mut t = s;
+    let mut k = m;
+    let mut i: usize = 0;
+    while i <= last {
+        let e = i + n;
+        t = verify_full(lent, suite, t, k, &b[i..e]);
+        k = 0;
+        i = e;
+    }
+    Behind {
+        s: t,
+        mark: k,
+        at: i,
+    }
+}
+
+// The whole blocks go in, the first under the mark, and nothing is written: of associated data as they are, of ciphertext that is opened the message's.
+pub fn absorb(
+    lent: &[Lent],
+    opening: bool,
+    suite: u8,
+    state: State,
+    mark: u8,
+    bytes: &[u8],
+) -> Behind
+    requires { ⌜ Ready suite (now lent) × IsSuite suite ⌝ }
+    ensures { λ r. ⌜ Passed suite opening mark state (now (bytes .entry)) r ⌝ }
+{
+    if opening {
+        return verify_blocks(lent, suite, state, mark, bytes);
+    }
+    absorb_blocks(lent, suite, state, mark, bytes)
+}
+
+// Whole blocks of a message, sealed.
+fn seal_blocks(lent: &[Lent], suite: u8, s: State, m: u8, text: &mut [u8]) -> Behind
+    requires { ⌜ Ready suite (now lent) × IsSuite suite ⌝ }
+    ensures text { λ _. ⌜ ((short : ℕ) → now (text .exit) ≡ covered (cipherOf suite) false m short (twoOf suite s) (wholes (sizeOf suite) (now (text .entry))) ++ rest (sizeOf suite) (now (text .entry))) ⌝ }
+    ensures state { λ r. ⌜ Passed suite false m s (now (text .entry)) r ⌝ }
+{
+    let n = cipher::size_of(suite);
+    if text.len() < n {
+        return Behind {
+            s: s,
+            mark: m,
+            at: 0,
+        };
+    }
+    let last = text.len() - n;
+    let mut t = s;
+    let mut k = m;
+    let mut i: usize = 0;
+    while i <= last {
+        let e = i + n;
+        t = seal_full(lent, suite, t, k, &mut text[i..e]);
+        k = 0;
+        i = e;
+    }
+    Behind {
+        s: t,
+        mark: k,
+        at: i,
+    }
+}
+
+// Whole blocks of ciphertext, opened.
+fn open_blocks(lent: &[Lent], suite: u8, s: State, m: u8, text: &mut [u8]) -> Behind
+    requires { ⌜ Ready suite (now lent) × IsSuite suite ⌝ }
+    ensures text { λ _. ⌜ ((short : ℕ) → now (text .exit) ≡ covered (cipherOf suite) true m short (twoOf suite s) (wholes (sizeOf suite) (now (text .entry))) ++ rest (sizeOf suite) (now (text .entry))) ⌝ }
+    ensures state { λ r. ⌜ Passed suite true m s (now (text .entry)) r ⌝ }
+{
+    let n = cipher::size_of(suite);
+    if text.len() < n {
+        return Behind {
+            s: s,
+            mark: m,
+            at: 0,
+        };
+    }
+    let last = text.len() - n;
+    let mut t = s;
+    let mut k = m;
+    let mut i: usize = 0;
+    while i <= last {
+        let e = i + n;
+        t = open_full(lent, suite, t, k, &mut text[i..e]);
+        k = 0;
+        i = e;
+    }
+    Behind {
+        s: t,
+        mark: k,
+        at: i,
+    }
+}
+
+// The whole blocks of a text go in, the first under the mark, and what goes out for them takes their place; what lies behind them stays.
+pub fn crypt(
+    lent: &[Lent],
+    opening: bool,
+    suite: u8,
+    state: State,
+    mark: u8,
+    text: &mut [u8],
+) -> Behind
+    requires { ⌜ Ready suite (now lent) × IsSuite suite ⌝ }
+    ensures text { λ _. ⌜ ((short : ℕ) → now (text .exit) ≡ covered (cipherOf suite) opening mark short (twoOf suite state) (wholes (sizeOf suite) (now (text .entry))) ++ rest (sizeOf suite) (now (text .entry))) ⌝ }
+    ensures state { λ r. ⌜ Passed suite opening mark state (now (text .entry)) r ⌝ }
+{
+    if opening {
+        return open_blocks(lent, suite, state, mark, text);
+    }
+    seal_blocks(lent, suite, state, mark, text)
+}

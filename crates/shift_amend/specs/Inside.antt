@@ -1,0 +1,28 @@
+-- What the crate's own functions tell each other; no entry point's contract cites it.
+use Prim.Native.Nat.{ℕ}
+use mathlib.Core.Path.{_≡_}
+use mathlib.Core.Bool.{Bool, true, false}
+use mathlib.Core.List.{List}
+use Rattle.status.specs.declared.checked.Answer.{Answer}
+use Rattle.shift_jobs.specs.declared.answers.Found.{Found}
+use Rattle.shift_jobs.specs.declared.answers.Found.the-variants.{At, Missing, Refused}
+use Rattle.shift_jobs.specs.Lookup.{lookupJob}
+use Rattle.shift_amend.specs.Amending.{amendedEntry}
+
+-- a lookup that refuses the file
+abbrev pub refusing : Found → Bool
+refusing (At i) = false
+refusing Missing = false
+refusing (Refused x) = true
+
+-- and one that finds the job
+abbrev pub finding : Found → Bool
+finding (At i) = true
+finding Missing = false
+finding (Refused x) = false
+
+-- a file and a lookup tell the current entry: the file is its own, and the lookup that of the amendment where it speaks of it, else that of the day's file
+pub record Tells (a d : List ℕ) (job file : ℕ) (x : Answer) : Type 0 where
+  pub named : file ≡ amendedEntry a d job .file
+  pub amendment : file ≡ 1 → x ≡ lookupJob a job
+  pub day : (file ≡ 1 → ⊥) → x ≡ lookupJob d job

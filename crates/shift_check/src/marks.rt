@@ -1,0 +1,64 @@
+// The filter before 29: each row leaves two bits of one of 128 words, its mark; a row whose bits are not both there clashes with none before it.
+use shift_format::row::nonce_block;
+use shift_format::row::row_at;
+ghost use mathlib.Core.Path.{_≡_};
+ghost use Prim.Native.Nat.{_<_};
+ghost use Rattle.shift_format.specs.Inside.{RowIn};
+ghost use Rattle.shift_check.specs.Marks.{folded, mixed, markOf, wordOf, bitsOf, has, with};
+
+// A nonce's two words as one: the second is turned, so that counters in both do not meet.
+fn fold(a: u64, b: u64) -> u64
+    ensures { λ r. ⌜ r ≡ folded a b ⌝ }
+{
+    a ^ (b << 35) ^ (b >> 29)
+}
+
+// Suite, key number and that word, mixed: by halves of 32 bits, so that nothing wraps.
+fn mix(suite: u8, key: u8, x: u64) -> u64
+    ensures { λ r. ⌜ r ≡ mixed suite key x ⌝ }
+{
+    let k = suite as u64 * 256 + key as u64;
+    (x % 0x1_0000_0000) * 0x71E5_4147 + (x >> 32) * 0x7764_E943 + k * 0x4045_02D3
+}
+
+// What a row is marked by.
+pub(crate) fn mark(size: usize, file: &[u8], index: usize) -> u64
+    requires { ⌜ RowIn size (now file) index ⌝ }
+    ensures { λ r. ⌜ r ≡ markOf size (now (file .entry)) index ⌝ }
+{
+    let row = row_at(size, file, index);
+    let nonce = nonce_block(size, file, index);
+    mix(row.suite, row.key, fold(nonce.a, nonce.b))
+}
+
+// The word that a mark stands in.
+fn word_of(x: u64) -> usize
+    ensures { λ r. ⌜ (r ≡ wordOf x) × (r < 128) ⌝ }
+{
+    ((x >> 25) % 128) as usize
+}
+
+// Its two bits there.
+fn bits_of(x: u64) -> u64
+    ensures { λ r. ⌜ r ≡ bitsOf x ⌝ }
+{
+    (1u64 << ((x >> 19) % 64)) | (1u64 << ((x >> 32) % 64))
+}
+
+// Whether both bits of the mark are there.
+pub(crate) fn has(seen: &[u64; 128], x: u64) -> bool
+    ensures { λ r. ⌜ r ≡ has (now (seen .entry)) x ⌝ }
+{
+    let at = word_of(x);
+    let word = seen[at];
+    word | bits_of(x) == word
+}
+
+// Leaves the mark.
+pub(crate) fn put(seen: &mut [u64; 128], x: u64)
+    ensures { λ _. ⌜ now (seen .exit) ≡ with (now (seen .entry)) x ⌝ }
+{
+    let at = word_of(x);
+    let word = seen[at];
+    seen[at] = word | bits_of(x);
+}
