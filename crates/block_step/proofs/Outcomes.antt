@@ -11,7 +11,7 @@ use Rattle.block.proofs.Blocks.{wide-told}
 use Rattle.cipher.specs.Cipher.{sizeOf}
 use Rattle.mode.specs.Walk.{States}
 use Rattle.block_step.specs.declared.state.State.{State}
-use Rattle.block_step.specs.declared.tag.Last.{Last}
+use Rattle.block_step.specs.declared.tag.TagAndCalls.{TagAndCalls}
 use Rattle.block_step.specs.Two.{Holds}
 use Rattle.block_step.proofs.state.start.Kinds as start-kinds
 use Rattle.block_step.proofs.state.start.Reads as start-reads
@@ -80,7 +80,7 @@ crypt-short κs a h x y = (
   ap (λ (l : List ℕ). (tt, (tt, (tt, (tt, (tt, (l, tt))))))) (x .ensures .0 ∙ sym (y .ensures .0)),
 )
 
-last-path : {x y : Block} {j k : ℕ} → x ≡ y → j ≡ k → _≡_ {A = Last} (record { tag = x; calls = j }) (record { tag = y; calls = k })
+last-path : {x y : Block} {j k : ℕ} → x ≡ y → j ≡ k → _≡_ {A = TagAndCalls} (record { tag = x; calls = j }) (record { tag = y; calls = k })
 last-path p q = λ i. record { tag = p i; calls = q i }
 
 pub tag-of : OneOutcome tag-of-kinds.ps tag-of-kinds.r tag-of-reads.Pre tag-of-reads.Post

@@ -1,30 +1,30 @@
 // One block of associated data or of text, full or short, by one cipher call: a full one goes by whole words. What goes out for a block of text takes its place.
 use crate::state::State;
-use cipher::Lent;
+use cipher::AesTables;
 ghost use mathlib.Core.Path.{_≡_};
 ghost use mathlib.Core.Bool.{true, false};
 ghost use Prim.Native.Nat.{_<_};
 ghost use lib.ListN.{length};
-ghost use Rattle.cipher.specs.Cipher.{Ready, IsSuite, sizeOf, cipherOf};
+ghost use Rattle.cipher.specs.Cipher.{TablesFit, IsSuite, sizeOf, cipherOf};
 ghost use Rattle.mode.specs.Walk.{turned, hidden, messageOf};
 ghost use Rattle.block_step.specs.Two.{twoOf, Holds, oneMore};
 
 // A full block of associated data, under its mark.
-pub fn absorb_full(lent: &[Lent], suite: u8, state: State, mark: u8, block: &[u8]) -> State
-    requires { ⌜ Ready suite (now lent) × IsSuite suite × (length (now block) ≡ sizeOf suite) ⌝ }
+pub fn absorb_full(tables: &[AesTables], suite: u8, state: State, mark: u8, block: &[u8]) -> State
+    requires { ⌜ TablesFit suite (now tables) × IsSuite suite × (length (now block) ≡ sizeOf suite) ⌝ }
     ensures { λ r. ⌜ Holds suite r (turned (cipherOf suite) mark (twoOf suite state) (messageOf (cipherOf suite) false mark (twoOf suite state) (now (block .entry)))) (oneMore (state .calls)) ⌝ }
 {
-    let t = crate::state::turn(lent, suite, state, mark, block.len());
+    let t = crate::state::turn(tables, suite, state, mark, block.len());
     let p = block::whole(block);
     crate::state::mix(t, p)
 }
 
 // A full block of ciphertext, whose message's block goes in and is written nowhere.
-pub fn verify_full(lent: &[Lent], suite: u8, state: State, mark: u8, block: &[u8]) -> State
-    requires { ⌜ Ready suite (now lent) × IsSuite suite × (length (now block) ≡ sizeOf suite) ⌝ }
+pub fn verify_full(tables: &[AesTables], suite: u8, state: State, mark: u8, block: &[u8]) -> State
+    requires { ⌜ TablesFit suite (now tables) × IsSuite suite × (length (now block) ≡ sizeOf suite) ⌝ }
     ensures { λ r. ⌜ Holds suite r (turned (cipherOf suite) mark (twoOf suite state) (messageOf (cipherOf suite) true mark (twoOf suite state) (now (block .entry)))) (oneMore (state .calls)) ⌝ }
 {
-    let t = crate::state::turn(lent, suite, state, mark, block.len());
+    let t = crate::state::turn(tables, suite, state, mark, block.len());
     let x = t.y;
     let c = block::whole(block);
     let h = crate::shuffle::shuffled(suite, x, block.len());
@@ -33,12 +33,12 @@ pub fn verify_full(lent: &[Lent], suite: u8, state: State, mark: u8, block: &[u8
 }
 
 // A full block of a message: it goes in, and its ciphertext takes its place.
-pub fn seal_full(lent: &[Lent], suite: u8, state: State, mark: u8, block: &mut [u8]) -> State
-    requires { ⌜ Ready suite (now lent) × IsSuite suite × (length (now block) ≡ sizeOf suite) ⌝ }
+pub fn seal_full(tables: &[AesTables], suite: u8, state: State, mark: u8, block: &mut [u8]) -> State
+    requires { ⌜ TablesFit suite (now tables) × IsSuite suite × (length (now block) ≡ sizeOf suite) ⌝ }
     ensures text { λ _. ⌜ now (block .exit) ≡ hidden (cipherOf suite) mark (twoOf suite state) (now (block .entry)) ⌝ }
     ensures state { λ r. ⌜ Holds suite r (turned (cipherOf suite) mark (twoOf suite state) (messageOf (cipherOf suite) false mark (twoOf suite state) (now (block .entry)))) (oneMore (state .calls)) ⌝ }
 {
-    let t = crate::state::turn(lent, suite, state, mark, block.len());
+    let t = crate::state::turn(tables, suite, state, mark, block.len());
     let x = t.y;
     let p = block::whole(block);
     let h = crate::shuffle::shuffled(suite, x, block.len());
@@ -48,12 +48,12 @@ pub fn seal_full(lent: &[Lent], suite: u8, state: State, mark: u8, block: &mut [
 }
 
 // A full block of ciphertext: its message's block takes its place, and goes in.
-pub fn open_full(lent: &[Lent], suite: u8, state: State, mark: u8, block: &mut [u8]) -> State
-    requires { ⌜ Ready suite (now lent) × IsSuite suite × (length (now block) ≡ sizeOf suite) ⌝ }
+pub fn open_full(tables: &[AesTables], suite: u8, state: State, mark: u8, block: &mut [u8]) -> State
+    requires { ⌜ TablesFit suite (now tables) × IsSuite suite × (length (now block) ≡ sizeOf suite) ⌝ }
     ensures text { λ _. ⌜ now (block .exit) ≡ hidden (cipherOf suite) mark (twoOf suite state) (now (block .entry)) ⌝ }
     ensures state { λ r. ⌜ Holds suite r (turned (cipherOf suite) mark (twoOf suite state) (messageOf (cipherOf suite) true mark (twoOf suite state) (now (block .entry)))) (oneMore (state .calls)) ⌝ }
 {
-    let t = crate::state::turn(lent, suite, state, mark, block.len());
+    let t = crate::state::turn(tables, suite, state, mark, block.len());
     let x = t.y;
     let c = block::whole(block);
     let h = crate::shuffle::shuffled(suite, x, block.len());
@@ -64,18 +64,18 @@ pub fn open_full(lent: &[Lent], suite: u8, state: State, mark: u8, block: &mut [
 
 // A short block of associated data, or of ciphertext whose message's block goes in and is written nowhere.
 pub fn absorb_short(
-    lent: &[Lent],
+    tables: &[AesTables],
     opening: bool,
     suite: u8,
     state: State,
     mark: u8,
     block: &[u8],
 ) -> State
-    requires { ⌜ Ready suite (now lent) × IsSuite suite × (length (now block) < sizeOf suite) ⌝ }
+    requires { ⌜ TablesFit suite (now tables) × IsSuite suite × (length (now block) < sizeOf suite) ⌝ }
     ensures { λ r. ⌜ Holds suite r (turned (cipherOf suite) mark (twoOf suite state) (messageOf (cipherOf suite) opening mark (twoOf suite state) (now (block .entry)))) (oneMore (state .calls)) ⌝ }
 {
     let n = cipher::size_of(suite);
-    let t = crate::state::turn(lent, suite, state, mark, n);
+    let t = crate::state::turn(tables, suite, state, mark, n);
     let p = byte_runs::filled(block);
     if opening {
         let x = t.y;
@@ -88,20 +88,20 @@ pub fn absorb_short(
 
 // A short block of text: what goes out takes its place, and the message's block goes in.
 pub fn crypt_short(
-    lent: &[Lent],
+    tables: &[AesTables],
     opening: bool,
     suite: u8,
     state: State,
     mark: u8,
     block: &mut [u8],
 ) -> State
-    requires { ⌜ Ready suite (now lent) × IsSuite suite × (length (now block) < sizeOf suite) ⌝ }
+    requires { ⌜ TablesFit suite (now tables) × IsSuite suite × (length (now block) < sizeOf suite) ⌝ }
     ensures text { λ _. ⌜ now (block .exit) ≡ hidden (cipherOf suite) mark (twoOf suite state) (now (block .entry)) ⌝ }
     ensures state { λ r. ⌜ Holds suite r (turned (cipherOf suite) mark (twoOf suite state) (messageOf (cipherOf suite) opening mark (twoOf suite state) (now (block .entry)))) (oneMore (state .calls)) ⌝ }
 {
     let k = block.len();
     let n = cipher::size_of(suite);
-    let t = crate::state::turn(lent, suite, state, mark, n);
+    let t = crate::state::turn(tables, suite, state, mark, n);
     let x = t.y;
     let p = byte_runs::filled(block);
     let h = crate::shuffle::shuffled(suite, x, n);

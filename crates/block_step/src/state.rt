@@ -1,11 +1,11 @@
 // The two states Y and Z: their start, the cipher's call, and a block put in.
 use block::Block;
-use cipher::Lent;
+use cipher::AesTables;
 ghost use mathlib.Core.Path.{_≡_};
 ghost use lib.ListN.{length, take};
 ghost use Rattle.block.specs.Xors.{xors};
 ghost use Rattle.block.specs.Blocks.{wide};
-ghost use Rattle.cipher.specs.Cipher.{Ready, IsSuite, sizeOf, nonceOf, cipherOf};
+ghost use Rattle.cipher.specs.Cipher.{TablesFit, IsSuite, sizeOf, nonceOf, cipherOf};
 ghost use Rattle.mode.specs.Walk.{origin};
 ghost use Rattle.block_step.specs.Two.{twoOf, Clean, Holds, oneMore, imaged};
 
@@ -17,8 +17,8 @@ pub struct State {
 }
 
 // The state that key and nonce start, by one call.
-pub fn start(lent: &[Lent], suite: u8, key: &[u8], nonce: &[u8]) -> State
-    requires { ⌜ Ready suite (now lent) × IsSuite suite × (length (now key) ≡ 16) × (length (now nonce) ≡ nonceOf suite) ⌝ }
+pub fn start(tables: &[AesTables], suite: u8, key: &[u8], nonce: &[u8]) -> State
+    requires { ⌜ TablesFit suite (now tables) × IsSuite suite × (length (now key) ≡ 16) × (length (now nonce) ≡ nonceOf suite) ⌝ }
     ensures { λ r. ⌜ Holds suite r (origin (cipherOf suite) (now (key .entry)) (now (nonce .entry))) 1 ⌝ }
 {
     let k = block::sixteen(key);
@@ -26,7 +26,7 @@ pub fn start(lent: &[Lent], suite: u8, key: &[u8], nonce: &[u8]) -> State
         let v = block::sixteen(nonce);
         // Made anew where it is lent: what a call is lent is stored where it was made, and a block of 8 bytes needs no store.
         let key = Block { a: k.a, b: k.b };
-        let z = cipher::encipher16(lent, suite, key, v);
+        let z = cipher::encipher16(tables, suite, key, v);
         return State {
             y: k,
             z: z,
@@ -35,7 +35,7 @@ pub fn start(lent: &[Lent], suite: u8, key: &[u8], nonce: &[u8]) -> State
     }
     let v = block::fifteen(nonce);
     let zero = Block { a: 0, b: 0 };
-    let y = cipher::encipher(lent, suite, k, zero);
+    let y = cipher::encipher(tables, suite, k, zero);
     let z = block::xor(k, v);
     State {
         y: y,
@@ -45,8 +45,8 @@ pub fn start(lent: &[Lent], suite: u8, key: &[u8], nonce: &[u8]) -> State
 }
 
 // The cipher's image of a block, by its size n: a loop over blocks tests that one number, whatever else it tests of it.
-pub(crate) fn image(lent: &[Lent], suite: u8, n: usize, key: Block, block: Block) -> Block
-    requires { ⌜ Ready suite (now lent) × IsSuite suite × (n ≡ sizeOf suite) ⌝ }
+pub(crate) fn image(tables: &[AesTables], suite: u8, n: usize, key: Block, block: Block) -> Block
+    requires { ⌜ TablesFit suite (now tables) × IsSuite suite × (n ≡ sizeOf suite) ⌝ }
     ensures image { λ r. ⌜ take (sizeOf suite) (wide r) ≡ cipherOf suite .E (wide key) (take (sizeOf suite) (wide block)) ⌝ }
     ensures rest { λ r. ⌜ Clean suite r ⌝ }
 {
@@ -57,7 +57,7 @@ pub(crate) fn image(lent: &[Lent], suite: u8, n: usize, key: Block, block: Block
             a: block.a,
             b: block.b,
         };
-        return cipher::encipher16(lent, suite, k, b);
+        return cipher::encipher16(tables, suite, k, b);
     }
     Block {
         a: cipher::encipher8(suite, key.a, key.b, block.a),
@@ -66,8 +66,8 @@ pub(crate) fn image(lent: &[Lent], suite: u8, n: usize, key: Block, block: Block
 }
 
 // The key of a block of n bytes with the mark m; X, the image of Y under it, by one call; and the Z that is kept behind the block.
-pub(crate) fn turn(lent: &[Lent], suite: u8, s: State, m: u8, n: usize) -> State
-    requires { ⌜ Ready suite (now lent) × IsSuite suite × (n ≡ sizeOf suite) ⌝ }
+pub(crate) fn turn(tables: &[AesTables], suite: u8, s: State, m: u8, n: usize) -> State
+    requires { ⌜ TablesFit suite (now tables) × IsSuite suite × (n ≡ sizeOf suite) ⌝ }
     ensures { λ r. ⌜ Holds suite r (imaged suite m (twoOf suite s)) (oneMore (s .calls)) ⌝ }
 {
     let y = s.y;
@@ -75,7 +75,7 @@ pub(crate) fn turn(lent: &[Lent], suite: u8, s: State, m: u8, n: usize) -> State
     let b = block_key::block_key(suite, z0, m);
     let k = b.key;
     let z = b.z;
-    let x = image(lent, suite, n, k, y);
+    let x = image(tables, suite, n, k, y);
     State {
         y: x,
         z: z,

@@ -1,26 +1,26 @@
 // The tag: made, and compared whole.
 use crate::state::State;
 use block::Block;
-use cipher::Lent;
+use cipher::AesTables;
 ghost use mathlib.Core.Path.{_≡_};
 ghost use mathlib.Core.Logic.{_⊎_};
 ghost use Prim.Native.Nat.{_-_};
 ghost use lib.ListN.{length, take, drop, replicate};
 ghost use Rattle.block.specs.Blocks.{wide};
 ghost use Rattle.block.specs.Bytes.{sameBytes};
-ghost use Rattle.cipher.specs.Cipher.{Ready, IsSuite, sizeOf, cipherOf};
+ghost use Rattle.cipher.specs.Cipher.{TablesFit, IsSuite, sizeOf, cipherOf};
 ghost use Rattle.mode.specs.Walk.{tagged};
 ghost use Rattle.block_step.specs.Two.{twoOf, Clean, oneMore};
 
 // The tag, and how many cipher calls were made: its own is the last.
-pub struct Last {
+pub struct TagAndCalls {
     pub tag: Block,
     pub calls: u64,
 }
 
 // The tag of a state: the last call, under the last mark.
-pub fn tag_of(lent: &[Lent], suite: u8, state: State) -> Last
-    requires { ⌜ Ready suite (now lent) × IsSuite suite ⌝ }
+pub fn tag_of(tables: &[AesTables], suite: u8, state: State) -> TagAndCalls
+    requires { ⌜ TablesFit suite (now tables) × IsSuite suite ⌝ }
     ensures tag { λ r. ⌜ take (sizeOf suite) (wide (r .tag)) ≡ tagged (cipherOf suite) (twoOf suite state) ⌝ }
     ensures rest { λ r. ⌜ Clean suite (r .tag) × (r .calls ≡ oneMore (state .calls)) ⌝ }
 {
@@ -28,8 +28,8 @@ pub fn tag_of(lent: &[Lent], suite: u8, state: State) -> Last
     let z = state.z;
     let k = block_key::next_key(suite, z, 0x80);
     let n = cipher::size_of(suite);
-    let t = crate::state::image(lent, suite, n, k, y);
-    Last {
+    let t = crate::state::image(tables, suite, n, k, y);
+    TagAndCalls {
         tag: t,
         calls: std::num::wrapping_add_u64(state.calls, 1),
     }

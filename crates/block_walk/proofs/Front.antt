@@ -16,7 +16,7 @@ use Rattle.mode.specs.Walk.{States, whole, rest, markOf, turned, hidden, messag
 use Rattle.mode.proofs.Blocks.{blocks-nil, blocks-cons, blocks-more}
 use Rattle.mode.proofs.Cut.{length-whole, whole-append, rest-append, rest-less, whole-short}
 use Rattle.mode.proofs.Walk.{mark-full, mark-short}
-use Rattle.block_walk.specs.Behind.{wholes}
+use Rattle.block_walk.specs.Progress.{wholes}
 
 module _ (n : ℕ) (pos : 0 < n) where
   -- a whole block in front

@@ -16,7 +16,7 @@ use Rattle.mode.specs.Walk.{whole, rest, turned, hidden, messageOf, walked, cov
 use Rattle.mode.proofs.Cut.{whole-short}
 use Rattle.block_step.specs.declared.state.State.{State}
 use Rattle.block_step.specs.Two.{twoOf, Holds, oneMore}
-use Rattle.block_walk.specs.Behind.{wholes, Passed}
+use Rattle.block_walk.specs.Progress.{wholes, Passed}
 use Rattle.block_walk.proofs.Front.{short-blocks, short-walk, short-cover, block-long, turn-blocks, turn-long, turn-walk, turn-cover, behind, drop-later}
 
 -- at i, with the state t and the mark k: every field of `Passed`, over what is left of l, is the whole's

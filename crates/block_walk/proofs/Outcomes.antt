@@ -12,25 +12,25 @@ use Rattle.block.proofs.Blocks.{wide-told}
 use Rattle.cipher.specs.Cipher.{sizeOf}
 use Rattle.mode.specs.Walk.{States}
 use Rattle.block_step.specs.declared.state.State.{State}
-use Rattle.block_walk.specs.declared.Behind.{Behind}
-use Rattle.block_walk.specs.Behind.{Passed}
+use Rattle.block_walk.specs.declared.Progress.{Progress}
+use Rattle.block_walk.specs.Progress.{Passed}
 use Rattle.block_walk.proofs.absorb.Kinds as absorb-kinds
 use Rattle.block_walk.proofs.absorb.Reads as absorb-reads
 use Rattle.block_walk.proofs.crypt.Kinds as crypt-kinds
 use Rattle.block_walk.proofs.crypt.Reads as crypt-reads
 
 -- both blocks of a state are numbers of 64 bits
-record Small (r : Behind) : Type 0 where
+record Small (r : Progress) : Type 0 where
   ya : r .s .y .a < 2 ^ 64
   yb : r .s .y .b < 2 ^ 64
   za : r .s .z .a < 2 ^ 64
   zb : r .s .z .b < 2 ^ 64
 
 behind-path : {x y u v : Block} {j k p q a b : ℕ} → x ≡ y → u ≡ v → j ≡ k → p ≡ q → a ≡ b
-    → _≡_ {A = Behind} (record { s = record { y = x; z = u; calls = j }; mark = p; at = a }) (record { s = record { y = y; z = v; calls = k }; mark = q; at = b })
+    → _≡_ {A = Progress} (record { s = record { y = x; z = u; calls = j }; mark = p; at = a }) (record { s = record { y = y; z = v; calls = k }; mark = q; at = b })
 behind-path ey ez ec em ea = λ i. record { s = record { y = ey i; z = ez i; calls = ec i }; mark = em i; at = ea i }
 
-passed-told : (suite : ℕ) (d : Bool) (m : ℕ) (s : State) (l : List ℕ) (r q : Behind) → Small r → Small q → Passed suite d m s l r → Passed suite d m s l q → r ≡ q
+passed-told : (suite : ℕ) (d : Bool) (m : ℕ) (s : State) (l : List ℕ) (r q : Progress) → Small r → Small q → Passed suite d m s l r → Passed suite d m s l q → r ≡ q
 passed-told suite d m s l r q a b h k =
     let e = h .two 0 ∙ sym (k .two 0) in
     behind-path

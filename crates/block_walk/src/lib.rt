@@ -4,31 +4,31 @@ use block_step::one_block::open_full;
 use block_step::one_block::seal_full;
 use block_step::one_block::verify_full;
 use block_step::state::State;
-use cipher::Lent;
+use cipher::AesTables;
 ghost use mathlib.Core.Path.{_≡_};
 ghost use mathlib.Core.Bool.{true, false};
 ghost use mathlib.Core.List.{_++_};
 ghost use Prim.Native.Nat.{ℕ};
-ghost use Rattle.cipher.specs.Cipher.{Ready, IsSuite, sizeOf, cipherOf};
+ghost use Rattle.cipher.specs.Cipher.{TablesFit, IsSuite, sizeOf, cipherOf};
 ghost use Rattle.mode.specs.Walk.{rest, covered};
 ghost use Rattle.block_step.specs.Two.{twoOf};
-ghost use Rattle.block_walk.specs.Behind.{wholes, Passed};
+ghost use Rattle.block_walk.specs.Progress.{wholes, Passed};
 
 // What stands behind the whole blocks: the state, the mark that the next block takes as the first, and how many bytes have gone in.
-pub struct Behind {
+pub struct Progress {
     pub s: State,
     pub mark: u8,
     pub at: usize,
 }
 
 // Whole blocks of associated data.
-fn absorb_blocks(lent: &[Lent], suite: u8, s: State, m: u8, b: &[u8]) -> Behind
-    requires { ⌜ Ready suite (now lent) × IsSuite suite ⌝ }
+fn absorb_blocks(tables: &[AesTables], suite: u8, s: State, m: u8, b: &[u8]) -> Progress
+    requires { ⌜ TablesFit suite (now tables) × IsSuite suite ⌝ }
     ensures { λ r. ⌜ Passed suite false m s (now (b .entry)) r ⌝ }
 {
     let n = cipher::size_of(suite);
     if b.len() < n {
-        return Behind {
+        return Progress {
             s: s,
             mark: m,
             at: 0,
@@ -40,11 +40,11 @@ fn absorb_blocks(lent: &[Lent], suite: u8, s: State, m: u8, b: &[u8]) -> Behind
     let mut i: usize = 0;
     while i <= last {
         let e = i + n;
-        t = absorb_full(lent, suite, t, k, &b[i..e]);
+        t = absorb_full(tables, suite, t, k, &b[i..e]);
         k = 0;
         i = e;
     }
-    Behind {
+    Progress {
         s: t,
         mark: k,
         at: i,
@@ -52,13 +52,13 @@ fn absorb_blocks(lent: &[Lent], suite: u8, s: State, m: u8, b: &[u8]) -> Behind
 }
 
 // Whole blocks of ciphertext, whose message goes in.
-fn verify_blocks(lent: &[Lent], suite: u8, s: State, m: u8, b: &[u8]) -> Behind
-    requires { ⌜ Ready suite (now lent) × IsSuite suite ⌝ }
+fn verify_blocks(tables: &[AesTables], suite: u8, s: State, m: u8, b: &[u8]) -> Progress
+    requires { ⌜ TablesFit suite (now tables) × IsSuite suite ⌝ }
     ensures { λ r. ⌜ Passed suite true m s (now (b .entry)) r ⌝ }
 {
     let n = cipher::size_of(suite);
     if b.len() < n {
-        return Behind {
+        return Progress {
             s: s,
             mark: m,
             at: 0,
@@ -70,11 +70,11 @@ fn verify_blocks(lent: &[Lent], suite: u8, s: State, m: u8, b: &[u8]) -> Behind
     let mut i: usize = 0;
     while i <= last {
         let e = i + n;
-        t = verify_full(lent, suite, t, k, &b[i..e]);
+        t = verify_full(tables, suite, t, k, &b[i..e]);
         k = 0;
         i = e;
     }
-    Behind {
+    Progress {
         s: t,
         mark: k,
         at: i,
@@ -83,31 +83,31 @@ fn verify_blocks(lent: &[Lent], suite: u8, s: State, m: u8, b: &[u8]) -> Behind
 
 // The whole blocks go in, the first under the mark, and nothing is written: of associated data as they are, of ciphertext that is opened the message's.
 pub fn absorb(
-    lent: &[Lent],
+    tables: &[AesTables],
     opening: bool,
     suite: u8,
     state: State,
     mark: u8,
     bytes: &[u8],
-) -> Behind
-    requires { ⌜ Ready suite (now lent) × IsSuite suite ⌝ }
+) -> Progress
+    requires { ⌜ TablesFit suite (now tables) × IsSuite suite ⌝ }
     ensures { λ r. ⌜ Passed suite opening mark state (now (bytes .entry)) r ⌝ }
 {
     if opening {
-        return verify_blocks(lent, suite, state, mark, bytes);
+        return verify_blocks(tables, suite, state, mark, bytes);
     }
-    absorb_blocks(lent, suite, state, mark, bytes)
+    absorb_blocks(tables, suite, state, mark, bytes)
 }
 
 // Whole blocks of a message, sealed.
-fn seal_blocks(lent: &[Lent], suite: u8, s: State, m: u8, text: &mut [u8]) -> Behind
-    requires { ⌜ Ready suite (now lent) × IsSuite suite ⌝ }
+fn seal_blocks(tables: &[AesTables], suite: u8, s: State, m: u8, text: &mut [u8]) -> Progress
+    requires { ⌜ TablesFit suite (now tables) × IsSuite suite ⌝ }
     ensures text { λ _. ⌜ ((short : ℕ) → now (text .exit) ≡ covered (cipherOf suite) false m short (twoOf suite s) (wholes (sizeOf suite) (now (text .entry))) ++ rest (sizeOf suite) (now (text .entry))) ⌝ }
     ensures state { λ r. ⌜ Passed suite false m s (now (text .entry)) r ⌝ }
 {
     let n = cipher::size_of(suite);
     if text.len() < n {
-        return Behind {
+        return Progress {
             s: s,
             mark: m,
             at: 0,
@@ -119,11 +119,11 @@ fn seal_blocks(lent: &[Lent], suite: u8, s: State, m: u8, text: &mut [u8]) -> Be
     let mut i: usize = 0;
     while i <= last {
         let e = i + n;
-        t = seal_full(lent, suite, t, k, &mut text[i..e]);
+        t = seal_full(tables, suite, t, k, &mut text[i..e]);
         k = 0;
         i = e;
     }
-    Behind {
+    Progress {
         s: t,
         mark: k,
         at: i,
@@ -131,14 +131,14 @@ fn seal_blocks(lent: &[Lent], suite: u8, s: State, m: u8, text: &mut [u8]) -> Be
 }
 
 // Whole blocks of ciphertext, opened.
-fn open_blocks(lent: &[Lent], suite: u8, s: State, m: u8, text: &mut [u8]) -> Behind
-    requires { ⌜ Ready suite (now lent) × IsSuite suite ⌝ }
+fn open_blocks(tables: &[AesTables], suite: u8, s: State, m: u8, text: &mut [u8]) -> Progress
+    requires { ⌜ TablesFit suite (now tables) × IsSuite suite ⌝ }
     ensures text { λ _. ⌜ ((short : ℕ) → now (text .exit) ≡ covered (cipherOf suite) true m short (twoOf suite s) (wholes (sizeOf suite) (now (text .entry))) ++ rest (sizeOf suite) (now (text .entry))) ⌝ }
     ensures state { λ r. ⌜ Passed suite true m s (now (text .entry)) r ⌝ }
 {
     let n = cipher::size_of(suite);
     if text.len() < n {
-        return Behind {
+        return Progress {
             s: s,
             mark: m,
             at: 0,
@@ -150,11 +150,11 @@ fn open_blocks(lent: &[Lent], suite: u8, s: State, m: u8, text: &mut [u8]) -> Be
     let mut i: usize = 0;
     while i <= last {
         let e = i + n;
-        t = open_full(lent, suite, t, k, &mut text[i..e]);
+        t = open_full(tables, suite, t, k, &mut text[i..e]);
         k = 0;
         i = e;
     }
-    Behind {
+    Progress {
         s: t,
         mark: k,
         at: i,
@@ -163,19 +163,19 @@ fn open_blocks(lent: &[Lent], suite: u8, s: State, m: u8, text: &mut [u8]) -> Be
 
 // The whole blocks of a text go in, the first under the mark, and what goes out for them takes their place; what lies behind them stays.
 pub fn crypt(
-    lent: &[Lent],
+    tables: &[AesTables],
     opening: bool,
     suite: u8,
     state: State,
     mark: u8,
     text: &mut [u8],
-) -> Behind
-    requires { ⌜ Ready suite (now lent) × IsSuite suite ⌝ }
+) -> Progress
+    requires { ⌜ TablesFit suite (now tables) × IsSuite suite ⌝ }
     ensures text { λ _. ⌜ ((short : ℕ) → now (text .exit) ≡ covered (cipherOf suite) opening mark short (twoOf suite state) (wholes (sizeOf suite) (now (text .entry))) ++ rest (sizeOf suite) (now (text .entry))) ⌝ }
     ensures state { λ r. ⌜ Passed suite opening mark state (now (text .entry)) r ⌝ }
 {
     if opening {
-        return open_blocks(lent, suite, state, mark, text);
+        return open_blocks(tables, suite, state, mark, text);
     }
-    seal_blocks(lent, suite, state, mark, text)
+    seal_blocks(tables, suite, state, mark, text)
 }

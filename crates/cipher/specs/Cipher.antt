@@ -49,11 +49,11 @@ imageOf speck64 = speck
 imageOf cham64 = cham 16
 
 -- the engine of AES is lent the tables of its columns, the others nothing
-abbrev pub isLent : BlockCipher → Bool
-isLent aes128 = true
-isLent cham128 = false
-isLent speck64 = false
-isLent cham64 = false
+abbrev pub hasTables : BlockCipher → Bool
+hasTables aes128 = true
+hasTables cham128 = false
+hasTables speck64 = false
+hasTables cham64 = false
 
 -- what a suite has: block, nonce and tag in bytes, its version of COMET, and its cipher
 pub record Facts : Type 0 where
@@ -132,12 +132,12 @@ isTwo one = false
 isTwo two = true
 
 -- whether the suite's engine is lent anything
-unfoldable pub lends : ℕ → Bool
-lends s = isLent (factsOf s .engine)
+unfoldable pub needsTables : ℕ → Bool
+needsTables s = hasTables (factsOf s .engine)
 
 abbrev pub Full : List (List (List ℕ)) → Type 0
 Full t = (length t ≡ 1) × IsTables (getD t 0 [])
 
 -- what is lent is fit for the suite's engine
-pub record Ready (s : ℕ) (t : List (List (List ℕ))) : Type 0 where
-  pub full : lends s ≡ true → Full t
+pub record TablesFit (s : ℕ) (t : List (List (List ℕ))) : Type 0 where
+  pub full : needsTables s ≡ true → Full t

@@ -10,7 +10,7 @@ ghost use Rattle.block.specs.Blocks.{wide};
 ghost use Rattle.aes_spec.specs.Cipher.{cipher};
 ghost use Rattle.cham_spec.specs.Cham.{cham};
 ghost use Rattle.speck.specs.Speck.{speck};
-ghost use Rattle.cipher.specs.Cipher.{lends, Full, Ready, isSuite, IsSuite, isTwo, sizeOf, nonceOf, versionOf, cipherOf, seals};
+ghost use Rattle.cipher.specs.Cipher.{needsTables, Full, TablesFit, isSuite, IsSuite, isTwo, sizeOf, nonceOf, versionOf, cipherOf, seals};
 
 // The most bytes of associated data, and the most of a message.
 pub const LIMIT: usize = 65536;
@@ -61,11 +61,11 @@ pub fn is_second(suite: u8) -> bool
 }
 
 // What an engine is lent, made once a message: a slice of one, or of none where the suite's engine is lent nothing.
-pub type Lent = aes_tables::Tables;
+pub type AesTables = aes_tables::Tables;
 
 // Whether the suite's engine is lent anything.
-pub fn lends(suite: u8) -> bool
-    ensures { λ r. ⌜ r ≡ lends suite ⌝ }
+pub fn needs_tables(suite: u8) -> bool
+    ensures { λ r. ⌜ r ≡ needsTables suite ⌝ }
 {
     if suite <= 1 {
         return true;
@@ -73,20 +73,20 @@ pub fn lends(suite: u8) -> bool
     suite == 5
 }
 
-pub fn tables(suite: u8) -> [Lent; 1]
-    requires { ⌜ lends suite ≡ true ⌝ }
-    ensures { λ r. ⌜ Ready suite r ⌝ }
+pub fn tables(suite: u8) -> [AesTables; 1]
+    requires { ⌜ needsTables suite ≡ true ⌝ }
+    ensures { λ r. ⌜ TablesFit suite r ⌝ }
 {
     [aes_tables::tables()]
 }
 
-fn by_aes(lent: &[Lent], key: Block, block: Block) -> Block
-    requires { ⌜ Full (now lent) ⌝ }
+fn by_aes(tables: &[AesTables], key: Block, block: Block) -> Block
+    requires { ⌜ Full (now tables) ⌝ }
     ensures { λ r. ⌜ wide r ≡ cipher (wide key) (wide block) ⌝ }
 {
     let k = block::bytes_of(key);
     let b = block::bytes_of(block);
-    block::block_of(aes_tables::encrypt_with(&lent[0], k, b))
+    block::block_of(aes_tables::encrypt_with(&tables[0], k, b))
 }
 
 fn by_cham128(key: Block, block: Block) -> Block
@@ -114,12 +114,12 @@ fn by_cham64(key0: u64, key1: u64, block: u64) -> u64
 }
 
 // The image of a block of 16 bytes.
-pub fn encipher16(lent: &[Lent], suite: u8, key: Block, block: Block) -> Block
-    requires { ⌜ Ready suite (now lent) × IsSuite suite × (sizeOf suite ≡ 16) ⌝ }
+pub fn encipher16(tables: &[AesTables], suite: u8, key: Block, block: Block) -> Block
+    requires { ⌜ TablesFit suite (now tables) × IsSuite suite × (sizeOf suite ≡ 16) ⌝ }
     ensures { λ r. ⌜ wide r ≡ cipherOf suite .E (wide key) (wide block) ⌝ }
 {
-    if lends(suite) {
-        return by_aes(lent, key, block);
+    if needs_tables(suite) {
+        return by_aes(tables, key, block);
     }
     by_cham128(key, block)
 }
@@ -137,13 +137,13 @@ pub fn encipher8(suite: u8, key0: u64, key1: u64, block: u64) -> u64
 
 // The image of the block's first bytes, as many as the suite's block has, and zeros behind it. It calls the engine of suite 4
 // itself: one that has two callers stays a function of its own, and `encipher8` saves no registers for it where it runs Speck.
-pub fn encipher(lent: &[Lent], suite: u8, key: Block, block: Block) -> Block
-    requires { ⌜ Ready suite (now lent) × IsSuite suite ⌝ }
+pub fn encipher(tables: &[AesTables], suite: u8, key: Block, block: Block) -> Block
+    requires { ⌜ TablesFit suite (now tables) × IsSuite suite ⌝ }
     ensures image { λ r. ⌜ take (sizeOf suite) (wide r) ≡ cipherOf suite .E (wide key) (take (sizeOf suite) (wide block)) ⌝ }
     ensures rest { λ r. ⌜ drop (sizeOf suite) (wide r) ≡ replicate (16 - sizeOf suite) 0 ⌝ }
 {
     if size_of(suite) == 16 {
-        return encipher16(lent, suite, key, block);
+        return encipher16(tables, suite, key, block);
     }
     if suite != 4 {
         return Block {

@@ -1,7 +1,7 @@
 // The sealer and the opener: COMET under every suite.
 use block::Block;
-use block_step::tag::Last;
-use cipher::Lent;
+use block_step::tag::TagAndCalls;
+use cipher::AesTables;
 use status::verdict::Verdict;
 use status::verdict::refused;
 
@@ -12,7 +12,7 @@ ghost use mathlib.Core.Bool.{true, false};
 ghost use Prim.Native.Nat.{_≤_};
 ghost use lib.ListN.{length, take};
 ghost use Rattle.block.specs.Blocks.{wide};
-ghost use Rattle.cipher.specs.Cipher.{Ready, IsSuite, sizeOf, nonceOf, cipherOf, limit};
+ghost use Rattle.cipher.specs.Cipher.{TablesFit, IsSuite, sizeOf, nonceOf, cipherOf, limit};
 ghost use Rattle.mode.specs.Mode.{textOut, tagOut, calls};
 ghost use Rattle.block_step.specs.Two.{Clean};
 ghost use Rattle.status.specs.Verdicts.{numberOf, refusal};
@@ -51,48 +51,55 @@ fn refused_for(
 }
 
 // Seals or opens text in its place under these tables; returns the tag and the count of cipher calls. Every length is right. Empty inputs are skipped, so that the states stay in registers.
-fn crypt_with(
-    lent: &[Lent],
+fn crypt_core(
+    tables: &[AesTables],
     opening: bool,
     suite: u8,
     key: &[u8],
     nonce: &[u8],
     ad: &[u8],
     text: &mut [u8],
-) -> Last
-    requires { ⌜ Ready suite (now lent) × IsSuite suite × (length (now key) ≡ 16) × (length (now nonce) ≡ nonceOf suite) × (length (now ad) ≤ limit) × (length (now text) ≤ limit) ⌝ }
+) -> TagAndCalls
+    requires { ⌜ TablesFit suite (now tables) × IsSuite suite × (length (now key) ≡ 16) × (length (now nonce) ≡ nonceOf suite) × (length (now ad) ≤ limit) × (length (now text) ≤ limit) ⌝ }
     ensures text { λ _. ⌜ now (text .exit) ≡ textOut (cipherOf suite) opening (now (key .entry)) (now (nonce .entry)) (now (ad .entry)) (now (text .entry)) ⌝ }
     ensures tag { λ r. ⌜ take (sizeOf suite) (wide (r .tag)) ≡ tagOut (cipherOf suite) opening (now (key .entry)) (now (nonce .entry)) (now (ad .entry)) (now (text .entry)) ⌝ }
     ensures rest { λ r. ⌜ Clean suite (r .tag)
         × (r .calls ≡ length (calls (cipherOf suite) opening (now (key .entry)) (now (nonce .entry)) (now (ad .entry)) (now (text .entry)))) ⌝ }
 {
-    let mut s = block_step::state::start(lent, suite, key, nonce);
+    let mut s = block_step::state::start(tables, suite, key, nonce);
     if ad.len() != 0 {
-        s = text::absorb_all(lent, false, suite, s, 0x08, 0x10, ad);
+        s = text::absorb_all(tables, false, suite, s, 0x08, 0x10, ad);
     }
     if 0 < text.len() {
-        s = text::crypt_all(lent, opening, suite, s, text);
+        s = text::crypt_all(tables, opening, suite, s, text);
     }
-    block_step::tag::tag_of(lent, suite, s)
+    block_step::tag::tag_of(tables, suite, s)
 }
 
-// `crypt_with` under the tables that the suite needs: only suites 1 and 5 spend time on filling them. Their 4 KiB are in this function's stack frame, whichever the suite.
-fn crypt(opening: bool, suite: u8, key: &[u8], nonce: &[u8], ad: &[u8], text: &mut [u8]) -> Last
+// `crypt_core` under the tables that the suite needs: only suites 1 and 5 spend time on filling them. Their 4 KiB are in this function's stack frame, whichever the suite.
+fn crypt(
+    opening: bool,
+    suite: u8,
+    key: &[u8],
+    nonce: &[u8],
+    ad: &[u8],
+    text: &mut [u8],
+) -> TagAndCalls
     requires { ⌜ IsSuite suite × (length (now key) ≡ 16) × (length (now nonce) ≡ nonceOf suite) × (length (now ad) ≤ limit) × (length (now text) ≤ limit) ⌝ }
     ensures text { λ _. ⌜ now (text .exit) ≡ textOut (cipherOf suite) opening (now (key .entry)) (now (nonce .entry)) (now (ad .entry)) (now (text .entry)) ⌝ }
     ensures tag { λ r. ⌜ take (sizeOf suite) (wide (r .tag)) ≡ tagOut (cipherOf suite) opening (now (key .entry)) (now (nonce .entry)) (now (ad .entry)) (now (text .entry)) ⌝ }
     ensures rest { λ r. ⌜ Clean suite (r .tag)
         × (r .calls ≡ length (calls (cipherOf suite) opening (now (key .entry)) (now (nonce .entry)) (now (ad .entry)) (now (text .entry)))) ⌝ }
 {
-    if cipher::lends(suite) {
-        let lent = cipher::tables(suite);
-        return crypt_with(&lent, opening, suite, key, nonce, ad, text);
+    if cipher::needs_tables(suite) {
+        let tables = cipher::tables(suite);
+        return crypt_core(&tables, opening, suite, key, nonce, ad, text);
     }
-    crypt_with(&[], opening, suite, key, nonce, ad, text)
+    crypt_core(&[], opening, suite, key, nonce, ad, text)
 }
 
 // Seals text in its place and writes its tag: what sealing into another buffer and in place share. Every length is right.
-fn seal_taken(
+fn seal_checked(
     suite: u8,
     key: &[u8],
     nonce: &[u8],
@@ -143,7 +150,7 @@ pub fn seal_counted(
         };
     };
     byte_runs::copy(msg, out);
-    seal_taken(suite, key, nonce, ad, out, tag)
+    seal_checked(suite, key, nonce, ad, out, tag)
 }
 
 // Seals msg into out, and its tag into tag: `seal_counted` without its count.
@@ -187,11 +194,11 @@ pub fn seal_in_place(
     let Verdict::Done = a else {
         return a;
     };
-    seal_taken(suite, key, nonce, ad, text, tag).verdict
+    seal_checked(suite, key, nonce, ad, text, tag).verdict
 }
 
 // Opens text in its place, or overwrites it with zeros if its tag is wrong: what opening into another buffer and in place share. Every length is right.
-fn unseal_taken(
+fn unseal_checked(
     suite: u8,
     key: &[u8],
     nonce: &[u8],
@@ -249,7 +256,7 @@ pub fn unseal_counted(
         };
     };
     byte_runs::copy(text, out);
-    unseal_taken(suite, key, nonce, ad, out, tag)
+    unseal_checked(suite, key, nonce, ad, out, tag)
 }
 
 // Opens text into out, if its tag is right; else every byte of out is 0: `unseal_counted` without its count.
@@ -293,37 +300,44 @@ pub fn unseal_in_place(
     let Verdict::Done = a else {
         return a;
     };
-    unseal_taken(suite, key, nonce, ad, text, tag).verdict
+    unseal_checked(suite, key, nonce, ad, text, tag).verdict
 }
 
 // The tag of the message that text opens to, under these tables: no text is written. Every length is right.
-fn tag_with(lent: &[Lent], suite: u8, key: &[u8], nonce: &[u8], ad: &[u8], text: &[u8]) -> Block
-    requires { ⌜ Ready suite (now lent) × IsSuite suite × (length (now key) ≡ 16) × (length (now nonce) ≡ nonceOf suite) ⌝ }
+fn tag_core(
+    tables: &[AesTables],
+    suite: u8,
+    key: &[u8],
+    nonce: &[u8],
+    ad: &[u8],
+    text: &[u8],
+) -> Block
+    requires { ⌜ TablesFit suite (now tables) × IsSuite suite × (length (now key) ≡ 16) × (length (now nonce) ≡ nonceOf suite) ⌝ }
     ensures tag { λ r. ⌜ take (sizeOf suite) (wide r) ≡ tagOut (cipherOf suite) true (now (key .entry)) (now (nonce .entry)) (now (ad .entry)) (now (text .entry)) ⌝ }
     ensures rest { λ r. ⌜ Clean suite r ⌝ }
 {
-    let mut s = block_step::state::start(lent, suite, key, nonce);
+    let mut s = block_step::state::start(tables, suite, key, nonce);
     if ad.len() != 0 {
-        s = text::absorb_all(lent, false, suite, s, 0x08, 0x10, ad);
+        s = text::absorb_all(tables, false, suite, s, 0x08, 0x10, ad);
     }
     if text.len() != 0 {
-        s = text::absorb_all(lent, true, suite, s, 0x20, 0x40, text);
+        s = text::absorb_all(tables, true, suite, s, 0x20, 0x40, text);
     }
-    let l = block_step::tag::tag_of(lent, suite, s);
+    let l = block_step::tag::tag_of(tables, suite, s);
     l.tag
 }
 
-// `tag_with` under the tables that the suite needs.
+// `tag_core` under the tables that the suite needs.
 fn tag_under(suite: u8, key: &[u8], nonce: &[u8], ad: &[u8], text: &[u8]) -> Block
     requires { ⌜ IsSuite suite × (length (now key) ≡ 16) × (length (now nonce) ≡ nonceOf suite) ⌝ }
     ensures tag { λ r. ⌜ take (sizeOf suite) (wide r) ≡ tagOut (cipherOf suite) true (now (key .entry)) (now (nonce .entry)) (now (ad .entry)) (now (text .entry)) ⌝ }
     ensures rest { λ r. ⌜ Clean suite r ⌝ }
 {
-    if cipher::lends(suite) {
-        let lent = cipher::tables(suite);
-        return tag_with(&lent, suite, key, nonce, ad, text);
+    if cipher::needs_tables(suite) {
+        let tables = cipher::tables(suite);
+        return tag_core(&tables, suite, key, nonce, ad, text);
     }
-    tag_with(&[], suite, key, nonce, ad, text)
+    tag_core(&[], suite, key, nonce, ad, text)
 }
 
 // Whether a record is genuine: the opener's answer, and no text is written anywhere.

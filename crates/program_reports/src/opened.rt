@@ -9,8 +9,8 @@ use program_text::text::end;
 use program_text::text::hex;
 use program_text::text::number;
 use program_text::text::put;
-use shift_reader::cursor::Given;
 use shift_reader::cursor::Listed;
+use shift_reader::cursor::NextRow;
 use shift_reader::cursor::ask;
 use shift_reader::cursor::start;
 
@@ -92,22 +92,22 @@ fn row_lines(out: &mut [u8], at: usize, x: Listed, stations: bool) -> usize {
     at
 }
 
-fn is_of(e: Given, job: u32) -> bool {
+fn is_of(e: NextRow, job: u32) -> bool {
     match e {
-        Given::Row(x) => x.row.job == job,
-        Given::Ended => false,
+        NextRow::Row(x) => x.row.job == job,
+        NextRow::Ended => false,
     }
 }
 
-fn entry_lines(out: &mut [u8], at: usize, e: Given, stations: bool) -> usize {
+fn entry_lines(out: &mut [u8], at: usize, e: NextRow, stations: bool) -> usize {
     match e {
-        Given::Row(x) => row_lines(out, at, x, stations),
-        Given::Ended => at,
+        NextRow::Row(x) => row_lines(out, at, x, stations),
+        NextRow::Ended => at,
     }
 }
 
 // The row that has the job, of at most 512.
-fn row_of(file: &[u8], job: u32) -> Given {
+fn row_of(file: &[u8], job: u32) -> NextRow {
     let mut c = start(file);
     let mut left: usize = 512;
     while 0 < left {
@@ -119,7 +119,7 @@ fn row_of(file: &[u8], job: u32) -> Given {
         }
         left -= 1;
     }
-    Given::Ended
+    NextRow::Ended
 }
 
 // The lines of an opened entry.

@@ -1,23 +1,23 @@
 // Held bytes and a part behind them: the whole blocks go in (crate block_walk), and the rest is held.
 use block_step::one_block::crypt_short;
 use block_step::state::State;
-use block_walk::Behind;
-use cipher::Lent;
+use block_walk::Progress;
+use cipher::AesTables;
 ghost use mathlib.Core.Path.{_≡_};
 ghost use mathlib.Core.Bool.{false};
 ghost use mathlib.Core.List.{_++_};
 ghost use Prim.Native.Nat.{ℕ, _+_, _-_, _≤_, _<_};
 ghost use lib.ListN.{length, take};
 ghost use Rattle.block.specs.Blocks.{filled};
-ghost use Rattle.cipher.specs.Cipher.{Ready, IsSuite, sizeOf, cipherOf};
+ghost use Rattle.cipher.specs.Cipher.{TablesFit, IsSuite, sizeOf, cipherOf};
 ghost use Rattle.mode.specs.Blocks.{blocks};
 ghost use Rattle.mode.specs.Walk.{whole, rest, walked, covered};
 ghost use Rattle.block_step.specs.Two.{twoOf};
-ghost use Rattle.block_walk.specs.Behind.{wholes, Passed};
+ghost use Rattle.block_walk.specs.Progress.{wholes, Passed};
 ghost use Rattle.session.specs.Value.{written};
 
 // The two states, and what is held back.
-pub(crate) struct Fed {
+pub(crate) struct Absorbed {
     pub s: State,
     pub held: [u8; 16],
 }
@@ -37,41 +37,48 @@ fn joined(held: [u8; 16], h: usize, p: &[u8]) -> [u8; 16]
 }
 
 // The whole blocks of ad go in, none of them the first, and the rest is held.
-fn absorb_blocks(lent: &[Lent], suite: u8, s: State, ad: &[u8]) -> Fed
-    requires { ⌜ Ready suite (now lent) × IsSuite suite ⌝ }
+fn absorb_blocks(tables: &[AesTables], suite: u8, s: State, ad: &[u8]) -> Absorbed
+    requires { ⌜ TablesFit suite (now tables) × IsSuite suite ⌝ }
     ensures states { λ r. ⌜ twoOf suite (r .s) ≡ walked (cipherOf suite) false 0 0x10 (twoOf suite s) (blocks (sizeOf suite) (whole (sizeOf suite) (now (ad .entry)))) ⌝ }
     ensures held { λ r. ⌜ r .held ≡ filled (rest (sizeOf suite) (now (ad .entry))) ⌝ }
 {
-    let w = block_walk::absorb(lent, false, suite, s, 0, ad);
+    let w = block_walk::absorb(tables, false, suite, s, 0, ad);
     let t = w.s;
     let i = w.at;
     let h = byte_runs::filled_bytes(&ad[i..ad.len()]);
-    Fed { s: t, held: h }
+    Absorbed { s: t, held: h }
 }
 
 // The whole blocks of h held bytes and then ad, which completes one, go in, the first under the mark m, and the rest is held.
 fn absorb_past(
-    lent: &[Lent],
+    tables: &[AesTables],
     suite: u8,
     s: State,
     m: u8,
     held: [u8; 16],
     h: usize,
     ad: &[u8],
-) -> Fed
-    requires { ⌜ Ready suite (now lent) × IsSuite suite × (h < sizeOf suite) × (sizeOf suite ≤ h + length (now ad)) ⌝ }
+) -> Absorbed
+    requires { ⌜ TablesFit suite (now tables) × IsSuite suite × (h < sizeOf suite) × (sizeOf suite ≤ h + length (now ad)) ⌝ }
     ensures states { λ r. ⌜ twoOf suite (r .s) ≡ walked (cipherOf suite) false m 0x10 (twoOf suite s) (blocks (sizeOf suite) (whole (sizeOf suite) (take h held ++ now (ad .entry)))) ⌝ }
     ensures held { λ r. ⌜ r .held ≡ filled (rest (sizeOf suite) (take h held ++ now (ad .entry))) ⌝ }
 {
     let n = cipher::size_of(suite);
     let need = n - h;
     let b = joined(held, h, &ad[0..need]);
-    let t = block_walk::absorb(lent, false, suite, s, m, &b[0..n]);
-    absorb_blocks(lent, suite, t.s, &ad[need..ad.len()])
+    let t = block_walk::absorb(tables, false, suite, s, m, &b[0..n]);
+    absorb_blocks(tables, suite, t.s, &ad[need..ad.len()])
 }
 
 // The whole blocks of h held bytes and then ad go in, the first under the mark m, and the rest is held. Tables are made only where a block is completed.
-pub(crate) fn absorb_part(suite: u8, s: State, m: u8, held: [u8; 16], h: usize, ad: &[u8]) -> Fed
+pub(crate) fn absorb_part(
+    suite: u8,
+    s: State,
+    m: u8,
+    held: [u8; 16],
+    h: usize,
+    ad: &[u8],
+) -> Absorbed
     requires { ⌜ IsSuite suite × (h < sizeOf suite) ⌝ }
     ensures states { λ r. ⌜ twoOf suite (r .s) ≡ walked (cipherOf suite) false m 0x10 (twoOf suite s) (blocks (sizeOf suite) (whole (sizeOf suite) (take h held ++ now (ad .entry)))) ⌝ }
     ensures held { λ r. ⌜ r .held ≡ filled (rest (sizeOf suite) (take h held ++ now (ad .entry))) ⌝ }
@@ -79,17 +86,17 @@ pub(crate) fn absorb_part(suite: u8, s: State, m: u8, held: [u8; 16], h: usize, 
     let n = cipher::size_of(suite);
     if ad.len() < n - h {
         let g = joined(held, h, ad);
-        return Fed { s: s, held: g };
+        return Absorbed { s: s, held: g };
     }
-    if cipher::lends(suite) {
-        let lent = cipher::tables(suite);
-        return absorb_past(&lent, suite, s, m, held, h, ad);
+    if cipher::needs_tables(suite) {
+        let tables = cipher::tables(suite);
+        return absorb_past(&tables, suite, s, m, held, h, ad);
     }
     absorb_past(&[], suite, s, m, held, h, ad)
 }
 
 // The two states, what is held back, and how many bytes went out.
-pub(crate) struct Made {
+pub(crate) struct Sealed {
     pub s: State,
     pub held: [u8; 16],
     pub count: usize,
@@ -106,14 +113,14 @@ fn gather(held: [u8; 16], h: usize, p: &[u8], out: &mut [u8])
 }
 
 // The whole blocks of text are sealed in their place, the first under the mark m: the cipher is lent what it needs.
-fn crypt_blocks(suite: u8, s: State, m: u8, text: &mut [u8]) -> Behind
+fn crypt_blocks(suite: u8, s: State, m: u8, text: &mut [u8]) -> Progress
     requires { ⌜ IsSuite suite ⌝ }
     ensures text { λ _. ⌜ ((short : ℕ) → now (text .exit) ≡ covered (cipherOf suite) false m short (twoOf suite s) (wholes (sizeOf suite) (now (text .entry))) ++ rest (sizeOf suite) (now (text .entry))) ⌝ }
     ensures state { λ r. ⌜ Passed suite false m s (now (text .entry)) r ⌝ }
 {
-    if cipher::lends(suite) {
-        let lent = cipher::tables(suite);
-        return block_walk::crypt(&lent, false, suite, s, m, text);
+    if cipher::needs_tables(suite) {
+        let tables = cipher::tables(suite);
+        return block_walk::crypt(&tables, false, suite, s, m, text);
     }
     block_walk::crypt(&[], false, suite, s, m, text)
 }
@@ -127,7 +134,7 @@ pub(crate) fn crypt_part(
     h: usize,
     part: &[u8],
     out: &mut [u8],
-) -> Made
+) -> Sealed
     requires { ⌜ IsSuite suite × (h < sizeOf suite) × (length (now part) + (sizeOf suite - 1) ≤ length (now out)) ⌝ }
     ensures text { λ _. ⌜ now (out .exit) ≡ written (covered (cipherOf suite) false m 0x40 (twoOf suite s) (blocks (sizeOf suite) (whole (sizeOf suite) (take h held ++ now (part .entry))))) (now (out .entry)) ⌝ }
     ensures count { λ r. ⌜ r .count ≡ length (covered (cipherOf suite) false m 0x40 (twoOf suite s) (blocks (sizeOf suite) (whole (sizeOf suite) (take h held ++ now (part .entry))))) ⌝ }
@@ -138,7 +145,7 @@ pub(crate) fn crypt_part(
     let all = h + part.len();
     if all < n {
         let g = joined(held, h, part);
-        return Made {
+        return Sealed {
             s: s,
             held: g,
             count: 0,
@@ -150,7 +157,7 @@ pub(crate) fn crypt_part(
     let t = crypt_blocks(suite, s, m, &mut out[0..w]);
     let u = t.s;
     let g = byte_runs::filled_bytes(&part[e..part.len()]);
-    Made {
+    Sealed {
         s: u,
         held: g,
         count: w,
@@ -159,7 +166,7 @@ pub(crate) fn crypt_part(
 
 // The h held bytes of message go in as a short block, if there are any, and their ciphertext out.
 pub(crate) fn last_in(
-    lent: &[Lent],
+    tables: &[AesTables],
     suite: u8,
     s: State,
     m: u8,
@@ -167,7 +174,7 @@ pub(crate) fn last_in(
     h: usize,
     out: &mut [u8],
 ) -> State
-    requires { ⌜ Ready suite (now lent) × IsSuite suite × (h < sizeOf suite) × (sizeOf suite ≤ length (now out)) ⌝ }
+    requires { ⌜ TablesFit suite (now tables) × IsSuite suite × (h < sizeOf suite) × (sizeOf suite ≤ length (now out)) ⌝ }
     ensures text { λ _. ⌜ now (out .exit) ≡ written (covered (cipherOf suite) false m 0x40 (twoOf suite s) (blocks (sizeOf suite) (take h held))) (now (out .entry)) ⌝ }
     ensures count { λ _. ⌜ h ≡ length (covered (cipherOf suite) false m 0x40 (twoOf suite s) (blocks (sizeOf suite) (take h held))) ⌝ }
     ensures state { λ r. ⌜ twoOf suite r ≡ walked (cipherOf suite) false m 0x40 (twoOf suite s) (blocks (sizeOf suite) (take h held)) ⌝ }
@@ -176,5 +183,5 @@ pub(crate) fn last_in(
         return s;
     }
     byte_runs::copy(&held[0..h], &mut out[0..h]);
-    crypt_short(lent, false, suite, s, m ^ 0x40, &mut out[0..h])
+    crypt_short(tables, false, suite, s, m ^ 0x40, &mut out[0..h])
 }

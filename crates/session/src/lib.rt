@@ -36,9 +36,9 @@ impl Session {
         if k != 0 {
             return work::refused(k);
         }
-        if cipher::lends(suite) {
-            let lent = cipher::tables(suite);
-            return work::started(&lent, suite, key, nonce);
+        if cipher::needs_tables(suite) {
+            let tables = cipher::tables(suite);
+            return work::started(&tables, suite, key, nonce);
         }
         work::started(&[], suite, key, nonce)
     }
@@ -101,9 +101,9 @@ impl Session {
                 count: 0,
             };
         }
-        if cipher::lends(suite) {
-            let lent = cipher::tables(suite);
-            return work::close(&lent, self, out, tag);
+        if cipher::needs_tables(suite) {
+            let tables = cipher::tables(suite);
+            return work::close(&tables, self, out, tag);
         }
         work::close(&[], self, out, tag)
     }

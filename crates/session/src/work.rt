@@ -1,18 +1,18 @@
 // What the calls do once nothing is refused: the cipher is lent what it needs.
 use crate::Session;
 use crate::Step;
-use crate::blocks::Fed;
+use crate::blocks::Absorbed;
 use block::Block;
 use block_step::one_block::absorb_short;
 use block_step::state::State;
-use cipher::Lent;
+use cipher::AesTables;
 ghost use mathlib.Core.Path.{_≡_};
 ghost use mathlib.Core.Bool.{false};
 ghost use mathlib.Core.List.{[]};
 ghost use Prim.Native.Nat.{_<_};
 ghost use lib.ListN.{length, take};
 ghost use Rattle.block.specs.Blocks.{wide, filled};
-ghost use Rattle.cipher.specs.Cipher.{Ready, IsSuite, sizeOf, cipherOf};
+ghost use Rattle.cipher.specs.Cipher.{TablesFit, IsSuite, sizeOf, cipherOf};
 ghost use Rattle.mode.specs.Walk.{turned, messageOf};
 ghost use Rattle.block_step.specs.Two.{twoOf, Holds, oneMore};
 ghost use Rattle.session.specs.Value.{valueOf, over, gave, firstMark, begun, startNumber, starting, dataNumber, dataPart, textNumber, textPart, endNumber, ending};
@@ -29,7 +29,7 @@ fn clean(suite: u8, y: Block) -> Block
 }
 
 // A session of these states, held bytes and totals.
-fn packed(suite: u8, f: Fed, ad_total: usize, text_total: usize) -> Session
+fn packed(suite: u8, f: Absorbed, ad_total: usize, text_total: usize) -> Session
     ensures { λ r. ⌜ asValue r ≡ valueOf suite (twoOf suite (f .s)) (f .held) «ad_total» «text_total» ⌝ }
 {
     let s = f.s;
@@ -75,13 +75,13 @@ pub(crate) fn refused(k: u8) -> Step
 }
 
 // A session that key and nonce start.
-pub(crate) fn started(lent: &[Lent], suite: u8, key: &[u8], nonce: &[u8]) -> Step
-    requires { ⌜ Ready suite (now lent) × (startNumber suite (length (now key)) (length (now nonce)) ≡ 0) ⌝ }
+pub(crate) fn started(tables: &[AesTables], suite: u8, key: &[u8], nonce: &[u8]) -> Step
+    requires { ⌜ TablesFit suite (now tables) × (startNumber suite (length (now key)) (length (now nonce)) ≡ 0) ⌝ }
     ensures { λ r. ⌜ gives r [] [] ≡ starting suite (now (key .entry)) (now (nonce .entry)) ⌝ }
 {
-    let s = block_step::state::start(lent, suite, key, nonce);
+    let s = block_step::state::start(tables, suite, key, nonce);
     let z = [0u8; 16];
-    let next = packed(suite, Fed { s: s, held: z }, 0, 0);
+    let next = packed(suite, Absorbed { s: s, held: z }, 0, 0);
     Step {
         next: next,
         number: 0,
@@ -130,9 +130,9 @@ fn absorb_last(suite: u8, s: State, m: u8, b: &[u8]) -> State
     requires { ⌜ IsSuite suite × (length (now b) < sizeOf suite) ⌝ }
     ensures { λ r. ⌜ Holds suite r (turned (cipherOf suite) m (twoOf suite s) (messageOf (cipherOf suite) false m (twoOf suite s) (now (b .entry)))) (oneMore (s .calls)) ⌝ }
 {
-    if cipher::lends(suite) {
-        let lent = cipher::tables(suite);
-        return absorb_short(&lent, false, suite, s, m, b);
+    if cipher::needs_tables(suite) {
+        let tables = cipher::tables(suite);
+        return absorb_short(&tables, false, suite, s, m, b);
     }
     absorb_short(&[], false, suite, s, m, b)
 }
@@ -201,7 +201,7 @@ pub(crate) fn seal_in(s: Session, part: &[u8], out: &mut [u8]) -> Step
     let g = f.held;
     let next = packed(
         suite,
-        Fed { s: u, held: g },
+        Absorbed { s: u, held: g },
         ad_total,
         text_total + part.len(),
     );
@@ -213,8 +213,8 @@ pub(crate) fn seal_in(s: Session, part: &[u8], out: &mut [u8]) -> Step
 }
 
 // The end's work: the rest of the ciphertext, and the tag.
-pub(crate) fn close(lent: &[Lent], s: Session, out: &mut [u8], tag: &mut [u8]) -> Step
-    requires { ⌜ Ready (s .suite) (now lent) × (endNumber (s .suite) (s .«ad_total») (s .«text_total») (length (now out)) (length (now tag)) ≡ 0) ⌝ }
+pub(crate) fn close(tables: &[AesTables], s: Session, out: &mut [u8], tag: &mut [u8]) -> Step
+    requires { ⌜ TablesFit (s .suite) (now tables) × (endNumber (s .suite) (s .«ad_total») (s .«text_total») (length (now out)) (length (now tag)) ≡ 0) ⌝ }
     ensures { λ r. ⌜ gives r (now (out .exit)) (now (tag .exit)) ≡ ending (asValue s) (now (out .entry)) (now (tag .entry)) ⌝ }
 {
     let suite = s.suite;
@@ -224,8 +224,8 @@ pub(crate) fn close(lent: &[Lent], s: Session, out: &mut [u8], tag: &mut [u8]) -
     let n = cipher::size_of(suite);
     let m = first_mark(suite, 0x20, text_total);
     let h = text_total % n;
-    let t = crate::blocks::last_in(lent, suite, two, m, held, h, out);
-    let l = block_step::tag::tag_of(lent, suite, t);
+    let t = crate::blocks::last_in(tables, suite, two, m, held, h, out);
+    let l = block_step::tag::tag_of(tables, suite, t);
     let g = l.tag;
     byte_runs::put(g, tag);
     let next = ended();

@@ -22,8 +22,8 @@ use Rattle.shift_format.proofs.Rows.{row-in}
 use Rattle.shift_check.proofs.Sound.{headed}
 use Rattle.shift_check.proofs.Passed.{passes}
 use Rattle.shift_reader.specs.declared.cursor.Cursor.{Cursor}
-use Rattle.shift_reader.specs.declared.cursor.Given.{Given}
-use Rattle.shift_reader.specs.declared.cursor.Given.the-variants.{Row, Ended}
+use Rattle.shift_reader.specs.declared.cursor.NextRow.{NextRow}
+use Rattle.shift_reader.specs.declared.cursor.NextRow.the-variants.{Row, Ended}
 use Rattle.shift_reader.specs.declared.cursor.Stepped.{Stepped}
 use Rattle.shift_reader.specs.declared.Asked.{Asked}
 use Rattle.shift_reader.specs.declared.Reader.{Reader}
@@ -97,7 +97,7 @@ unfolding asks
 stuck r e zero = refl
 stuck r e (suc m) =
     let q : nextOf r ≡ record { reader = r; entry = Ended } = ap (made (r .src)) e in
-    ap₂ (λ (a : Given) (t : List Given). a ∷ t) (ap (λ (x : Asked). x .entry) q) (ap (λ (x : Asked). asks m (x .reader)) q ∙ stuck r e m)
+    ap₂ (λ (a : NextRow) (t : List NextRow). a ∷ t) (ap (λ (x : Asked). x .entry) q) (ap (λ (x : Asked). asks m (x .reader)) q ∙ stuck r e m)
 
 -- k rows are left, and m asks come after
 pub others-rows : OthersRows
@@ -107,7 +107,7 @@ others-rows r (suc k) m e q =
     let c : suc k + m ≡ suc (k + m) = omega arith in
     let l : r .place .at < rowsLaid (now (r .src)) = omega arith in
     let g : nextOf r ≡ record { reader = record { src = r .src; place = moved (r .place) }; entry = Row (listedOf (now (r .src)) (r .place .at)) } = ap (made (r .src)) (going (r .place) (now (r .src)) e l) in
-    rw c (ap₂ (λ (a : Given) (t : List Given). a ∷ t) (ap (λ (x : Asked). x .entry) g)
+    rw c (ap₂ (λ (a : NextRow) (t : List NextRow). a ∷ t) (ap (λ (x : Asked). x .entry) g)
     (ap (λ (x : Asked). asks (k + m) (x .reader)) g ∙ rw add-one (others-rows (record { src = r .src; place = record { at = suc (r .place .at); end = r .place .end } }) k m e (omega arith))))
 
 pub others-ended : OthersEnded

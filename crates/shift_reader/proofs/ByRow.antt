@@ -23,7 +23,7 @@ use Rattle.shift_check.proofs.Passed.{passes, both-zero, entry-in}
 use Rattle.shift_jobs.proofs.Lookups.{holding}
 use Rattle.shift_jobs.proofs.Places.{places-found}
 use Rattle.shift_jobs.specs.Lookup.{lookupJob}
-use Rattle.shift_reader.specs.declared.cursor.Given.the-variants.{Row, Ended}
+use Rattle.shift_reader.specs.declared.cursor.NextRow.the-variants.{Row, Ended}
 use Rattle.shift_reader.specs.declared.Reader.{Reader}
 use Rattle.shift_reader.specs.declared.Asked.{Asked}
 use Rattle.shift_reader.specs.declared.contents.RowFields.{RowFields}

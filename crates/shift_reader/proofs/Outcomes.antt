@@ -8,7 +8,7 @@ use Rattle.block.specs.Outcome.{OneOutcome}
 use Rattle.status.specs.Answers.{answer}
 use Rattle.status.proofs.Numbers.{refusal-some}
 use Rattle.status.proofs.Outcomes.{refusalOf, refusal-back, unlike}
-use Rattle.shift_reader.specs.declared.answers.Said.{Said}
+use Rattle.shift_reader.specs.declared.answers.ReportSummary.{ReportSummary}
 use Rattle.shift_reader.specs.declared.answers.Reported.{Reported}
 use Rattle.shift_reader.specs.declared.answers.Reported.the-variants.{Entries, Refused, Ring, Room}
 use Rattle.shift_reader.specs.Reporting.{saidOf, Report}
@@ -26,7 +26,7 @@ use Rattle.shift_reader.proofs.answers.Reported.said.Kinds as said-kind
 use Rattle.shift_reader.proofs.answers.Reported.said.Reads as said-reads
 
 -- the case that is said
-abbrev reportedOf : Said → Reported
+abbrev reportedOf : ReportSummary → Reported
 reportedOf s =
     cond (eqb (s .number) 0) (Entries (s .count))
     (cond (eqb (s .number) 2) Ring

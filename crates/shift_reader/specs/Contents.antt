@@ -12,8 +12,8 @@ use Rattle.shift_jobs.specs.declared.answers.Entry.{Entry}
 use Rattle.shift_jobs.specs.Lookup.{lookupJob}
 use Rattle.shift_jobs.specs.Entry.{entryOf}
 use Rattle.shift_reader.specs.declared.cursor.Listed.{Listed}
-use Rattle.shift_reader.specs.declared.cursor.Given.{Given}
-use Rattle.shift_reader.specs.declared.cursor.Given.the-variants.{Row, Ended}
+use Rattle.shift_reader.specs.declared.cursor.NextRow.{NextRow}
+use Rattle.shift_reader.specs.declared.cursor.NextRow.the-variants.{Row, Ended}
 use Rattle.shift_reader.specs.declared.contents.HeaderFields.{HeaderFields}
 use Rattle.shift_reader.specs.declared.contents.RowFields.{RowFields}
 use Rattle.shift_reader.specs.Reading.{listedOf, readerOf, asks}
@@ -65,7 +65,7 @@ rowAnswers f i zero = []
 rowAnswers f i (suc k) = rowAnswer f i ∷ rowAnswers f (suc i) k
 
 -- an answer of the reader as the fields of a row: 32 where it has ended
-abbrev pub asFields : Given → RowFields
+abbrev pub asFields : NextRow → RowFields
 asFields (Row x) = fieldsOf x
 asFields Ended = noFields 32
 

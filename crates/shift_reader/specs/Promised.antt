@@ -11,7 +11,7 @@ use Rattle.shift_check.specs.Check.{checkFile}
 use Rattle.block.specs.Bytes.{AllBytes}
 use Rattle.shift_jobs.specs.Opening.{jobOpening}
 use Rattle.shift_draft.specs.Answers.{fileSealing}
-use Rattle.shift_reader.specs.declared.cursor.Given.the-variants.{Ended}
+use Rattle.shift_reader.specs.declared.cursor.NextRow.the-variants.{Ended}
 use Rattle.shift_reader.specs.declared.Reader.{Reader}
 use Rattle.shift_reader.specs.Reading.{rowsLaid, readerOf, asks, listedFrom}
 use Rattle.shift_reader.specs.Reporting.{jobOf, tagNumber, front, entries, longest, reporting}

@@ -8,8 +8,8 @@ use Rattle.shift_format.specs.Format.{countOf, firstEdition, newest, rowSizeOf,
 use Rattle.shift_check.specs.Check.{headNumber, checkFile}
 use Rattle.shift_reader.specs.declared.cursor.Cursor.{Cursor}
 use Rattle.shift_reader.specs.declared.cursor.Listed.{Listed}
-use Rattle.shift_reader.specs.declared.cursor.Given.{Given}
-use Rattle.shift_reader.specs.declared.cursor.Given.the-variants.{Row, Ended}
+use Rattle.shift_reader.specs.declared.cursor.NextRow.{NextRow}
+use Rattle.shift_reader.specs.declared.cursor.NextRow.the-variants.{Row, Ended}
 use Rattle.shift_reader.specs.declared.cursor.Stepped.{Stepped}
 use Rattle.shift_reader.specs.declared.Reader.{Reader}
 use Rattle.shift_reader.specs.declared.Asked.{Asked}
@@ -42,7 +42,7 @@ abbrev pub readerOf : RefT (List ℕ) → Reader
 readerOf s = record { src = s; place = startOf (now s) }
 
 -- an entry, and the reader after it
-abbrev pub asked : Reader → Given → Asked
+abbrev pub asked : Reader → NextRow → Asked
 asked r e = record { reader = r; entry = e }
 
 -- what a reader gives, and the reader after it: the same file, the next place
@@ -50,11 +50,11 @@ abbrev pub nextOf : Reader → Asked
 nextOf r = asked (record { src = r .src; place = askOf (r .place) (now (r .src)) .next }) (askOf (r .place) (now (r .src)) .entry)
 
 -- the reader's list: what k asks give, one after the other
-unfoldable pub asks : ℕ → Reader → List Given
+unfoldable pub asks : ℕ → Reader → List NextRow
 asks zero r = []
 asks (suc k) r = nextOf r .entry ∷ asks k (nextOf r .reader)
 
 -- the table's rows, k of them from row i on
-unfoldable pub listedFrom : List ℕ → ℕ → ℕ → List Given
+unfoldable pub listedFrom : List ℕ → ℕ → ℕ → List NextRow
 listedFrom f i zero = []
 listedFrom f i (suc k) = Row (listedOf f i) ∷ listedFrom f (suc i) k

@@ -9,7 +9,7 @@ use Rattle.shift_format.specs.Format.{countOf, rowOf}
 use Rattle.status.specs.Answers.{answer, refusalAnswer}
 use Rattle.shift_check.specs.Check.{checkFile, refused}
 use Rattle.shift_draft.specs.Answers.{tagRight}
-use Rattle.shift_reader.specs.declared.answers.Said.{Said}
+use Rattle.shift_reader.specs.declared.answers.ReportSummary.{ReportSummary}
 use Rattle.shift_reader.specs.declared.answers.Reported.{Reported}
 use Rattle.shift_reader.specs.declared.answers.Reported.the-variants.{Entries, Refused, Ring, Room}
 
@@ -35,15 +35,15 @@ front what n l = each what n ++ drop n l
 -- ---- the answer
 
 -- a number and its row; there are no entries
-abbrev pub refuses : Answer → Said
+abbrev pub refuses : Answer → ReportSummary
 refuses x = record { number = x .number; row = x .row; count = 0 }
 
 -- n entries
-abbrev pub entries : ℕ → Said
+abbrev pub entries : ℕ → ReportSummary
 entries n = record { number = 0; row = 0; count = n }
 
 -- number, row and count of every case
-abbrev pub saidOf : Reported → Said
+abbrev pub saidOf : Reported → ReportSummary
 saidOf (Entries n) = entries n
 saidOf (Refused x) = refuses (refusalAnswer x)
 saidOf Ring = refuses (answer 2 0)
@@ -51,7 +51,7 @@ saidOf Room = refuses (answer 6 0)
 
 -- what is said, and what is left in the two lists
 pub record Report : Type 0 where
-  pub said : Said
+  pub said : ReportSummary
   pub jobs : List ℕ
   pub numbers : List ℕ
 

@@ -5,7 +5,7 @@ ghost use Rattle.status.specs.Answers.{refusalAnswer};
 ghost use Rattle.shift_reader.specs.Reporting.{refuses, saidOf};
 
 // A number and the row that it carries, and how many entries there are.
-pub struct Said {
+pub struct ReportSummary {
     pub number: u8,
     pub row: usize,
     pub count: usize,
@@ -21,11 +21,11 @@ pub enum Reported {
 }
 
 // A refusal of the file.
-fn refused(x: Refusal) -> Said
+fn refused(x: Refusal) -> ReportSummary
     ensures { λ r. ⌜ r ≡ refuses (refusalAnswer x) ⌝ }
 {
     let a = x.answer();
-    Said {
+    ReportSummary {
         number: a.number,
         row: a.row,
         count: 0,
@@ -33,22 +33,22 @@ fn refused(x: Refusal) -> Said
 }
 
 impl Reported {
-    pub fn said(self) -> Said
+    pub fn said(self) -> ReportSummary
         ensures { λ r. ⌜ r ≡ saidOf self ⌝ }
     {
         match self {
-            Reported::Entries(n) => Said {
+            Reported::Entries(n) => ReportSummary {
                 number: 0,
                 row: 0,
                 count: n,
             },
             Reported::Refused(x) => refused(x),
-            Reported::Ring => Said {
+            Reported::Ring => ReportSummary {
                 number: 2,
                 row: 0,
                 count: 0,
             },
-            Reported::Room => Said {
+            Reported::Room => ReportSummary {
                 number: 6,
                 row: 0,
                 count: 0,

@@ -31,7 +31,7 @@ pub struct Listed {
 }
 
 // What an ask gives: a row, or that the rows have ended.
-pub enum Given {
+pub enum NextRow {
     Row(Listed),
     Ended,
 }
@@ -39,7 +39,7 @@ pub enum Given {
 // What an ask gives, and the cursor after it.
 pub struct Stepped {
     pub next: Cursor,
-    pub entry: Given,
+    pub entry: NextRow,
 }
 
 // A cursor at row 0. The file is checked here, once; one that does not pass has no rows.
@@ -95,13 +95,13 @@ pub fn ask(cursor: Cursor, file: &[u8]) -> Stepped
     if end != n {
         return Stepped {
             next: cursor,
-            entry: Given::Ended,
+            entry: NextRow::Ended,
         };
     }
     if n <= at {
         return Stepped {
             next: cursor,
-            entry: Given::Ended,
+            entry: NextRow::Ended,
         };
     }
     let row = listed_at(file, at);
@@ -110,6 +110,6 @@ pub fn ask(cursor: Cursor, file: &[u8]) -> Stepped
             at: at + 1,
             end: end,
         },
-        entry: Given::Row(row),
+        entry: NextRow::Row(row),
     }
 }

@@ -7,7 +7,7 @@ mod entries;
 
 use answers::Reported;
 use cursor::Cursor;
-use cursor::Given;
+use cursor::NextRow;
 use cursor::Stepped;
 use cursor::ask;
 use cursor::start;
@@ -29,7 +29,7 @@ pub struct Reader<'a> {
 // What an ask gives, and the reader after it.
 pub struct Asked<'a> {
     pub reader: Reader<'a>,
-    pub entry: Given,
+    pub entry: NextRow,
 }
 
 // The reader of a file, at its first entry.
@@ -70,7 +70,7 @@ pub fn step_at(file: &[u8], place: Cursor) -> Stepped
 }
 
 // The same in place: the reader is lent, and its place moves.
-pub fn next_in<'s, 'a>(reader: &'s mut Reader<'a>) -> Given
+pub fn next_in<'s, 'a>(reader: &'s mut Reader<'a>) -> NextRow
     ensures { λ e. ⌜ asked (now (reader .exit)) e ≡ nextOf (now (reader .entry)) ⌝ }
 {
     let s = ask(reader.place, reader.src);

@@ -6,10 +6,10 @@
 mod amended;
 mod compared;
 mod contents;
-mod halving;
 mod opening;
 mod printing;
 mod report;
+mod search;
 
 use program_text::call::Call;
 
@@ -19,7 +19,7 @@ fn run(c: Call, line: &mut [u8]) -> usize {
     match op {
         0 => opening::run(c, line),
         1 => opening::run(c, line),
-        2 => halving::run(c, line),
+        2 => search::run(c, line),
         3 => amended::run(c, line),
         4 => compared::run(c, line),
         5 => report::run(c, line),

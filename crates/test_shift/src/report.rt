@@ -10,13 +10,13 @@ use program_text::text::and_shown;
 use program_text::text::answer;
 use program_text::text::end;
 use program_text::text::put;
-use shift_reader::answers::Said;
-use shift_reader::cursor::Given;
+use shift_reader::answers::ReportSummary;
 use shift_reader::cursor::Listed;
+use shift_reader::cursor::NextRow;
 use shift_reader::cursor::start;
 use shift_reader::step_at;
 
-fn said(s: Said, line: &mut [u8]) -> usize {
+fn said(s: ReportSummary, line: &mut [u8]) -> usize {
     let at = answer(line, 0, s.number, s.row);
     and_number(line, at, s.count as u64)
 }
@@ -42,10 +42,10 @@ fn row(x: Listed, line: &mut [u8], at: usize) -> usize {
     and_number(line, at, x.nonce as u64)
 }
 
-fn entry(e: Given, line: &mut [u8], at: usize) -> usize {
+fn entry(e: NextRow, line: &mut [u8], at: usize) -> usize {
     match e {
-        Given::Row(x) => row(x, line, at),
-        Given::Ended => put(line, at, b" -"),
+        NextRow::Row(x) => row(x, line, at),
+        NextRow::Ended => put(line, at, b" -"),
     }
 }
 

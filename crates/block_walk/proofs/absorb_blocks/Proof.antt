@@ -12,10 +12,10 @@ use Rattle.block_walk.proofs.absorb_blocks.Statement.{statement}
 use Rattle.block_walk.proofs.absorb_blocks.Tie as tie
 
 abbrev Inv-loop : tie.InvT-loop
-Inv-loop lent suite m b n last t₀ k₀ i₀ t k i = (i ≤ length b) × Going suite false m t₀ b t k i
+Inv-loop tables suite m b n last t₀ k₀ i₀ t k i = (i ≤ length b) × Going suite false m t₀ b t k i
 
 abbrev μ-loop : tie.MeasureT-loop
-μ-loop lent suite m b n last t₀ k₀ i₀ t k i = length b - i
+μ-loop tables suite m b n last t₀ k₀ i₀ t k i = length b - i
 
 size-of-requires : tie.Need-size-of-requires Inv-loop μ-loop
 size-of-requires c κs = search needs

@@ -12,10 +12,10 @@ use Rattle.block_walk.proofs.open_blocks.Statement.{statement}
 use Rattle.block_walk.proofs.open_blocks.Tie as tie
 
 abbrev Inv-loop : tie.InvT-loop
-Inv-loop lent suite m text₀ n last t₀ k₀ i₀ text t k i = (i ≤ length text₀) × Going suite true m t₀ text₀ t k i × Placed suite true m t₀ text₀ t k i text
+Inv-loop tables suite m text₀ n last t₀ k₀ i₀ text t k i = (i ≤ length text₀) × Going suite true m t₀ text₀ t k i × Placed suite true m t₀ text₀ t k i text
 
 abbrev μ-loop : tie.MeasureT-loop
-μ-loop lent suite m text₀ n last t₀ k₀ i₀ text t k i = length text₀ - i
+μ-loop tables suite m text₀ n last t₀ k₀ i₀ text t k i = length text₀ - i
 
 size-of-requires : tie.Need-size-of-requires Inv-loop μ-loop
 size-of-requires c κs = search needs

@@ -40,11 +40,11 @@ returns c =
     let l : length (x ++ part) < sizeOf suite = omega (arith, length-append x part, c .before .if1 .taken) in
     (sym (short-walk (cipherOf suite) pos false 0x10 (st .args .m) (twoOf suite (st .args .s)) (x ++ part) l), c .joined .ensures ∙ ap filled (sym (rest-short (sizeOf suite) pos (x ++ part) l)))
 
-lends-requires : tie.Need-lends-requires
-lends-requires c κs = search needs
+needs-tables-requires : tie.Need-needs-tables-requires
+needs-tables-requires c κs = search needs
 
 tables-requires : tie.Need-tables-requires
-tables-requires c κs = sym (c .before .lends .ensures) ∙ c .if2 .taken
+tables-requires c κs = sym (c .before .needs-tables .ensures) ∙ c .if2 .taken
 
 slice-aggregate-absorb-past : tie.Need-slice-aggregate-absorb-past
 slice-aggregate-absorb-past c = search needs
@@ -63,7 +63,7 @@ slice-aggregate-absorb-past-2 c = search needs
 absorb-past-requires-2 : tie.Need-absorb-past-requires-2
 absorb-past-requires-2 c κs =
     let st = c .before .before .before .before .before .before in
-    (none-ready (st .args .suite) (sym (c .before .before .lends .ensures) ∙ c .before .if2 .left), st .pre .0, st .pre .1, omega (arith, c .before .before .before .if1 .left))
+    (none-ready (st .args .suite) (sym (c .before .before .needs-tables .ensures) ∙ c .before .if2 .left), st .pre .0, st .pre .1, omega (arith, c .before .before .before .if1 .left))
 
 returns-3 : tie.Need-returns-3
 returns-3 c = search needs
@@ -76,7 +76,7 @@ absorb-part-spec =
     sub-if1
     joined-requires
     returns
-    lends-requires
+    needs-tables-requires
     tables-requires
     slice-aggregate-absorb-past
     absorb-past-requires
