@@ -1,4 +1,5 @@
 // The block step of COMET: the two states Y and Z, a block put in, what goes out for it, and the tag.
+pub mod marks;
 pub mod one_block;
 mod pad;
 mod shuffle;

@@ -1,4 +1,5 @@
 // The tag: made, and compared whole.
+use crate::marks::MARK_TAG;
 use crate::state::State;
 use block::Block;
 use cipher::AesTables;
@@ -26,7 +27,7 @@ pub fn tag_of(tables: &[AesTables], suite: u8, state: State) -> TagAndCalls
 {
     let y = state.y;
     let z = state.z;
-    let k = block_key::next_key(suite, z, 0x80);
+    let k = block_key::next_key(suite, z, MARK_TAG);
     let n = cipher::size_of(suite);
     let t = crate::state::image(tables, suite, n, k, y);
     TagAndCalls {

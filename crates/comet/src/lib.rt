@@ -1,5 +1,9 @@
 // The sealer and the opener: COMET under every suite.
 use block::Block;
+use block_step::marks::MARK_FIRST_DATA;
+use block_step::marks::MARK_FIRST_TEXT;
+use block_step::marks::MARK_SHORT_DATA;
+use block_step::marks::MARK_SHORT_TEXT;
 use block_step::tag::TagAndCalls;
 use cipher::AesTables;
 use status::verdict::Verdict;
@@ -68,7 +72,15 @@ fn crypt_core(
 {
     let mut s = block_step::state::start(tables, suite, key, nonce);
     if ad.len() != 0 {
-        s = text::absorb_all(tables, false, suite, s, 0x08, 0x10, ad);
+        s = text::absorb_all(
+            tables,
+            false,
+            suite,
+            s,
+            MARK_FIRST_DATA,
+            MARK_SHORT_DATA,
+            ad,
+        );
     }
     if 0 < text.len() {
         s = text::crypt_all(tables, opening, suite, s, text);
@@ -318,10 +330,26 @@ fn tag_core(
 {
     let mut s = block_step::state::start(tables, suite, key, nonce);
     if ad.len() != 0 {
-        s = text::absorb_all(tables, false, suite, s, 0x08, 0x10, ad);
+        s = text::absorb_all(
+            tables,
+            false,
+            suite,
+            s,
+            MARK_FIRST_DATA,
+            MARK_SHORT_DATA,
+            ad,
+        );
     }
     if text.len() != 0 {
-        s = text::absorb_all(tables, true, suite, s, 0x20, 0x40, text);
+        s = text::absorb_all(
+            tables,
+            true,
+            suite,
+            s,
+            MARK_FIRST_TEXT,
+            MARK_SHORT_TEXT,
+            text,
+        );
     }
     let l = block_step::tag::tag_of(tables, suite, s);
     l.tag

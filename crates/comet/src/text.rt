@@ -1,4 +1,6 @@
 // All blocks of the associated data and of the text, a step each: the whole ones (crate block_walk), and then the short one, if there is one.
+use block_step::marks::MARK_FIRST_TEXT;
+use block_step::marks::MARK_SHORT_TEXT;
 use block_step::one_block::absorb_short;
 use block_step::one_block::crypt_short;
 use block_step::state::State;
@@ -51,14 +53,28 @@ pub(crate) fn crypt_all(
 {
     let end = text.len();
     if end < cipher::size_of(suite) {
-        return crypt_short(tables, opening, suite, s, 0x20 ^ 0x40, text);
+        return crypt_short(
+            tables,
+            opening,
+            suite,
+            s,
+            MARK_FIRST_TEXT ^ MARK_SHORT_TEXT,
+            text,
+        );
     }
-    let w = block_walk::crypt(tables, opening, suite, s, 0x20, text);
+    let w = block_walk::crypt(tables, opening, suite, s, MARK_FIRST_TEXT, text);
     let t = w.s;
     let m = w.mark;
     let i = w.at;
     if i < end {
-        return crypt_short(tables, opening, suite, t, m ^ 0x40, &mut text[i..end]);
+        return crypt_short(
+            tables,
+            opening,
+            suite,
+            t,
+            m ^ MARK_SHORT_TEXT,
+            &mut text[i..end],
+        );
     }
     t
 }

@@ -1,4 +1,5 @@
 // Held bytes and a part behind them: the whole blocks go in (crate block_walk), and the rest is held.
+use block_step::marks::MARK_SHORT_TEXT;
 use block_step::one_block::crypt_short;
 use block_step::state::State;
 use block_walk::Progress;
@@ -183,5 +184,5 @@ pub(crate) fn last_in(
         return s;
     }
     byte_runs::copy(&held[0..h], &mut out[0..h]);
-    crypt_short(tables, false, suite, s, m ^ 0x40, &mut out[0..h])
+    crypt_short(tables, false, suite, s, m ^ MARK_SHORT_TEXT, &mut out[0..h])
 }

@@ -3,6 +3,9 @@ use crate::Session;
 use crate::Step;
 use crate::blocks::Absorbed;
 use block::Block;
+use block_step::marks::MARK_FIRST_DATA;
+use block_step::marks::MARK_FIRST_TEXT;
+use block_step::marks::MARK_SHORT_DATA;
 use block_step::one_block::absorb_short;
 use block_step::state::State;
 use cipher::AesTables;
@@ -109,7 +112,7 @@ pub(crate) fn take_in(s: Session, part: &[u8]) -> Step
     let ad_total = s.ad_total;
     let text_total = s.text_total;
     let n = cipher::size_of(suite);
-    let m = first_mark(suite, 0x08, ad_total);
+    let m = first_mark(suite, MARK_FIRST_DATA, ad_total);
     let h = ad_total % n;
     let two = State {
         y: y,
@@ -161,8 +164,8 @@ fn begin(s: Session) -> State
     if h == 0 {
         return two;
     }
-    let m = first_mark(suite, 0x08, ad_total);
-    absorb_last(suite, two, m ^ 0x10, &held[0..h])
+    let m = first_mark(suite, MARK_FIRST_DATA, ad_total);
+    absorb_last(suite, two, m ^ MARK_SHORT_DATA, &held[0..h])
 }
 
 // The same, with no call where the message has begun.
@@ -194,7 +197,7 @@ pub(crate) fn seal_in(s: Session, part: &[u8], out: &mut [u8]) -> Step
     let held = s.held;
     let two = going(s);
     let n = cipher::size_of(suite);
-    let m = first_mark(suite, 0x20, text_total);
+    let m = first_mark(suite, MARK_FIRST_TEXT, text_total);
     let h = text_total % n;
     let f = crate::blocks::crypt_part(suite, two, m, held, h, part, out);
     let u = f.s;
@@ -222,7 +225,7 @@ pub(crate) fn close(tables: &[AesTables], s: Session, out: &mut [u8], tag: &mut 
     let held = s.held;
     let two = begin(s);
     let n = cipher::size_of(suite);
-    let m = first_mark(suite, 0x20, text_total);
+    let m = first_mark(suite, MARK_FIRST_TEXT, text_total);
     let h = text_total % n;
     let t = crate::blocks::last_in(tables, suite, two, m, held, h, out);
     let l = block_step::tag::tag_of(tables, suite, t);
