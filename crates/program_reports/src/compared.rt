@@ -4,6 +4,7 @@ use program_text::text::end;
 use program_text::text::number;
 use program_text::text::put;
 use shift_compare::Finding;
+use shift_format::limits::MAX_ROWS;
 
 fn number_line(out: &mut [u8], at: usize, n: u32) -> usize {
     let at = number(out, at, n as u64);
@@ -45,9 +46,9 @@ fn lists(out: &mut [u8], t: Finding, first: &[u32], second: &[u32], differ: &[u3
 // "second" and "differ"; on a refusal one line, "refused", file, number and row. A file has at most 512 rows, so no list is
 // longer.
 pub fn differ(first: &[u8], second: &[u8], out: &mut [u8]) -> usize {
-    let mut only_first = [0u32; 512];
-    let mut only_second = [0u32; 512];
-    let mut differ = [0u32; 512];
+    let mut only_first = [0u32; MAX_ROWS];
+    let mut only_second = [0u32; MAX_ROWS];
+    let mut differ = [0u32; MAX_ROWS];
     let t = shift_compare::compare(
         first,
         second,

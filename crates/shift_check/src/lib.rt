@@ -8,6 +8,9 @@ use marks::put;
 use rules::body_start;
 use rules::check_row;
 use rules::outside;
+use shift_format::limits::HEADER_LEN;
+use shift_format::limits::MAX_FILE;
+use shift_format::limits::MAX_ROWS;
 use shift_format::row::FIRST_EDITION;
 use shift_format::row::NEWEST;
 use shift_format::row::count;
@@ -28,10 +31,10 @@ ghost use Rattle.shift_format.specs.Inside.{TableIn};
 pub fn check_head(low: u16, high: u16, file: &[u8]) -> Checked
     ensures { λ r. ⌜ checkedAnswer r ≡ answer (headNumber low high (now (file .entry))) 0 ⌝ }
 {
-    if file.len() < 8 {
+    if file.len() < HEADER_LEN {
         return Checked::Refused(Refusal::Size);
     }
-    if 1048576 < file.len() {
+    if MAX_FILE < file.len() {
         return Checked::Refused(Refusal::Size);
     }
     let e = get16(file, 0);
@@ -39,7 +42,7 @@ pub fn check_head(low: u16, high: u16, file: &[u8]) -> Checked
         return Checked::Refused(Refusal::Edition);
     }
     let n = count(file);
-    if 512 < n {
+    if MAX_ROWS < n {
         return Checked::Refused(Refusal::Count);
     }
     if get32(file, 4) as usize != file.len() {

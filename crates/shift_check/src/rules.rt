@@ -1,5 +1,8 @@
 // The rules of one row: numbers 25 to 30, and 34.
 use cipher::LIMIT;
+use shift_format::limits::MAX_AD;
+use shift_format::limits::MAX_KEY;
+use shift_format::limits::MIN_AD;
 use shift_format::row::Row;
 use shift_format::row::body_end;
 use shift_format::row::get32;
@@ -51,14 +54,14 @@ fn bad_suite(row: Row) -> bool
     if !cipher::is_suite(row.suite) {
         return true;
     }
-    15 < row.key
+    MAX_KEY < row.key
 }
 
 // 27: associated data or message of a length that is not allowed.
 fn bad_length(row: Row) -> bool
     ensures { λ r. ⌜ r ≡ badLength row ⌝ }
 {
-    if outside(5, 1024, row.ad_len) {
+    if outside(MIN_AD, MAX_AD, row.ad_len) {
         return true;
     }
     let len = row.text_len as usize;

@@ -9,6 +9,7 @@ use front::put_part;
 use rows::put_rows;
 use shift_check::check_as;
 use shift_check::check_head;
+use shift_format::limits::MAX_FILE;
 use shift_format::row::FIRST_EDITION;
 use shift_format::row::NEWEST;
 use shift_format::row::count;
@@ -96,7 +97,7 @@ pub fn moved_length(file: &[u8]) -> usize
 fn length_refused(moved: usize, out: usize) -> Moved
     ensures { λ r. ⌜ movedAnswer r ≡ lengthAnswer moved out ⌝ }
 {
-    if 1048576 < moved {
+    if MAX_FILE < moved {
         return Moved::Refused(Refusal::Size);
     }
     if out != moved {

@@ -3,6 +3,7 @@ use crate::answers::Found;
 use crate::answers::JobAnswer;
 use crate::lend::open_row;
 use crate::lend::row_of;
+use shift_format::limits::RING_LEN;
 use status::verdict::Verdict;
 ghost use mathlib.Core.Path.{_≡_};
 ghost use Rattle.shift_format.specs.Format.{rowSizeOf};
@@ -15,7 +16,7 @@ pub(crate) fn open_entry(file: &[u8], ring: &[u8], index: usize, out: &mut [u8])
     requires { ⌜ EntryIn (rowSizeOf (now file)) (now file) index ⌝ }
     ensures { λ r. ⌜ _≡_ {A = JobOpened} (record { answer = openedAnswer r; out = now (out .exit) }) (rowOpening (now (file .entry)) (now (ring .entry)) index (now (out .entry))) ⌝ }
 {
-    if ring.len() != 256 {
+    if ring.len() != RING_LEN {
         return JobAnswer::Ring;
     }
     let row = row_of(file, index);
@@ -30,12 +31,13 @@ pub(crate) fn open_entry(file: &[u8], ring: &[u8], index: usize, out: &mut [u8])
     JobAnswer::Done
 }
 
-// A lookup that found no row, as the answer of opening; it is asked of no other.
+// The answer of opening where the lookup found no row.
 pub(crate) fn stopped(found: Found) -> JobAnswer
     requires { ⌜ (foundAnswer found .number ≡ 0 → ⊥) ⌝ }
     ensures { λ r. ⌜ openedAnswer r ≡ foundAnswer found ⌝ }
 {
     match found {
+        // Cannot be reached: a lookup that found a row has number 0.
         Found::At(_) => JobAnswer::Missing,
         Found::Missing => JobAnswer::Missing,
         Found::Refused(y) => JobAnswer::Refused(y),

@@ -3,6 +3,7 @@ use crate::answers::Found;
 use crate::answers::Genuine;
 use crate::lend::row_of;
 use crate::lend::verify_row;
+use shift_format::limits::RING_LEN;
 ghost use mathlib.Core.Path.{_≡_};
 ghost use Rattle.shift_format.specs.Format.{rowSizeOf};
 ghost use Rattle.shift_format.specs.Inside.{EntryIn};
@@ -27,7 +28,7 @@ fn verify_entry(file: &[u8], ring: &[u8], index: usize) -> Genuine
     requires { ⌜ EntryIn (rowSizeOf (now file)) (now file) index ⌝ }
     ensures { λ r. ⌜ r ≡ rowVerifying (now (file .entry)) (now (ring .entry)) index ⌝ }
 {
-    if ring.len() != 256 {
+    if ring.len() != RING_LEN {
         return withhold(2, 0);
     }
     let row = row_of(file, index);

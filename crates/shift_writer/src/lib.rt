@@ -11,6 +11,7 @@ use rows::put_edition;
 use rows::seal_rows;
 use rows::unseal_rows;
 use shift_check::check_as;
+use shift_format::limits::RING_LEN;
 use shift_format::row::FIRST_EDITION;
 use shift_format::row::count;
 use status::checked::Checked;
@@ -27,7 +28,7 @@ const DRAFT: u16 = 0;
 pub fn lent_refused(file: usize, ring: usize, out: usize) -> Written
     ensures { λ r. ⌜ writtenAnswer r ≡ lentAnswer file ring out ⌝ }
 {
-    if ring != 256 {
+    if ring != RING_LEN {
         return Written::Ring;
     }
     if out != file {
