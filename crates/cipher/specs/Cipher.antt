@@ -48,7 +48,7 @@ imageOf cham128 = cham 32
 imageOf speck64 = speck
 imageOf cham64 = cham 16
 
--- the engine of AES is lent the tables of its columns, the others nothing
+-- the engine of AES reads the tables of its columns, the others none
 abbrev pub hasTables : BlockCipher → Bool
 hasTables aes128 = true
 hasTables cham128 = false
@@ -108,15 +108,6 @@ sizeOf s = factsOf s .block
 unfoldable pub nonceOf : ℕ → ℕ
 nonceOf s = factsOf s .nonce
 
--- numbers 1, 10, 2 and 3 of every call under a key (10 where the call does not take the suite), from the suite and the lengths of key and nonce: the first that applies, and where none does the call's own
-abbrev pub underKey : Bool → ℕ → ℕ → ℕ → ℕ → ℕ
-underKey taken suite key nonce own =
-    cond (not (isSuite suite)) 1
-    (cond (not taken) 10
-    (cond (not (eqb key 16)) 2
-    (cond (not (eqb nonce (nonceOf suite))) 3
-    own)))
-
 unfoldable pub engineOf : ℕ → List ℕ → List ℕ → List ℕ
 engineOf s = imageOf (factsOf s .engine)
 
@@ -131,13 +122,13 @@ abbrev pub isTwo : Version → Bool
 isTwo one = false
 isTwo two = true
 
--- whether the suite's engine is lent anything
+-- whether the suite's engine reads the tables of AES
 unfoldable pub needsTables : ℕ → Bool
 needsTables s = hasTables (factsOf s .engine)
 
 abbrev pub Full : List (List (List ℕ)) → Type 0
 Full t = (length t ≡ 1) × IsTables (getD t 0 [])
 
--- what is lent is fit for the suite's engine
+-- the tables that a caller passes are those that the suite's engine reads
 pub record TablesFit (s : ℕ) (t : List (List (List ℕ))) : Type 0 where
   pub full : needsTables s ≡ true → Full t

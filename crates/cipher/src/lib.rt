@@ -15,6 +15,9 @@ ghost use Rattle.cipher.specs.Cipher.{needsTables, Full, TablesFit, isSu
 // The most bytes of associated data, and the most of a message.
 pub const LIMIT: usize = 65536;
 
+// Suite 4, over CHAM-64/128. It is retired (document 02, W7): it opens, and seals no more.
+pub const RETIRED: u8 = 4;
+
 // Whether we have the suite.
 pub fn is_suite(suite: u8) -> bool
     ensures { λ r. ⌜ r ≡ isSuite suite ⌝ }
@@ -25,14 +28,14 @@ pub fn is_suite(suite: u8) -> bool
     suite <= 6
 }
 
-// Whether the suite seals: suite 4 is retired.
+// Whether the suite seals.
 pub fn seals(suite: u8) -> bool
     ensures { λ r. ⌜ r ≡ seals suite ⌝ }
 {
     if !is_suite(suite) {
         return false;
     }
-    suite != 4
+    suite != RETIRED
 }
 
 // The suite's block size.
@@ -60,10 +63,10 @@ pub fn is_second(suite: u8) -> bool
     4 < suite
 }
 
-// What an engine is lent, made once a message: a slice of one, or of none where the suite's engine is lent nothing.
+// The lookup tables of AES, copied once a message. Functions take them as a slice: of one element where the suite needs them, else empty.
 pub type AesTables = aes_tables::Tables;
 
-// Whether the suite's engine is lent anything.
+// Whether the suite's engine reads the tables of AES.
 pub fn needs_tables(suite: u8) -> bool
     ensures { λ r. ⌜ r ≡ needsTables suite ⌝ }
 {
@@ -129,13 +132,13 @@ pub fn encipher8(suite: u8, key0: u64, key1: u64, block: u64) -> u64
     requires { ⌜ IsSuite suite × (sizeOf suite ≡ 8) ⌝ }
     ensures { λ r. ⌜ bytes 8 r ≡ cipherOf suite .E (bytes 8 key0 ++ bytes 8 key1) (bytes 8 block) ⌝ }
 {
-    if suite == 4 {
+    if suite == RETIRED {
         return by_cham64(key0, key1, block);
     }
     by_speck(key0, key1, block)
 }
 
-// The image of the block's first bytes, as many as the suite's block has, and zeros behind it. It calls the engine of suite 4
+// The image of the block's first bytes, as many as the suite's block has, and zeros after it. It calls the engine of suite 4
 // itself: one that has two callers stays a function of its own, and `encipher8` saves no registers for it where it runs Speck.
 pub fn encipher(tables: &[AesTables], suite: u8, key: Block, block: Block) -> Block
     requires { ⌜ TablesFit suite (now tables) × IsSuite suite ⌝ }
@@ -145,7 +148,7 @@ pub fn encipher(tables: &[AesTables], suite: u8, key: Block, block: Block) -> Bl
     if size_of(suite) == 16 {
         return encipher16(tables, suite, key, block);
     }
-    if suite != 4 {
+    if suite != RETIRED {
         return Block {
             a: encipher8(suite, key.a, key.b, block.a),
             b: 0,

@@ -5,7 +5,8 @@ use mathlib.Core.List.{List, [], _∷_, _++_}
 use lib.ListN.{length, take, drop, replicate}
 use lib.Dec.{leb, ltb, eqb}
 use Rattle.block.specs.Blocks.{filled}
-use Rattle.cipher.specs.Cipher.{Cipher, IsSuite, seals, cipherOf, sizeOf, limit, underKey}
+use Rattle.cipher.specs.Cipher.{Cipher, IsSuite, seals, cipherOf, sizeOf, limit}
+use Rattle.status.specs.Verdicts.{underKey}
 use Rattle.mode.specs.Blocks.{blocks}
 use Rattle.mode.specs.Walk.{States, whole, rest, walked, covered, tagged, origin}
 

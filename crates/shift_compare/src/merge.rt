@@ -94,17 +94,17 @@ fn both_turn(f: &[u8], g: &[u8], i: usize, j: usize) -> Turn
     requires { ⌜ At (now f) (now g) i j × (i < countOf (now f)) × (j < countOf (now g)) ⌝ }
     ensures { λ t. ⌜ Turned (now (f .entry)) (now (g .entry)) i j t ⌝ }
 {
-    let x = job_of(f, i);
-    let y = job_of(g, j);
-    if x < y {
-        return first_turn(x, i, j);
+    let first_job = job_of(f, i);
+    let second_job = job_of(g, j);
+    if first_job < second_job {
+        return first_turn(first_job, i, j);
     }
-    if y < x {
-        return second_turn(y, i, j);
+    if second_job < first_job {
+        return second_turn(second_job, i, j);
     }
     let same = same_entry(f, g, i, j);
     Turn {
-        job: x,
+        job: first_job,
         first: false,
         second: false,
         differ: !same,
@@ -127,14 +127,14 @@ fn take_turn(f: &[u8], g: &[u8], i: usize, j: usize) -> Turn
     both_turn(f, g, i, j)
 }
 
-// Counts x where it is to go behind the `at` numbers of a list, and puts it there where the list is written.
-fn put(out: &mut [u32], at: usize, yes: bool, write: bool, x: u32) -> usize
+// The length of a list of `at` jobs after this one: one more where `yes`, and then the job is written where `write` says so.
+fn put(out: &mut [u32], at: usize, yes: bool, write: bool, job: u32) -> usize
     requires { ⌜ (yes ≡ true → write ≡ true → at < length (now out)) × (yes ≡ true → at < 512) ⌝ }
-    ensures { λ r. ⌜ (r ≡ cond yes (at + 1) at) × (now (out .exit) ≡ cond (yes && write) (set (now (out .entry)) at x) (now (out .entry))) ⌝ }
+    ensures { λ r. ⌜ (r ≡ cond yes (at + 1) at) × (now (out .exit) ≡ cond (yes && write) (set (now (out .entry)) at job) (now (out .entry))) ⌝ }
 {
     if yes {
         if write {
-            out[at] = x;
+            out[at] = job;
             return at + 1;
         }
         return at + 1;
@@ -157,20 +157,20 @@ pub(crate) fn pass(
     let total = rows(f) + rows(g);
     let mut i: usize = 0;
     let mut j: usize = 0;
-    let mut x: usize = 0;
-    let mut y: usize = 0;
-    let mut z: usize = 0;
+    let mut in_first: usize = 0;
+    let mut in_second: usize = 0;
+    let mut in_both: usize = 0;
     while i + j < total {
         let t = take_turn(f, g, i, j);
-        x = put(first, x, t.first, write, t.job);
-        y = put(second, y, t.second, write, t.job);
-        z = put(differ, z, t.differ, write, t.job);
+        in_first = put(first, in_first, t.first, write, t.job);
+        in_second = put(second, in_second, t.second, write, t.job);
+        in_both = put(differ, in_both, t.differ, write, t.job);
         i = t.i;
         j = t.j;
     }
     Counts {
-        first: x,
-        second: y,
-        differ: z,
+        first: in_first,
+        second: in_second,
+        differ: in_both,
     }
 }

@@ -1,7 +1,7 @@
 // The suite 4 entries, from the file into the output: opened, and sealed again as suite 3.
-use crate::suites::RETIRED;
 use crate::suites::SUCCESSOR;
 use byte_runs::wipe;
+use cipher::RETIRED;
 use shift_format::body::text_start;
 use shift_format::row::Row;
 use shift_jobs::lend::open_row;

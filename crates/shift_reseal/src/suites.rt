@@ -1,9 +1,9 @@
 // The table as it would be: 3 for 4 in its suite bytes, and the first of its rows that clashes.
 use block::Block;
 use block::same;
-use byte_runs::filled;
+use cipher::RETIRED;
 use shift_format::row::Row;
-use shift_format::row::nonce_at;
+use shift_format::row::nonce_block;
 use shift_format::row::row_size_of;
 use shift_format::row::set_suite;
 use shift_jobs::lend::row_of;
@@ -23,9 +23,7 @@ ghost use Rattle.shift_reseal.specs.Files.{newSuite, resuited, retabled}
 ghost use Rattle.shift_reseal.specs.Answers.{seenFrom};
 ghost use Rattle.shift_reseal.specs.Inside.{Passing};
 
-// The suite that is retired, and the one that follows it.
-pub(crate) const RETIRED: u8 = 4;
-
+// The suite that follows the retired one.
 pub(crate) const SUCCESSOR: u8 = 3;
 
 fn new_suite(suite: u8) -> u8
@@ -62,7 +60,7 @@ fn nonce_of(file: &[u8], index: usize) -> Block
     requires { ⌜ RowIn (rowSizeOf (now file)) (now file) index ⌝ }
     ensures { λ r. ⌜ wide r ≡ nonceAt (rowSizeOf (now (file .entry))) (now (file .entry)) index ⌝ }
 {
-    filled(nonce_at(row_size_of(file), file, index))
+    nonce_block(row_size_of(file), file, index)
 }
 
 // Two rows clash in the table as it would be. Zeros stand where a suite does not read (34), so all sixteen bytes tell what it reads.

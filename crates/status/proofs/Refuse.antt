@@ -11,8 +11,8 @@ use borrow.Author.Tests.{ltb-false, eqb-true, le-ltb, eq-eqb, not-false}
 use denote.Enum.Declared
 use types.Run.{OneOf, miss}
 use Rattle.block.proofs.Ladder.{not-taken, rung}
-use Rattle.cipher.specs.Cipher.{isSuite, IsSuite, sizeOf, nonceOf, limit, underKey}
-use Rattle.status.specs.Verdicts.{numberOf, takes, refusal}
+use Rattle.cipher.specs.Cipher.{isSuite, IsSuite, sizeOf, nonceOf, limit}
+use Rattle.status.specs.Verdicts.{numberOf, takes, underKey, refusal}
 use Rattle.status.specs.declared.verdict.Verdict.{Verdict}
 use Rattle.status.specs.declared.verdict.Verdict.the-variants.{Done, Suite, Key, Nonce, Data, Text, Room, Tag, Forged, Retired}
 use Rattle.status.proofs.verdict.Verdict.{the-type}

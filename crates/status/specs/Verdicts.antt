@@ -2,7 +2,7 @@
 use mathlib.Core.Bool.{Bool, cond, not, _||_}
 use Prim.Native.Nat.{ℕ}
 use lib.Dec.{ltb, eqb}
-use Rattle.cipher.specs.Cipher.{seals, sizeOf, limit, underKey}
+use Rattle.cipher.specs.Cipher.{isSuite, seals, sizeOf, nonceOf, limit}
 use Rattle.status.specs.declared.verdict.Verdict.{Verdict}
 use Rattle.status.specs.declared.verdict.Verdict.the-variants.{Done, Suite, Key, Nonce, Data, Text, Room, Tag, Forged, Retired}
 
@@ -22,6 +22,15 @@ numberOf Retired = 10
 -- every suite that we have is opened, and one that seals is sealed
 abbrev pub takes : Bool → ℕ → Bool
 takes opening suite = opening || seals suite
+
+-- numbers 1, 10, 2 and 3 of every call under a key (10 where the call does not take the suite), from the suite and the lengths of key and nonce: the first that applies, and where none does the call's own
+abbrev pub underKey : Bool → ℕ → ℕ → ℕ → ℕ → ℕ
+underKey taken suite key nonce own =
+    cond (not (isSuite suite)) 1
+    (cond (not taken) 10
+    (cond (not (eqb key 16)) 2
+    (cond (not (eqb nonce (nonceOf suite))) 3
+    own)))
 
 -- numbers 4 to 7, from the suite and the lengths of associated data, text, output and tag: the first that applies, 0 where none does
 abbrev pub textsNumber : ℕ → ℕ → ℕ → ℕ → ℕ → ℕ

@@ -1,8 +1,7 @@
 // What sealer and opener answer, and the order in which they refuse.
 use cipher::LIMIT;
 ghost use mathlib.Core.Path.{_≡_};
-ghost use Rattle.cipher.specs.Cipher.{underKey};
-ghost use Rattle.status.specs.Verdicts.{numberOf, takes, textsNumber, refusal};
+ghost use Rattle.status.specs.Verdicts.{numberOf, takes, underKey, textsNumber, refusal};
 
 // What a call answers: Done, or why it refused.
 pub enum Verdict {

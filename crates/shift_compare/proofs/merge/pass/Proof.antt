@@ -8,10 +8,10 @@ use Rattle.shift_compare.proofs.merge.pass.Statement.{statement}
 use Rattle.shift_compare.proofs.merge.pass.Tie as tie
 
 abbrev Inv-loop : tie.InvT-loop
-Inv-loop f g write first₀ second₀ differ₀ total i₀ j₀ x₀ y₀ z₀ first second differ i j x y z = Going f g write first₀ second₀ differ₀ total i j x y z first second differ
+Inv-loop f g write first₀ second₀ differ₀ total i₀ j₀ in-first₀ in-second₀ in-both₀ first second differ i j in-first in-second in-both = Going f g write first₀ second₀ differ₀ total i j in-first in-second in-both first second differ
 
 abbrev μ-loop : tie.MeasureT-loop
-μ-loop f g write first₀ second₀ differ₀ total i₀ j₀ x₀ y₀ z₀ first second differ i j x y z = total - (i + j)
+μ-loop f g write first₀ second₀ differ₀ total i₀ j₀ in-first₀ in-second₀ in-both₀ first second differ i j in-first in-second in-both = total - (i + j)
 
 rows-requires : tie.Need-rows-requires Inv-loop μ-loop
 rows-requires c κs = c .before .before .before .before .before .pre .sound .first
