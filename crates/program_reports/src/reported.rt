@@ -4,6 +4,7 @@ use program_text::text::answer;
 use program_text::text::end;
 use program_text::text::number;
 use program_text::text::put;
+use shift_format::limits::MAX_ROWS;
 
 fn entry(out: &mut [u8], at: usize, job: u32, answer: u8) -> usize {
     let at = number(out, at, job as u64);
@@ -28,9 +29,9 @@ fn entries(out: &mut [u8], at: usize, jobs: &[u32], numbers: &[u8], n: usize) ->
 // "entries" and how many there are, and then a line for each, its job number and 0 where its tag is right under the ring, 8
 // where it is wrong; on a refusal one line, "refused", number and row. A file has at most 512 rows, so no list is too short.
 pub fn inspect(file: &[u8], ring: &[u8], out: &mut [u8]) -> usize {
-    let mut jobs = [0u32; 512];
-    let mut numbers = [0u8; 512];
-    let s = shift_reader::report(file, ring, &mut jobs, &mut numbers).said();
+    let mut jobs = [0u32; MAX_ROWS];
+    let mut numbers = [0u8; MAX_ROWS];
+    let s = shift_report::report(file, ring, &mut jobs, &mut numbers).said();
     if s.number != 0 {
         let at = put(out, 0, b"refused ");
         let at = answer(out, at, s.number, s.row);

@@ -33,8 +33,8 @@ use Rattle.shift_editions.specs.Files.{moved}
 use Rattle.shift_editions.specs.Answers.{stationsFrom, lengthAnswer, upAnswer, backAnswer, toEdition2, toEdition1}
 use Rattle.shift_editions.specs.Promised.{done}
 use Rattle.shift_editions.proofs.Promised.{back-short}
-use Rattle.shift_reader.specs.Reporting.{jobOf, tagNumber, front, entries, Report, stopped as unreported, longest, reporting}
-use Rattle.shift_reader.proofs.Tags.{number-is}
+use Rattle.shift_report.specs.Reporting.{jobOf, tagNumber, front, entries, Report, stopped as unreported, longest, reporting}
+use Rattle.shift_report.proofs.Tags.{number-is}
 use Rattle.promises.specs.Numbers.{headTable}
 use Rattle.promises.specs.Cases.{HeadNumbers, LookupCases, JobCases, SearchCases, BothPass, CompareCases, unmoved, UpCases, BackCases, ReportCases, SealOrder, UnsealOrder, ResealOrder, Cases}
 use Rattle.promises.proofs.Tables.{Tells, tells-eq, tells-lt, tells-same, tells-not, tells-or, tells-and, tells-true, not-told, ladder, By, lines, table, answers}

@@ -26,6 +26,7 @@ use Rattle.shift_amend.proofs.Outcomes as amend
 use Rattle.shift_editions.proofs.Outcomes as editions
 use Rattle.shift_compare.proofs.Outcomes as comparing
 use Rattle.shift_reader.proofs.Outcomes as reading
+use Rattle.shift_report.proofs.Outcomes as reporting
 use Rattle.status.proofs.Refuse.{refusal-most}
 use Rattle.promises.specs.Demand1.{EntryPoints, SealKeeps, OpenKeeps, SealInPlace, OpenInPlace, VerifyOpens}
 
@@ -59,7 +60,7 @@ entry-points =
       compare = record { asks-nothing = λ κs a. tt; one-outcome = comparing.compare };
       start = record { asks-nothing = λ κs a. tt; one-outcome = reading.start };
       ask = record { asks-nothing = λ κs a. tt; one-outcome = reading.ask };
-      report = record { asks-nothing = λ κs a. tt; one-outcome = reading.report };
+      report = record { asks-nothing = λ κs a. tt; one-outcome = reporting.report };
       header = record { asks-nothing = λ κs a. tt; one-outcome = reading.header };
       row = record { asks-nothing = λ κs a. tt; one-outcome = reading.row };
       reseal = record { asks-nothing = λ κs a. tt; one-outcome = resealer.reseal };

@@ -24,7 +24,7 @@ use Rattle.shift_reseal.specs.Answers.{fileResealing}
 use Rattle.shift_amend.specs.Amending.{AmendedOpening, amendedOpening}
 use Rattle.shift_editions.specs.Answers.{movedLength, FileMoved, toEdition2, toEdition1}
 use Rattle.shift_compare.specs.Comparing.{Comparison, comparison}
-use Rattle.shift_reader.specs.Reporting.{Report, reporting}
+use Rattle.shift_report.specs.Reporting.{Report, reporting}
 use Rattle.shift_reader.specs.declared.contents.HeaderFields.{HeaderFields}
 use Rattle.shift_reader.specs.Contents.{headerAnswer, rowAnswer}
 use Rattle.snoekeldraf.specs.Words.{Nine, ofWords, wordsOf, after, inWords}

@@ -21,7 +21,7 @@ use Rattle.shift_compare.specs.Comparing.{onlyFirst, onlySecond, differing, ref
 use Rattle.shift_editions.specs.Files.{moved}
 use Rattle.shift_editions.specs.Answers.{FileMoved, toEdition2, toEdition1}
 use Rattle.shift_editions.specs.Promised.{done}
-use Rattle.shift_reader.specs.Reporting.{jobOf, tagNumber, front, entries, stopped as unreported, longest, reporting}
+use Rattle.shift_report.specs.Reporting.{jobOf, tagNumber, front, entries, stopped as unreported, longest, reporting}
 use Rattle.shift_reader.specs.Reading.{listedOf}
 use Rattle.shift_reader.specs.Contents.{noHeader, headerOf, headerAnswer, noFields, fieldsOf, rowAnswer}
 use Rattle.promises.specs.Tables.{Line, _when_, None, Lines, Table}

@@ -66,8 +66,8 @@ use Rattle.shift_reader.proofs.contents.header.Kinds as header-kinds
 use Rattle.shift_reader.proofs.contents.header.Reads as header-reads
 use Rattle.shift_reader.proofs.contents.row.Kinds as row-kinds
 use Rattle.shift_reader.proofs.contents.row.Reads as row-reads
-use Rattle.shift_reader.proofs.report.Kinds as report-kinds
-use Rattle.shift_reader.proofs.report.Reads as report-reads
+use Rattle.shift_report.proofs.report.Kinds as report-kinds
+use Rattle.shift_report.proofs.report.Reads as report-reads
 use Rattle.snoekeldraf.proofs.record.comet_seal.Kinds as comet-seal-kinds
 use Rattle.snoekeldraf.proofs.record.comet_seal.Reads as comet-seal-reads
 use Rattle.snoekeldraf.proofs.record.comet_open.Kinds as comet-open-kinds

@@ -66,7 +66,7 @@ pub record EntryPoints : Type 0 where
   -- W12
   pub seal-counted : Answers the.seal-counted
   pub unseal-counted : Answers the.unseal-counted
-  -- W14: the cursor and the report; the reader's own four, which hold a reference, stand in `Readers.antt`
+  -- W14: the cursor and the report; the reader's own three, which hold a reference, stand in `Readers.antt`
   pub start : Answers the.start
   pub ask : Answers the.ask
   pub report : Answers the.report

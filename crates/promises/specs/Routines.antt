@@ -28,7 +28,7 @@ use Rattle.shift_editions.specs.Answers.{movedAnswer, movedLength, FileMoved, t
 use Rattle.shift_compare.specs.Comparing.{findingOf, Comparison, comparison}
 use Rattle.shift_reader.specs.declared.cursor.Cursor.{Cursor}
 use Rattle.shift_reader.specs.Reading.{startOf, askOf}
-use Rattle.shift_reader.specs.Reporting.{saidOf, Report, reporting}
+use Rattle.shift_report.specs.Reporting.{saidOf, Report, reporting}
 use Rattle.shift_reader.specs.Contents.{headerAnswer, rowAnswer}
 use Rattle.promises.specs.Contracts as the
 use Rattle.promises.specs.Demand1.{Gave}
@@ -118,7 +118,7 @@ pub record Routines : Type 0 where
       let (_, (_, (first′, (second′, (differ′, _))))) = x .last in
       _≡_ {A = Comparison} (record { finding = findingOf (x .result); first = first′; second = second′; differ = differ′ })
       (comparison (now f) (now g) (now first) (now second) (now differ))
-  -- W14: the cursor and the report; the reader's own four stand in `Readers.antt`
+  -- W14: the cursor and the report; the reader's own three stand in `Readers.antt`
   pub start : (κs : Lfts 1) (file : RefT (List ℕ)) (x : Gave the.start κs (file, tt)) →
       x .result ≡ startOf (now file)
   pub ask : (κs : Lfts 1) (c : Cursor) (file : RefT (List ℕ)) (x : Gave the.ask κs (c, (file, tt))) →

@@ -1,17 +1,6 @@
--- One outcome for each input: what a contract says that the cursor, the step, the table's answers and the report equal is one value.
-use mathlib.Core.Path.{_≡_, refl, sym, ap, _∙_}
-use mathlib.Core.Bool.{cond}
-use mathlib.Core.Logic.{inl}
-use lib.Dec.{eqb, lit<}
-use borrow.Author.Tests.{ne-eqb}
+-- One outcome for each input: what a contract says that the cursor, the step and the table's answers equal is one value.
+use mathlib.Core.Path.{refl, sym, _∙_}
 use Rattle.block.specs.Outcome.{OneOutcome}
-use Rattle.status.specs.Answers.{answer}
-use Rattle.status.proofs.Numbers.{refusal-some}
-use Rattle.status.proofs.Outcomes.{refusalOf, refusal-back, unlike}
-use Rattle.shift_reader.specs.declared.answers.ReportSummary.{ReportSummary}
-use Rattle.shift_reader.specs.declared.answers.Reported.{Reported}
-use Rattle.shift_reader.specs.declared.answers.Reported.the-variants.{Entries, Refused, Ring, Room}
-use Rattle.shift_reader.specs.Reporting.{saidOf, Report}
 use Rattle.shift_reader.proofs.cursor.start.Kinds as start-kinds
 use Rattle.shift_reader.proofs.cursor.start.Reads as start-reads
 use Rattle.shift_reader.proofs.cursor.ask.Kinds as ask-kinds
@@ -20,24 +9,6 @@ use Rattle.shift_reader.proofs.contents.header.Kinds as header-kinds
 use Rattle.shift_reader.proofs.contents.header.Reads as header-reads
 use Rattle.shift_reader.proofs.contents.row.Kinds as row-kinds
 use Rattle.shift_reader.proofs.contents.row.Reads as row-reads
-use Rattle.shift_reader.proofs.report.Kinds as report-kinds
-use Rattle.shift_reader.proofs.report.Reads as report-reads
-use Rattle.shift_reader.proofs.answers.Reported.said.Kinds as said-kinds
-use Rattle.shift_reader.proofs.answers.Reported.said.Reads as said-reads
-
--- the case that is said
-abbrev reportedOf : ReportSummary → Reported
-reportedOf s =
-    cond (eqb (s .number) 0) (Entries (s .count))
-    (cond (eqb (s .number) 2) Ring
-    (cond (eqb (s .number) 6) Room
-    (Refused (refusalOf (answer (s .number) (s .row))))))
-
-reported-back : (x : Reported) → reportedOf (saidOf x) ≡ x
-reported-back (Entries n) = refl
-reported-back (Refused x) = simp (ne-eqb _ _ (refusal-some x), unlike x 2 (inl (lit< tt)) refl, unlike x 6 (inl (lit< tt)) refl) (ap Refused (refusal-back x))
-reported-back Ring = refl
-reported-back Room = refl
 
 pub start : OneOutcome start-kinds.ps start-kinds.r start-reads.Pre start-reads.Post
 start κs a h x y = (x .ensures ∙ sym (y .ensures), refl)
@@ -50,13 +21,3 @@ header κs a h x y = (x .ensures ∙ sym (y .ensures), refl)
 
 pub row : OneOutcome row-kinds.ps row-kinds.r row-reads.Pre row-reads.Post
 row κs a h x y = (x .ensures ∙ sym (y .ensures), refl)
-
-pub report : OneOutcome report-kinds.ps report-kinds.r report-reads.Pre report-reads.Post
-report κs a h x y =
-    let e = x .ensures ∙ sym (y .ensures) in (
-      sym (reported-back (x .result)) ∙ ap (λ (z : Report). reportedOf (z .said)) e ∙ reported-back (y .result),
-      ap (λ (z : Report). (tt, (tt, (z .jobs, (z .numbers, tt))))) e,
-    )
-
-pub said : OneOutcome said-kinds.ps said-kinds.r said-reads.Pre said-reads.Post
-said κs a h x y = (x .ensures ∙ sym (y .ensures), refl)

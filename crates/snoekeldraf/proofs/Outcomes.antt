@@ -72,7 +72,7 @@ use Rattle.snoekeldraf.proofs.amending.shift_open_amended.Reads as open
 use Rattle.shift_compare.specs.Comparing.{Comparison}
 use Rattle.snoekeldraf.proofs.compare.shift_compare.Kinds as compare-kinds
 use Rattle.snoekeldraf.proofs.compare.shift_compare.Reads as compare-reads
-use Rattle.shift_reader.specs.Reporting.{Report}
+use Rattle.shift_report.specs.Reporting.{Report}
 use Rattle.snoekeldraf.proofs.reporting.shift_report.Kinds as report-kinds
 use Rattle.snoekeldraf.proofs.reporting.shift_report.Reads as report-reads
 use Rattle.shift_reader.specs.declared.contents.HeaderFields.{HeaderFields}

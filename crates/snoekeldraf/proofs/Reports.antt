@@ -10,8 +10,8 @@ use Rattle.shift_format.specs.Format.{countOf, firstEdition, newest}
 use Rattle.status.specs.Answers.{answer}
 use Rattle.shift_check.specs.Check.{checkFile}
 use Rattle.shift_check.proofs.Passed.{passes}
-use Rattle.shift_reader.specs.declared.answers.ReportSummary.{ReportSummary}
-use Rattle.shift_reader.specs.Reporting.{jobOf, tagNumber, front, entries, Report, stopped, longest, reporting}
+use Rattle.shift_report.specs.declared.answers.ReportSummary.{ReportSummary}
+use Rattle.shift_report.specs.Reporting.{jobOf, tagNumber, front, entries, Report, stopped, longest, reporting}
 use Rattle.snoekeldraf.proofs.Rows.{check-row}
 
 pub record Small (s : ReportSummary) : Type 0 where

@@ -10,11 +10,11 @@ use program_text::text::and_shown;
 use program_text::text::answer;
 use program_text::text::end;
 use program_text::text::put;
-use shift_reader::answers::ReportSummary;
 use shift_reader::cursor::Listed;
 use shift_reader::cursor::NextRow;
 use shift_reader::cursor::start;
 use shift_reader::step_at;
+use shift_report::answers::ReportSummary;
 
 fn said(s: ReportSummary, line: &mut [u8]) -> usize {
     let at = answer(line, 0, s.number, s.row);
@@ -28,7 +28,7 @@ fn report(
     numbers: &mut [u8],
     line: &mut [u8],
 ) -> usize {
-    let s = shift_reader::report(file, ring, jobs, numbers).said();
+    let s = shift_report::report(file, ring, jobs, numbers).said();
     let at = said(s, line);
     let at = and_list(line, at, jobs);
     let at = and_shown(line, at, numbers);

@@ -1,9 +1,9 @@
 -- Each case by its definition.
 use mathlib.Core.Path.{sym, ap, _∙_}
-use Rattle.shift_reader.specs.Reporting.{saidOf}
+use Rattle.shift_report.specs.Reporting.{saidOf}
 use borrow.Author.Needs.{needs}
-use Rattle.shift_reader.proofs.answers.Reported.said.Statement.{statement}
-use Rattle.shift_reader.proofs.answers.Reported.said.Tie as tie
+use Rattle.shift_report.proofs.answers.Reported.said.Statement.{statement}
+use Rattle.shift_report.proofs.answers.Reported.said.Tie as tie
 
 enum-known-self : tie.Need-enum-known-self
 enum-known-self c = search needs

@@ -1,7 +1,7 @@
 -- The refusal's number and row.
 use borrow.Author.Needs.{needs}
-use Rattle.shift_reader.proofs.answers.refused.Statement.{statement}
-use Rattle.shift_reader.proofs.answers.refused.Tie as tie
+use Rattle.shift_report.proofs.answers.refused.Statement.{statement}
+use Rattle.shift_report.proofs.answers.refused.Tie as tie
 
 answer-requires : tie.Need-answer-requires
 answer-requires c κs = search needs

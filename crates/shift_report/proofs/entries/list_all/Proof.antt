@@ -7,10 +7,10 @@ use borrow.Author.Needs.{needs}
 use Rattle.shift_format.specs.declared.row.Row.{Row}
 use Rattle.shift_format.specs.Format.{firstEdition, newest, countOf}
 use Rattle.shift_check.proofs.Passed.{passes, entry-in}
-use Rattle.shift_reader.specs.Reporting.{jobOf, tagNumber, front}
-use Rattle.shift_reader.proofs.Fronts.{front-none, front-step, front-length}
-use Rattle.shift_reader.proofs.entries.list_all.Statement.{statement}
-use Rattle.shift_reader.proofs.entries.list_all.Tie as tie
+use Rattle.shift_report.specs.Reporting.{jobOf, tagNumber, front}
+use Rattle.shift_report.proofs.Fronts.{front-none, front-step, front-length}
+use Rattle.shift_report.proofs.entries.list_all.Statement.{statement}
+use Rattle.shift_report.proofs.entries.list_all.Tie as tie
 
 abbrev Inv-loop : tie.InvT-loop
 Inv-loop f ring n jobs₀ numbers₀ i₀ jobs numbers i = (i ≤ n) × (jobs ≡ front (jobOf f) i jobs₀) × (numbers ≡ front (tagNumber f ring) i numbers₀)

@@ -4,8 +4,8 @@ use shift_jobs::lend::row_of;
 use shift_jobs::lend::verify_row;
 ghost use mathlib.Core.Path.{_≡_};
 ghost use Prim.Native.Nat.{_<_};
-ghost use Rattle.shift_reader.specs.Reporting.{jobOf, tagNumber, front};
-ghost use Rattle.shift_reader.specs.Inside.{Openable, Listable};
+ghost use Rattle.shift_report.specs.Reporting.{jobOf, tagNumber, front};
+ghost use Rattle.shift_report.specs.Inside.{Openable, Listable};
 
 // 0 where the tag of a row is right, 8 where it is wrong; no message is written.
 fn tag_number(file: &[u8], ring: &[u8], index: usize, row: Row) -> u8

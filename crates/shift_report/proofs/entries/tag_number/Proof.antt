@@ -2,10 +2,10 @@
 use mathlib.Core.Path.{_∙_}
 use denote.Ref.{now}
 use Rattle.shift_jobs.proofs.Entries.{lendable}
-use Rattle.shift_reader.proofs.Tags.{test-is}
+use Rattle.shift_report.proofs.Tags.{test-is}
 use borrow.Author.Needs.{needs}
-use Rattle.shift_reader.proofs.entries.tag_number.Statement.{statement}
-use Rattle.shift_reader.proofs.entries.tag_number.Tie as tie
+use Rattle.shift_report.proofs.entries.tag_number.Statement.{statement}
+use Rattle.shift_report.proofs.entries.tag_number.Tie as tie
 
 verify-row-requires : tie.Need-verify-row-requires
 verify-row-requires c κs =

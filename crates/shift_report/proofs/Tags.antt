@@ -16,8 +16,8 @@ use Rattle.shift_jobs.proofs.Jobs.{opens}
 use Rattle.shift_draft.specs.Files.{entryOut}
 use Rattle.shift_draft.specs.Answers.{tagRight}
 use Rattle.shift_draft.proofs.Takes.{open-done}
-use Rattle.shift_reader.specs.Reporting.{jobOf, tagNumber}
-use Rattle.shift_reader.specs.Promised.{OpeningSays}
+use Rattle.shift_report.specs.Reporting.{jobOf, tagNumber}
+use Rattle.shift_report.specs.Promised.{OpeningSays}
 
 opened-number : (t : Bool) (x o : List ℕ) → openedAs 0 t x o .number ≡ cond t 0 8
 opened-number true x o = refl

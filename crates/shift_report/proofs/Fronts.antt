@@ -13,7 +13,7 @@ use Rattle.shift_format.specs.Format.{countOf}
 use Rattle.status.specs.Answers.{answer, refusalAnswer}
 use Rattle.shift_check.specs.Check.{checkFile}
 use Rattle.status.proofs.Numbers.{refusal-some}
-use Rattle.shift_reader.specs.Reporting.{jobOf, tagNumber, each, front, entries, Report, stopped, longest, reporting}
+use Rattle.shift_report.specs.Reporting.{jobOf, tagNumber, each, front, entries, Report, stopped, longest, reporting}
 
 each-length : (what : ℕ → ℕ) (n : ℕ) → length (each what n) ≡ n
 unfolding each

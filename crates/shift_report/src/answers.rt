@@ -2,7 +2,7 @@
 use status::checked::Refusal;
 ghost use mathlib.Core.Path.{_≡_};
 ghost use Rattle.status.specs.Answers.{refusalAnswer};
-ghost use Rattle.shift_reader.specs.Reporting.{refuses, saidOf};
+ghost use Rattle.shift_report.specs.Reporting.{refuses, saidOf};
 
 // A number and the row that it carries, and how many entries there are.
 pub struct ReportSummary {

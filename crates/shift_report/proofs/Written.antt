@@ -20,9 +20,9 @@ use Rattle.shift_draft.specs.Answers.{tagRight, sealAnswer, fileSealing}
 use Rattle.shift_draft.specs.Promised.{Valid, Genuine}
 use Rattle.shift_draft.proofs.Answers.{sealable}
 use Rattle.shift_draft.proofs.Back.{sealed-then-unsealed}
-use Rattle.shift_reader.specs.Reporting.{jobOf, tagNumber, front, entries}
-use Rattle.shift_reader.specs.Promised.{WriterReported}
-use Rattle.shift_reader.proofs.Fronts.{each-same, all-said}
+use Rattle.shift_report.specs.Reporting.{jobOf, tagNumber, front, entries}
+use Rattle.shift_report.specs.Promised.{WriterReported}
+use Rattle.shift_report.proofs.Fronts.{each-same, all-said}
 
 -- number 0 carries row 0
 zero-row : (e : ℕ) (f : List ℕ) → checkAs e f .number ≡ 0 → checkAs e f ≡ answer 0 0

@@ -4,10 +4,10 @@ use denote.Ref.{now}
 use Rattle.shift_format.specs.Format.{firstEdition, newest}
 use Rattle.status.specs.Answers.{checkedAnswer}
 use Rattle.shift_check.proofs.Passed.{passed-zero, passes}
-use Rattle.shift_reader.proofs.Fronts.{too-long, file-refused, ring-wrong, jobs-short, numbers-short, all-listed}
+use Rattle.shift_report.proofs.Fronts.{too-long, file-refused, ring-wrong, jobs-short, numbers-short, all-listed}
 use borrow.Author.Needs.{needs}
-use Rattle.shift_reader.proofs.report.Statement.{statement}
-use Rattle.shift_reader.proofs.report.Tie as tie
+use Rattle.shift_report.proofs.report.Statement.{statement}
+use Rattle.shift_report.proofs.report.Tie as tie
 
 returns : tie.Need-returns
 returns c = sym (too-long _ _ _ _ (c .if1 .taken))

@@ -9,9 +9,9 @@ use Rattle.shift_format.specs.Format.{countOf, rowOf}
 use Rattle.status.specs.Answers.{answer, refusalAnswer}
 use Rattle.shift_check.specs.Check.{checkFile, refused}
 use Rattle.shift_draft.specs.Answers.{tagRight}
-use Rattle.shift_reader.specs.declared.answers.ReportSummary.{ReportSummary}
-use Rattle.shift_reader.specs.declared.answers.Reported.{Reported}
-use Rattle.shift_reader.specs.declared.answers.Reported.the-variants.{Entries, Refused, Ring, Room}
+use Rattle.shift_report.specs.declared.answers.ReportSummary.{ReportSummary}
+use Rattle.shift_report.specs.declared.answers.Reported.{Reported}
+use Rattle.shift_report.specs.declared.answers.Reported.the-variants.{Entries, Refused, Ring, Room}
 
 -- ---- the entries
 
