@@ -1,4 +1,4 @@
-// AES-128 by FIPS 197: the plain engine. Its one table is the S-box, which is lent to each step.
+// AES-128 by FIPS 197: the plain engine. Its only table is the S-box, which each step borrows.
 ghost use mathlib.Core.Path.{_≡_};
 ghost use mathlib.Core.List.{[], _∷_, map};
 ghost use Prim.Native.Nat.{_<_};
@@ -116,7 +116,7 @@ fn round(t: &[u8; 256], s: Columns, k: Columns, mixing: bool) -> Columns
     add_round_key(u, k)
 }
 
-// The columns of the next key, each the sum of the column in its place and the one before it; before the first comes the given one.
+// The columns of the next round key: each is the XOR of the old column and the new column before it; the given column precedes the first.
 pub fn chained(key: Columns, before: u32) -> Columns
     ensures { λ r. ⌜ (r .a ≡ xor (key .a) before) × (r .b ≡ xor (key .b) (r .a)) × (r .c ≡ xor (key .c) (r .b)) × (r .d ≡ xor (key .d) (r .c)) ⌝ }
 {
@@ -157,14 +157,14 @@ pub fn load(block: [u8; 16]) -> Columns
     }
 }
 
-// The S-box, to be made once and lent.
+// The S-box, constructed once and passed by reference.
 pub fn sbox_table() -> [u8; 256]
     ensures { λ r. ⌜ IsSbox r ⌝ }
 {
     sbox::SBOX
 }
 
-// The image of a block: ten rounds, each with the next round key.
+// The encryption of a block, with a borrowed S-box: ten rounds, each with the next round key.
 pub fn encrypt_with(table: &[u8; 256], key: [u8; 16], block: [u8; 16]) -> [u8; 16]
     requires { ⌜ IsSbox (now table) ⌝ }
     ensures { λ r. ⌜ r ≡ cipher key block ⌝ }
@@ -182,7 +182,7 @@ pub fn encrypt_with(table: &[u8; 256], key: [u8; 16], block: [u8; 16]) -> [u8; 1
     store4_32(s.a, s.b, s.c, s.d)
 }
 
-// The image of a block.
+// The encryption of a block.
 pub fn encrypt(key: [u8; 16], block: [u8; 16]) -> [u8; 16]
     ensures { λ r. ⌜ r ≡ cipher key block ⌝ }
 {

@@ -30,7 +30,7 @@ subBytes s = grid (λ r c. subByte (cell s r c))
 unfoldable pub shiftRows : List ℕ → List ℕ
 shiftRows s = grid (λ r c. cell s r ((c + r) % 4))
 
--- section 5.1.3: a byte of the new column, from the byte in its place and the three below it, row 0 below row 3
+-- section 5.1.3: a byte of the new column, from the byte in its row and the three below it (row 0 follows row 3)
 abbrev pub mixed : ℕ → ℕ → ℕ → ℕ → ℕ
 mixed a b c d = 0x02 • a ⊕ 0x03 • b ⊕ c ⊕ d
 

@@ -6,7 +6,7 @@ use Rattle.block.specs.Outcome.{Outcome}
 use Rattle.aes_plain.proofs.encrypt.Kinds as plain-kinds
 use Rattle.aes_plain.proofs.encrypt.Reads as plain-reads
 
--- of any key and block, a: what `aes_plain::encrypt` may give, and what a function of its signature with the contract Post may give, is one block
+-- for any key and block: `aes_plain::encrypt` and a function of the same signature with the contract Post give the same block
 abbrev pub SameBlock : Out 0 plain-kinds.ps plain-kinds.r → Type 0
 SameBlock Post =
     (κs : Lfts 0) (a : Dens κs plain-kinds.ps)

@@ -1,4 +1,4 @@
-// AES-128 by FIPS 197: the engine by columns. Its one constant is the tables, which are lent to each step.
+// AES-128 by FIPS 197: the engine by columns. Its only constant is the four tables, which each step borrows.
 ghost use mathlib.Core.Path.{_≡_};
 ghost use mathlib.Core.List.{[], _∷_};
 ghost use Prim.Native.Nat.{_<_};
@@ -13,10 +13,10 @@ use word::store4_32;
 
 mod rows;
 
-// Four rows of 256 words: a row for each place of a byte in a column.
+// Four rows of 256 words: one for each row of a column.
 pub type Tables = [[u32; 256]; 4];
 
-// The table of place p at the byte in row k of a column: what the S-box there brings from row p to the mixed column.
+// Entry of table p at the byte in row k of a column: what the S-box of that byte contributes from row p to the mixed column.
 fn entry(t: &Tables, p: u32, x: u32, k: u32) -> u32
     requires { ⌜ IsTables (now t) × (p < 4) × (k < 4) ⌝ }
     ensures { λ r. ⌜ bytes 4 r ≡ share p (subByte (row k x)) ⌝ }
@@ -32,7 +32,7 @@ fn mixed(t: &Tables, a: u32, b: u32, c: u32, d: u32) -> u32
     entry(t, 0, a, 0) ^ entry(t, 1, b, 1) ^ entry(t, 2, c, 2) ^ entry(t, 3, d, 3)
 }
 
-// The S-box at the byte in row k of a column: the table two places on has the multiple 01 in row k, so no byte is moved.
+// The S-box of the byte in row k of a column. Table k + 2 has the multiple 01 in row k, so the byte needs no shift.
 fn sub_byte(t: &Tables, x: u32, k: u32) -> u8
     requires { ⌜ IsTables (now t) × (k < 4) ⌝ }
     ensures { λ r. ⌜ r ≡ subByte (row k x) ⌝ }
@@ -88,14 +88,14 @@ fn next_key(t: &Tables, k: Columns, rc: u32) -> Columns
     aes_plain::chained(k, shifted(t, w, w, w, w) ^ rc)
 }
 
-// The tables, to be made once and lent.
+// The tables, constructed once and passed by reference.
 pub fn tables() -> Tables
     ensures { λ r. ⌜ IsTables r ⌝ }
 {
     rows::TABLES
 }
 
-// The image of a block: nine rounds that mix columns, each with the next round key, and the last.
+// The encryption of a block, with borrowed tables: nine rounds that mix columns, each with the next round key, and the last.
 pub fn encrypt_with(tables: &Tables, key: [u8; 16], block: [u8; 16]) -> [u8; 16]
     requires { ⌜ IsTables (now tables) ⌝ }
     ensures { λ r. ⌜ r ≡ cipher key block ⌝ }
@@ -114,7 +114,7 @@ pub fn encrypt_with(tables: &Tables, key: [u8; 16], block: [u8; 16]) -> [u8; 16]
     store4_32(s.a, s.b, s.c, s.d)
 }
 
-// The image of a block.
+// The encryption of a block.
 pub fn encrypt(key: [u8; 16], block: [u8; 16]) -> [u8; 16]
     ensures { λ r. ⌜ r ≡ cipher key block ⌝ }
 {

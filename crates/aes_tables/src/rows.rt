@@ -1,4 +1,4 @@
-// The tables of FIPS 197's rounds: in row p at the byte x the multiples 02, 01, 01, 03 of the S-box at x, turned by p rows; row 0 is the low byte.
+// The tables of FIPS 197's rounds: entry x of row p holds the multiples 02, 01, 01, 03 of the S-box at x, rotated by p rows; row 0 is the low byte.
 pub const TABLES: [[u32; 256]; 4] = [
     [
         0xa56363c6,

@@ -30,7 +30,7 @@ fill-zeros b r i h k q =
     ∙ sym (append-snoc (take i b) v z)
     ∙ ap (λ (l : List ℕ). l ++ z) (sym (ap (λ (j : ℕ). take j b) (add-one i) ∙ take-suc b i 0 h))
 
--- no zeros behind a full block
+-- no zeros after a full block
 pub full-zeros : (b : List ℕ) → length b ≡ 16 → b ++ replicate (16 - length b) 0 ≡ b
 full-zeros b e =
     let z : 16 - length b ≡ 0 = omega arith in

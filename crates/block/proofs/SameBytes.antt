@@ -22,7 +22,7 @@ same-true (x ∷ s) (y ∷ t) e =
     let b = both-true (eqb x y) (sameBytes s t) e in
     ap₂ (λ (a : ℕ) (l : List ℕ). a ∷ l) (eqb-true x y (b .0)) (same-true s t (b .1))
 
--- what stands behind both does not matter
+-- what stands after both does not matter
 pub same-behind : (s t u : List ℕ) → length s ≡ length t → sameBytes (s ++ u) (t ++ u) ≡ sameBytes s t
 same-behind [] [] u e = same-refl u
 same-behind [] (y ∷ t) u e = absurd (suc-ne-zero (length t) (sym e))

@@ -1,4 +1,4 @@
--- A block of sixteen bytes, held as two numbers of 64 bits; and shorter strings, filled up to one.
+-- A block of sixteen bytes as two 64-bit words, and shorter strings padded with zeros to one.
 use mathlib.Core.List.{List, _++_}
 use Prim.Native.Nat.{ℕ, _-_}
 use lib.ListN.{length, replicate}
@@ -9,6 +9,6 @@ use Rattle.block.specs.declared.Block.{Block}
 abbrev pub wide : Block → List ℕ
 wide x = bytes 8 (x .a) ++ bytes 8 (x .b)
 
--- zero bytes behind, up to sixteen
+-- padded with zero bytes to sixteen
 abbrev pub filled : List ℕ → List ℕ
 filled s = s ++ replicate (16 - length s) 0

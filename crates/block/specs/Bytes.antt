@@ -19,16 +19,16 @@ unfoldable pub bytes : ℕ → ℕ → List ℕ
 bytes zero x = []
 bytes (suc n) x = x % 256 ∷ bytes n (x / 256)
 
--- the n elements of a list from place i on
+-- the n elements of a list from index i on
 abbrev pub part : ℕ → List ℕ → ℕ → List ℕ
 part zero l i = []
 part (suc n) l i = getD l i 0 ∷ part n l (i + 1)
 
--- the word of n bytes at place i of a list of bytes
+-- the word of n bytes at offset i of a list of bytes
 abbrev pub word : ℕ → List ℕ → ℕ → ℕ
 word n l i = value (part n l i)
 
--- the same bytes, all of them
+-- whether two lists of bytes are equal
 abbrev pub sameBytes : List ℕ → List ℕ → Bool
 sameBytes [] [] = true
 sameBytes [] (y ∷ ys) = false

@@ -23,7 +23,7 @@ pub fn xor(left: Block, right: Block) -> Block
     }
 }
 
-// Whether two blocks are the same: their differences gathered, and one test.
+// Whether two blocks are equal: all differences are OR-ed together and tested once, so there is no early exit.
 pub fn same(left: Block, right: Block) -> bool
     ensures { λ r. ⌜ r ≡ sameBytes (wide left) (wide right) ⌝ }
 {
@@ -119,7 +119,7 @@ pub fn sixteen(block: &[u8]) -> Block
     Block { a: lo, b: hi }
 }
 
-// A full block of 16 or 8 bytes, by whole words; zeros behind the eight.
+// A full block of 16 or 8 bytes, read by whole words; eight bytes are padded with zeros.
 pub fn whole(block: &[u8]) -> Block
     requires { ⌜ (length (now block) ≡ 16) ⊎ (length (now block) ≡ 8) ⌝ }
     ensures { λ r. ⌜ wide r ≡ filled (now (block .entry)) ⌝ }
@@ -167,7 +167,7 @@ pub fn number8(eight: [u8; 8]) -> u64
     load8(&eight[0..8])
 }
 
-// Fifteen bytes and a zero: the last eight are read as one number, which loses the byte that was read before.
+// Fifteen bytes and a zero. The last eight are read as one number and shifted by one byte, which drops the byte that the first read covers.
 pub fn fifteen(front: &[u8]) -> Block
     requires { ⌜ length (now front) ≡ 15 ⌝ }
     ensures { λ r. ⌜ wide r ≡ now (front .entry) ++ (0 ∷ []) ⌝ }

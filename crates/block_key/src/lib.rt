@@ -14,7 +14,7 @@ fn doubling(x: u64) -> u64
     (x << 1) ^ ((x >> 63) * 0x1b)
 }
 
-// Doubling of the low 120 bits: what the high half has below the highest of them is added twice, and the bit that the low half drops comes in; the top byte stays.
+// Doubling of the low 120 bits across the two halves: the low 56 bits of the high half are doubled and take in the carry of the low half; the top byte is kept.
 fn doubling120(z: Block) -> Block
     ensures { λ r. ⌜ wide r ≡ doubled two (wide z) ⌝ }
 {
@@ -69,13 +69,13 @@ pub fn next_key(suite: u8, z: Block, m: u8) -> Block
     next_key_one(z, m)
 }
 
-// A block's key, and the Z that is kept behind the block.
+// A block's key, and the Z that is kept after the block.
 pub struct Keyed {
     pub key: Block,
     pub z: Block,
 }
 
-// The key of a block with the mark m, and the Z that is kept behind it: version 2 holds the mark back until then. The version is asked once.
+// The key of a block with the mark m, and the Z that is kept after it: version 2 applies the mark only then. The version is tested once.
 pub fn block_key(suite: u8, z: Block, m: u8) -> Keyed
     ensures key { λ r. ⌜ wide (r .key) ≡ blockKey (versionOf suite) m (wide z) ⌝ }
     ensures z { λ r. ⌜ wide (r .z) ≡ keptBehind (versionOf suite) m (wide (r .key)) ⌝ }

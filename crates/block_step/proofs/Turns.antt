@@ -45,7 +45,7 @@ clean-xor suite x y r cx cy e =
 
 -- ---- one block
 
--- p is v padded, and zeros behind
+-- p is v padded, and zeros after
 pub record Goes (suite : ℕ) (v : List ℕ) (p : Block) : Type 0 where
   pub front : take (sizeOf suite) (wide p) ≡ pad (sizeOf suite) v
   pub clean : Clean suite p
@@ -61,13 +61,13 @@ short-goes suite b p h q =
     }
 
 module _ (suite m : ℕ) (s t : State) (h : Holds suite t (imaged suite m (twoOf suite s)) (oneMore (s .calls))) where
-  -- what goes out for b, by the shuffle x of X
+  -- the output for b, by the shuffle x of X
   pub mask-out : (b x : List ℕ) → length b ≤ sizeOf suite → take (sizeOf suite) x ≡ shuffle (sizeOf suite) (take (sizeOf suite) (wide (t .y)))
       → xors b x ≡ hidden (cipherOf suite) m (twoOf suite s) b
   unfolding hidden
   mask-out b x l e = sym (xors-take b x (sizeOf suite) l) ∙ ap (xors b) (e ∙ ap (λ (w : States). shuffle (sizeOf suite) (w .Y)) (h .two))
 
-  -- the state r after v went in as p
+  -- the state r after v were absorbed as p
   pub put-in : (v : List ℕ) (p : Block) (r : State) → Goes suite v p → wide (r .y) ≡ xors (wide (t .y)) (wide p) → (wide (r .z) ≡ wide (t .z)) × (r .calls ≡ t .calls)
       → Holds suite r (turned (cipherOf suite) m (twoOf suite s) v) (oneMore (s .calls))
   unfolding turned
@@ -83,7 +83,7 @@ module _ (suite m : ℕ) (s t : State) (h : Holds suite t (imaged suite m (twoOf
 
 -- ---- a block of text
 
--- what is left of zeros behind b
+-- what is left of zeros after b
 pub cut-in : (b : List ℕ) (p : Block) → wide p ≡ b ++ replicate (16 - length b) 0 → take (length b) (wide p) ≡ b
 cut-in b p e = ap (take (length b)) e ∙ take-at b (replicate (16 - length b) 0) (length b) refl
 
@@ -98,14 +98,14 @@ module _ (suite m : ℕ) (s t : State) (h : Holds suite t (imaged suite m (twoOf
     (ep : wide p ≡ b ++ replicate (16 - length b) 0)
     (ex : (take (sizeOf suite) (wide x) ≡ shuffle (sizeOf suite) (take (sizeOf suite) (wide (t .y)))) × Clean suite x)
     (ec : wide c ≡ xors (wide p) (wide x)) where
-  -- its first bytes go out for b
+  -- its first bytes are output for b
   pub goes-out : length b ≤ sizeOf suite → take (length b) (wide c) ≡ hidden (cipherOf suite) m (twoOf suite s) b
   goes-out l =
       ap (take (length b)) (ec ∙ ap (λ (v : List ℕ). xors v (wide x)) ep)
       ∙ mask-is b (replicate (16 - length b) 0) (wide x) (length b) refl
       ∙ mask-out suite m s t h b (wide x) l (ex .0)
 
-  -- and where b is full all of it goes in for what went out
+  -- and where b is full all of it is absorbed for what was output
   pub out-goes : length b ≡ sizeOf suite → Goes suite (hidden (cipherOf suite) m (twoOf suite s) b) c
   out-goes e =
       let v : List ℕ = hidden (cipherOf suite) m (twoOf suite s) b in

@@ -101,7 +101,7 @@ short-zeros n j b h k =
     ∙ take-append-add b (1 ∷ replicate j 0) (suc (n - suc (length b)))
     ∙ ap (λ (r : List ℕ). b ++ (1 ∷ r)) (take-replicate (n - suc (length b)) j 0 (omega arith))
 
--- the first k bytes of a number, and 1 behind them
+-- the first k bytes of a number, and 1 after them
 pub pad-low : (n k x q : ℕ) → k < n → q ≡ 256 ^ k → bytes n (x % q + q) ≡ pad n (take k (bytes n x))
 unfolding bytes
 pad-low n k x q h e =
@@ -154,7 +154,7 @@ pad-cut n b h k = ap (take n) (pad-short 16 b (omega arith)) ∙ short-zeros n (
 pub pad-kept : (n : ℕ) (b r : List ℕ) → length b ≡ n → r ≡ b ++ replicate (16 - length b) 0 → take n r ≡ pad n b
 pad-kept n b r e q = ap (take n) q ∙ take-at b (replicate (16 - length b) 0) n e ∙ sym (pad-full n b e)
 
--- ---- zeros behind a block
+-- ---- zeros after a block
 
 pub zeros-kept : (n : ℕ) (b r : List ℕ) → length b ≡ n → r ≡ b ++ replicate (16 - length b) 0 → drop n r ≡ replicate (16 - n) 0
 zeros-kept n b r e q = ap (drop n) q ∙ drop-at b (replicate (16 - length b) 0) n e ∙ ap (λ (k : ℕ). replicate (16 - k) 0) e
@@ -169,7 +169,7 @@ zeros-cut n b h k =
     ∙ drop-replicate j (16 - suc (length b)) 0
     ∙ ap (λ (i : ℕ). replicate i 0) z
 
--- ---- a nonce of fifteen bytes, and a zero behind it
+-- ---- a nonce of fifteen bytes, and a zero after it
 
 xors-zero : (l : List ℕ) → length l ≡ 1 → xors l (0 ∷ []) ≡ l
 xors-zero [] e = absurd (native.Mathlib.Nat.suc-ne-zero 0 (sym e))
@@ -184,7 +184,7 @@ nonce-on-key k v lk lv =
     ∙ xors-append (take 15 k) (drop 15 k) v (0 ∷ []) (lt ∙ sym lv)
     ∙ ap (λ (l : List ℕ). xors (take 15 k) v ++ l) (xors-zero (drop 15 k) (length-drop 15 k ∙ omega arith))
 
--- ---- the mask: zeros behind the block do not matter
+-- ---- the mask: zeros after the block do not matter
 
 pub mask-is : (b z h : List ℕ) (k : ℕ) → k ≡ length b → take k (xors (b ++ z) h) ≡ xors b h
 mask-is b z h k e =

@@ -27,6 +27,6 @@ pub record Holds (suite : ℕ) (r : State) (t : States) (k : ℕ) : Type 0 where
 abbrev pub oneMore : ℕ → ℕ
 oneMore k = add 64 k 1
 
--- X in the place of Y, and the Z that is kept, for a block with the mark m
+-- X instead of Y, and the Z that is kept, for a block with the mark m
 abbrev pub imaged : ℕ → ℕ → States → States
 imaged suite m s = record { Y = imageOf (cipherOf suite) m s; Z = blockZ (versionOf suite) m (s .Z) }

@@ -1,4 +1,4 @@
-// The block step of COMET: the two states Y and Z, a block put in, what goes out for it, and the tag.
+// The block step of COMET: the two states Y and Z, absorbing a block, its output, and the tag.
 pub mod marks;
 pub mod one_block;
 mod pad;

@@ -1,4 +1,4 @@
-// One block of associated data or of text, full or short, by one cipher call: a full one goes by whole words. What goes out for a block of text takes its place.
+// One block of associated data or text, full or short, by one cipher call; a full one is read and written by whole words. The output overwrites the block of text.
 use crate::state::State;
 use cipher::AesTables;
 ghost use mathlib.Core.Path.{_≡_};
@@ -9,7 +9,7 @@ ghost use Rattle.cipher.specs.Cipher.{TablesFit, IsSuite, sizeOf, cipherOf};
 ghost use Rattle.mode.specs.Walk.{turned, hidden, messageOf};
 ghost use Rattle.block_step.specs.Two.{twoOf, Holds, oneMore};
 
-// A full block of associated data, under its mark.
+// Absorbs a full block of associated data under its mark.
 pub fn absorb_full(tables: &[AesTables], suite: u8, state: State, mark: u8, block: &[u8]) -> State
     requires { ⌜ TablesFit suite (now tables) × IsSuite suite × (length (now block) ≡ sizeOf suite) ⌝ }
     ensures { λ r. ⌜ Holds suite r (turned (cipherOf suite) mark (twoOf suite state) (messageOf (cipherOf suite) false mark (twoOf suite state) (now (block .entry)))) (oneMore (state .calls)) ⌝ }
@@ -19,7 +19,7 @@ pub fn absorb_full(tables: &[AesTables], suite: u8, state: State, mark: u8, bloc
     crate::state::mix(t, p)
 }
 
-// A full block of ciphertext, whose message's block goes in and is written nowhere.
+// Absorbs the message block of a full block of ciphertext, without writing it anywhere.
 pub fn verify_full(tables: &[AesTables], suite: u8, state: State, mark: u8, block: &[u8]) -> State
     requires { ⌜ TablesFit suite (now tables) × IsSuite suite × (length (now block) ≡ sizeOf suite) ⌝ }
     ensures { λ r. ⌜ Holds suite r (turned (cipherOf suite) mark (twoOf suite state) (messageOf (cipherOf suite) true mark (twoOf suite state) (now (block .entry)))) (oneMore (state .calls)) ⌝ }
@@ -32,7 +32,7 @@ pub fn verify_full(tables: &[AesTables], suite: u8, state: State, mark: u8, bloc
     crate::state::mix(t, p)
 }
 
-// A full block of a message: it goes in, and its ciphertext takes its place.
+// Seals a full block in place: absorbs the message block and overwrites it with the ciphertext.
 pub fn seal_full(tables: &[AesTables], suite: u8, state: State, mark: u8, block: &mut [u8]) -> State
     requires { ⌜ TablesFit suite (now tables) × IsSuite suite × (length (now block) ≡ sizeOf suite) ⌝ }
     ensures text { λ _. ⌜ now (block .exit) ≡ hidden (cipherOf suite) mark (twoOf suite state) (now (block .entry)) ⌝ }
@@ -47,7 +47,7 @@ pub fn seal_full(tables: &[AesTables], suite: u8, state: State, mark: u8, block:
     crate::state::mix(t, p)
 }
 
-// A full block of ciphertext: its message's block takes its place, and goes in.
+// Opens a full block in place: overwrites the ciphertext with the message block and absorbs that.
 pub fn open_full(tables: &[AesTables], suite: u8, state: State, mark: u8, block: &mut [u8]) -> State
     requires { ⌜ TablesFit suite (now tables) × IsSuite suite × (length (now block) ≡ sizeOf suite) ⌝ }
     ensures text { λ _. ⌜ now (block .exit) ≡ hidden (cipherOf suite) mark (twoOf suite state) (now (block .entry)) ⌝ }
@@ -62,7 +62,7 @@ pub fn open_full(tables: &[AesTables], suite: u8, state: State, mark: u8, block:
     crate::state::mix(t, message)
 }
 
-// A short block of associated data, or of ciphertext whose message's block goes in and is written nowhere.
+// Absorbs a short block of associated data, or the message block of a short block of ciphertext, without writing it anywhere.
 pub fn absorb_short(
     tables: &[AesTables],
     opening: bool,
@@ -86,7 +86,7 @@ pub fn absorb_short(
     crate::state::mix(t, crate::pad::padded(p, block.len()))
 }
 
-// A short block of text: what goes out takes its place, and the message's block goes in.
+// Seals or opens a short block in place: absorbs the message block and overwrites the text with the output.
 pub fn crypt_short(
     tables: &[AesTables],
     opening: bool,

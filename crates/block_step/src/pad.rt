@@ -7,7 +7,7 @@ ghost use Rattle.block.specs.Bytes.{bytes};
 ghost use Rattle.block.specs.Blocks.{wide};
 ghost use Rattle.mode.specs.Words.{pad};
 
-// The first k bytes of a number, 01 behind them, and zeros, up to 8 bytes.
+// The first k bytes of a number, then 01, then zeros, up to 8 bytes.
 fn padded8(x: u64, k: u32) -> u64
     requires { ⌜ k < 8 ⌝ }
     ensures { λ r. ⌜ bytes 8 r ≡ pad 8 (take k (bytes 8 x)) ⌝ }
@@ -16,7 +16,7 @@ fn padded8(x: u64, k: u32) -> u64
     x % q + q
 }
 
-// The first k bytes of a block, 01 behind them, and zeros, up to 16 bytes: its first n are the padding to n.
+// The first k bytes of a block, then 01, then zeros, up to 16 bytes: the first n bytes are the block padded to n.
 pub(crate) fn padded(x: Block, k: usize) -> Block
     requires { ⌜ k < 16 ⌝ }
     ensures { λ r. ⌜ wide r ≡ pad 16 (take k (wide x)) ⌝ }

@@ -21,7 +21,7 @@ fn shuffled16(x: Block) -> Block
     }
 }
 
-// On four words of 16 bits. The rotated one is added last: behind the upper one it would make a double shift, which some processors run slowly.
+// On four words of 16 bits. The rotated word is added last: in another order the compiler emits a double shift, which some processors execute slowly.
 fn shuffled8(x: u64) -> u64
     ensures { λ r. ⌜ bytes 8 r ≡ shuffle 8 (bytes 8 x) ⌝ }
 {
@@ -30,7 +30,7 @@ fn shuffled8(x: u64) -> u64
     h / 0x1_0000 + 0x1_0000_0000 * (x % 0x1_0000_0000) + 0x1_0000 * t
 }
 
-// Of a block of the suite's size n, and zeros behind it.
+// Of a block of the suite's size n, padded with zeros.
 pub(crate) fn shuffled(suite: u8, x: Block, n: usize) -> Block
     requires { ⌜ n ≡ sizeOf suite ⌝ }
     ensures is { λ r. ⌜ take (sizeOf suite) (wide r) ≡ shuffle (sizeOf suite) (take (sizeOf suite) (wide x)) ⌝ }

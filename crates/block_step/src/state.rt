@@ -1,4 +1,4 @@
-// The two states Y and Z: their start, the cipher's call, and a block put in.
+// The two states Y and Z: their start, the cipher's call, and absorbing a block.
 use block::Block;
 use cipher::AesTables;
 ghost use mathlib.Core.Path.{_≡_};
@@ -9,14 +9,14 @@ ghost use Rattle.cipher.specs.Cipher.{TablesFit, IsSuite, sizeOf, nonceOf, ciph
 ghost use Rattle.mode.specs.Walk.{origin};
 ghost use Rattle.block_step.specs.Two.{twoOf, Clean, Holds, oneMore, imaged};
 
-// Y in the first bytes of y, as many as the suite's block has, Z, and how many cipher calls were made. The count goes round at 64 bits, so nothing is asked of a caller who does not read it.
+// Y in the first bytes of y, as many as the suite's block has, Z, and the number of cipher calls so far. The count wraps modulo 2^64, so that it adds no precondition for callers who do not read it.
 pub struct State {
     pub y: Block,
     pub z: Block,
     pub calls: u64,
 }
 
-// The state that key and nonce start, by one call.
+// The initial state for a key and a nonce, by one cipher call.
 pub fn start(tables: &[AesTables], suite: u8, key: &[u8], nonce: &[u8]) -> State
     requires { ⌜ TablesFit suite (now tables) × IsSuite suite × (length (now key) ≡ 16) × (length (now nonce) ≡ nonceOf suite) ⌝ }
     ensures { λ r. ⌜ Holds suite r (origin (cipherOf suite) (now (key .entry)) (now (nonce .entry))) 1 ⌝ }
@@ -24,7 +24,7 @@ pub fn start(tables: &[AesTables], suite: u8, key: &[u8], nonce: &[u8]) -> State
     let k = block::sixteen(key);
     if cipher::size_of(suite) == 16 {
         let v = block::sixteen(nonce);
-        // Made anew where it is lent: what a call is lent is stored where it was made, and a block of 8 bytes needs no store.
+        // Constructed where it is borrowed: a borrowed value is spilled to the stack where it is defined, and an 8-byte block needs no spill.
         let key = Block { a: k.a, b: k.b };
         let z = cipher::encipher16(tables, suite, key, v);
         return State {
@@ -44,7 +44,7 @@ pub fn start(tables: &[AesTables], suite: u8, key: &[u8], nonce: &[u8]) -> State
     }
 }
 
-// The cipher's image of a block, by its size n: a loop over blocks tests that one number, whatever else it tests of it.
+// The encryption of a block, chosen by its size n: a loop over blocks then tests only that number.
 pub(crate) fn image(tables: &[AesTables], suite: u8, n: usize, key: Block, block: Block) -> Block
     requires { ⌜ TablesFit suite (now tables) × IsSuite suite × (n ≡ sizeOf suite) ⌝ }
     ensures image { λ r. ⌜ take (sizeOf suite) (wide r) ≡ cipherOf suite .E (wide key) (take (sizeOf suite) (wide block)) ⌝ }
@@ -65,7 +65,7 @@ pub(crate) fn image(tables: &[AesTables], suite: u8, n: usize, key: Block, block
     }
 }
 
-// The key of a block of n bytes with the mark m; X, the image of Y under it, by one call; and the Z that is kept behind the block.
+// The key of a block of n bytes with the mark m; X, the encryption of Y under it, by one call; and the Z that is kept after the block.
 pub(crate) fn turn(tables: &[AesTables], suite: u8, s: State, m: u8, n: usize) -> State
     requires { ⌜ TablesFit suite (now tables) × IsSuite suite × (n ≡ sizeOf suite) ⌝ }
     ensures { λ r. ⌜ Holds suite r (imaged suite m (twoOf suite s)) (oneMore (s .calls)) ⌝ }

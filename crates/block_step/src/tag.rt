@@ -1,4 +1,4 @@
-// The tag: made, and compared whole.
+// The tag: computed, and compared as a whole.
 use crate::marks::MARK_TAG;
 use crate::state::State;
 use block::Block;
@@ -36,7 +36,7 @@ pub fn tag_of(tables: &[AesTables], suite: u8, state: State) -> TagAndCalls
     }
 }
 
-// Whether the first bytes of the tag that was made are those of the given one, where zeros follow: every difference counts before the one test.
+// Whether the computed tag starts with the given one and is zero after it. All differences are collected before the single test, so there is no early exit.
 pub fn same(made: Block, tag: &[u8]) -> bool
     requires { ⌜ ((length (now tag) ≡ 16) ⊎ (length (now tag) ≡ 8)) × (drop (length (now tag)) (wide made) ≡ replicate (16 - length (now tag)) 0) ⌝ }
     ensures { λ r. ⌜ r ≡ sameBytes (take (length (now (tag .entry))) (wide made)) (now (tag .entry)) ⌝ }

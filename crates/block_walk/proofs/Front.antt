@@ -63,7 +63,7 @@ module _ (n : ℕ) (pos : 0 < n) where
     pub turn-long : length (whole n (drop i l)) ≡ n + length (whole n (drop e l))
     turn-long = ap (λ (x : List ℕ). length (whole n x)) cut-off ∙ front-long (take (e - i) (drop i l)) (drop e l) block-long
 
-  -- what is left of l behind its whole blocks, as the code lends it
+  -- what is left of l after its whole blocks, as the code lends it
   module _ (l : List ℕ) (i : ℕ) (e : i ≡ length (whole n l)) where
     place : i ≡ length l / n * n
     place = e ∙ length-whole n pos l
@@ -137,7 +137,7 @@ module _ (κ : Cipher) (pos : 0 < κ .size) (d : Bool) (short : ℕ) where
       ap (λ (x : List ℕ). walked κ d m short s (wholes n x)) (sym (append-nil b)) ∙ front-walk m s b [] e
       ∙ short-walk 0 (turned κ m s (messageOf κ d m s b)) [] pos
 
-  -- a loop's turn: the block from i to e of l goes in, under the mark m
+  -- a loop's turn: the block from i to e of l is absorbed, under the mark m
   module _ (l : List ℕ) (i e : ℕ) (q : e ≡ i + n) (h : e ≤ length l) (m : ℕ) (s t : States) (et : t ≡ turned κ m s (messageOf κ d m s (take (e - i) (drop i l)))) where
     abbrev block : List ℕ
     block = take (e - i) (drop i l)
@@ -147,7 +147,7 @@ module _ (κ : Cipher) (pos : 0 < κ .size) (d : Bool) (short : ℕ) where
         ap (λ (x : States). walked κ d 0 short x (wholes n (drop e l))) et
         ∙ sym (ap (walked κ d m short s) (turn-blocks n pos l i e q h) ∙ walk-full m s block (wholes n (drop e l)) (block-long n pos l i e q h))
 
-    -- what went out so far, after the part of out from i to e was lent and has come back as x
+    -- what was output so far, after the part of out from i to e borrowed and has come back as x
     pub turn-cover : (out x post all : List ℕ) → i ≤ length out → length x ≡ e - i → x ≡ hidden κ m s block
         → take i out ++ covered κ d m short s (wholes n (drop i l)) ≡ all
         → take e (take i out ++ (x ++ post)) ++ covered κ d 0 short t (wholes n (drop e l)) ≡ all

@@ -79,7 +79,7 @@ module _ (suite : ℕ) (d : Bool) (m : ℕ) (s : State) (l : List ℕ) where
           gone = omega (arith, g .gone, ap length (whole-short n pos (drop i l) left));
         }
 
--- at i of a text that is written in place: what went out stands before i, and what came from i on
+-- at i of a text that is written in place: what was output stands before i, and what came from i on
 pub record Placed (suite : ℕ) (d : Bool) (m : ℕ) (s : State) (l : List ℕ) (t : State) (k i : ℕ) (text : List ℕ) : Type 0 where
   pub long : length text ≡ length l
   pub new : (short : ℕ) → take i text ++ covered (cipherOf suite) d k short (twoOf suite t) (wholes (sizeOf suite) (drop i l)) ≡ covered (cipherOf suite) d m short (twoOf suite s) (wholes (sizeOf suite) l)
@@ -90,7 +90,7 @@ module _ (suite : ℕ) (d : Bool) (m : ℕ) (s : State) (l : List ℕ) where
   placed-start = record { long = refl; new = λ short. refl; old = refl }
 
   module _ (pos : 0 < sizeOf suite) (t : State) (k i : ℕ) (g : Going suite d m s l t k i) (text : List ℕ) (w : Placed suite d m s l t k i text) where
-    -- the block from i to e, which was lent, has come back as x
+    -- the block from i to e, which borrowed, has come back as x
     pub placed-turn : (e : ℕ) (r : State) (x : List ℕ) → e ≡ i + sizeOf suite → e ≤ length l → length x ≡ length (take (e - i) (drop i text))
         → (x ≡ hidden (cipherOf suite) k (twoOf suite t) (take (e - i) (drop i text)))
         × Holds suite r (turned (cipherOf suite) k (twoOf suite t) (messageOf (cipherOf suite) d k (twoOf suite t) (take (e - i) (drop i text)))) (oneMore (t .calls))

@@ -1,4 +1,4 @@
--- Every public function of `block_walk` leaves one outcome: the two states, the bytes beside them, the count, the mark and the place tell what is handed back.
+-- Every public function of `block_walk` leaves one outcome: the two states, the bytes beside them, the count, the mark and the place tell what is returned.
 use mathlib.Core.Path.{_≡_, refl, sym, ap, _∙_}
 use mathlib.Core.Bool.{Bool}
 use mathlib.Core.List.{List}

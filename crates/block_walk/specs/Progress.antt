@@ -1,4 +1,4 @@
--- What stands behind the whole blocks of a text, once all of them have gone in.
+-- The result of processing the whole blocks of a text.
 use mathlib.Core.Path.{_≡_}
 use mathlib.Core.Bool.{Bool, cond}
 use mathlib.Core.List.{List}
@@ -18,7 +18,7 @@ use Rattle.block_walk.specs.declared.Progress.{Progress}
 abbrev pub wholes : ℕ → List ℕ → List (List ℕ)
 wholes n l = blocks n (whole n l)
 
--- r stands behind the whole blocks of l, from the state s on, the first of them under the mark m. No whole block has the short mark, whatever it is. Less than a block: the bytes beside Y and the mark are as they were; else zeros and no mark
+-- r is the result of processing the whole blocks of l from the state s, the first under the mark m. No whole block has the short mark, whatever it is. If there is no whole block, the mark and the bytes of y that Y does not use are unchanged; else there is no mark and these bytes are zero
 pub record Passed (suite : ℕ) (d : Bool) (m : ℕ) (s : State) (l : List ℕ) (r : Progress) : Type 0 where
   pub two : (short : ℕ) → twoOf suite (r .s) ≡ walked (cipherOf suite) d m short (twoOf suite s) (wholes (sizeOf suite) l)
   pub beside : drop (sizeOf suite) (wide (r .s .y)) ≡ cond (ltb (length l) (sizeOf suite)) (drop (sizeOf suite) (wide (s .y))) (replicate (16 - sizeOf suite) 0)

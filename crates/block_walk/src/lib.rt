@@ -1,4 +1,4 @@
-// The whole blocks of a text, one step each, by loops that test no block's length: what the one-call sealer, the opener and the sessions have in common. The direction stands in each loop as a literal, and nobody else calls the full block's steps, so the compiler puts them into the loops.
+// The loops over the whole blocks of a text, shared by the one-call sealer, the opener and the sessions. Each loop has its direction as a literal and is the only caller of its step, so that the compiler inlines the step.
 use block_step::one_block::absorb_full;
 use block_step::one_block::open_full;
 use block_step::one_block::seal_full;
@@ -14,7 +14,7 @@ ghost use Rattle.mode.specs.Walk.{rest, covered};
 ghost use Rattle.block_step.specs.Two.{twoOf};
 ghost use Rattle.block_walk.specs.Progress.{wholes, Passed};
 
-// What stands behind the whole blocks: the state, the mark that the next block takes as the first, and how many bytes have gone in.
+// The result after the whole blocks: the state, the mark that is still due for the next block, and how many bytes were processed.
 pub struct Progress {
     pub s: State,
     pub mark: u8,
@@ -51,7 +51,7 @@ fn absorb_blocks(tables: &[AesTables], suite: u8, s: State, m: u8, b: &[u8]) -> 
     }
 }
 
-// Whole blocks of ciphertext, whose message goes in.
+// Whole blocks of ciphertext, whose message is absorbed.
 fn verify_blocks(tables: &[AesTables], suite: u8, s: State, m: u8, b: &[u8]) -> Progress
     requires { ⌜ TablesFit suite (now tables) × IsSuite suite ⌝ }
     ensures { λ r. ⌜ Passed suite true m s (now (b .entry)) r ⌝ }
@@ -81,7 +81,7 @@ fn verify_blocks(tables: &[AesTables], suite: u8, s: State, m: u8, b: &[u8]) -> 
     }
 }
 
-// The whole blocks go in, the first under the mark, and nothing is written: of associated data as they are, of ciphertext that is opened the message's.
+// Absorbs the whole blocks, the first under the mark, and writes nothing: associated data as it is, of ciphertext the message.
 pub fn absorb(
     tables: &[AesTables],
     opening: bool,
@@ -161,7 +161,7 @@ fn open_blocks(tables: &[AesTables], suite: u8, s: State, m: u8, text: &mut [u8]
     }
 }
 
-// The whole blocks of a text go in, the first under the mark, and what goes out for them takes their place; what lies behind them stays.
+// Seals or opens the whole blocks of a text in place, the first under the mark; the bytes after them are unchanged.
 pub fn crypt(
     tables: &[AesTables],
     opening: bool,

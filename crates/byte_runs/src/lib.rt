@@ -1,4 +1,4 @@
-// Runs of bytes, one by one: copied, wiped, compared with zeros; and blocks of fewer than sixteen.
+// Runs of bytes: copying, wiping, comparison with zeros, and blocks of fewer than sixteen bytes.
 use block::Block;
 use block::block_of;
 use block::bytes_of;
@@ -11,7 +11,7 @@ ghost use lib.ListN.{length, take, replicate};
 ghost use Rattle.block.specs.Bytes.{sameBytes};
 ghost use Rattle.block.specs.Blocks.{wide, filled};
 
-// All of `from`, into an output of its length.
+// Copies all of `from` into an output of the same length.
 pub fn copy(from: &[u8], to: &mut [u8])
     requires { ⌜ length (now to) ≡ length (now from) ⌝ }
     ensures { λ _. ⌜ now (to .exit) ≡ now (from .entry) ⌝ }
@@ -37,7 +37,7 @@ pub fn all_zero(bytes: &[u8]) -> bool
     true
 }
 
-// Zeros all over.
+// Sets every byte to 0.
 pub fn wipe(out: &mut [u8])
     ensures { λ _. ⌜ now (out .exit) ≡ replicate (length (now (out .entry))) 0 ⌝ }
 {
@@ -48,7 +48,7 @@ pub fn wipe(out: &mut [u8])
     }
 }
 
-// At most sixteen bytes, and zeros behind them, one by one.
+// At most sixteen bytes, padded with zeros, as an array.
 pub fn filled_bytes(front: &[u8]) -> [u8; 16]
     requires { ⌜ length (now front) ≤ 16 ⌝ }
     ensures { λ r. ⌜ r ≡ filled (now (front .entry)) ⌝ }
@@ -62,7 +62,7 @@ pub fn filled_bytes(front: &[u8]) -> [u8; 16]
     r
 }
 
-// At most sixteen bytes, and zeros behind them.
+// At most sixteen bytes, padded with zeros, as a block.
 pub fn filled(front: &[u8]) -> Block
     requires { ⌜ length (now front) ≤ 16 ⌝ }
     ensures { λ r. ⌜ wide r ≡ filled (now (front .entry)) ⌝ }
@@ -79,7 +79,7 @@ pub fn filled(front: &[u8]) -> Block
     block_of(filled_bytes(front))
 }
 
-// Writes the first bytes of sixteen, one by one.
+// Writes the first bytes of an array of sixteen, as many as the output has.
 fn put_bytes(sixteen: [u8; 16], out: &mut [u8])
     requires { ⌜ length (now out) ≤ 16 ⌝ }
     ensures { λ _. ⌜ now (out .exit) ≡ take (length (now (out .entry))) sixteen ⌝ }
@@ -91,7 +91,7 @@ fn put_bytes(sixteen: [u8; 16], out: &mut [u8])
     }
 }
 
-// Writes the first bytes of a block.
+// Writes the first bytes of a block, as many as the output has.
 pub fn put(block: Block, out: &mut [u8])
     requires { ⌜ length (now out) ≤ 16 ⌝ }
     ensures { λ _. ⌜ now (out .exit) ≡ take (length (now (out .entry))) (wide block) ⌝ }

@@ -32,7 +32,7 @@ fn mix(k: u32, t: u32) -> u32
     k ^ word::rotl32(k, 1) ^ word::rotl32(k, t)
 }
 
-// The place of the second round key of word i.
+// The index of the second round key of word i.
 fn second_place(i: usize) -> usize
     requires { ⌜ i < 4 ⌝ }
     ensures { λ r. ⌜ (r ≡ secondPlace 32 i) × (r < 8) ⌝ }
@@ -40,7 +40,7 @@ fn second_place(i: usize) -> usize
     (i + 4) ^ 1
 }
 
-// The round keys, each at its place.
+// The round keys, each at its index.
 fn round_keys(key: [u8; 16]) -> [u32; 8]
     ensures { λ r. ⌜ r ≡ roundKeys 32 key ⌝ }
 {
@@ -56,7 +56,7 @@ fn round_keys(key: [u8; 16]) -> [u32; 8]
     keys
 }
 
-// The word that round i makes of the first two.
+// The new word of round i, from the first two.
 fn turn(a: u32, b: u32, r: u32, i: u32, p: u32, q: u32) -> u32
     requires { ⌜ (0 < p) × (p < 32) × (0 < q) × (q < 32) ⌝ }
     ensures { λ x. ⌜ x ≡ turned 32 p q a b r i ⌝ }
@@ -64,7 +64,7 @@ fn turn(a: u32, b: u32, r: u32, i: u32, p: u32, q: u32) -> u32
     word::rotl32(word::add32(a ^ i, word::rotl32(b, p) ^ r), q)
 }
 
-// Rounds i to i + 3, where i is even, with the four round keys from place `at` on: each overwrites the word that leaves the state.
+// Rounds i to i + 3, where i is even, with the four round keys from index `at` on. Each round overwrites the word that leaves the state.
 fn four_rounds(s: Words, keys: &[u32; 8], at: usize, i: u32) -> Words
     requires { ⌜ (at + 3 < 8) × (i < 80) ⌝ }
     ensures { λ x. ⌜ (x .s0 ≡ turned 32 1 8 (s .s0) (s .s1) (getD (now (keys .entry)) at 0) i)
@@ -95,7 +95,7 @@ fn words_of(b: [u8; 16]) -> Words
     }
 }
 
-// The image of the block under the key.
+// The encryption of the block under the key.
 pub fn encrypt(key: [u8; 16], block: [u8; 16]) -> [u8; 16]
     ensures { λ r. ⌜ r ≡ cham 32 key block ⌝ }
 {

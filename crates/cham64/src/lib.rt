@@ -30,7 +30,7 @@ fn mix(k: u16, t: u16) -> u16
     k ^ word::rotl16(k, 1) ^ word::rotl16(k, t)
 }
 
-// The place of the second round key of word i.
+// The index of the second round key of word i.
 fn second_place(i: usize) -> usize
     requires { ⌜ i < 8 ⌝ }
     ensures { λ r. ⌜ (r ≡ secondPlace 16 i) × (r < 16) ⌝ }
@@ -38,7 +38,7 @@ fn second_place(i: usize) -> usize
     (i + 8) ^ 1
 }
 
-// The round keys, each at its place.
+// The round keys, each at its index.
 fn round_keys(key: [u8; 16]) -> [u16; 16]
     ensures { λ r. ⌜ r ≡ roundKeys 16 key ⌝ }
 {
@@ -54,7 +54,7 @@ fn round_keys(key: [u8; 16]) -> [u16; 16]
     keys
 }
 
-// The word that round i makes of the first two.
+// The new word of round i, from the first two.
 fn turn(a: u16, b: u16, r: u16, i: u16, p: u16, q: u16) -> u16
     requires { ⌜ (0 < p) × (p < 16) × (0 < q) × (q < 16) ⌝ }
     ensures { λ x. ⌜ x ≡ turned 16 p q a b r i ⌝ }
@@ -62,7 +62,7 @@ fn turn(a: u16, b: u16, r: u16, i: u16, p: u16, q: u16) -> u16
     word::rotl16(word::add16(a ^ i, word::rotl16(b, p) ^ r), q)
 }
 
-// Rounds i to i + 3, where i is even, with the four round keys from place `at` on: each overwrites the word that leaves the state.
+// Rounds i to i + 3, where i is even, with the four round keys from index `at` on. Each round overwrites the word that leaves the state.
 fn four_rounds(s: Words, keys: &[u16; 16], at: usize, i: u16) -> Words
     requires { ⌜ (at + 3 < 16) × (i < 80) ⌝ }
     ensures { λ x. ⌜ (x .s0 ≡ turned 16 1 8 (s .s0) (s .s1) (getD (now (keys .entry)) at 0) i)
@@ -93,7 +93,7 @@ fn words_of(b: [u8; 8]) -> Words
     }
 }
 
-// The image of the block under the key.
+// The encryption of the block under the key.
 pub fn encrypt(key: [u8; 16], block: [u8; 8]) -> [u8; 8]
     ensures { λ r. ⌜ r ≡ cham 16 key block ⌝ }
 {

@@ -26,11 +26,11 @@ keyWord w key i = word (w / 8) key (w / 8 * i)
 abbrev pub mixed : ℕ → ℕ → ℕ → ℕ
 mixed w t ki = xor (xor ki (rotl w 1 ki)) (rotl w t ki)
 
--- the place of the second round key of Ki: (i + k/w) XOR 1
+-- the index of the second round key of Ki: (i + k/w) XOR 1
 abbrev pub secondPlace : ℕ → ℕ → ℕ
 secondPlace w i = xor (i + 128 / w) 1
 
--- the 2k/w round keys, those of the first words of the key put in: with t = 8 at place i, with t = 11 at the second place
+-- the 2k/w round keys, written for the first words of the key: with t = 8 at index i, with t = 11 at the second index
 unfoldable pub placed : ℕ → List ℕ → ℕ → List ℕ
 placed w key zero = replicate (2 * 128 / w) 0
 placed w key (suc i) = set (set (placed w key i) i (mixed w 8 (keyWord w key i))) (secondPlace w i) (mixed w 11 (keyWord w key i))
@@ -69,6 +69,6 @@ stateOf w block = state (word (w / 8) block 0) (word (w / 8) block (w / 8)) (wor
 abbrev pub bytesOf : ℕ → State → List ℕ
 bytesOf w s = bytes (w / 8) (s .s0) ++ bytes (w / 8) (s .s1) ++ bytes (w / 8) (s .s2) ++ bytes (w / 8) (s .s3)
 
--- the image of a block of four words under a key of 16 bytes
+-- the encryption of a block of four words under a key of 16 bytes
 unfoldable pub cham : ℕ → List ℕ → List ℕ → List ℕ
 cham w key block = bytesOf w (rounds w (roundKeys w key) (stateOf w block) 80)

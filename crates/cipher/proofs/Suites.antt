@@ -245,7 +245,7 @@ pub engine-4 : (s : ℕ) → s ≡ 4 → engineOf s ≡ cham 16
 unfolding engineOf
 engine-4 s e = ap (λ (f : Facts). imageOf (f .engine)) (line-4 s e)
 
--- ---- what they are lent
+-- ---- the tables that they borrow
 
 abbrev tablesBy : Facts → Bool
 tablesBy f = hasTables (f .engine)
@@ -271,6 +271,6 @@ needs-tables-late s h =
       ]
     ]
 
--- where a suite's engine is lent nothing, nothing is ready for it
+-- for a suite whose engine needs no tables, the empty slice fits
 pub none-ready : (s : ℕ) → needsTables s ≡ false → TablesFit s []
 none-ready s h = record { full = λ e. absurd (true≢false (sym e ∙ h)) }

@@ -22,13 +22,13 @@ pub data Version : Type 0 where
   one : Version
   two : Version
 
--- what the mode is built over: a block cipher, by its block size and the image of a block under a key, and the version
+-- what the mode is built over: a block cipher, by its block size and the encryption of a block under a key, and the version
 pub record Cipher : Type 0 where
   pub size : ℕ
   pub E : List ℕ → List ℕ → List ℕ
   pub version : Version
 
--- what the cipher promises: blocks of 16 or 8 bytes, images are blocks, and under each key no two blocks share an image
+-- what the cipher promises: blocks of 16 or 8 bytes, encryptions are blocks, and under each key encryption is injective
 pub record Lawful (κ : Cipher) : Type 0 where
   pub sizes : (κ .size ≡ 16) ⊎ (κ .size ≡ 8)
   pub image : (k b : List ℕ) → Block 16 k → Block (κ .size) b → Block (κ .size) (κ .E k b)
@@ -41,7 +41,7 @@ pub data BlockCipher : Type 0 where
   speck64 : BlockCipher
   cham64 : BlockCipher
 
--- the image of a block under a key
+-- the encryption of a block under a key
 abbrev pub imageOf : BlockCipher → List ℕ → List ℕ → List ℕ
 imageOf aes128 = cipher
 imageOf cham128 = cham 32
@@ -80,21 +80,21 @@ factsOf s =
     (cond (leb s 5) (facts 16 16 16 two aes128)
     (facts 8 15 8 two speck64)))))
 
--- a suite that we have; of any other number the table's facts are asked nowhere
+-- a suite that exists; the table's facts of any other number are never used
 unfoldable pub isSuite : ℕ → Bool
 isSuite s = leb 1 s && leb s 6
 
 abbrev pub IsSuite : ℕ → Type 0
 IsSuite s = isSuite s ≡ true
 
--- suite 4 is retired (document 02, W7): it still opens, and seals no more
+-- suite 4 is retired (document 02, W7): it still opens, but no longer seals
 abbrev pub retiredSuite : ℕ
 retiredSuite = 4
 
 unfoldable pub retired : ℕ → Bool
 retired s = eqb s retiredSuite
 
--- a suite that seals: one that we have, and that is not retired
+-- a suite that seals: one that exists and is not retired
 unfoldable pub seals : ℕ → Bool
 seals s = isSuite s && not (retired s)
 

@@ -1,4 +1,4 @@
-// The block ciphers of the six suites, under one promise.
+// The block ciphers of the six suites after one contract.
 use block::Block;
 ghost use mathlib.Core.Path.{_≡_};
 ghost use mathlib.Core.Bool.{true};
@@ -15,10 +15,10 @@ ghost use Rattle.cipher.specs.Cipher.{needsTables, Full, TablesFit, isSu
 // The most bytes of associated data, and the most of a message.
 pub const LIMIT: usize = 65536;
 
-// Suite 4, over CHAM-64/128. It is retired (document 02, W7): it opens, and seals no more.
+// Suite 4, over CHAM-64/128. It is retired (document 02, W7): it opens, and is retired.
 pub const RETIRED: u8 = 4;
 
-// Whether we have the suite.
+// Whether the suite exists.
 pub fn is_suite(suite: u8) -> bool
     ensures { λ r. ⌜ r ≡ isSuite suite ⌝ }
 {
@@ -56,7 +56,7 @@ pub fn nonce_size(suite: u8) -> usize
     if size_of(suite) == 16 { 16 } else { 15 }
 }
 
-// Whether the suite is of COMET's version 2.
+// Whether the suite uses COMET version 2.
 pub fn is_second(suite: u8) -> bool
     ensures { λ r. ⌜ r ≡ isTwo (versionOf suite) ⌝ }
 {
@@ -116,7 +116,7 @@ fn by_cham64(key0: u64, key1: u64, block: u64) -> u64
     block::number8(cham64::encrypt(k, b))
 }
 
-// The image of a block of 16 bytes.
+// The encryption of a block of 16 bytes.
 pub fn encipher16(tables: &[AesTables], suite: u8, key: Block, block: Block) -> Block
     requires { ⌜ TablesFit suite (now tables) × IsSuite suite × (sizeOf suite ≡ 16) ⌝ }
     ensures { λ r. ⌜ wide r ≡ cipherOf suite .E (wide key) (wide block) ⌝ }
@@ -127,7 +127,7 @@ pub fn encipher16(tables: &[AesTables], suite: u8, key: Block, block: Block) -> 
     by_cham128(key, block)
 }
 
-// The image of a block of 8 bytes: as numbers, which pass in registers; the key's are its halves.
+// The encryption of a block of 8 bytes, as a number: numbers pass in registers. The key is given by its two halves.
 pub fn encipher8(suite: u8, key0: u64, key1: u64, block: u64) -> u64
     requires { ⌜ IsSuite suite × (sizeOf suite ≡ 8) ⌝ }
     ensures { λ r. ⌜ bytes 8 r ≡ cipherOf suite .E (bytes 8 key0 ++ bytes 8 key1) (bytes 8 block) ⌝ }
@@ -139,7 +139,7 @@ pub fn encipher8(suite: u8, key0: u64, key1: u64, block: u64) -> u64
 }
 
 // The image of the block's first bytes, as many as the suite's block has, and zeros after it. It calls the engine of suite 4
-// itself: one that has two callers stays a function of its own, and `encipher8` saves no registers for it where it runs Speck.
+// directly: an engine with two callers is not inlined, so `encipher8` saves no registers for it on the path to Speck.
 pub fn encipher(tables: &[AesTables], suite: u8, key: Block, block: Block) -> Block
     requires { ⌜ TablesFit suite (now tables) × IsSuite suite ⌝ }
     ensures image { λ r. ⌜ take (sizeOf suite) (wide r) ≡ cipherOf suite .E (wide key) (take (sizeOf suite) (wide block)) ⌝ }

@@ -19,7 +19,7 @@ use Rattle.comet.specs.Counted.{Counting, countedAs, callsOf, sealingCou
 use Rattle.status.proofs.Refuse.{passed}
 use Rattle.comet.proofs.Left.{sealing-over, opening-over}
 
--- a and m blocks, the start's call, and the tag's behind them
+-- a and m blocks, the start's call, and the tag's after them
 pub count-all : (a m x y k : ℕ) → a ≤ 65536 → m ≤ 65536 → x ≡ add 64 1 a → y ≡ add 64 x m → k ≡ oneMore y → k ≡ a + m + 2
 count-all a m x y k ha hm ex ey ek =
     let la : 1 + a < 2 ^ 64 = omega arith in

@@ -23,7 +23,7 @@ ghost use Rattle.status.specs.Verdicts.{numberOf, refusal};
 ghost use Rattle.comet.specs.Answers.{Sealed, sealing, Opened, opening, verifying};
 ghost use Rattle.comet.specs.Counted.{Counting, sealingCounted, openingCounted};
 
-// What a call answers, and how many cipher calls it took.
+// The status of a call, and how many cipher calls it took.
 pub struct Counted {
     pub verdict: Verdict,
     pub calls: u64,
@@ -54,7 +54,7 @@ fn refused_for(
     )
 }
 
-// Seals or opens text in its place under these tables; returns the tag and the count of cipher calls. Every length is right. Empty inputs are skipped, so that the states stay in registers.
+// Seals or opens text in place under these tables; returns the tag and the count of cipher calls. Every length is right. Empty inputs are skipped, so that the states stay in registers.
 fn crypt_core(
     tables: &[AesTables],
     opening: bool,
@@ -110,7 +110,7 @@ fn crypt(
     crypt_core(&[], opening, suite, key, nonce, ad, text)
 }
 
-// Seals text in its place and writes its tag: what sealing into another buffer and in place share. Every length is right.
+// Seals text in place and writes its tag: what sealing into another buffer and in place share. Every length is right.
 fn seal_checked(
     suite: u8,
     key: &[u8],
@@ -181,7 +181,7 @@ pub fn seal(
     seal_counted(suite, key, nonce, ad, msg, out, tag).verdict
 }
 
-// Seals text in its place, and its tag into tag.
+// Seals text in place and writes its tag to tag.
 pub fn seal_in_place(
     suite: u8,
     key: &[u8],
@@ -209,7 +209,7 @@ pub fn seal_in_place(
     seal_checked(suite, key, nonce, ad, text, tag).verdict
 }
 
-// Opens text in its place, or overwrites it with zeros if its tag is wrong: what opening into another buffer and in place share. Every length is right.
+// Opens text in place, or overwrites it with zeros if its tag is wrong: what opening into another buffer and in place share. Every length is right.
 fn unseal_checked(
     suite: u8,
     key: &[u8],
@@ -287,7 +287,7 @@ pub fn unseal(
     unseal_counted(suite, key, nonce, ad, text, tag, out).verdict
 }
 
-// Opens text in its place, if its tag is right; else every byte of it is 0.
+// Opens text in place if its tag is right; else every byte of it is 0.
 pub fn unseal_in_place(
     suite: u8,
     key: &[u8],
@@ -368,7 +368,7 @@ fn tag_under(suite: u8, key: &[u8], nonce: &[u8], ad: &[u8], text: &[u8]) -> Blo
     tag_core(&[], suite, key, nonce, ad, text)
 }
 
-// Whether a record is genuine: the opener's answer, and no text is written anywhere.
+// Whether a record is genuine: the opener's status, without writing a text anywhere.
 pub fn verify(suite: u8, key: &[u8], nonce: &[u8], ad: &[u8], text: &[u8], tag: &[u8]) -> Verdict
     ensures { λ r. ⌜ numberOf r ≡ verifying suite (now (key .entry)) (now (nonce .entry)) (now (ad .entry)) (now (text .entry)) (now (tag .entry)) ⌝ }
 {

@@ -14,7 +14,7 @@ ghost use Rattle.mode.specs.Blocks.{blocks};
 ghost use Rattle.mode.specs.Walk.{walked, covered};
 ghost use Rattle.block_step.specs.Two.{twoOf};
 
-// All blocks of b go in, a call each, the first under the mark first and a short one under the mark short too; nothing is written.
+// Absorbs all blocks of b, one cipher call each, the first under the mark `first` and a short one also under the mark `short`; nothing is written.
 pub(crate) fn absorb_all(
     tables: &[AesTables],
     opening: bool,
@@ -38,7 +38,7 @@ pub(crate) fn absorb_all(
     t
 }
 
-// All blocks of a text that is not empty, a call each: what goes out takes its place.
+// Seals or opens all blocks of a nonempty text in place, one cipher call each.
 pub(crate) fn crypt_all(
     tables: &[AesTables],
     opening: bool,

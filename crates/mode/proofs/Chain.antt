@@ -65,7 +65,7 @@ module _ (κ : Cipher) (L : Lawful κ) where
   unfolding masked
   masked-twice c b h = xors-cancel b (shuffle (κ .size) (image κ c)) (omega (arith, shuffle-block (κ .size) (image κ c) (L .sizes) .long))
 
-  -- what goes out, read in the other direction, is the same message block
+  -- the output, read in the other direction, is the same message block
   message-back : (d : Bool) (c : Chain) (b : List ℕ) → length b ≤ κ .size → message κ (not d) c (masked κ c b) ≡ message κ d c b
   unfolding message
   message-back true c b h = refl

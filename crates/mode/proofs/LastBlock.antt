@@ -25,7 +25,7 @@ crypted-append κ d c (b ∷ xs) bs =
     ∙ sym (append-assoc (masked κ c b) _ _)
 
 module _ (κ : Cipher) (L : Lawful κ) (j : ℕ) where
-  -- the first j blocks that go out, from the first j blocks that come in
+  -- the first j blocks that are output, from the first j blocks that come in
   front : (d : Bool) (c : Chain) (x : List ℕ) → AllBytes x → j * κ .size < length x
       → take (j * κ .size) (crypted κ d c (blocks (κ .size) x)) ≡ crypted κ d c (blocks (κ .size) (take (j * κ .size) x))
   front d c x hx h =

@@ -106,7 +106,7 @@ module _ (κ : Cipher) (L : Lawful κ) where
   abbrev pub Full : List (List ℕ) → Type 0
   Full bs = (i : ℕ) → i < length bs → length (getD bs i []) ≡ κ .size
 
-  -- d stands behind the end of every list of calls
+  -- d stands after the end of every list of calls
   module _ (d : CipherCall) where
     -- the output at block i, by the list of calls
     abbrev pub outputOf : Chain → List (List ℕ) → ℕ → List ℕ

@@ -142,7 +142,7 @@ module _ (κ : Cipher) (L : Lawful κ) where
     abbrev d₀ : CipherCall
     d₀ = startCall κ key nonce
 
-    -- the message's calls stand in the list behind the start's and those of the associated data
+    -- the message's calls stand in the list after the start's and those of the associated data
     output-is : (ad c : List ℕ) (i : ℕ) → i < length (blocks (κ .size) c)
         → outputAt κ key nonce ad c i ≡ outputOf κ L d₀ (afterData κ key nonce ad (length c)) (blocks (κ .size) c) i
     unfolding outputAt calls afterData

@@ -88,7 +88,7 @@ pub fn load(argument: usize, buf: &mut [u8]) -> &[u8] {
     program_text::read::front(&buf[..], got)
 }
 
-// What a program that writes a file says: number and row, once the file stands under the name of an argument where the number
+// The output of a program that writes a file: number and row, once the file is written under the name of an argument if the number
 // is 0; or that it cannot be written.
 pub fn answered(number: u8, row: usize, file: &[u8], argument: usize) {
     if number == 0 && !save::save(argument, file) {

@@ -1,5 +1,5 @@
 // Opened entries: `job` and `current`. After the answer a line for each of unit, job, suite, key number, station (in
-// edition 2), data (the associated data behind job and unit) and message. Bytes are shown as text where every one is
+// edition 2), data (the associated data after job and unit) and message. Bytes are shown as text where every one is
 // printable, and else in hex.
 use cipher::LIMIT;
 use program_text::read::front;
@@ -38,7 +38,7 @@ fn unit_of(out: &mut [u8], at: usize, ad: &[u8]) -> usize {
     unit_line(out, at, ad[4])
 }
 
-// The associated data behind job and unit.
+// The associated data after job and unit.
 fn rest(ad: &[u8]) -> &[u8] {
     if ad.len() < 5 {
         return front(ad, 0);

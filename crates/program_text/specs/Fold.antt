@@ -2,7 +2,7 @@
 use Prim.Native.Nat.{ℕ, _+_, _*_, _%_}
 use mathlib.Core.List.{List, [], _∷_}
 
--- the fold s with the byte b behind it, modulo the largest prime below 2 ^ 32
+-- the fold s with the byte b after it, modulo the largest prime below 2 ^ 32
 abbrev pub next : ℕ → ℕ → ℕ
 next s b = (s * 257 + b + 1) % 4294967291
 

@@ -3,7 +3,7 @@ ghost use mathlib.Core.Path.{_≡_};
 ghost use Prim.Native.Nat.{_<_};
 ghost use Rattle.program_text.specs.Fold.{foldOf, foldFrom, next};
 
-// The fold with a byte behind it.
+// The fold with a byte after it.
 pub fn folded(fold: u64, byte: u8) -> u64
     requires { ⌜ fold < 4294967291 ⌝ }
     ensures { λ r. ⌜ (r ≡ next fold byte) × (r < 4294967291) ⌝ }
@@ -11,7 +11,7 @@ pub fn folded(fold: u64, byte: u8) -> u64
     (fold * 257 + byte as u64 + 1) % 4294967291
 }
 
-// The fold with the bytes behind it.
+// The fold with the bytes after it.
 pub fn fold_from(fold: u64, bytes: &[u8]) -> u64
     requires { ⌜ fold < 4294967291 ⌝ }
     ensures { λ r. ⌜ (r ≡ foldFrom fold (now (bytes .entry))) × (r < 4294967291) ⌝ }

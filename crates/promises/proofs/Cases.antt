@@ -63,7 +63,7 @@ module _ (f : List ℕ) (job : ℕ) where
   unfolding searching
   search-goes z = simp z
 
-  -- a number that the halving does not give is the head's
+  -- a number that the binary search does not give is the head's
   search-by : (k : ℕ) → (k ≡ 0 → ⊥) → (k ≡ 32 → ⊥) → By (λ j. searching f job ≡ ends (answer j 0)) Unit (ladder Unit (headTable firstEdition newest f) (head-rungs firstEdition newest f)) k
   search-by k n0 n32 = (λ e. (tt, sym (head-is firstEdition newest f) ∙ on (eqb H 0) refl e), λ y. let h : H ≡ k = head-is firstEdition newest f ∙ y .1 in search-stops (λ z. n0 (sym h ∙ z)) ∙ ap (λ (m : ℕ). ends (answer m 0)) h)
     where

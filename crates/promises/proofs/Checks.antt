@@ -40,7 +40,7 @@ tells-above : (f : List ℕ) (i : ℕ) → Tells (notAbove (rowSizeOf f) f i) ((
 unfolding notAbove
 tells-above f i = tells-and (tells-as (tells-not (tells-eq i 0)) (λ n. omega (arith, n), λ l e. omega (arith, l, e))) (tells-le (rowOf f i .job) (rowOf f (i - 1) .job))
 
--- a body ends behind its tag
+-- a body ends after its tag
 tells-end : (f : List ℕ) (r : Row) → Tells (ltb (length f) (bodyEnd r)) (length f < r .«ad_at» + r .«ad_len» + r .«text_len» + tagSize (r .suite))
 unfolding bodyEnd
 tells-end f r =

@@ -66,7 +66,7 @@ with-text suite key nonce ad text other i h e =
       text-most = subst (λ (n : ℕ). n ≤ limit) (sym e) (i .text-most);
     }
 
--- what the sealer leaves with 0 is what it worked out
+-- what the sealer leaves with 0 is what it computed
 sealed-pair : (n : ℕ) (text tag out₁ tag₁ c t : List ℕ) → sealedAs n text tag out₁ tag₁ ≡ record { number = 0; out = c; tag = t } → (text ≡ c) × (tag ≡ t)
 sealed-pair zero text tag out₁ tag₁ c t e = (ap (λ (r : Sealed). r .out) e, ap (λ (r : Sealed). r .tag) e)
 sealed-pair (suc n) text tag out₁ tag₁ c t e = absurd (suc-ne-zero n (ap (λ (r : Sealed). r .number) e))

@@ -1,4 +1,4 @@
--- W10 by citation; a file and its moved file have equal rows, which is all that compare asks.
+-- W10 by citation; a file and its moved file have equal rows, which is all that compare requires.
 use mathlib.Core.Path.{_≡_, sym}
 use mathlib.Core.List.{List}
 use Prim.Native.Nat.{ℕ, _<_}

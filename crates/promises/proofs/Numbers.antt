@@ -38,7 +38,7 @@ pub tells-suite : (s : ℕ) → Tells (not (isSuite s)) ((s < 1) ⊎ (6 < s))
 unfolding isSuite
 tells-suite s = tells-as (tells-not (tells-and (tells-le 1 s) (tells-le s 6))) (outside 1 6 s)
 
--- of the suites that we have the fourth alone seals no more
+-- of the suites that we have the fourth alone is retired
 four-shut : not (seals 4) ≡ true
 unfolding seals retired isSuite
 four-shut = refl

@@ -1,4 +1,4 @@
--- W7, the suite that seals no more: the line of 10 in the tables of sealer, opener and session is suite 4's.
+-- W7, the suite that is retired: the line of 10 in the tables of sealer, opener and session is suite 4's.
 use mathlib.Core.Path.{_≡_, refl, sym, _∙_}
 use mathlib.Core.Bool.{false, true≢false}
 use Rattle.block.proofs.Tests.{is-false}

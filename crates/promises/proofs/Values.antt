@@ -1,4 +1,4 @@
--- The starred values, worked out by computation.
+-- The starred values, computed by computation.
 use mathlib.Core.Path.{refl}
 use Rattle.block.specs.Words.{xor}
 use Rattle.aes_spec.specs.Field.{xtime, multiples, _•_, find, inverse}

@@ -47,12 +47,12 @@ pub record JobCases (f ring : List ℕ) (job : ℕ) (out : List ℕ) : Type 0 wh
       ∷ []
       )
 
--- the search (W6): each of 20 to 24, and no row is looked at; else what the halving rule gives (`Halves`), which is 0 or 32
+-- the search (W6): each of 20 to 24, and no row is looked at; else what the binary search rule gives (`Halves`), which is 0 or 32
 pub record SearchCases (f : List ℕ) (job : ℕ) : Type 0 where
   pub head : Lines (λ k. searching f job ≡ ends (answer k 0)) Unit (headTable firstEdition newest f)
   pub halved : None (headTable firstEdition newest f) → searching f job ≡ halving (jobsOf (rowSizeOf f) f) job 0 (countOf f)
 
--- compare (W8): the first file's refusal, the second's, 36; every refusal leaves the lists as they were
+-- compare (W8): the first file's refusal, the second's, 36; every refusal leaves the lists unchanged
 
 -- both files pass
 abbrev pub BothPass : List ℕ → List ℕ → Type 0

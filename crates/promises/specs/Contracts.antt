@@ -131,7 +131,7 @@ use Rattle.snoekeldraf.proofs.contents.shift_rows.Reads as shift-rows-reads
 use Rattle.snoekeldraf.proofs.contents.shift_row.Kinds as shift-row-kinds
 use Rattle.snoekeldraf.proofs.contents.shift_row.Reads as shift-row-reads
 
--- what a routine takes and gives, what it asks of its arguments, and what it ensures
+-- what a routine takes and gives, what it requires of its arguments, and what it ensures
 pub record Contract : Type 3 where
   pub lifetimes : ℕ
   pub params : List (PK lifetimes)

@@ -7,7 +7,7 @@ use Rattle.shift_compare.specs.Comparing.{refusedIn, stopped, comparison}
 use Rattle.shift_editions.specs.Answers.{toEdition2, toEdition1}
 use Rattle.shift_editions.specs.Promised.{ThereAndBack, BackAndThere, UpPasses, BackPasses, BackShort, LengthTold, UpRises, BackFalls, UpKeeps, BackKeeps, UpReads, BackReads}
 
--- compare (W8) of a file and its moved file: three empty lists, so that any buffers do and stay as they were
+-- compare (W8) of a file and its moved file: three empty lists, so that buffers of any length suffice and stay unchanged
 abbrev pub Equal : List ℕ → List ℕ → Type 0
 Equal f g = (x y z : List ℕ) → comparison f g x y z ≡ stopped (refusedIn 0 (answer 0 0)) x y z
 

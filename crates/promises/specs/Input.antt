@@ -1,4 +1,4 @@
--- What a call works on: what the definition needs, and document 01's limits beside it.
+-- The input of a call: what the definition needs, and document 01's limits.
 use mathlib.Core.Path.{_≡_}
 use Prim.Native.Nat.{ℕ, _≤_}
 use mathlib.Core.List.{List}

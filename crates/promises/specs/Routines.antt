@@ -1,4 +1,4 @@
--- What the routines do is what the definitions say. Every other promise speaks of the definitions (`sealing`, `opening`, `checkFile`, ..); here, for each entry point, of whatever its own contract allows: what it answers, with what it leaves behind each `&mut` (out′ for out), is the definition's value on the bytes that it was lent.
+-- The routines compute what the definitions say. Every other promise is about the definitions (`sealing`, `opening`, `checkFile`, ..). Here, for each entry point and for every outcome that its contract allows: the status, with the final contents of each `&mut` (out′ for out), is the definition's value on the bytes that it borrowed.
 use mathlib.Core.Path.{_≡_}
 use Prim.Native.Nat.{ℕ}
 use mathlib.Core.List.{List, []}
@@ -49,7 +49,7 @@ pub record Routines : Type 0 where
       let (_, (_, (_, (_, (_, (_, (out′, _))))))) = x .last in
       _≡_ {A = Counting Opened} (record { leaves = record { number = numberOf (x .result .verdict); out = out′ }; calls = x .result .calls })
       (openingCounted suite (now key) (now nonce) (now ad) (now text) (now tag) (now out))
-  -- in the text's place; and the test of a record, which leaves nothing
+  -- in place; and the verifier, which writes nothing
   pub seal-in-place : (κs : Lfts 5) (suite : ℕ) (key nonce ad text tag : RefT (List ℕ)) (x : Gave the.seal-in-place κs (suite, (key, (nonce, (ad, (text, (tag, tt))))))) →
       let (_, (_, (_, (_, (text′, (tag′, _)))))) = x .last in
       _≡_ {A = Sealed} (record { number = numberOf (x .result); out = text′; tag = tag′ }) (sealing suite (now key) (now nonce) (now ad) (now text) (now text) (now tag))

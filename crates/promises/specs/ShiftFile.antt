@@ -14,6 +14,6 @@ pub record ShiftFile : Type 0 where
   pub answers : OpeningAnswers
   -- the altered unit of an accepted entry with an empty message is refused
   pub unit : UnitRefused
-  -- testing a job's tag gives number and row of opening it, and hands out where its associated data lies on 0 alone
+  -- verifying a job gives number and row of opening it, and the offset of its associated data on 0 alone
   pub verifies : VerifiesAsOpening
   pub places : VerifiedPlaces

@@ -13,6 +13,6 @@ pub record Writer : Type 0 where
   pub opener-takes : OpenerTakes
   pub seal-numbers : SealNumbers
   pub unseal-numbers : UnsealNumbers
-  -- a genuine file, altered inside one block: 8 with that row, and zeros all over
+  -- a genuine file, altered inside one block: 8 with that row, and an output of zeros
   pub text-altered : TextAltered
   pub data-altered : DataAltered

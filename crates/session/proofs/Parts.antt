@@ -1,4 +1,4 @@
--- What the code worked out for a part of the message, or for the end, is what the definition gives.
+-- What the code computed for a part of the message, or for the end, is what the definition gives.
 use mathlib.Core.Path.{_≡_, refl, ap, ap₂, _∙_}
 use mathlib.Core.Bool.{false}
 use Prim.Native.Nat.{ℕ, _+_, _-_, _%_}

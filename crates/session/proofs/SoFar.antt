@@ -25,7 +25,7 @@ use Rattle.mode.proofs.Cut.{length-rest, whole-short, rest-short, blocks-whole-
 use Rattle.block_step.proofs.Turns.{states-path}
 use Rattle.mode.proofs.Walk.{walked-append, covered-append, Fine, walked-fine, later-first, text-walk, tag-walk}
 
--- ---- a walk over the whole blocks of l goes on with what comes behind l
+-- ---- a walk over the whole blocks of l goes on with what comes after l
 
 module _ (κ : Cipher) (pos : 0 < κ .size) (first short : ℕ) (s : States) (l : List ℕ) where
   abbrev n : ℕ
@@ -151,7 +151,7 @@ module _ (suite : ℕ) (key nonce : List ℕ) (hk : Block 16 key) (hv : AllBytes
   unfolding blocksOut soFar
   text-out a m l ha hm = ap (λ (s : States). covered κ false (firstMark κ 0x20 (length m)) 0x40 s (blocks (κ .size) l)) (begun-is a m ha hm)
 
-  -- what goes out for a part is the next piece of the ciphertext
+  -- the output for a part is the next piece of the ciphertext
   pub part-out : (a m p : List ℕ) → AllBytes a → AllBytes m → outSoFar κ key nonce a m ++ partOut κ (value a m) p ≡ outSoFar κ key nonce a (m ++ p)
   unfolding partOut soFar
   part-out a m p ha hm =

@@ -1,4 +1,4 @@
-// Held bytes and a part behind them: the whole blocks go in (crate block_walk), and the rest is held.
+// Buffered bytes followed by a part: whole blocks are processed (crate block_walk), and the rest is buffered.
 use block_step::marks::MARK_SHORT_TEXT;
 use block_step::one_block::crypt_short;
 use block_step::state::State;
@@ -17,7 +17,7 @@ ghost use Rattle.block_step.specs.Two.{twoOf};
 ghost use Rattle.block_walk.specs.Progress.{wholes, Passed};
 ghost use Rattle.session.specs.Value.{written};
 
-// The two states, and what is held back.
+// The two states, and the buffered bytes.
 pub(crate) struct Absorbed {
     pub s: State,
     pub held: [u8; 16],
@@ -37,7 +37,7 @@ fn joined(held: [u8; 16], h: usize, p: &[u8]) -> [u8; 16]
     r
 }
 
-// The whole blocks of ad go in, none of them the first, and the rest is held.
+// Absorbs the whole blocks of ad, none of them the first, and buffers the rest.
 fn absorb_blocks(tables: &[AesTables], suite: u8, s: State, ad: &[u8]) -> Absorbed
     requires { ⌜ TablesFit suite (now tables) × IsSuite suite ⌝ }
     ensures states { λ r. ⌜ twoOf suite (r .s) ≡ walked (cipherOf suite) false 0 0x10 (twoOf suite s) (blocks (sizeOf suite) (whole (sizeOf suite) (now (ad .entry)))) ⌝ }
@@ -50,7 +50,7 @@ fn absorb_blocks(tables: &[AesTables], suite: u8, s: State, ad: &[u8]) -> Absorb
     Absorbed { s: t, held: h }
 }
 
-// The whole blocks of h held bytes and then ad, which completes one, go in, the first under the mark m, and the rest is held.
+// Absorbs the whole blocks of h buffered bytes followed by ad, which completes one, the first under the mark m, and buffers the rest.
 fn absorb_past(
     tables: &[AesTables],
     suite: u8,
@@ -71,7 +71,7 @@ fn absorb_past(
     absorb_blocks(tables, suite, t.s, &ad[need..ad.len()])
 }
 
-// The whole blocks of h held bytes and then ad go in, the first under the mark m, and the rest is held. Tables are made only where a block is completed.
+// Absorbs the whole blocks of h buffered bytes followed by ad, the first under the mark m, and buffers the rest. Tables are constructed only if a block is completed.
 pub(crate) fn absorb_part(
     suite: u8,
     s: State,
@@ -96,7 +96,7 @@ pub(crate) fn absorb_part(
     absorb_past(&[], suite, s, m, held, h, ad)
 }
 
-// The two states, what is held back, and how many bytes went out.
+// The two states, the buffered bytes, and how many bytes were output.
 pub(crate) struct Sealed {
     pub s: State,
     pub held: [u8; 16],
@@ -113,7 +113,7 @@ fn gather(held: [u8; 16], h: usize, p: &[u8], out: &mut [u8])
     byte_runs::copy(p, &mut out[h..end]);
 }
 
-// The whole blocks of text are sealed in their place, the first under the mark m: the cipher is lent what it needs.
+// Seals the whole blocks of text in place, the first under the mark m, with the tables that the cipher needs.
 fn crypt_blocks(suite: u8, s: State, m: u8, text: &mut [u8]) -> Progress
     requires { ⌜ IsSuite suite ⌝ }
     ensures text { λ _. ⌜ ((short : ℕ) → now (text .exit) ≡ covered (cipherOf suite) false m short (twoOf suite s) (wholes (sizeOf suite) (now (text .entry))) ++ rest (sizeOf suite) (now (text .entry))) ⌝ }
@@ -126,7 +126,7 @@ fn crypt_blocks(suite: u8, s: State, m: u8, text: &mut [u8]) -> Progress
     block_walk::crypt(&[], false, suite, s, m, text)
 }
 
-// The whole blocks of h held bytes and then part go in, the first under the mark m, and their ciphertext out; the rest is held. Tables are made only where a block is completed.
+// Seals the whole blocks of h buffered bytes followed by part, the first under the mark m, and outputs their ciphertext; the rest is buffered. Tables are constructed only if a block is completed.
 pub(crate) fn crypt_part(
     suite: u8,
     s: State,
@@ -165,7 +165,7 @@ pub(crate) fn crypt_part(
     }
 }
 
-// The h held bytes of message go in as a short block, if there are any, and their ciphertext out.
+// Seals the h buffered bytes of message as a short block, if there are any, and outputs their ciphertext.
 pub(crate) fn last_in(
     tables: &[AesTables],
     suite: u8,

@@ -1,4 +1,4 @@
-// What the calls do once nothing is refused: the cipher is lent what it needs.
+// The work of the calls once nothing is refused.
 use crate::Session;
 use crate::Step;
 use crate::blocks::Absorbed;
@@ -77,7 +77,7 @@ pub(crate) fn refused(k: u8) -> Step
     }
 }
 
-// A session that key and nonce start.
+// The session after a start with this key and nonce.
 pub(crate) fn started(tables: &[AesTables], suite: u8, key: &[u8], nonce: &[u8]) -> Step
     requires { ⌜ TablesFit suite (now tables) × (startNumber suite (length (now key)) (length (now nonce)) ≡ 0) ⌝ }
     ensures { λ r. ⌜ gives r [] [] ≡ starting suite (now (key .entry)) (now (nonce .entry)) ⌝ }
@@ -92,7 +92,7 @@ pub(crate) fn started(tables: &[AesTables], suite: u8, key: &[u8], nonce: &[u8])
     }
 }
 
-// The mark of the next whole block: m if none has gone in.
+// The mark of the next whole block: m if none was absorbed yet.
 fn first_mark(suite: u8, m: u8, total: usize) -> u8
     ensures { λ r. ⌜ r ≡ firstMark (cipherOf suite) m total ⌝ }
 {
@@ -100,7 +100,7 @@ fn first_mark(suite: u8, m: u8, total: usize) -> u8
     if total < n { m } else { 0 }
 }
 
-// Associated data goes in.
+// Absorbs a part of the associated data.
 pub(crate) fn take_in(s: Session, part: &[u8]) -> Step
     requires { ⌜ dataNumber (s .suite) (s .«ad_total») (s .«text_total») (length (now part)) ≡ 0 ⌝ }
     ensures { λ r. ⌜ gives r [] [] ≡ dataPart (asValue s) (now (part .entry)) ⌝ }
@@ -128,7 +128,7 @@ pub(crate) fn take_in(s: Session, part: &[u8]) -> Step
     }
 }
 
-// Associated data's last bytes go in as a short block: the cipher is lent what it needs.
+// Absorbs the associated data's last bytes as a short block, with the tables that the cipher needs.
 fn absorb_last(suite: u8, s: State, m: u8, b: &[u8]) -> State
     requires { ⌜ IsSuite suite × (length (now b) < sizeOf suite) ⌝ }
     ensures { λ r. ⌜ Holds suite r (turned (cipherOf suite) m (twoOf suite s) (messageOf (cipherOf suite) false m (twoOf suite s) (now (b .entry)))) (oneMore (s .calls)) ⌝ }
@@ -140,7 +140,7 @@ fn absorb_last(suite: u8, s: State, m: u8, b: &[u8]) -> State
     absorb_short(&[], false, suite, s, m, b)
 }
 
-// The states as the message goes on: where it has not begun, the associated data's last bytes go in first.
+// The states when the message begins or continues: if it begins, the associated data's last bytes are absorbed first.
 fn begin(s: Session) -> State
     requires { ⌜ IsSuite (s .suite) ⌝ }
     ensures { λ r. ⌜ twoOf (s .suite) r ≡ begun (cipherOf (s .suite)) (asValue s) ⌝ }
@@ -186,7 +186,7 @@ fn going(s: Session) -> State
     begin(s)
 }
 
-// Message goes in, at least one byte of it, and the ciphertext of the blocks that it completes out.
+// Seals a part of the message, at least one byte, and outputs the ciphertext of the blocks that it completes.
 pub(crate) fn seal_in(s: Session, part: &[u8], out: &mut [u8]) -> Step
     requires { ⌜ (textNumber (s .suite) (s .«ad_total») (s .«text_total») (length (now part)) (length (now out)) ≡ 0) × (0 < length (now part)) ⌝ }
     ensures { λ r. ⌜ gives r (now (out .exit)) [] ≡ textPart (asValue s) (now (part .entry)) (now (out .entry)) ⌝ }

@@ -104,7 +104,7 @@ module _ (a d : List ℕ) (job : ℕ) where
     unfolding amendedOpening
     opens-second n = ap (openedIn (amendedEntry a d job .file)) (speaks .day n)
 
--- ---- the part that is handed back
+-- ---- the part that is returned
 
 -- the bytes of the file that holds an entry
 pub holder-now : (a d : RefT (List ℕ)) (x : Amended) → now (holder a d x) ≡ holder (now a) (now d) x
@@ -115,7 +115,7 @@ holder-now a d x = go (eqb (x .entry .number) 0 && eqb (x .file) 2)
     go true = refl
     go false = refl
 
--- x is the current entry, as it was located
+-- x is the current entry, unchanged located
 module _ (a d : RefT (List ℕ)) (job : ℕ) (x : Amended) (is : x ≡ amendedEntry (now a) (now d) job) where
   module _ (r : RefT (List ℕ)) where
     -- a part of the file that holds it, at its place

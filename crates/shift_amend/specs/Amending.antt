@@ -14,11 +14,11 @@ use Rattle.shift_jobs.specs.Entry.{entryOf}
 use Rattle.shift_jobs.specs.Opening.{JobOpened, left, jobOpening}
 use Rattle.shift_amend.specs.declared.Amended.{Amended}
 
--- a refusal: its number and row, and no place
+-- a refusal: its number and row, and no offset
 abbrev pub noEntry : Answer → Entry
 noEntry x = record { number = x .number; row = x .row; «ad_at» = 0; «ad_len» = 0; «text_at» = 0; «text_len» = 0 }
 
--- an entry, and the file that its number speaks of
+-- an entry, and the file that its status concerns
 abbrev pub inFile : ℕ → Entry → Amended
 inFile k x = record { file = k; entry = x }
 
@@ -40,13 +40,13 @@ amendedEntry a d job =
 unfoldable pub holder : {A : Type 0} → A → A → Amended → A
 holder a d x = cond (eqb (x .entry .number) 0 && eqb (x .file) 2) d a
 
--- r is the associated data of the current entry, as a part of the file that holds it; on a refusal, whose places are 0, the amendment's first zero bytes
+-- r is the associated data of the current entry, as a part of the file that holds it; on a refusal, whose offsets are 0, the amendment's first zero bytes
 abbrev pub CurrentPart : RefT (List ℕ) → RefT (List ℕ) → RefT (List ℕ) → ℕ → Type 0
 CurrentPart a d r job =
     let x = amendedEntry (now a) (now d) job in
     PartOf (holder a d x) r (x .entry .«ad_at») (x .entry .«ad_len»)
 
--- what opening the current entry gives and leaves
+-- the status of opening the current entry, and the output
 pub record AmendedOpening : Type 0 where
   pub file : ℕ
   pub answer : Answer
@@ -55,7 +55,7 @@ pub record AmendedOpening : Type 0 where
 abbrev pub openedIn : ℕ → JobOpened → AmendedOpening
 openedIn k x = record { file = k; answer = x .answer; out = x .out }
 
--- a refusal stands, and no key is touched; else the job is opened in the file that holds it
+-- a refusal is the answer, and no key is touched; else the job is opened in the file that holds it
 unfoldable pub amendedOpening : List ℕ → List ℕ → List ℕ → ℕ → List ℕ → AmendedOpening
 amendedOpening a d ring job out₀ =
     let x = amendedEntry a d job in

@@ -1,4 +1,4 @@
--- What the crate's own functions tell each other; no entry point's contract cites it.
+-- Facts that the crate's own functions pass on; no entry point's contract cites them.
 use Prim.Native.Nat.{ℕ}
 use mathlib.Core.Path.{_≡_}
 use mathlib.Core.Bool.{Bool, true, false}
@@ -21,7 +21,7 @@ finding (At i) = true
 finding Missing = false
 finding (Refused x) = false
 
--- a file and a lookup tell the current entry: the file is its own, and the lookup that of the amendment where it speaks of it, else that of the day's file
+-- a file and a lookup determine the current entry: the lookup is the amendment's if the file is the amendment, else the day's
 pub record Tells (a d : List ℕ) (job file : ℕ) (x : Answer) : Type 0 where
   pub named : file ≡ amendedEntry a d job .file
   pub amendment : file ≡ 1 → x ≡ lookupJob a job

@@ -1,4 +1,4 @@
--- What an amendment does (document 02, W11).
+-- The promises of amendments (document 02, W11).
 use Prim.Native.Nat.{ℕ}
 use mathlib.Core.Path.{_≡_}
 use mathlib.Core.List.{List}
@@ -47,7 +47,7 @@ pub record Neither (a d : List ℕ) (job : ℕ) : Type 0 where
   pub amendment : Lacks a job
   pub day : Lacks d job
 
--- 32 exactly then, with file 0, row 0 and no place
+-- 32 exactly then, with file 0, row 0 and no offset
 pub record Missing (a d : List ℕ) (job : ℕ) : Type 0 where
   pub only : amendedEntry a d job .entry .number ≡ 32 → Neither a d job
   pub told : Neither a d job → amendedEntry a d job ≡ inFile 0 (noEntry (answer 32 0))
@@ -55,11 +55,11 @@ pub record Missing (a d : List ℕ) (job : ℕ) : Type 0 where
 abbrev pub MissingExactly : Type 0
 MissingExactly = (a d : List ℕ) (job : ℕ) → Missing a d job
 
--- what the one-file call promises of the part that it hands back
+-- what the one-file call promises of the part that it returns
 abbrev pub OneFilePart : RefT (List ℕ) → RefT (List ℕ) → ℕ → Type 0
 OneFilePart f r job = PartOf f r (dataStart (now f) (lookupJob (now f) job)) (dataLength (now f) (lookupJob (now f) job))
 
--- the part is what the one-file call gives on the file that holds the entry: its bytes, and its place in that file; on a refusal the amendment's first zero bytes
+-- the part is what the one-file call returns for the file that holds the entry: its bytes, and its offset in that file; on a refusal the amendment's first zero bytes
 pub record Hands (a d r : RefT (List ℕ)) (job : ℕ) : Type 0 where
   pub held : amendedEntry (now a) (now d) job .entry .number ≡ 0 → CurrentPart a d r job ↔ OneFilePart (holder a d (amendedEntry (now a) (now d) job)) r job
   pub refused : (amendedEntry (now a) (now d) job .entry .number ≡ 0 → ⊥) → CurrentPart a d r job ↔ PartOf a r 0 0

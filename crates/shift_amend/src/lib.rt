@@ -10,20 +10,20 @@ ghost use Rattle.shift_jobs.specs.Answers.{foundAnswer, openedAnswer};
 ghost use Rattle.shift_amend.specs.Amending.{amendedEntry, CurrentPart, AmendedOpening, amendedOpening};
 ghost use Rattle.shift_amend.specs.Inside.{refusing, finding, Tells};
 
-// The current entry of a job: the file that its number speaks of (1 the amendment, 2 the day's, 0 where neither has the
+// The current entry of a job: the file that its status concerns (1 the amendment, 2 the day's, 0 where neither has the
 // job), and the entry.
 pub struct Amended {
     pub file: u8,
     pub entry: Entry,
 }
 
-// What opening the current entry gives, and the file that it speaks of.
+// The status of opening the current entry, and the file that it concerns.
 pub struct OpenedIn {
     pub file: u8,
     pub opened: JobAnswer,
 }
 
-// What tells the current entry: the file that its number speaks of, and that file's lookup (the day's, where neither has the job).
+// What determines the current entry: the file that its status concerns, and that file's lookup (the day's, where neither has the job).
 struct Looked {
     file: u8,
     found: Found,

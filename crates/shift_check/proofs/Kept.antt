@@ -24,7 +24,7 @@ use Rattle.shift_check.proofs.Alike.{Agree, AgreeTable, word-same, star
 abbrev pub badFrom : ℕ → List ℕ → List ℕ → ℕ → Answer
 badFrom w f g n = firstOf (λ j. badData g (rowAt w f j)) (answer 30) (answer 0 0) 0 (n - 0)
 
--- job number and unit are as they were
+-- job number and unit are unchanged
 pub data-held : (f g : List ℕ) (w j : ℕ) → badData f (rowAt w f j) ≡ false → Agree g f (rowAt w f j .«ad_at») 5 → badData g (rowAt w f j) ≡ false
 unfolding badData
 data-held f g w j h near =
@@ -78,7 +78,7 @@ module _ (f g : List ℕ) (long : length g ≡ length f) (low high : ℕ) (p : P
   abbrev w : ℕ
   w = rowSizeOf f
 
-  -- the body lies behind the table
+  -- the body lies after the table
   behind : rowStart w (countOf f) ≤ rowAt w f i .«ad_at»
   behind = omega (arith, after-table w f (countOf f) (p .walk) i (omega arith), p .walk .rows i within .place .starts)
 

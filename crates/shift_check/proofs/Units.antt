@@ -36,7 +36,7 @@ module _ (low high : ℕ) (f : List ℕ) (p : Passes low high f) (i v : ℕ) (wi
   pub unit-outside : (k : ℕ) → (k < rowAt (rowSizeOf f) f i .«ad_at») ⊎ (bodyEnd (rowAt (rowSizeOf f) f i) ≤ k) → getD altered k 0 ≡ getD f k 0
   unit-outside k = ⊎-elim (λ a. byte-other k (λ q. omega arith)) (λ a. byte-other k (λ q. omega (arith, unit-in)))
 
-  -- the job number is as it was
+  -- the job number is unchanged
   data-unit : badData altered (rowAt (rowSizeOf f) f i) ≡ not (isUnit v)
   unfolding badData
   data-unit =

@@ -21,7 +21,7 @@ notAbove w f i = not (eqb i 0) && leb (rowAt w f i .job) (rowAt w f (i - 1) .job
 abbrev pub outside : ℕ → ℕ → ℕ → Bool
 outside low high x = ltb x low || ltb high x
 
--- 26: no suite that we have, or key number over 15
+-- 26: no such suite, or key number over 15
 unfoldable pub badSuite : Row → Bool
 badSuite r = not (isSuite (r .suite)) || ltb 15 (r .key)
 
@@ -37,7 +37,7 @@ bodyStart w f n i = cond (eqb i 0) (rowStart w n) (bodyEnd (rowAt w f (i - 1)))
 unfoldable pub misplaced : ℕ → List ℕ → ℕ → ℕ → Bool
 misplaced w f n i = not (eqb (rowAt w f i .«ad_at») (bodyStart w f n i)) || ltb (length f) (bodyEnd (rowAt w f i))
 
--- 34: a nonce byte that the suite leaves unread is not 0: the nonce is not the bytes that are read, and zeros behind them
+-- 34: a nonce byte that the suite does not read is not 0: the nonce is not the bytes that are read, padded with zeros
 unfoldable pub unreadSet : ℕ → List ℕ → ℕ → Bool
 unreadSet w f i = not (sameBytes (nonceAt w f i) (filled (nonceReadAt w f i)))
 
@@ -81,7 +81,7 @@ unfoldable pub rowsFrom : ℕ → List ℕ → ℕ → ℕ → Answer
 rowsFrom w f n i =
     firstOf (λ j. not (eqb (rowNumber w f n j) 0)) (λ j. answer (rowNumber w f n j) j) (endAnswer w f n) i (n - i)
 
--- the first of 20 to 24 that applies, else 0; the editions from low to high are taken
+-- the first of 20 to 24 that applies, else 0; the editions from low to high are accepted
 unfoldable pub headNumber : ℕ → ℕ → List ℕ → ℕ
 headNumber low high f =
     cond (ltb (length f) 8 || ltb 1048576 (length f)) 20

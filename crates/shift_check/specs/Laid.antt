@@ -1,4 +1,4 @@
--- What a file that passes the check looks like: its bodies lie one after the other, and nothing else lies behind the table.
+-- What a file that passes the check looks like: its bodies follow each other, and nothing else follows the table.
 use Prim.Native.Nat.{ℕ, zero, suc, _-_, _≤_, _<_}
 use mathlib.Core.Path.{_≡_}
 use mathlib.Core.List.{List, [], _++_}

@@ -1,4 +1,4 @@
--- The filter before 29 of the check; no entry point's contract cites it.
+-- The Bloom filter before rule 29 of the check; no entry point's contract cites it.
 use Prim.Native.Nat.{ℕ, _+_, _*_, _/_, _%_, _^_}
 use mathlib.Core.Path.{_≡_}
 use mathlib.Core.Bool.{Bool, false}
@@ -18,26 +18,26 @@ folded a b = bitXor (bitXor a (b * 2 ^ 35 % 2 ^ 64)) (b / 2 ^ 29)
 unfoldable pub mixed : ℕ → ℕ → ℕ → ℕ
 mixed suite key x = x % 0x1_0000_0000 * 0x71E5_4147 + x / 2 ^ 32 * 0x7764_E943 + (suite * 256 + key) * 0x4045_02D3
 
--- what row i is marked by: the same in rows of one suite, key number and nonce
+-- the hash of row i: equal in rows of one suite, key number and nonce
 unfoldable pub markOf : ℕ → List ℕ → ℕ → ℕ
 markOf w f i = mixed (rowAt w f i .suite) (rowAt w f i .key) (folded (value (take 8 (nonceAt w f i))) (value (drop 8 (nonceAt w f i))))
 
--- the word of 128 that a mark stands in
+-- the index of the word, of 128, that a hash selects
 unfoldable pub wordOf : ℕ → ℕ
 wordOf x = x / 2 ^ 25 % 128
 
--- its two bits there
+-- the two bits that it selects
 unfoldable pub bitsOf : ℕ → ℕ
 bitsOf x = bitOr (2 ^ (x / 2 ^ 19 % 64)) (2 ^ (x / 2 ^ 32 % 64))
 
--- both are there
+-- both are set
 unfoldable pub has : List ℕ → ℕ → Bool
 has seen x = eqb (bitOr (getD seen (wordOf x) 0) (bitsOf x)) (getD seen (wordOf x) 0)
 
--- both are left there
+-- with both set
 unfoldable pub with : List ℕ → ℕ → List ℕ
 with seen x = set seen (wordOf x) (bitOr (getD seen (wordOf x) 0) (bitsOf x))
 
--- what the filter's answer says of row i: where its mark is not there, and 34 does not apply, it clashes with no earlier row
+-- what the filter's answer says of row i: if its bits are not both set, and 34 does not apply, it clashes with no earlier row
 pub record Sieved (w : ℕ) (f : List ℕ) (i : ℕ) (marked : Bool) : Type 0 where
   pub clear : marked ≡ false → unreadSet w f i ≡ false → nonceSeen w f i ≡ false

@@ -1,4 +1,4 @@
-// The filter before 29: each row leaves two bits of one of 128 words, its mark; a row whose bits are not both there clashes with none before it.
+// A Bloom filter before 29: each row sets two bits of one of 128 words. A row whose bits are not both set clashes with no earlier row.
 use shift_format::row::nonce_block;
 use shift_format::row::row_at;
 ghost use mathlib.Core.Path.{_≡_};
@@ -6,7 +6,7 @@ ghost use Prim.Native.Nat.{_<_};
 ghost use Rattle.shift_format.specs.Inside.{RowIn};
 ghost use Rattle.shift_check.specs.Marks.{folded, mixed, markOf, wordOf, bitsOf, has, with};
 
-// A nonce's two words as one: the second is turned, so that counters in both do not meet.
+// The XOR of a nonce's two words. The second is rotated, so that counters in both words do not cancel.
 fn fold(a: u64, b: u64) -> u64
     ensures { λ r. ⌜ r ≡ folded a b ⌝ }
 {
@@ -23,7 +23,7 @@ fn mix(suite: u8, key: u8, x: u64) -> u64
     (x % 0x1_0000_0000) * 0x71E5_4147 + (x >> 32) * 0x7764_E943 + k * 0x4045_02D3
 }
 
-// What a row is marked by.
+// The hash of a row.
 pub(crate) fn mark(size: usize, file: &[u8], index: usize) -> u64
     requires { ⌜ RowIn size (now file) index ⌝ }
     ensures { λ r. ⌜ r ≡ markOf size (now (file .entry)) index ⌝ }
@@ -33,21 +33,21 @@ pub(crate) fn mark(size: usize, file: &[u8], index: usize) -> u64
     mix(row.suite, row.key, fold(nonce.a, nonce.b))
 }
 
-// The word that a mark stands in.
+// The index of the word that a hash selects.
 fn word_of(x: u64) -> usize
     ensures { λ r. ⌜ (r ≡ wordOf x) × (r < 128) ⌝ }
 {
     ((x >> 25) % 128) as usize
 }
 
-// Its two bits there.
+// The two bits that it selects in that word.
 fn bits_of(x: u64) -> u64
     ensures { λ r. ⌜ r ≡ bitsOf x ⌝ }
 {
     (1u64 << ((x >> 19) % 64)) | (1u64 << ((x >> 32) % 64))
 }
 
-// Whether both bits of the mark are there.
+// Whether both bits of the hash are set.
 pub(crate) fn has(seen: &[u64; 128], x: u64) -> bool
     ensures { λ r. ⌜ r ≡ has (now (seen .entry)) x ⌝ }
 {
@@ -56,7 +56,7 @@ pub(crate) fn has(seen: &[u64; 128], x: u64) -> bool
     word | bits_of(x) == word
 }
 
-// Leaves the mark.
+// Sets both bits of the hash.
 pub(crate) fn put(seen: &mut [u64; 128], x: u64)
     ensures { λ _. ⌜ now (seen .exit) ≡ with (now (seen .entry)) x ⌝ }
 {

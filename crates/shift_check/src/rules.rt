@@ -92,7 +92,7 @@ fn misplaced(size: usize, file: &[u8], rows: usize, index: usize, start: usize) 
     file.len() < body_end(row)
 }
 
-// 34: a nonce byte that the suite leaves unread is not 0.
+// 34: a nonce byte that the suite does not read is not 0.
 fn unread_set(size: usize, file: &[u8], index: usize, row: Row) -> bool
     requires { ⌜ RowIn size (now file) index × (row ≡ rowAt size (now file) index) ⌝ }
     ensures { λ r. ⌜ r ≡ unreadSet size (now (file .entry)) index ⌝ }
@@ -112,7 +112,7 @@ fn same_key(a: Row, b: Row) -> bool
     a.key == b.key
 }
 
-// Two rows clash. Zeros stand where a suite does not read (34), so all sixteen bytes tell what it reads.
+// Two rows clash. The bytes that a suite does not read are zero (34), so comparing all sixteen bytes compares those that it reads.
 fn clashes(size: usize, file: &[u8], rows: usize, index: usize, other: usize) -> bool
     requires { ⌜ TableIn size (now file) rows × ((index < rows) × ((other < rows) × ((unreadSet size (now file) index ≡ false) × (unreadSet size (now file) other ≡ false)))) ⌝ }
     ensures { λ r. ⌜ r ≡ clash size (now (file .entry)) index other ⌝ }
@@ -140,7 +140,7 @@ fn nonce_seen(size: usize, file: &[u8], rows: usize, index: usize) -> bool
     false
 }
 
-// 29, where the filter was asked first: a row whose mark is not there need not be compared.
+// 29, with the Bloom filter checked first: a row whose bits are not both set clashes with no earlier row.
 fn seen_before(size: usize, file: &[u8], rows: usize, index: usize, marked: bool) -> bool
     requires { ⌜ TableIn size (now file) rows × ((index < rows) × (Spared size (now file) (index + 1) × Sieved size (now file) index marked)) ⌝ }
     ensures { λ r. ⌜ r ≡ nonceSeen size (now (file .entry)) index ⌝ }

@@ -68,7 +68,7 @@ roomy f g x y z n m t =
     let r = le-ltb (length z) (length (differing f g)) (omega (arith, differ-most f g, k, m .2)) in
     simp (p, q, r)
 
--- lists that are as they were
+-- lists that are unchanged
 module _ (f g x₀ y₀ z₀ x y z : List ℕ) (b : Bool) (h : (b ≡ tooLong f g x₀ y₀ z₀) × (x ≡ x₀) × (y ≡ y₀) × (z ≡ z₀)) where
   pub still : b ≡ tooLong f g x y z
   still = rw (h .1, h .2, h .3) (h .0)

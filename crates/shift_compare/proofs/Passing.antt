@@ -39,7 +39,7 @@ start f g write x y z h =
       differ = rw sub-zero (filled-start write _ z);
     }
 
--- one list: the next number x goes behind the c that are there, or not
+-- one list: the next number x goes after the c that are there, or not
 module _ (write yes : Bool) (whole rest rest′ buffer₀ buffer : List ℕ) (c x : ℕ) (room : write ≡ true → length whole ≤ length buffer₀)
     (q : rest ≡ cond yes (x ∷ rest′) rest′) (h : Filled write whole rest buffer₀ c buffer) where
   here : Filled write whole (cond yes (x ∷ rest′) rest′) buffer₀ c buffer

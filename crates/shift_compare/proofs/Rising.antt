@@ -11,7 +11,7 @@ use Rattle.shift_compare.specs.Kept.{kept}
 use Rattle.shift_compare.specs.Promised.{Rises}
 use Rattle.shift_compare.proofs.Members.{kept-has}
 
--- each number is below all behind it
+-- each number is below all after it
 abbrev pub Climbs : List ℕ → Type 0
 Climbs [] = Unit {0}
 Climbs (x ∷ l) = ((y : ℕ) → List·Memᴰ y l → x < y) × Climbs l
@@ -44,7 +44,7 @@ first-same : (x y : ℕ) (l m : List ℕ) → Climbs (x ∷ l) → Climbs (y ∷
 first-same x y l m c d p q =
     ⊎-elim (λ (e : x ≡ y). e) (λ a. ⊎-elim (λ (e : y ≡ x). sym e) (λ b. absurd (omega (arith, c .0 y b, d .0 x a))) (List·Memᴰ·cases-cons q)) (List·Memᴰ·cases-cons p)
 
--- what is behind the first is on the other list, and is not its first
+-- what is after the first is on the other list, and is not its first
 behind : (x y z : ℕ) (l m : List ℕ) → Climbs (x ∷ l) → x ≡ y → List·Memᴰ z l → List·Memᴰ z (y ∷ m) → List·Memᴰ z m
 behind x y z l m c e p q = ⊎-elim (λ (h : z ≡ y). absurd (omega (arith, c .0 z p))) (λ r. r) (List·Memᴰ·cases-cons q)
 

@@ -1,4 +1,4 @@
--- Two strings compared part by part: zeros behind a part do not matter, and strings of other lengths are not equal.
+-- Two strings compared part by part: zeros after a part do not matter, and strings of other lengths are not equal.
 use Prim.Native.Nat.{ℕ, zero, suc, _+_, _-_, _≤_}
 use native.Mathlib.Omega.{arith}
 use mathlib.Core.Path.{_≡_, refl, sym, ap, ap₂, _∙_}
@@ -33,7 +33,7 @@ module _ (x y : List ℕ) (i e : ℕ) (q : length x ≡ length y) (h : i ≤ e) 
       length-take-le (e - i) (drop i x) (omega (arith, length-drop i x))
       ∙ sym (length-take-le (e - i) (drop i y) (omega (arith, length-drop i y)))
 
-  -- with zeros behind both
+  -- with zeros after both
   pub same-filled : (p r : List ℕ) → p ≡ filled (stretch x i (e - i)) → r ≡ filled (stretch y i (e - i))
       → sameBytes p r ≡ sameBytes (stretch x i (e - i)) (stretch y i (e - i))
   same-filled p r hp hr =

@@ -88,7 +88,7 @@ findingOf (First x) = refusedIn 1 (refusalAnswer x)
 findingOf (Second x) = refusedIn 2 (refusalAnswer x)
 findingOf Room = refusedIn 0 (answer 36 0)
 
--- what is told, and what is left in the three lists
+-- the result, and the three lists after the call
 pub record Comparison : Type 0 where
   pub finding : Finding
   pub first : List ℕ

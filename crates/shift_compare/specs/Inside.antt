@@ -1,4 +1,4 @@
--- What the private functions ask and promise; the entry point's contract cites none of it.
+-- Preconditions and results of the private functions; the entry point's contract cites none of them.
 use Prim.Native.Nat.{ℕ, _+_, _-_, _<_, _≤_}
 use mathlib.Core.Path.{_≡_}
 use mathlib.Core.Bool.{Bool, true, false, not, _||_, cond}
@@ -17,7 +17,7 @@ pub record Sound (f g : List ℕ) : Type 0 where
   pub first : checkFile f .number ≡ 0
   pub second : checkFile g .number ≡ 0
 
--- the places i and j of a merge: every job before each is below the other's next
+-- the indices i and j of a merge: every job before each is below the other's next
 pub record At (f g : List ℕ) (i j : ℕ) : Type 0 where
   pub sound : Sound f g
   pub in-f : i ≤ countOf f
@@ -39,7 +39,7 @@ firstTurn job i j = record { job = job; first = true; second = false; differ = f
 abbrev pub secondTurn : ℕ → ℕ → ℕ → Turn
 secondTurn job i j = record { job = job; first = false; second = true; differ = false; i = i; j = j + 1 }
 
--- a turn of the merge goes on, and takes its job off the list that it names
+-- an iteration of the merge advances, and removes its job from the list that it names
 pub record Turned (f g : List ℕ) (i j : ℕ) (t : Turn) : Type 0 where
   pub next : At f g (t .i) (t .j)
   pub more : i + j < t .i + t .j
@@ -61,7 +61,7 @@ pub record Passable (f g : List ℕ) (write : Bool) (x y z : List ℕ) : Type 0 
   pub second : write ≡ true → length (onlySecond f g) ≤ length y
   pub differ : write ≡ true → length (differing f g) ≤ length z
 
--- it counts, and writes where it is to
+-- it counts, and writes if it is checked to
 pub record Passed (f g : List ℕ) (write : Bool) (x₀ y₀ z₀ : List ℕ) (r : Counts) (x y z : List ℕ) : Type 0 where
   pub counts : r ≡ countsOf f g
   pub first : x ≡ cond write (onList (onlyFirst f g) x₀) x₀

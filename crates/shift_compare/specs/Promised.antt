@@ -1,4 +1,4 @@
--- What the comparison is worth (document 02, W8; W10: stations).
+-- The promises of the comparison (document 02, W8; W10: stations).
 use Prim.Native.Nat.{ℕ, _<_}
 use mathlib.Core.Path.{_≡_}
 use mathlib.Core.List.{List, List·Memᴰ}
@@ -64,18 +64,18 @@ pub record Lists (f g : List ℕ) : Type 0 where
 abbrev pub ListsRise : Type 0
 ListsRise = (f g : List ℕ) → checkFile f .number ≡ 0 → checkFile g .number ≡ 0 → Lists f g
 
--- files that pass, with as many rows and in each the same job and an equal entry: three empty lists, so that any buffers do and stay as they were
+-- files that pass, with as many rows and in each the same job and an equal entry: three empty lists, so that buffers of any length suffice and stay unchanged
 abbrev pub EqualRows : Type 0
 EqualRows =
     (f g x y z : List ℕ) → checkFile f .number ≡ 0 → checkFile g .number ≡ 0 → countOf f ≡ countOf g
     → ((i : ℕ) → i < countOf f → (rowOf f i .job ≡ rowOf g i .job) × Same f g i i)
     → comparison f g x y z ≡ stopped (refusedIn 0 (answer 0 0)) x y z
 
--- a file compared with itself: three empty lists, so that any buffers do and stay as they were
+-- a file compared with itself: three empty lists, so that buffers of any length suffice and stay unchanged
 abbrev pub WithItself : Type 0
 WithItself = (f x y z : List ℕ) → checkFile f .number ≡ 0 → comparison f f x y z ≡ stopped (refusedIn 0 (answer 0 0)) x y z
 
--- the two files exchanged exchange the first two lists, and keep the third
+-- exchanging the two files exchanges the first two lists and keeps the third
 pub record Exchanged (f g : List ℕ) : Type 0 where
   pub first : onlyFirst g f ≡ onlySecond f g
   pub second : onlySecond g f ≡ onlyFirst f g

@@ -17,7 +17,7 @@ ghost use Rattle.shift_format.specs.Format.{rowSizeOf, bodyEnd};
 ghost use Rattle.shift_format.specs.Inside.{EntryIn};
 ghost use Rattle.shift_compare.specs.Comparing.{sameFields, sameEntry};
 
-// The same bytes from place i up to place e, sixteen at most.
+// Whether the bytes from offset i to e, at most sixteen, are equal.
 fn same_part(x: &[u8], y: &[u8], i: usize, e: usize) -> bool
     requires { ⌜ (length (now x) ≡ length (now y)) × (i ≤ e) × (e ≤ length (now x)) × (e - i ≤ 16) ⌝ }
     ensures { λ r. ⌜ r ≡ sameBytes (stretch (now (x .entry)) i (e - i)) (stretch (now (y .entry)) i (e - i)) ⌝ }
@@ -25,7 +25,7 @@ fn same_part(x: &[u8], y: &[u8], i: usize, e: usize) -> bool
     same(filled(&x[i..e]), filled(&y[i..e]))
 }
 
-// The same bytes, all of them: sixteen at a time, and what is left.
+// Whether all bytes are equal: sixteen at a time, then the rest.
 fn same_bytes(x: &[u8], y: &[u8]) -> bool
     ensures { λ r. ⌜ r ≡ sameBytes (now (x .entry)) (now (y .entry)) ⌝ }
 {

@@ -13,7 +13,7 @@ ghost use Rattle.status.specs.Answers.{refusalAnswer};
 ghost use Rattle.shift_compare.specs.Comparing.{refusedIn, findingOf, tooLong, Comparison, comparison};
 ghost use Rattle.shift_compare.specs.Inside.{Sound, longer};
 
-// What a comparison says: a number, the file and the row that it is about, and how long each list is.
+// The result of a comparison: a status, the file and row that it concerns, and the length of each list.
 pub struct Finding {
     pub number: u8,
     pub file: u8,
@@ -86,7 +86,7 @@ fn too_long(n: Counts, first: usize, second: usize, differ: usize) -> bool
     differ < n.differ
 }
 
-// A list of two files that pass is longer than its buffer: none is where each buffer has a place for every row; else they are counted.
+// Whether a list of two files that pass is longer than its buffer. None is if each buffer has room for every row; else the lists are counted.
 fn no_room(f: &[u8], g: &[u8], first: &mut [u32], second: &mut [u32], differ: &mut [u32]) -> bool
     requires { ⌜ Sound (now f) (now g) ⌝ }
     ensures { λ r. ⌜ (r ≡ tooLong (now (f .entry)) (now (g .entry)) (now (first .entry)) (now (second .entry)) (now (differ .entry)))

@@ -12,7 +12,7 @@ ghost use Rattle.shift_check.specs.Check.{checkFile};
 ghost use Rattle.shift_compare.specs.Comparing.{jobAt};
 ghost use Rattle.shift_compare.specs.Inside.{Sound, At, firstTurn, secondTurn, Turned, Passable, Passed};
 
-// One turn: what goes into which list, and the two places after it.
+// One iteration: which job is appended to which list, and the two indices after it.
 struct Turn {
     job: u32,
     first: bool,
@@ -89,7 +89,7 @@ fn second_turn(job: u32, i: usize, j: usize) -> Turn
     }
 }
 
-// The turn where both files have a row left.
+// The iteration where both files have a row left.
 fn both_turn(f: &[u8], g: &[u8], i: usize, j: usize) -> Turn
     requires { ⌜ At (now f) (now g) i j × (i < countOf (now f)) × (j < countOf (now g)) ⌝ }
     ensures { λ t. ⌜ Turned (now (f .entry)) (now (g .entry)) i j t ⌝ }
@@ -113,7 +113,7 @@ fn both_turn(f: &[u8], g: &[u8], i: usize, j: usize) -> Turn
     }
 }
 
-// The next turn, where a row is left.
+// The next iteration, where a row is left.
 fn take_turn(f: &[u8], g: &[u8], i: usize, j: usize) -> Turn
     requires { ⌜ At (now f) (now g) i j × (i + j < countOf (now f) + countOf (now g)) ⌝ }
     ensures { λ t. ⌜ Turned (now (f .entry)) (now (g .entry)) i j t ⌝ }

@@ -79,7 +79,7 @@ module _ (f g ring : List ℕ) (lent : WithRing f ring) (hg : AllBytes g) (genui
   taken : EntryIn (rowSizeOf f) f i
   taken = entry-at firstEdition f plain-file z i l
 
-  -- every other entry is as it was
+  -- every other entry is unchanged
   other-right : (k : ℕ) → k < countOf f → (k ≡ i → ⊥) → RightTag g ring k
   unfolding entryTag bodyEnd
   other-right k m ne =

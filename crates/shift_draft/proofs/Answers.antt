@@ -132,7 +132,7 @@ module _ (f : List ℕ) where
     pub wrong-leaves : (done a b : List ℕ) → length a ≡ length b → leaves (wrongFrom f ring (countOf f) 0) done a ≡ leaves (wrongFrom f ring (countOf f) 0) done b
     wrong-leaves = eight-leaves (wrongFrom f ring (countOf f) 0) wrong-number
 
--- ---- the lengths of what is lent
+-- ---- the lengths of the borrowed tables
 
 pub record Room (file ring out : ℕ) : Type 0 where
   pub ring-long : ring ≡ 256

@@ -1,4 +1,4 @@
--- There and back (document 02, W4): each piece is put back as it was, and all else was kept.
+-- There and back (document 02, W4): each piece is put back unchanged, and all else was kept.
 use Prim.Native.Nat.{ℕ, _+_, _<_}
 use mathlib.Core.Path.{_≡_, refl, sym, ap, ap₂, _∙_}
 use mathlib.Core.Bool.{Bool, true, false, not}
@@ -26,7 +26,7 @@ plain-draft = (refl, lit< tt)
 pub plain-file : Plain firstEdition
 plain-file = (refl, lit< tt)
 
--- ---- a file that passes, rewritten: its text is what direction d makes of it, and `tag` stands behind it
+-- ---- a file that passes, rewritten: its text is what direction d makes of it, and `tag` follows it
 
 module _ (e₀ e : ℕ) (p₀ : Plain e₀) (p : Plain e) (d : Bool) (f ring : List ℕ) (lent : WithRing f ring) (z : checkAs e₀ f .number ≡ 0)
     (tag : ℕ → List ℕ) (tag-long : (i : ℕ) → i < countOf f → length (tag i) ≡ sizeOf (rowOf f i .suite)) where
@@ -71,14 +71,14 @@ module _ (e₀ e : ℕ) (p₀ : Plain e₀) (p : Plain e) (d : Bool) (f ring : L
     new-tag : tagOf new (rowOf new i) ≡ tag i
     new-tag = ap (tagOf new) new-row ∙ new-parts .1
 
-    -- the other direction works out the same tag, and gives the text back
+    -- the other direction computes the same tag, and gives the text back
     other-tag : entryTag (not d) new ring i ≡ entryTag d f ring i
     other-tag = mark-back f ring i (taken i l) (lent .ring-long) (lent .file-bytes) (lent .ring-bytes) d new new-row new-nonce new-data (new-parts .0)
 
     other-out : entryOut (not d) new ring i ≡ textOf f (rowOf f i)
     other-out = out-back f ring i (taken i l) (lent .ring-long) (lent .file-bytes) (lent .ring-bytes) d new new-row new-nonce new-data (new-parts .0)
 
-  -- so, with the old tags behind it, the old file is there again
+  -- so, with the old tags after it, the old file is there again
   there-again : (old : ℕ → List ℕ) → ((i : ℕ) → i < countOf f → old i ≡ tagOf f (rowOf f i)) → rewritten e₀ (λ i. entryOut (not d) new ring i ++ old i) new ≡ f
   there-again old own =
       put-back e₀ f p₀ z e p piece piece-long (lent .file-bytes) (λ i. entryOut (not d) new ring i ++ old i)

@@ -1,4 +1,4 @@
--- Pieces that are put into a list: it keeps its length, each piece stands where it was put, and every other byte is as it was.
+-- Pieces that are inlined into a list: it keeps its length, each piece stands where it was put, and every other byte is unchanged.
 use Prim.Native.Nat.{ℕ, zero, suc, _+_, _-_, _≤_, _<_}
 use native.Mathlib.Nat.{not-suc-le-zero, le-of-suc-le-suc, eq-or-lt-of-le}
 use native.Mathlib.Decide.{decLt}
@@ -54,7 +54,7 @@ module _ (l : List ℕ) (at : ℕ) (x : List ℕ) (h : at + length x ≤ length 
 
 -- ---- many pieces
 
--- the first n pieces lie in the list, each behind those before it
+-- the first n pieces lie in the list, each after those before it
 pub record Apart (start : ℕ → ℕ) (piece : ℕ → List ℕ) (n : ℕ) (l : List ℕ) : Type 0 where
   pub fits : (i : ℕ) → i < n → start i + length (piece i) ≤ length l
   pub after : (i j : ℕ) → i < j → j < n → start i + length (piece i) ≤ start j

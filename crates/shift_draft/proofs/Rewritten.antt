@@ -94,7 +94,7 @@ module _ (e₀ : ℕ) (f : List ℕ) (p₀ : Plain e₀) (z : checkAs e₀ f .nu
   pub row-sound : (i : ℕ) → i < countOf f → Sound (rowSizeOf f) f (countOf f) i
   row-sound i l = walk .rows i l
 
-  -- the body starts behind the table
+  -- the body starts after the table
   pub body-late : (i : ℕ) → i < countOf f → rowStart (rowSizeOf f) (countOf f) ≤ rowOf f i .«ad_at»
   body-late i l = omega (arith, after-table (rowSizeOf f) f (countOf f) walk i (omega arith), row-sound i l .place .starts)
 
@@ -161,7 +161,7 @@ module _ (e₀ : ℕ) (f : List ℕ) (p₀ : Plain e₀) (z : checkAs e₀ f .nu
         let o : (k : ℕ) → k < 2 → getD g k 0 ≡ getD (inEdition e f) k 0 = λ k b. all-outside (pieceStart f) piece (countOf f) (inEdition e f) pieces-apart (countOf f) (omega arith) k (head-outside k (omega (arith, row-late (rowSizeOf f) (countOf f)))) in
         pair-is g e (p .1) (o 0 (omega arith) ∙ edition-low e f (head .long)) (o 1 (omega arith) ∙ edition-high e f (head .long))
 
-    -- rows are as long as they were
+    -- rows are as long unchanged
     same-row-size : rowSizeOf g ≡ rowSizeOf f
     same-row-size = ap rowSize new-edition ∙ p .0 ∙ sym (ap rowSize edition-own ∙ p₀ .0)
 

@@ -1,4 +1,4 @@
--- What the writer answers and leaves (document 02, W4; W7 for 10): the checks, 33, 10, 2, 6, 8, in this order.
+-- The writer's status and output (document 02, W4; W7 for 10): the checks, 33, 10, 2, 6, 8, in this order.
 use Prim.Native.Nat.{ℕ, _-_}
 use mathlib.Core.Bool.{Bool, true, not, cond}
 use mathlib.Core.List.{List}
@@ -17,11 +17,11 @@ use Rattle.shift_draft.specs.Files.{draftEdition, entryTag, sealedFile, 
 unfoldable pub tagSet : List ℕ → ℕ → Bool
 tagSet f i = not (sameBytes (tagOf f (rowOf f i)) (replicate (sizeOf (rowOf f i .suite)) 0))
 
--- the suite of row i seals no more
+-- the suite of row i is retired
 unfoldable pub rowRetired : List ℕ → ℕ → Bool
 rowRetired f i = not (seals (rowOf f i .suite))
 
--- the tag of row i is the one that goes with its text
+-- the tag of row i is the tag of its text
 unfoldable pub tagRight : List ℕ → List ℕ → ℕ → Bool
 tagRight f ring i = sameBytes (entryTag true f ring i) (tagOf f (rowOf f i))
 
@@ -29,7 +29,7 @@ tagRight f ring i = sameBytes (entryTag true f ring i) (tagOf f (rowOf f i))
 unfoldable pub setFrom : List ℕ → ℕ → ℕ → Answer
 setFrom f n i = firstOf (tagSet f) (answer 33) (answer 0 0) i (n - i)
 
--- 10: the first row of n, from row i on, whose suite seals no more
+-- 10: the first row of n, from row i on, whose suite is retired
 unfoldable pub retiredFrom : List ℕ → ℕ → ℕ → Answer
 retiredFrom f n i = firstOf (rowRetired f) (answer 10) (answer 0 0) i (n - i)
 
@@ -57,7 +57,7 @@ openAnswer file ring out = andThen (checkAs firstEdition file) (lentAnswer (leng
 unfoldable pub unsealAnswer : List ℕ → List ℕ → ℕ → Answer
 unsealAnswer file ring out = andThen (openAnswer file (length ring) out) (wrongFrom file ring (countOf file) 0)
 
--- what a call answers, and its output afterwards
+-- the status of a call, and its output afterwards
 pub record FileWritten : Type 0 where
   pub answer : Answer
   pub out : List ℕ
@@ -65,7 +65,7 @@ pub record FileWritten : Type 0 where
 abbrev pub writes : Answer → List ℕ → FileWritten
 writes x out = record { answer = x; out = out }
 
--- 0 writes all of it, 8 leaves every byte 0, any other number leaves the output as it was
+-- 0 writes all of it, 8 leaves every byte 0, any other number leaves the output unchanged
 abbrev pub leaves : Answer → List ℕ → List ℕ → FileWritten
 leaves x done out₀ = writes x (cond (eqb (x .number) 0) done (cond (eqb (x .number) 8) (replicate (length out₀) 0) out₀))
 

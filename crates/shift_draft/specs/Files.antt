@@ -18,14 +18,14 @@ draftEdition = 0
 unfoldable pub inEdition : ℕ → List ℕ → List ℕ
 inEdition e f = put f 0 (bytes 2 e)
 
--- text and tag of row i are one piece, behind the associated data: where it starts, and how long it is
+-- text and tag of row i are one piece, after the associated data: where it starts, and how long it is
 unfoldable pub pieceStart : List ℕ → ℕ → ℕ
 pieceStart f i = rowOf f i .«ad_at» + rowOf f i .«ad_len»
 
 abbrev pub pieceSize : List ℕ → ℕ → ℕ
 pieceSize f i = rowOf f i .«text_len» + sizeOf (rowOf f i .suite)
 
--- a text sealed, or opened, under a suite with key, nonce and associated data of row i: what goes out, and the tag that goes with it
+-- a text sealed, or opened, under a suite with key, nonce and associated data of row i: the output, and its tag
 abbrev pub textAs : Bool → List ℕ → List ℕ → ℕ → ℕ → List ℕ → List ℕ
 textAs opening f ring i suite text =
     let r = rowOf f i in
@@ -40,14 +40,14 @@ tagAs opening f ring i suite text =
 abbrev pub pieceAs : List ℕ → List ℕ → ℕ → ℕ → List ℕ → List ℕ
 pieceAs f ring i suite msg = textAs false f ring i suite msg ++ tagAs false f ring i suite msg
 
--- the text that goes out for row i, and the tag that goes with it: what stands in the ciphertext's place is sealed, or opened, under the row's own suite
+-- the output text for row i, and its tag: the bytes at the ciphertext's offset are sealed, or opened, under the row's own suite
 unfoldable pub entryOut : Bool → List ℕ → List ℕ → ℕ → List ℕ
 entryOut opening f ring i = textAs opening f ring i (rowOf f i .suite) (textOf f (rowOf f i))
 
 unfoldable pub entryTag : Bool → List ℕ → List ℕ → ℕ → List ℕ
 entryTag opening f ring i = tagAs opening f ring i (rowOf f i .suite) (textOf f (rowOf f i))
 
--- ciphertext and tag of row i, whose message stands in the ciphertext's place
+-- ciphertext and tag of row i, whose message stands at the ciphertext's offset
 unfoldable pub sealedPiece : List ℕ → List ℕ → ℕ → List ℕ
 sealedPiece f ring i = entryOut false f ring i ++ entryTag false f ring i
 

@@ -1,4 +1,4 @@
--- What is promised of the writer (document 02, W4; W7 for the suite that seals no more). The statements speak of the definitions; the contracts of `writer` say that the code does what they say.
+-- The promises of the writer (document 02, W4; W7 for the retired suite). The statements are about the definitions; the contracts of the writer's crate tie the code to the definitions.
 use Prim.Native.Nat.{ℕ, _+_, _*_, _≤_, _<_}
 use mathlib.Core.Path.{_≡_}
 use mathlib.Core.Bool.{true, false}
@@ -18,7 +18,7 @@ use Rattle.shift_draft.specs.Answers.{FileWritten, writes, fileSealing, 
 abbrev pub ZeroTag : List ℕ → ℕ → Type 0
 ZeroTag draft i = tagOf draft (rowOf draft i) ≡ replicate (sizeOf (rowOf draft i .suite)) 0
 
--- the tag of row i is right: it is the one that opening works out
+-- the tag of row i is right: it is the one that opening computes
 abbrev pub RightTag : List ℕ → List ℕ → ℕ → Type 0
 RightTag file ring i = entryTag true file ring i ≡ tagOf file (rowOf file i)
 
@@ -60,7 +60,7 @@ UnsealedBack =
 
 -- ---- every outcome, and when it is given
 
--- what sealing gives: the check's refusal; 33 with the first row whose tag has a byte that is not zero, 10 with the first row whose suite seals no more, whatever ring and output are; 2; 6; 0
+-- the status of sealing: the check's refusal; 33 with the first row whose tag has a nonzero byte, 10 with the first row whose suite is retired, whatever ring and output are; 2; 6; 0
 pub record SealCases (draft ring out₀ : List ℕ) : Type 0 where
   pub checked : (checkAs draftEdition draft .number ≡ 0 → ⊥) → fileSealing draft ring out₀ ≡ writes (checkAs draftEdition draft) out₀
   pub tags : checkAs draftEdition draft .number ≡ 0 → (i : ℕ) → i < countOf draft → (ZeroTag draft i → ⊥) → ((k : ℕ) → k < i → ZeroTag draft k)
@@ -71,7 +71,7 @@ pub record SealCases (draft ring out₀ : List ℕ) : Type 0 where
   pub room-wrong : Valid draft → AllSeal draft → length ring ≡ 256 → (length out₀ ≡ length draft → ⊥) → fileSealing draft ring out₀ ≡ writes (answer 6 0) out₀
   pub done : Valid draft → AllSeal draft → length ring ≡ 256 → length out₀ ≡ length draft → fileSealing draft ring out₀ ≡ writes (answer 0 0) (sealedFile draft ring)
 
--- what unsealing gives: the check's refusal; 2; 6; 8 with the first row whose tag is wrong, and zeros all over; 0
+-- the status of unsealing: the check's refusal; 2; 6; 8 with the first row whose tag is wrong, and an output of zeros; 0
 pub record UnsealCases (file ring out₀ : List ℕ) : Type 0 where
   pub checked : (checkAs firstEdition file .number ≡ 0 → ⊥) → fileUnsealing file ring out₀ ≡ writes (checkAs firstEdition file) out₀
   pub ring-wrong : checkAs firstEdition file .number ≡ 0 → (length ring ≡ 256 → ⊥) → fileUnsealing file ring out₀ ≡ writes (answer 2 0) out₀
@@ -89,14 +89,14 @@ Unsealing = (file ring out₀ : List ℕ) → UnsealCases file ring out₀
 
 -- ---- no other number
 
--- of a draft that passes, the sealer takes every row whose suite seals: it answers 0, and 1 to 7 and 10 cannot come out
+-- for a draft that passes, the sealer accepts every row whose suite seals: its status is 0, never 1 to 7 or 10
 abbrev pub SealerTakes : Type 0
 SealerTakes =
     (draft ring out tag : List ℕ) (i : ℕ) → checkAs draftEdition draft .number ≡ 0 → length ring ≡ 256 → i < countOf draft
     → Seals (rowOf draft i .suite) → length out ≡ rowOf draft i .«text_len» → length tag ≡ sizeOf (rowOf draft i .suite)
     → entrySealing draft ring i out tag .number ≡ 0
 
--- of a file that passes, the opener takes every row: it answers 0 or 8
+-- for a file that passes, the opener accepts every row: its status is 0 or 8
 abbrev pub OpenerTakes : Type 0
 OpenerTakes =
     (file ring out : List ℕ) (i : ℕ) → checkAs firstEdition file .number ≡ 0 → length ring ≡ 256 → i < countOf file → length out ≡ rowOf file i .«text_len»
@@ -123,7 +123,7 @@ pub record Altered (f g : List ℕ) (from to : ℕ) : Type 0 where
   pub same : (k : ℕ) → (k < from) ⊎ (to ≤ k) → getD g k 0 ≡ getD f k 0
   pub changed : g ≡ f → ⊥
 
--- inside the last ciphertext block of row i, block j, alone: 8 with that row, and zeros all over
+-- inside the last ciphertext block of row i, block j, alone: 8 with that row, and an output of zeros
 abbrev pub TextAltered : Type 0
 TextAltered =
     (file other ring out : List ℕ) (i j : ℕ) → WithRing file ring → AllBytes other → length out ≡ length file → Genuine file ring → i < countOf file →

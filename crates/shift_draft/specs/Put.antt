@@ -1,4 +1,4 @@
--- Bytes put at their places in a list that is as long as before.
+-- Bytes written at their offsets into a list of unchanged length.
 use Prim.Native.Nat.{ℕ, zero, suc, _+_}
 use mathlib.Core.List.{List, _++_}
 use lib.ListN.{length, take, drop}

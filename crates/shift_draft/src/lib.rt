@@ -1,1 +1,1 @@
-// No code: what the writer of shift files makes of a draft and of a file, and what follows from it.
+// No code: what the writer of shift files writes for a draft and for a file, and the theorems about it.

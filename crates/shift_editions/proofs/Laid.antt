@@ -132,7 +132,7 @@ module _ (w v : ℕ) (f : List ℕ) (n : ℕ) (t : TableIn w f n) (broad : 32 �
         ∙ in-first (movedRows w v f n n) (drop (rowStart w n) f) (v * i) v (omega (arith, rows-long n (omega arith), mul-suc v i, mul-le-mul-left v l))
         ∙ rows-at n i l (omega arith)
 
-    -- the bodies stand behind the rows, as they stood
+    -- the bodies stand after the rows, as they stood
     pub file-bodies : drop (rowStart v n) (movedFrom e w v f n) ≡ drop (rowStart w n) f
     unfolding movedFrom rowStart
     file-bodies =

@@ -82,7 +82,7 @@ module _ (a b : ℕ) (ha : a < 256 ^ 2) (hb : b < 256 ^ 2) (f : List ℕ) (z : c
     pub new-passes : checkAs b g ≡ answer 0 0
     new-passes = file-passes b w v f n (ok .head .table) (row-broad b) (ok .walk) small hb (ok .head .few) short refl
 
-    -- every place behind the table is carried: the total, and each offset
+    -- every place after the table is carried: the total, and each offset
     new-total : totalOf g ≡ carried w v n (length f)
     new-total = total-is b w v f n (ok .head .table) (row-broad b) small
 
@@ -152,7 +152,7 @@ back-short f z =
     let m : rowSize firstEdition * n ≤ rowSizeOf f * n = rw one-size (mul-le-mul-right n (row-broad (editionOf f))) in
     omega (arith, file-long (rowSizeOf f) (rowSize firstEdition) f n (p .head .table) (row-broad firstEdition) firstEdition, p .head .short, p .head .table .fits)
 
--- from rows of 32 bytes to rows of 36 every place behind the table rises by 4n, and from 36 to 32 it falls by that
+-- from rows of 32 bytes to rows of 36 every place after the table rises by 4n, and from 36 to 32 it falls by that
 carried-up : (w v n x : ℕ) → w ≡ 32 → v ≡ 36 → rowStart w n ≤ x → carried w v n x ≡ x + 4 * n
 unfolding carried rowStart
 carried-up w v n x p q h = rw (p, q) (omega (arith, rw p at h))

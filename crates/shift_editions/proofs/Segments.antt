@@ -10,7 +10,7 @@ use Rattle.block.specs.Bytes.{part, word, value}
 use Rattle.block.proofs.Lists.{part-take}
 use Rattle.shift_format.specs.Part.{stretch}
 
--- behind the first m elements
+-- after the first m elements
 pub skip : (x y : List ℕ) (m k : ℕ) → length x ≡ m → drop (m + k) (x ++ y) ≡ drop k y
 skip x y m k e = sym (drop-drop k m (x ++ y)) ∙ ap (drop k) (drop-at x y m e)
 

@@ -1,4 +1,4 @@
--- What a move answers and leaves (document 02, W10): the source's own checks, 35, 20, 6, in this order.
+-- The status and output of a move (document 02, W10): the source's own checks, 35, 20, 6, in this order.
 use Prim.Native.Nat.{ℕ, _-_}
 use mathlib.Core.Bool.{not, cond}
 use mathlib.Core.List.{List}
@@ -13,7 +13,7 @@ use Rattle.shift_editions.specs.declared.answers.Moved.{Moved}
 use Rattle.shift_editions.specs.declared.answers.Moved.the-variants.{Done, Refused, Station, Room}
 use Rattle.shift_editions.specs.Files.{moved}
 
--- number and row of each case; a move that would make the file too long is refused as a file that is
+-- number and row of each case; a move that would make the file too long is refused like a file that is too long
 abbrev pub movedAnswer : Moved → Answer
 movedAnswer Done = answer 0 0
 movedAnswer (Refused x) = refusalAnswer x
@@ -40,16 +40,16 @@ movedLength f = cond (eqb (headNumber firstEdition newest f) 0) (length (moved (
 unfoldable pub upAnswer : List ℕ → ℕ → Answer
 upAnswer f out = andThen (checkAs firstEdition f) (lengthAnswer (length (moved newest f)) out)
 
--- back to edition 1: the checks of edition 2, 35, then 6; 20 cannot come out here, since the file gets no longer
+-- back to edition 1: the checks of edition 2, 35, then 6; 20 cannot occur, since the file gets no longer
 unfoldable pub backAnswer : List ℕ → ℕ → Answer
 backAnswer f out = andThen (checkAs newest f) (andThen (stationsFrom f (countOf f) 0) (lengthAnswer (length (moved firstEdition f)) out))
 
--- what a move answers, and its output afterwards
+-- the status of a move, and its output afterwards
 pub record FileMoved : Type 0 where
   pub answer : Answer
   pub out : List ℕ
 
--- 0 writes all of it, any other number leaves the output as it was
+-- 0 writes all of it, any other number leaves the output unchanged
 abbrev pub moves : Answer → List ℕ → List ℕ → FileMoved
 moves x done out₀ = record { answer = x; out = cond (eqb (x .number) 0) done out₀ }
 

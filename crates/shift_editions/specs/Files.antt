@@ -6,7 +6,7 @@ use Rattle.block.specs.Bytes.{bytes}
 use Rattle.shift_format.specs.Part.{stretch}
 use Rattle.shift_format.specs.Format.{countOf, rowSize, rowSizeOf, rowStart, restStart, rowAt}
 
--- where a place behind the table of n rows comes to lie: it rises, or falls, with the table's end, which is by 4n
+-- the new offset of a byte after the table of n rows: it rises or falls with the table's end, by 4n
 unfoldable pub carried : ℕ → ℕ → ℕ → ℕ → ℕ
 carried w v n x = x - rowStart w n + rowStart v n
 

@@ -1,4 +1,4 @@
--- What the crate's own functions ask of each other; no entry point's contract cites it.
+-- Preconditions of the crate's own functions; no entry point's contract cites them.
 use Prim.Native.Nat.{ℕ, _≤_, _<_}
 use mathlib.Core.Path.{_≡_}
 use mathlib.Core.List.{List}
@@ -17,20 +17,20 @@ pub record Movable (w v : ℕ) (f : List ℕ) (n : ℕ) : Type 0 where
   pub behind : (i : ℕ) → i < n → rowStart w n ≤ rowAt w f i .«ad_at»
   pub within : (i : ℕ) → i < n → rowAt w f i .«ad_at» ≤ length f
 
--- 20 to 24 do not apply, as far as a length goes by that
+-- 20 to 24 do not apply, as far as the length of the moved file depends on them
 pub record Tabled (f : List ℕ) : Type 0 where
   pub long : 8 ≤ length f
   pub short : length f ≤ 1048576
   pub few : countOf f ≤ 512
   pub table : TableIn (rowSizeOf f) f (countOf f)
 
--- the file passes, as far as a move goes by that
+-- the file passes, as far as a move depends on it
 pub record Source (f : List ℕ) : Type 0 where
   pub tabled : Tabled f
   pub behind : (i : ℕ) → i < countOf f → rowStart (rowSizeOf f) (countOf f) ≤ rowAt (rowSizeOf f) f i .«ad_at»
   pub within : (i : ℕ) → i < countOf f → rowAt (rowSizeOf f) f i .«ad_at» ≤ length f
 
--- 20 and 6 let a moved file of that length pass, into that output
+-- neither 20 nor 6 refuses a moved file of that length into that output
 pub record Room (new out : ℕ) : Type 0 where
   pub short : new ≤ 1048576
   pub fits : out ≡ new

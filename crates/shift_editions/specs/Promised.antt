@@ -1,4 +1,4 @@
--- What the moves are worth (document 02, W10).
+-- The promises of the moves (document 02, W10).
 use Prim.Native.Nat.{ℕ, _+_, _*_, _≤_, _<_}
 use mathlib.Core.Path.{_≡_}
 use mathlib.Core.List.{List}
@@ -43,7 +43,7 @@ BackPasses = (f out₀ : List ℕ) → toEdition1 f out₀ .answer .number ≡ 0
 abbrev pub BackShort : Type 0
 BackShort = (f : List ℕ) → checkAs newest f .number ≡ 0 → length (moved firstEdition f) ≤ 1048576
 
--- the length that is told of a file that passes is that of the moved file, which 6 asks of the output
+-- the length returned for a file that passes is that of the moved file, which 6 requires of the output
 pub record LengthTold : Type 0 where
   pub up : (f : List ℕ) → checkAs firstEdition f .number ≡ 0 → movedLength f ≡ length (moved newest f)
   pub back : (f : List ℕ) → checkAs newest f .number ≡ 0 → movedLength f ≡ length (moved firstEdition f)
@@ -80,7 +80,7 @@ UpKeeps = (f out₀ : List ℕ) → toEdition2 f out₀ .answer .number ≡ 0 �
 abbrev pub BackKeeps : Type 0
 BackKeeps = (f out₀ : List ℕ) → toEdition1 f out₀ .answer .number ≡ 0 → (i : ℕ) → i < countOf f → RowKept f (toEdition1 f out₀ .out) i
 
--- a reader gets from g what it gets from f: lookup and search the same number and row, the search at the same looks;
+-- a reader gets from g what it gets from f: lookup and search give the same number and row, the search with the same looks;
 -- the same associated data; and opening the same number, row and message
 pub record SameRead (f g : List ℕ) : Type 0 where
   pub found : (job : ℕ) → lookupJob g job ≡ lookupJob f job

@@ -76,8 +76,8 @@ fn length_in(edition: u16, file: &[u8]) -> usize
     file.len() - old + row_start(row_size(edition), n)
 }
 
-// How long the file is once it is moved, from edition 1 to 2 or from 2 to 1: as long as the output of its move has to be.
-// 0 where one of 20 to 24 applies: its move is refused then, whatever the output.
+// The length of the file after its move, from edition 1 to 2 or from 2 to 1: the length that the output of the move must have.
+// 0 if one of 20 to 24 applies: the move is then refused, whatever the output.
 pub fn moved_length(file: &[u8]) -> usize
     ensures { λ r. ⌜ r ≡ movedLength (now (file .entry)) ⌝ }
 {

@@ -1,4 +1,4 @@
-// The rows, from the bytes of a row in one edition to those in the other.
+// The rows, rewritten from one edition's layout to the other's.
 use crate::front::put_part;
 use crate::front::put_zeros;
 use crate::front::put32;

@@ -21,11 +21,11 @@ countOf f = word 2 f 2
 abbrev pub totalOf : List ℕ → ℕ
 totalOf f = word 4 f 4
 
--- the first edition of a shift file, which the writer makes
+-- the first edition of a shift file, which the writer writes
 abbrev pub firstEdition : ℕ
 firstEdition = 1
 
--- the newest; readers take both
+-- the newest; readers accept both
 abbrev pub newest : ℕ
 newest = 2
 

@@ -1,4 +1,4 @@
--- What functions that read a row ask of their callers; no entry point's contract cites it.
+-- Preconditions of the functions that read a row; no entry point's contract cites them.
 use Prim.Native.Nat.{ℕ, _+_, _≤_}
 use mathlib.Core.List.{List}
 use lib.ListN.{length}
@@ -15,7 +15,7 @@ pub record TableIn (w : ℕ) (f : List ℕ) (n : ℕ) : Type 0 where
   pub broad : 32 ≤ w
   pub fits : rowStart w n ≤ length f
 
--- row i of a file that passes, as far as reading and opening its body goes by that
+-- row i lies in a file that passes, with what reading and opening its body requires
 pub record EntryIn (w : ℕ) (f : List ℕ) (i : ℕ) : Type 0 where
   pub row-in : RowIn w f i
   pub suite-is : IsSuite (rowAt w f i .suite)

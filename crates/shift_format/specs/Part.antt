@@ -1,4 +1,4 @@
--- Parts of a file: the bytes from a place on, and a part that a routine hands back.
+-- Parts of a file: the bytes from an offset on, and a part that a routine returns.
 use Prim.Native.Nat.{ℕ, _+_}
 use mathlib.Core.Path.{_≡_}
 use mathlib.Core.List.{List}

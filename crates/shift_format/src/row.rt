@@ -36,7 +36,7 @@ pub fn get32(file: &[u8], at: usize) -> u32
     word::le32(file[at], file[at + 1], file[at + 2], file[at + 3])
 }
 
-// How many rows the header says that there are.
+// The number of rows that the header states.
 pub fn count(file: &[u8]) -> usize
     requires { ⌜ 8 ≤ length (now file) ⌝ }
     ensures { λ r. ⌜ r ≡ countOf (now (file .entry)) ⌝ }
@@ -44,7 +44,7 @@ pub fn count(file: &[u8]) -> usize
     get16(file, 2) as usize
 }
 
-// The first edition of a shift file, which the writer makes, and the newest; readers take both.
+// The first edition of a shift file, which the writer writes, and the newest; readers accept both.
 pub const FIRST_EDITION: u16 = 1;
 
 pub const NEWEST: u16 = 2;
@@ -149,7 +149,7 @@ pub fn nonce_block(size: usize, file: &[u8], index: usize) -> Block
     byte_runs::filled(nonce_at(size, file, index))
 }
 
-// The nonce bytes of a row that its suite reads as a block, zeros behind them.
+// The nonce bytes that the row's suite reads, as a block padded with zeros.
 pub fn read_block(size: usize, file: &[u8], index: usize, suite: u8) -> Block
     requires { ⌜ RowIn size (now file) index ⌝ }
     ensures { λ r. ⌜ wide r ≡ filled (take (nonceOf suite) (nonceAt size (now (file .entry)) index)) ⌝ }

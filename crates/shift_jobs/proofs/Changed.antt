@@ -63,7 +63,7 @@ inside f g at n a b same k ne =
 -- row i stands in both files, with its nonce and its tag
 module _ (f g ring : List ℕ) (i : ℕ) (h : EntryIn (rowSizeOf f) f i) (full : length ring ≡ 256) (hf : AllBytes f) (hg : AllBytes g) (hr : AllBytes ring) (long : length g ≡ length f)
     (row : rowOf g i ≡ rowOf f i) (nonce : nonceAt (rowSizeOf g) g i ≡ nonceAt (rowSizeOf f) f i) (tag : tagOf g (rowOf f i) ≡ tagOf f (rowOf f i)) (right : entryRight f ring i ≡ true) where
-  -- the tag that the opener works out of associated data and text
+  -- the tag that the opener computes of associated data and text
   abbrev worked : List ℕ → List ℕ → List ℕ
   worked ad text = tagOut (cipherOf (rowOf f i .suite)) true (ringKey ring (rowOf f i .key)) (nonceRead f i) ad text
 

@@ -21,7 +21,7 @@ use Rattle.shift_format.proofs.Rows.{stretch-length, nonce-length}
 use Rattle.shift_jobs.specs.Opening.{ringKey, nonceRead, entrySealingAs, entryOpening, entryVerifying, left, rowOpening}
 use Rattle.shift_jobs.specs.Inside.{Lendable}
 
--- lent the entry's own bytes, the opener gives and leaves what the definition says
+-- on the entry's own bytes, the opener's status and output are the definition's
 pub lent : (f ring : List ℕ) (i : ℕ) (r : Row) (x : Opened) (key nonce ad text tag out : List ℕ) → x ≡ opening (r .suite) key nonce ad text tag out → r ≡ rowOf f i
     → key ≡ ringKey ring (r .key) → nonce ≡ take (nonceOf (r .suite)) (nonceAt (rowSizeOf f) f i)
     → ad ≡ dataOf f r → text ≡ textOf f r → tag ≡ tagOf f r → x ≡ entryOpening f ring i out

@@ -49,6 +49,6 @@ entries-lie f job = lookup-case (eqb (lookupJob f job .number) 0) refl
     lookup-case true e = record { behind = refl; ends = omega (arith, found-in f job (x .row) (ap (λ (m : ℕ). answer m (x .row)) (eqb-true _ _ e)) .body-in) }
     lookup-case false e = record { behind = refl; ends = omega arith }
 
--- so the associated data can be handed back as a part of it
+-- so the associated data can be returned as a part of it
 pub data-in : (f : List ℕ) (job : ℕ) → dataStart f (lookupJob f job) + dataLength f (lookupJob f job) ≤ length f
 data-in f job = omega (arith, entries-lie f job .behind, entries-lie f job .ends)

@@ -1,4 +1,4 @@
--- A job's tag is tested as opening the job tests it, into any output of the message's length; so the associated data is handed out exactly where the job opens.
+-- A job's tag is tested as opening the job tests it, into any output of the message's length; so the associated data is returned exactly where the job opens.
 use Prim.Native.Nat.{ℕ}
 use native.Mathlib.Omega.{arith}
 use mathlib.Core.Path.{_≡_, refl, sym, ap, _∙_}

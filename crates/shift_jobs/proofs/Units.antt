@@ -75,7 +75,7 @@ module _ (f ring : List ℕ) (job i v : ℕ) (found : lookupJob f job ≡ answer
       })
   lookup-is false e = simp (check-is false e)
 
-  -- the tag's bytes lie behind the unit
+  -- the tag's bytes lie after the unit
   tag-is : tagOf otherUnit (rowOf f i) ≡ tagOf f (rowOf f i)
   tag-is =
       let r = rowOf f i in

@@ -18,14 +18,14 @@ dataStart f x = cond (eqb (x .number) 0) (rowOf f (x .row) .«ad_at») 0
 unfoldable pub dataLength : List ℕ → Answer → ℕ
 dataLength f x = cond (eqb (x .number) 0) (rowOf f (x .row) .«ad_len») 0
 
--- the text lies behind it
+-- the text follows it
 unfoldable pub textStart : List ℕ → Answer → ℕ
 textStart f x = cond (eqb (x .number) 0) (rowOf f (x .row) .«ad_at» + rowOf f (x .row) .«ad_len») 0
 
 unfoldable pub textLength : List ℕ → Answer → ℕ
 textLength f x = cond (eqb (x .number) 0) (rowOf f (x .row) .«text_len») 0
 
--- a lookup's number and row, and the places
+-- a lookup's number and row, and the offsets
 abbrev pub entryAt : List ℕ → Answer → Entry
 entryAt f x = record {
   number = x .number;
@@ -40,7 +40,7 @@ entryAt f x = record {
 abbrev pub entryOf : List ℕ → ℕ → Entry
 entryOf f job = entryAt f (lookupJob f job)
 
--- an entry lies in the file, its text right behind its associated data
+-- an entry lies in the file, its text right after its associated data
 pub record Lies (f : List ℕ) (x : Entry) : Type 0 where
   pub behind : x .«ad_at» + x .«ad_len» ≡ x .«text_at»
   pub ends : x .«text_at» + x .«text_len» ≤ length f

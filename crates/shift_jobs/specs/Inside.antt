@@ -1,4 +1,4 @@
--- What the crate's own functions ask of each other; no entry point's contract cites it.
+-- Preconditions of the crate's own functions; no entry point's contract cites them.
 use Prim.Native.Nat.{ℕ, _+_, _*_, _≤_}
 use mathlib.Core.Path.{_≡_}
 use mathlib.Core.List.{List}
@@ -9,7 +9,7 @@ use Rattle.shift_format.specs.Format.{rowSizeOf, rowOf, bodyEnd}
 use Rattle.shift_format.specs.Inside.{RowIn}
 use Rattle.shift_jobs.specs.Lookup.{lookupJob}
 
--- what the opener is lent of row i lies in the file and in the ring
+-- the parts of row i that the opener borrows lie in the file and in the ring
 pub record Lendable (f ring : List ℕ) (i : ℕ) (r : Row) : Type 0 where
   pub is-row : r ≡ rowOf f i
   pub row-in : RowIn (rowSizeOf f) f i

@@ -20,13 +20,13 @@ ringKey ring k = stretch ring (16 * k) 16
 abbrev pub nonceRead : List ℕ → ℕ → List ℕ
 nonceRead f i = nonceReadAt (rowSizeOf f) f i
 
--- what the sealer gives and leaves of a text, with the entry's key, nonce and associated data, under a suite
+-- the sealer's status and output for a text, with the entry's key, nonce and associated data, under a suite
 abbrev pub entrySealingAs : List ℕ → List ℕ → ℕ → ℕ → List ℕ → List ℕ → List ℕ → comet.Sealed
 entrySealingAs f ring i suite text out₀ tag₀ =
     let r = rowOf f i in
     comet.sealing suite (ringKey ring (r .key)) (take (nonceOf suite) (nonceAt (rowSizeOf f) f i)) (dataOf f r) text out₀ tag₀
 
--- what the sealer and the opener give and leave on the entry's own stretch of the file, and its key
+-- the status and output of sealer and opener on the entry's own stretch of the file, and its key
 unfoldable pub entrySealing : List ℕ → List ℕ → ℕ → List ℕ → List ℕ → comet.Sealed
 entrySealing f ring i out₀ tag₀ = entrySealingAs f ring i (rowOf f i .suite) (textOf f (rowOf f i)) out₀ tag₀
 
@@ -35,18 +35,18 @@ entryOpening f ring i out₀ =
     let r = rowOf f i in
     comet.opening (r .suite) (ringKey ring (r .key)) (nonceRead f i) (dataOf f r) (textOf f r) (tagOf f r) out₀
 
--- the number of the record's test on the same bytes
+-- the verifier's status on the same bytes
 unfoldable pub entryVerifying : List ℕ → List ℕ → ℕ → ℕ
 entryVerifying f ring i =
     let r = rowOf f i in
     comet.verifying (r .suite) (ringKey ring (r .key)) (nonceRead f i) (dataOf f r) (textOf f r) (tagOf f r)
 
--- what opening a job gives and leaves
+-- the status of opening a job, and the output
 pub record JobOpened : Type 0 where
   pub answer : Answer
   pub out : List ℕ
 
--- an answer, and what it leaves in the output
+-- a status, and the output after it
 abbrev pub left : Answer → List ℕ → JobOpened
 left x out = record { answer = x; out = out }
 

@@ -1,4 +1,4 @@
-// The answers of lookup, entry and opening, and their numbers in document 01.
+// The statuses of lookup, entry and opening, and their numbers in document 01.
 use status::checked::Answer;
 use status::checked::Refusal;
 ghost use mathlib.Core.Path.{_≡_};

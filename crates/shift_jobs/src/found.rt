@@ -1,4 +1,4 @@
-// What a lookup found, told further: the file is not checked again.
+// The result of a lookup, passed on: the file is not checked again.
 use crate::answers::Entry;
 use crate::answers::Found;
 use crate::answers::JobAnswer;
@@ -38,7 +38,7 @@ pub fn entry_found(file: &[u8], found: Found) -> Entry
     }
 }
 
-// Opens the row that the lookup found into out: 2, 6, 8; where it refused, that stands.
+// Opens the row that the lookup found into out: 2, 6, 8; if the lookup refused, returns that status.
 pub fn open_found(file: &[u8], ring: &[u8], found: Found, out: &mut [u8]) -> JobAnswer
     requires { ⌜ FoundIn (now file) (foundAnswer found) ⌝ }
     ensures { λ r. ⌜ _≡_ {A = JobOpened} (record { answer = openedAnswer r; out = now (out .exit) }) (foundOpening (now (file .entry)) (now (ring .entry)) (foundAnswer found) (now (out .entry))) ⌝ }

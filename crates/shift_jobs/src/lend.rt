@@ -1,4 +1,4 @@
-// What sealer, opener and the record's test are lent of a row: the entry's own stretch of the file, and its key.
+// The slices of a row that sealer, opener and verifier borrow: the entry's own stretch of the file, and its key.
 use shift_format::body::data_of;
 use shift_format::body::tag_of;
 use shift_format::body::text_of;
@@ -45,7 +45,7 @@ fn nonce_read(file: &[u8], index: usize, suite: u8) -> &[u8]
     stretch(nonce, 0, cipher::nonce_size(suite))
 }
 
-// Lends a row to the sealer, under a suite and with a text that the caller names: it is sealed in its place.
+// Seals a text in place with the key, nonce and associated data of a row, under a suite that the caller chooses.
 pub fn seal_as(
     file: &[u8],
     ring: &[u8],
@@ -64,7 +64,7 @@ pub fn seal_as(
     comet::seal_in_place(suite, key, nonce, data_of(file, row), text, tag)
 }
 
-// Lends a row to the opener.
+// Opens a row.
 pub fn open_row(file: &[u8], ring: &[u8], index: usize, row: Row, out: &mut [u8]) -> Verdict
     requires { ⌜ Lendable (now file) (now ring) index row ⌝ }
     ensures { λ r. ⌜ _≡_ {A = Opened} (record { number = numberOf r; out = now (out .exit) }) (entryOpening (now (file .entry)) (now (ring .entry)) index (now (out .entry))) ⌝ }
@@ -82,7 +82,7 @@ pub fn open_row(file: &[u8], ring: &[u8], index: usize, row: Row, out: &mut [u8]
     )
 }
 
-// Lends a row to the record's test: no text is written.
+// Verifies a row: no text is written.
 pub fn verify_row(file: &[u8], ring: &[u8], index: usize, row: Row) -> Verdict
     requires { ⌜ Lendable (now file) (now ring) index row ⌝ }
     ensures { λ r. ⌜ numberOf r ≡ entryVerifying (now (file .entry)) (now (ring .entry)) index ⌝ }

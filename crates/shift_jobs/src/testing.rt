@@ -1,4 +1,4 @@
-// Testing the tag of one entry: where its associated data lies is handed out only where the tag is right.
+// Verifying the tag of one entry: the offset of its associated data is returned only if the tag is right.
 use crate::answers::Found;
 use crate::answers::Genuine;
 use crate::lend::row_of;
@@ -11,7 +11,7 @@ ghost use Rattle.shift_jobs.specs.Answers.{foundAnswer};
 ghost use Rattle.shift_jobs.specs.Genuine.{withheld, rowVerifying, foundVerifying};
 ghost use Rattle.shift_jobs.specs.Inside.{FoundIn};
 
-// An answer that hands out nothing.
+// A status without offsets.
 fn withhold(number: u8, row: usize) -> Genuine
     ensures { λ r. ⌜ r ≡ withheld number row ⌝ }
 {
@@ -23,7 +23,7 @@ fn withhold(number: u8, row: usize) -> Genuine
     }
 }
 
-// Tests the tag of a row: 2, 8.
+// Verifies the tag of a row: 2, 8.
 fn verify_entry(file: &[u8], ring: &[u8], index: usize) -> Genuine
     requires { ⌜ EntryIn (rowSizeOf (now file)) (now file) index ⌝ }
     ensures { λ r. ⌜ r ≡ rowVerifying (now (file .entry)) (now (ring .entry)) index ⌝ }
@@ -44,7 +44,7 @@ fn verify_entry(file: &[u8], ring: &[u8], index: usize) -> Genuine
     }
 }
 
-// Tests the tag of the row that the lookup found: 2, 8; where it refused, that stands.
+// Verifies the tag of the row that the lookup found: 2, 8; if the lookup refused, returns that status.
 pub fn verify_found(file: &[u8], ring: &[u8], found: Found) -> Genuine
     requires { ⌜ FoundIn (now file) (foundAnswer found) ⌝ }
     ensures { λ r. ⌜ r ≡ foundVerifying (now (file .entry)) (now (ring .entry)) (foundAnswer found) ⌝ }

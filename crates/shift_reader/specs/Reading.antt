@@ -18,7 +18,7 @@ use Rattle.shift_reader.specs.declared.Asked.{Asked}
 unfoldable pub rowsIn : List ℕ → ℕ
 rowsIn f = cond (eqb (checkFile f .number) 0) (countOf f) 0
 
--- how many rows the header lays down: none where one of 20 to 24 applies
+-- how many rows the header states: none if one of 20 to 24 applies
 unfoldable pub rowsLaid : List ℕ → ℕ
 rowsLaid f = cond (eqb (headNumber firstEdition newest f) 0) (countOf f) 0
 
@@ -30,7 +30,7 @@ listedOf f i = record { index = i; row = rowOf f i; station = stationOf f i; non
 abbrev pub startOf : List ℕ → Cursor
 startOf f = record { at = 0; end = rowsIn f }
 
--- the row at the cursor's place; it has ended where the table has no such row, and where the cursor is another file's
+-- the row at the cursor; it has ended if the table has no such row, or if the cursor belongs to another file
 unfoldable pub askOf : Cursor → List ℕ → Stepped
 askOf c f =
     cond (eqb (c .end) (rowsLaid f) && ltb (c .at) (rowsLaid f))
@@ -45,11 +45,11 @@ readerOf s = record { src = s; place = startOf (now s) }
 abbrev pub asked : Reader → NextRow → Asked
 asked r e = record { reader = r; entry = e }
 
--- what a reader gives, and the reader after it: the same file, the next place
+-- the result of a reader's call, and the reader after it: the same file, the next row
 abbrev pub nextOf : Reader → Asked
 nextOf r = asked (record { src = r .src; place = askOf (r .place) (now (r .src)) .next }) (askOf (r .place) (now (r .src)) .entry)
 
--- the reader's list: what k asks give, one after the other
+-- the reader's list: the results of k calls, one after the other
 unfoldable pub asks : ℕ → Reader → List NextRow
 asks zero r = []
 asks (suc k) r = nextOf r .entry ∷ asks k (nextOf r .reader)

@@ -1,4 +1,4 @@
-// A place in a shift file, by value: the file's entries one after another, for whoever has the file at hand.
+// A cursor into a shift file, by value: the file's entries one after another, for callers that have the file.
 use shift_check::check;
 use shift_check::check_head;
 use shift_format::row::FIRST_EDITION;
@@ -30,13 +30,13 @@ pub struct Listed {
     pub nonce: usize,
 }
 
-// What an ask gives: a row, or that the rows have ended.
+// The result of a call: a row, or the end of the rows.
 pub enum NextRow {
     Row(Listed),
     Ended,
 }
 
-// What an ask gives, and the cursor after it.
+// The result of a call, and the cursor after it.
 pub struct Stepped {
     pub next: Cursor,
     pub entry: NextRow,
@@ -58,7 +58,7 @@ pub fn start(file: &[u8]) -> Cursor
     }
 }
 
-// How many rows the header lays down; none where one of 20 to 24 applies.
+// How many rows the header states; none if one of 20 to 24 applies.
 fn laid(file: &[u8]) -> usize
     ensures { λ r. ⌜ r ≡ rowsLaid (now (file .entry)) ⌝ }
 {
@@ -84,8 +84,8 @@ pub(crate) fn listed_at(file: &[u8], index: usize) -> Listed
     }
 }
 
-// The next row, and the cursor past it. A cursor says nothing of the file that it comes with, so the header is looked at
-// again, which tells that the row lies in the file; the check is not run again.
+// The next row, and the cursor after it. A cursor may come with any file, so 20 to 24 are checked again, which shows
+// that the row lies in the file; the full check is not run again.
 pub fn ask(cursor: Cursor, file: &[u8]) -> Stepped
     ensures { λ r. ⌜ r ≡ askOf cursor (now (file .entry)) ⌝ }
 {

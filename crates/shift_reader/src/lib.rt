@@ -16,7 +16,7 @@ pub struct Reader<'a> {
     place: Cursor,
 }
 
-// What an ask gives, and the reader after it.
+// The result of a call, and the reader after it.
 pub struct Asked<'a> {
     pub reader: Reader<'a>,
     pub entry: NextRow,

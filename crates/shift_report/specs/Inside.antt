@@ -1,4 +1,4 @@
--- What the private functions ask; no entry point's contract cites it.
+-- Preconditions of the private functions; no entry point's contract cites them.
 use Prim.Native.Nat.{ℕ, _≤_}
 use mathlib.Core.Path.{_≡_}
 use mathlib.Core.List.{List}

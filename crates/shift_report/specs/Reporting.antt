@@ -28,7 +28,7 @@ unfoldable pub each : (ℕ → ℕ) → ℕ → List ℕ
 each what zero = []
 each what (suc n) = each what n ++ (what n ∷ [])
 
--- that, at the front of a list; what stood behind it stays
+-- that, at the front of a list; the rest is unchanged
 abbrev pub front : (ℕ → ℕ) → ℕ → List ℕ → List ℕ
 front what n l = each what n ++ drop n l
 
@@ -49,7 +49,7 @@ saidOf (Refused x) = refuses (refusalAnswer x)
 saidOf Ring = refuses (answer 2 0)
 saidOf Room = refuses (answer 6 0)
 
--- what is said, and what is left in the two lists
+-- the result, and the two lists after the call
 pub record Report : Type 0 where
   pub said : ReportSummary
   pub jobs : List ℕ

@@ -1,4 +1,4 @@
-// What a report says, and its numbers in documents 01 and 02.
+// The result of a report, and its numbers in documents 01 and 02.
 use status::checked::Refusal;
 ghost use mathlib.Core.Path.{_≡_};
 ghost use Rattle.status.specs.Answers.{refusalAnswer};

@@ -120,14 +120,14 @@ module _ (f l : List ℕ) (n : ℕ) (tf : TableIn (rowSizeOf f) f n) (tl : Table
         ])
       ])
 
-  -- the header, and what stands behind the table
+  -- the header, and what stands after the table
   head-kept : (k : ℕ) → k < 8 → getD g k 0 ≡ getD l k 0
   head-kept k b = new-kept k (λ i c q. omega (arith, place i, row-late w i, broad))
 
   body-kept : (k : ℕ) → rowStart w n ≤ k → getD g k 0 ≡ getD l k 0
   body-kept k b = new-kept k (λ i c q. omega (arith, place i, row-below w i n c))
 
-  -- the edition stands in the header, so rows are as long as they were
+  -- the edition stands in the header, so rows are as long unchanged
   pub new-edition : editionOf g ≡ editionOf f
   new-edition = word-same g f 2 0 (λ k b c. head-kept k (omega arith) ∙ agree k (omega (arith, row-late w n)))
 

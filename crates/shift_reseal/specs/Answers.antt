@@ -1,4 +1,4 @@
--- What the reseal pass answers and leaves (document 02, W7): the checks, 29, 2, 6, 8, in this order.
+-- The reseal pass's status and output (document 02, W7): the checks, 29, 2, 6, 8, in this order.
 use Prim.Native.Nat.{ℕ, _-_}
 use mathlib.Core.Bool.{Bool, not, _&&_}
 use mathlib.Core.List.{List}
@@ -17,7 +17,7 @@ use Rattle.shift_reseal.specs.Files.{retabled, resealedFile}
 unfoldable pub seenFrom : List ℕ → ℕ → ℕ → Answer
 seenFrom f n i = firstOf (nonceSeen (rowSizeOf f) f) (answer 29) (answer 0 0) i (n - i)
 
--- the tag of row i is wrong and the row is looked at: only suite 4 entries are opened
+-- the tag of row i is wrong and the row is opened: only suite 4 entries are
 unfoldable pub wrongAgain : List ℕ → List ℕ → ℕ → Bool
 wrongAgain f ring i = eqb (rowOf f i .suite) retiredSuite && not (tagRight f ring i)
 
@@ -25,7 +25,7 @@ wrongAgain f ring i = eqb (rowOf f i .suite) retiredSuite && not (tagRight f rin
 unfoldable pub wrongAgainFrom : List ℕ → List ℕ → ℕ → ℕ → Answer
 wrongAgainFrom f ring n i = firstOf (wrongAgain f ring) (answer 8) (answer 0 0) i (n - i)
 
--- the checks, 29 on the table as it would be, 2, 6
+-- the checks, 29 on the table after resealing, 2, 6
 unfoldable pub takeAnswer : List ℕ → ℕ → ℕ → Answer
 takeAnswer file ring out = andThen (checkAs firstEdition file) (andThen (seenFrom (retabled file) (countOf file) 0) (lentAnswer (length file) ring out))
 

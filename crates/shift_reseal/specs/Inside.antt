@@ -1,4 +1,4 @@
--- What the crate's own functions ask of each other; no entry point's contract cites it.
+-- Preconditions of the crate's own functions; no entry point's contract cites them.
 use Prim.Native.Nat.{ℕ}
 use mathlib.Core.Path.{_≡_}
 use mathlib.Core.List.{List}

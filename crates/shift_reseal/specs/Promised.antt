@@ -1,4 +1,4 @@
--- What is promised of the reseal pass (document 02, W7). The statements speak of the definitions; the contract of `reseal` says that the code does what they say.
+-- The promises of the reseal pass (document 02, W7). The statements are about the definitions; the contract of the pass ties the code to them.
 use Prim.Native.Nat.{ℕ, _+_, _≤_, _<_}
 use mathlib.Core.Path.{_≡_}
 use mathlib.Core.Bool.{true}
@@ -21,7 +21,7 @@ use Rattle.shift_reseal.specs.Answers.{seenFrom, fileResealing}
 abbrev pub HasFour : List ℕ → ℕ → Type 0
 HasFour file i = rowOf file i .suite ≡ retiredSuite
 
--- row i would clash with an earlier one: the check's rule, on the table as it would be
+-- row i would clash with an earlier one: the check's rule, on the table after resealing
 abbrev pub Clashes : List ℕ → ℕ → Type 0
 Clashes file i = nonceSeen (rowSizeOf (retabled file)) (retabled file) i ≡ true
 
@@ -33,11 +33,11 @@ pub record Resealed (file ring out : List ℕ) (i : ℕ) : Type 0 where
   pub key : rowOf out i .key ≡ rowOf file i .key
   pub nonce : nonceAt (rowSizeOf out) out i ≡ nonceAt (rowSizeOf file) file i
   pub ad : dataOf out (rowOf out i) ≡ dataOf file (rowOf file i)
-  -- its tag is right, and the opener gives what it gave before
+  -- its tag is right, and opening it gives the same message as before
   pub right : RightTag out ring i
   pub opens : (room : List ℕ) → length room ≡ rowOf file i .«text_len» → (entryOpening out ring i room .number ≡ 0) × (entryOpening out ring i room ≡ entryOpening file ring i room)
 
--- place k is not row i's suite byte, and not one of its text and tag
+-- offset k is neither row i's suite byte nor in its text and tag
 pub record Elsewhere (file : List ℕ) (i k : ℕ) : Type 0 where
   pub suite : k ≡ restStart (rowSizeOf file) i → ⊥
   pub piece : (k < pieceStart file i) ⊎ (pieceStart file i + pieceSize file i ≤ k)
@@ -46,7 +46,7 @@ pub record Renewed (file ring out : List ℕ) : Type 0 where
   pub checked : checkAs firstEdition out ≡ answer 0 0
   pub none : (i : ℕ) → i < countOf out → HasFour out i → ⊥
   pub again : (i : ℕ) → i < countOf file → HasFour file i → Resealed file ring out i
-  -- every other byte is as it was
+  -- every other byte is unchanged
   pub long : length out ≡ length file
   pub kept : (k : ℕ) → ((i : ℕ) → i < countOf file → HasFour file i → Elsewhere file i k) → getD out k 0 ≡ getD file k 0
 
@@ -80,7 +80,7 @@ pub record Calm (file : List ℕ) : Type 0 where
   pub checked : checkAs firstEdition file .number ≡ 0
   pub calm : (i : ℕ) → i < countOf file → Clashes file i → ⊥
 
--- the check's refusal; 29 with the lowest row that would clash with an earlier one, whatever ring and output are; 2; 6; 8 with the first suite 4 row whose tag is wrong, and zeros all over; 0
+-- the check's refusal; 29 with the lowest row that would clash with an earlier one, whatever ring and output are; 2; 6; 8 with the first suite 4 row whose tag is wrong, and an output of zeros; 0
 pub record ResealCases (file ring out₀ : List ℕ) : Type 0 where
   pub checked : (checkAs firstEdition file .number ≡ 0 → ⊥) → fileResealing file ring out₀ ≡ writes (checkAs firstEdition file) out₀
   pub clash : checkAs firstEdition file .number ≡ 0 → (i : ℕ) → i < countOf file → Clashes file i → ((k : ℕ) → k < i → Clashes file k → ⊥)

@@ -1,4 +1,4 @@
-// The reseal pass: suite 4 is retired, and its entries are sealed again as suite 3.
+// The reseal pass: entries of the retired suite 4 are sealed again as suite 3.
 mod rows;
 mod suites;
 

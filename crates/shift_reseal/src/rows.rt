@@ -20,7 +20,7 @@ ghost use Rattle.shift_reseal.specs.Files.{againPiece};
 ghost use Rattle.shift_reseal.specs.Answers.{wrongAgain, wrongAgainFrom};
 ghost use Rattle.shift_reseal.specs.Inside.{Resealable};
 
-// Opens a row into its own place in the output, and seals it there; false where the tag is wrong. The message stands nowhere else.
+// Opens a row at its own offset in the output and seals it there; false if the tag is wrong. The message is written nowhere else.
 fn reseal_entry(file: &[u8], ring: &[u8], index: usize, row: Row, out: &mut [u8]) -> bool
     requires { ⌜ Resealable (now file) index row (now ring) (now out) ⌝ }
     ensures right { λ r. ⌜ r ≡ tagRight (now (file .entry)) (now (ring .entry)) index ⌝ }
@@ -39,7 +39,7 @@ fn reseal_entry(file: &[u8], ring: &[u8], index: usize, row: Row, out: &mut [u8]
     true
 }
 
-// A row: only a suite 4 entry is opened, any other stays as it was copied; false where a tag is wrong.
+// Reseals a row of suite 4; any other stays unchanged copied. False if the tag is wrong.
 fn reseal_row(file: &[u8], ring: &[u8], index: usize, out: &mut [u8]) -> bool
     requires { ⌜ RowWritable (now file) index (now ring) (now out) ⌝ }
     ensures right { λ r. ⌜ not r ≡ wrongAgain (now (file .entry)) (now (ring .entry)) index ⌝ }
@@ -52,7 +52,7 @@ fn reseal_row(file: &[u8], ring: &[u8], index: usize, out: &mut [u8]) -> bool
     reseal_entry(file, ring, index, row, out)
 }
 
-// The rows; the first whose tag is wrong leaves zeros all over.
+// The rows; the first whose tag is wrong sets the whole output to 0.
 pub(crate) fn reseal_rows(file: &[u8], rows: usize, ring: &[u8], out: &mut [u8]) -> Written
     requires { ⌜ Writable (now file) rows (now ring) (now out) ⌝ }
     ensures { λ r. ⌜ _≡_ {A = FileWritten} (record { answer = writtenAnswer r; out = now (out .exit) })

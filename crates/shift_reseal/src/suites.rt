@@ -1,4 +1,4 @@
-// The table as it would be: 3 for 4 in its suite bytes, and the first of its rows that clashes.
+// The table after resealing: 3 for 4 in its suite bytes, and the first of its rows that clashes.
 use block::Block;
 use block::same;
 use cipher::RETIRED;
@@ -63,7 +63,7 @@ fn nonce_of(file: &[u8], index: usize) -> Block
     nonce_block(row_size_of(file), file, index)
 }
 
-// Two rows clash in the table as it would be. Zeros stand where a suite does not read (34), so all sixteen bytes tell what it reads.
+// Two rows clash in the table after resealing. The bytes that a suite does not read are zero (34), so comparing all sixteen bytes compares those that it reads.
 fn clashes(file: &[u8], rows: usize, index: usize, other: usize) -> bool
     requires { ⌜ Passing (now file) rows × ((index < rows) × (other < rows)) ⌝ }
     ensures { λ r. ⌜ r ≡ clash (rowSizeOf (retabled (now (file .entry)))) (retabled (now (file .entry))) index other ⌝ }
@@ -74,7 +74,7 @@ fn clashes(file: &[u8], rows: usize, index: usize, other: usize) -> bool
     false
 }
 
-// A row clashes with an earlier one in the table as it would be.
+// A row clashes with an earlier one in the table after resealing.
 fn nonce_seen(file: &[u8], rows: usize, index: usize) -> bool
     requires { ⌜ Passing (now file) rows × (index < rows) ⌝ }
     ensures { λ r. ⌜ r ≡ nonceSeen (rowSizeOf (retabled (now (file .entry)))) (retabled (now (file .entry))) index ⌝ }
@@ -89,7 +89,7 @@ fn nonce_seen(file: &[u8], rows: usize, index: usize) -> bool
     false
 }
 
-// 29, of the table as it would be: the file's own rows tell, and nothing is copied.
+// 29 for the table after resealing, from the file's own rows: no table is copied.
 pub(crate) fn first_clash(file: &[u8], rows: usize) -> Written
     requires { ⌜ Passing (now file) rows ⌝ }
     ensures { λ r. ⌜ writtenAnswer r ≡ seenFrom (retabled (now (file .entry))) rows 0 ⌝ }

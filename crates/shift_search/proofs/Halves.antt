@@ -1,4 +1,4 @@
--- The halving rule, as the loop goes through it; how many rows it looks at, and what it says of rising job numbers.
+-- The binary search rule, as the loop goes through it; how many rows it looks at, and what it says of rising job numbers.
 use Prim.Native.Nat.{ℕ, zero, suc, _+_, _-_, _*_, _/_, _^_, _≤_, _<_}
 use native.Mathlib.Nat.{pow-suc, not-suc-le-zero}
 use native.Mathlib.Decide.{decLt}

@@ -1,4 +1,4 @@
--- Finding a job by halving (document 02, W6): the rows that are looked at, in order, and the answer.
+-- Binary search for a job (document 02, W6): the rows that are looked at, in order, and the answer.
 use Prim.Native.Nat.{ℕ, zero, suc, _+_, _-_, _/_}
 use mathlib.Core.Bool.{cond}
 use mathlib.Core.List.{List, [], _∷_}
@@ -8,7 +8,7 @@ use Rattle.shift_format.specs.Format.{countOf, firstEdition, newest, rowSizeOf,
 use Rattle.status.specs.Answers.{answer}
 use Rattle.shift_check.specs.Check.{headNumber}
 
--- the rows that were looked at, and what is said
+-- the rows that were looked at, and the answer
 pub record Walk : Type 0 where
   pub rows : List ℕ
   pub says : Answer

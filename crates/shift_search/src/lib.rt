@@ -1,4 +1,4 @@
-// Finding a job in a shift file by halving, without walking the file.
+// Binary search for a job in a shift file.
 use shift_check::check_head;
 use shift_format::row::FIRST_EDITION;
 use shift_format::row::NEWEST;
@@ -19,7 +19,7 @@ pub struct Searched {
     pub looked: usize,
 }
 
-// Halves the rows until one has the job or none is left.
+// Binary search over the rows, until one has the job or none is left.
 fn halve(size: usize, file: &[u8], rows: usize, job: u32) -> Searched
     requires { ⌜ TableIn size (now file) rows ⌝ }
     ensures { λ r. ⌜ (foundAnswer (r .found) ≡ halving (jobsOf size (now (file .entry))) job 0 rows .says) × (r .looked ≡ length (halving (jobsOf size (now (file .entry))) job 0 rows .rows)) ⌝ }
@@ -53,7 +53,7 @@ fn halve(size: usize, file: &[u8], rows: usize, job: u32) -> Searched
     }
 }
 
-// Numbers 20 to 24, and then the row that halving finds, or 32; and how many rows were looked at.
+// Numbers 20 to 24, then the row that the binary search finds, or 32; and how many rows were looked at.
 pub fn search(file: &[u8], job: u32) -> Searched
     ensures { λ r. ⌜ (foundAnswer (r .found) ≡ searching (now (file .entry)) job .says) × (r .looked ≡ length (searching (now (file .entry)) job .rows)) ⌝ }
 {

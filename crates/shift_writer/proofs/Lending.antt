@@ -71,7 +71,7 @@ put-over out x y a b e h k l lx ly =
     let d : drop e m ≡ drop (a + length y) out = ap (λ (j : ℕ). drop j m) s1 ∙ sym (drop-drop (e - b) b m) ∙ ap (drop (e - b)) (drop-put a b out x h (omega arith) lx) ∙ drop-drop (e - b) b out ∙ ap (λ (j : ℕ). drop j out) s2 in
     ap₂ (λ (u v : List ℕ). u ++ (y ++ v)) (take-put a (b - a) out x (omega arith)) (post-is a e m (omega arith) ∙ d)
 
--- two, one behind the other
+-- two, one after the other
 pub put-two : (out x y : List ℕ) (a b e : ℕ) → a ≤ b → b ≤ e → e ≤ length out → length x ≡ b - a → length y ≡ e - b
     → putMid b (e - b) (putMid a (b - a) out x) y ≡ put out a (x ++ y)
 unfolding put

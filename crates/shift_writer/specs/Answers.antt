@@ -1,4 +1,4 @@
--- Number and row of each case of the writer's answer: 25 to 30, 34, 33, 10 and 8 carry their row, every other number 0.
+-- Number and row of each of the writer's statuses: 25 to 30, 34, 33, 10 and 8 carry their row, every other number 0.
 use Rattle.status.specs.declared.checked.Answer.{Answer}
 use Rattle.status.specs.Answers.{answer, refusalAnswer}
 use Rattle.shift_writer.specs.declared.answers.Written.{Written}

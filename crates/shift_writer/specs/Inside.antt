@@ -1,4 +1,4 @@
--- What the crate's own functions ask of each other; no entry point's contract cites it.
+-- Preconditions of the crate's own functions; no entry point's contract cites them.
 use Prim.Native.Nat.{ℕ, _+_, _<_}
 use mathlib.Core.Path.{_≡_}
 use mathlib.Core.List.{List}
@@ -8,7 +8,7 @@ use Rattle.shift_format.specs.declared.row.Row.{Row}
 use Rattle.shift_format.specs.Format.{rowSizeOf, rowOf}
 use Rattle.shift_format.specs.Inside.{EntryIn}
 
--- every row below n is one that sealer and opener take
+-- every row below n is one that sealer and opener accept
 pub record RowsIn (f : List ℕ) (n : ℕ) : Type 0 where
   pub entries : (i : ℕ) → i < n → EntryIn (rowSizeOf f) f i
 
@@ -16,7 +16,7 @@ pub record RowsIn (f : List ℕ) (n : ℕ) : Type 0 where
 pub record RowsSeal (f : List ℕ) (n : ℕ) : Type 0 where
   pub still : (i : ℕ) → i < n → Seals (rowOf f i .suite)
 
--- every row below n is one that they take, and the ring and the output are as long as they have to be
+-- every row below n is one that they accept, and ring and output have the required lengths
 pub record Writable (f : List ℕ) (n : ℕ) (ring out : List ℕ) : Type 0 where
   pub entries : (i : ℕ) → i < n → EntryIn (rowSizeOf f) f i
   pub ring-long : length ring ≡ 256

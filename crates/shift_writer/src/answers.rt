@@ -1,4 +1,4 @@
-// What the writer answers, and its numbers in documents 01 and 02.
+// The writer's statuses, and their numbers in documents 01 and 02.
 use status::checked::Answer;
 use status::checked::Refusal;
 ghost use mathlib.Core.Path.{_≡_};

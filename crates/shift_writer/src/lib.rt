@@ -1,4 +1,4 @@
-// The writer of shift files: a draft is sealed, and a sealed file gives its draft back.
+// The writer of shift files: seals a draft, and restores the draft of a sealed file.
 pub mod answers;
 pub mod piece;
 mod rows;
@@ -86,7 +86,7 @@ pub fn seal_file(draft: &[u8], ring: &[u8], out: &mut [u8]) -> Written
     Written::Done
 }
 
-// Gives the draft of a sealed file back: the checks, 2, 6, 8.
+// Restores the draft of a sealed file: the checks, 2, 6, 8.
 pub fn unseal_file(file: &[u8], ring: &[u8], out: &mut [u8]) -> Written
     ensures { λ r. ⌜ _≡_ {A = FileWritten} (record { answer = writtenAnswer r; out = now (out .exit) }) (fileUnsealing (now (file .entry)) (now (ring .entry)) (now (out .entry))) ⌝ }
 {

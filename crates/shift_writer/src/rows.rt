@@ -30,7 +30,7 @@ pub(crate) fn put_edition(edition: u16, out: &mut [u8])
     out[1] = (h % 256) as u8;
 }
 
-// Seals row i of a draft in its place in the output; its text is put there first, whatever stood there.
+// Seals row i of a draft at its offset in the output, after copying its text there.
 fn seal_entry(file: &[u8], ring: &[u8], index: usize, out: &mut [u8])
     requires { ⌜ RowWritable (now file) index (now ring) (now out) × Seals (rowOf (now file) index .suite) ⌝ }
     ensures { λ _. ⌜ now (out .exit) ≡ put (now (out .entry)) (pieceStart (now (file .entry)) index) (sealedPiece (now (file .entry)) (now (ring .entry)) index) ⌝ }
@@ -77,7 +77,7 @@ fn unseal_entry(file: &[u8], ring: &[u8], index: usize, out: &mut [u8]) -> bool
     true
 }
 
-// Opens the n rows of a file into the output; the first whose tag is wrong leaves zeros all over.
+// Opens the n rows of a file into the output; the first whose tag is wrong sets all of it to 0.
 pub(crate) fn unseal_rows(file: &[u8], rows: usize, ring: &[u8], out: &mut [u8]) -> Written
     requires { ⌜ Writable (now file) rows (now ring) (now out) ⌝ }
     ensures { λ r. ⌜ _≡_ {A = FileWritten} (record { answer = writtenAnswer r; out = now (out .exit) })

@@ -18,7 +18,7 @@ fn row_seals(file: &[u8], index: usize) -> bool
     cipher::seals(row.suite)
 }
 
-// The first of n rows whose suite seals no more.
+// The first of n rows whose suite is retired.
 pub(crate) fn first_retired(file: &[u8], rows: usize) -> Written
     requires { ⌜ RowsIn (now file) rows ⌝ }
     ensures { λ r. ⌜ writtenAnswer r ≡ retiredFrom (now (file .entry)) rows 0 ⌝ }

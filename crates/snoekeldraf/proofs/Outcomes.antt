@@ -1,4 +1,4 @@
--- One outcome for each input: a contract says what the number and every lent output equal, so any two outcomes that it allows are equal.
+-- One outcome for each input: a contract fixes the status and every borrowed output, so any two outcomes that it allows are equal.
 use mathlib.Core.Path.{_≡_, refl, sym, ap, ap₂, _∙_}
 use Prim.Native.Nat.{ℕ}
 use mathlib.Core.List.{List}

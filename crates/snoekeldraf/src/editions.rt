@@ -4,7 +4,7 @@ ghost use mathlib.Core.Path.{_≡_};
 ghost use Rattle.status.specs.Answers.{answer};
 ghost use Rattle.shift_editions.specs.Answers.{movedLength, FileMoved, toEdition2, toEdition1};
 
-// How long the file is once it is moved; 0 where one of 20 to 24 applies.
+// The length of the file after its move; 0 if one of 20 to 24 applies.
 #[no_mangle]
 pub extern "C" fn shift_moved_length(file: &[u8]) -> usize
     ensures { λ r. ⌜ r ≡ movedLength (now (file .entry)) ⌝ }

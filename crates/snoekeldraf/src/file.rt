@@ -12,7 +12,7 @@ ghost use Rattle.shift_jobs.specs.Opening.{JobOpened, jobOpening};
 ghost use Rattle.shift_jobs.specs.Genuine.{jobVerifying};
 ghost use Rattle.snoekeldraf.specs.Located.{Located, locating};
 
-// Writes the row that an answer carries, and gives its number.
+// Writes the row that an answer carries, and returns its number.
 pub(crate) fn say(a: Answer, row: &mut u32) -> u32
     requires { ⌜ a .row ≤ 512 ⌝ }
     ensures { λ r. ⌜ answer r (now (row .exit)) ≡ a ⌝ }
@@ -93,7 +93,7 @@ pub extern "C" fn shift_open_job(
     say(shift_jobs::open_job(file, ring, job, out).answer(), row)
 }
 
-// Where the job's associated data lies, once its tag is compared: the full check, 32, then 2, 8; 0 and 0 after every number but 0.
+// The offset of the job's associated data, after its tag was compared: the full check, 32, then 2, 8; 0 and 0 after every number but 0.
 #[no_mangle]
 pub extern "C" fn shift_verified(
     file: &[u8],

@@ -1,11 +1,11 @@
-// Finding a job by halving.
+// Binary search for a job.
 use crate::file::say;
 ghost use mathlib.Core.Path.{_≡_};
 ghost use lib.ListN.{length};
 ghost use Rattle.status.specs.Answers.{answer};
 ghost use Rattle.shift_search.specs.Halving.{searching};
 
-// Numbers 20 to 24, and then the row that halving finds, or 32; and how many rows were looked at.
+// Numbers 20 to 24, then the row that the binary search finds, or 32; and how many rows were looked at.
 #[no_mangle]
 pub extern "C" fn shift_search(file: &[u8], job: u32, row: &mut u32, looked: &mut u32) -> u32
     ensures { λ r. ⌜ (answer r (now (row .exit)) ≡ searching (now (file .entry)) job .says) × (now (looked .exit) ≡ length (searching (now (file .entry)) job .rows)) ⌝ }

@@ -13,7 +13,7 @@ pub extern "C" fn shift_seal_file(draft: &[u8], ring: &[u8], out: &mut [u8], row
     say(shift_writer::seal_file(draft, ring, out).answer(), row)
 }
 
-// Gives the draft of a file back, into out: the checks, 2, 6, 8.
+// Restores the draft of a file into out: the checks, 2, 6, 8.
 #[no_mangle]
 pub extern "C" fn shift_unseal_file(file: &[u8], ring: &[u8], out: &mut [u8], row: &mut u32) -> u32
     ensures { λ r. ⌜ _≡_ {A = FileWritten} (record { answer = answer r (now (row .exit)); out = now (out .exit) })

@@ -1,4 +1,4 @@
-// Speck-64/128: a round and the step of the key schedule are the same work on two words.
+// Speck-64/128: a round and a step of the key schedule are the same function of two words.
 ghost use mathlib.Core.Path.{_≡_};
 ghost use Rattle.block.specs.Bytes.{word};
 ghost use Rattle.speck.specs.Speck.{upper, lower, nextL, nextR, speck};
@@ -59,7 +59,7 @@ fn pair_of(block: [u8; 8]) -> Pair
     }
 }
 
-// The image of the block under the key. The next key stands before the round, which does not wait for it: the compiler keeps the order, and the block takes a twentieth less time.
+// The encryption of the block under the key. The next round key is computed before the round, which does not depend on it: the compiler keeps this order, and a block takes a twentieth less time.
 pub fn encrypt(key: [u8; 16], block: [u8; 8]) -> [u8; 8]
     ensures { λ r. ⌜ r ≡ speck key block ⌝ }
 {

@@ -19,11 +19,11 @@ numberOf Tag = 7
 numberOf Forged = 8
 numberOf Retired = 10
 
--- every suite that we have is opened, and one that seals is sealed
+-- opening accepts every suite that exists; sealing accepts one that seals
 abbrev pub takes : Bool → ℕ → Bool
 takes opening suite = opening || seals suite
 
--- numbers 1, 10, 2 and 3 of every call under a key (10 where the call does not take the suite), from the suite and the lengths of key and nonce: the first that applies, and where none does the call's own
+-- numbers 1, 10, 2 and 3 of every call under a key (10 where the call does not accept the suite), from the suite and the lengths of key and nonce: the first that applies, else the call's own number
 abbrev pub underKey : Bool → ℕ → ℕ → ℕ → ℕ → ℕ
 underKey taken suite key nonce own =
     cond (not (isSuite suite)) 1

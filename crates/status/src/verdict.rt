@@ -1,9 +1,9 @@
-// What sealer and opener answer, and the order in which they refuse.
+// The statuses of sealer and opener, and the order of their checks.
 use cipher::LIMIT;
 ghost use mathlib.Core.Path.{_≡_};
 ghost use Rattle.status.specs.Verdicts.{numberOf, takes, underKey, textsNumber, refusal};
 
-// What a call answers: Done, or why it refused.
+// The status of a call: Done, or why it was refused.
 pub enum Verdict {
     Done,
     Suite,
@@ -37,7 +37,7 @@ impl Verdict {
     }
 }
 
-// Whether the suite, one that we have, is taken: it is always opened, and sealed if it seals.
+// Whether a call accepts the suite, which exists: opening always does, sealing if the suite seals.
 fn takes(opening: bool, suite: u8) -> bool
     ensures { λ r. ⌜ r ≡ takes opening suite ⌝ }
 {
@@ -47,7 +47,7 @@ fn takes(opening: bool, suite: u8) -> bool
     cipher::seals(suite)
 }
 
-// Numbers 4 to 7 in the order of the table: the ladder's lower half.
+// Numbers 4 to 7 in the order of the table: the second half of the checks.
 fn texts_refused(suite: u8, ad: usize, text: usize, out: usize, tag: usize) -> Verdict
     ensures { λ r. ⌜ numberOf r ≡ textsNumber suite ad text out tag ⌝ }
 {
@@ -67,7 +67,7 @@ fn texts_refused(suite: u8, ad: usize, text: usize, out: usize, tag: usize) -> V
     Verdict::Done
 }
 
-// Numbers 1, 10, 2 and 3 in the order of the table, from the suite and the lengths of key and nonce: the ladder's upper half, which a session's start has too.
+// Numbers 1, 10, 2 and 3 in the order of the table, from the suite and the lengths of key and nonce: the first half of the checks, which a session's start shares.
 pub fn under_key(opening: bool, suite: u8, key: usize, nonce: usize) -> Verdict
     ensures { λ r. ⌜ numberOf r ≡ underKey (takes opening suite) suite key nonce 0 ⌝ }
 {

@@ -1,4 +1,4 @@
-// Prints the image of each block on its input in hexadecimal, one to a line: under suite 1 by both engines of AES.
+// Prints the encryption of each input block in hexadecimal, one to a line; suite 1 by both AES engines.
 // A record is a suite (1 byte), a key (16) and a block (16 bytes for suites 1 and 2, 8 for 3 and 4).
 use libc::STDIN_FILENO;
 
@@ -49,7 +49,7 @@ fn record() -> bool {
     true
 }
 
-// Nothing says that an input ends, so the records are counted down from a number that no input reaches.
+// The end of an input is not provable, so the loop counts down from a number that no input reaches.
 fn main() {
     let mut left = u64::MAX;
     while left > 0 && record() {

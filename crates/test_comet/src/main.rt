@@ -3,7 +3,7 @@
 // A call's numbers are the lengths of key, nonce, associated data, text, output and tag; the bytes of key, nonce,
 // associated data and text follow and, to open or verify, those of the tag. Op 0 seals and 1 opens; 2 and 3 are the same,
 // counted; 4 seals and 5 opens in place, and 6 verifies, without an output. A line is the number, for 2 and 3 the count of
-// the cipher calls, the output (for 4 and 5 the text) and, to seal, the tag; for 6 the number alone. What is lent for
+// the cipher calls, the output (for 4 and 5 the text) and, to seal, the tag; for 6 the number alone. What borrows for
 // writing alone holds 0xa5 before the call.
 use comet::Counted;
 use libc::STDIN_FILENO;
@@ -93,7 +93,7 @@ fn unseal(
     end(line, at)
 }
 
-// Runs a call on what was read; no line where a lent buffer has no room or the tag ends early.
+// Runs a call on what was read; no line if a buffer is too small or the tag ends early.
 fn answer(c: Call, key: &[u8], nonce: &[u8], ad: &[u8], text: &[u8], line: &mut [u8]) -> usize {
     let mut out = [0xa5u8; 65540];
     let mut tag = [0xa5u8; 40];
@@ -126,7 +126,7 @@ fn answer(c: Call, key: &[u8], nonce: &[u8], ad: &[u8], text: &[u8], line: &mut 
     )
 }
 
-// Reads the text and seals it in its place.
+// Reads the text and seals it in place.
 fn seal_in_place(
     c: Call,
     key: &[u8],
@@ -146,7 +146,7 @@ fn seal_in_place(
     end(line, at)
 }
 
-// Opens text in its place, or verifies it.
+// Opens text in place, or verifies it.
 fn unsealed_in_place(
     c: Call,
     key: &[u8],
@@ -185,7 +185,7 @@ fn unseal_in_place(
     unsealed_in_place(c, key, nonce, ad, text, tag, line)
 }
 
-// Runs a call on a text where it lies; no line where text or tag have no room or end early.
+// Runs a call in place; no line if text or tag do not fit or end early.
 fn in_place(c: Call, key: &[u8], nonce: &[u8], ad: &[u8], line: &mut [u8]) -> usize {
     let mut text = [0u8; 65537];
     let mut tag = [0xa5u8; 40];
@@ -233,7 +233,7 @@ fn turn() -> bool {
     program_text::call::done(&line, n)
 }
 
-// Nothing says that an input ends, so the calls are counted down from a number that no input reaches.
+// The end of an input is not provable, so the loop counts down from a number that no input reaches.
 fn main() {
     let mut left = u64::MAX;
     while left > 0 && turn() {

@@ -3,7 +3,7 @@
 // Op 0 starts (lengths of key and nonce; both follow), 1 brings associated data (its length; it follows), 2 a part of the
 // message (its length and the output's; it follows), 3 ends (0, lengths of output and tag). Op 4 is no call: the session
 // gets this suite and, in the place of the second and third number, these totals, and no line is written. A line is the
-// number, the count and, where the call has them, output and tag. The lent buffers hold 0xa5 before the call.
+// number, the count and, where the call has them, output and tag. The borrowed buffers hold 0xa5 before the call.
 use block::Block;
 use program_text::call::Call;
 use program_text::text::and_shown;
@@ -162,7 +162,7 @@ fn turn(s: Session) -> After {
     put(s, program_text::call::call_of(&head), &mut line)
 }
 
-// Nothing says that an input ends, so the calls are counted down from a number that no input reaches.
+// The end of an input is not provable, so the loop counts down from a number that no input reaches.
 fn main() {
     let mut s = over();
     let mut left = u64::MAX;

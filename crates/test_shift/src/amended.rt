@@ -1,6 +1,6 @@
 // The current entry of a job. Numbers: the lengths of amendment, day's file, ring and output; the three files follow.
 //
-// A line: number, file and row; place, length and bytes of the associated data that is handed back; number, file and row of
+// A line: number, file and row; offset, length and bytes of the associated data that is returned; number, file and row of
 // opening the current entry, and its output.
 use program_text::call::Call;
 use program_text::text::and_number;

@@ -1,6 +1,6 @@
 // Runs the calls that read shift files, and writes the lines of each.
 //
-// The call's op says which: 0 and 1 `opening`, 2 `halving`, 3 `amended`, 4 `compared`, 5 `report`, 6 to 9 `printing`, 10
+// The call's op says which: 0 and 1 `opening`, 2 `binary search`, 3 `amended`, 4 `compared`, 5 `report`, 6 to 9 `printing`, 10
 // `contents`. What a call's numbers are, what follows them and what its lines say stands in the module of that name. Lent
 // buffers hold 0xa5 before the call.
 mod amended;
@@ -43,7 +43,7 @@ fn turn() -> bool {
     program_text::call::done(&line, n)
 }
 
-// Nothing says that an input ends, so the calls are counted down from a number that no input reaches.
+// The end of an input is not provable, so the loop counts down from a number that no input reaches.
 fn main() {
     let mut left = u64::MAX;
     while left > 0 && turn() {

@@ -1,5 +1,5 @@
 // The report on a file, and the reader. Numbers: the lengths of file and ring, how many places the list of jobs and the list
-// of numbers have, and how often the reader is asked; the file and the ring follow.
+// of numbers have, and how often the reader is checked; the file and the ring follow.
 //
 // Two lines: number, row and count of the report, every place of the list of jobs, and the list of numbers as bytes; and
 // "reader" and, for each ask, row, job and station of the entry and where its nonce starts, or "-" where it has ended.
@@ -49,7 +49,7 @@ fn entry(e: NextRow, line: &mut [u8], at: usize) -> usize {
     }
 }
 
-// The reader's answers to so many asks.
+// The reader's answers to so many requires.
 fn answers(file: &[u8], asks: usize, line: &mut [u8], at: usize) -> usize {
     let mut to = put(line, at, b"reader");
     let mut c = start(file);

@@ -1,4 +1,4 @@
-// The search by halving. Job: the first one; numbers: the length of the file and how many jobs; the file follows.
+// The binary search. Job: the first one; numbers: the length of the file and how many jobs; the file follows.
 //
 // A line for each job from the first on: number, row, how many rows were looked at.
 use program_text::call::Call;

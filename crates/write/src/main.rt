@@ -6,7 +6,7 @@
 use status::checked::Answer;
 ghost use Prim.Native.Nat.{_≤_};
 
-// What is asked for.
+// What the program is to do.
 enum Way {
     Seal,
     Back,

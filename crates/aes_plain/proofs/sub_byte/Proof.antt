@@ -1,4 +1,4 @@
--- `aes_plain::sub_byte` meets its contract: a shift by 8 k drops k rows, and the table that is lent is the S-box.
+-- `aes_plain::sub_byte` meets its contract: a shift by 8 k drops k rows, and the borrowed table is the S-box.
 use mathlib.Core.Path.{ap, _∙_}
 use Prim.Native.Nat.{_*_, _/_, _%_, _^_}
 use Rattle.aes_spec.specs.Sbox.{subByte}

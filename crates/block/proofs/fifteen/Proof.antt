@@ -1,4 +1,4 @@
--- `block::fifteen` meets its contract: a number that is divided by 256 loses its first byte and gets a zero behind.
+-- `block::fifteen` meets its contract: a number that is divided by 256 loses its first byte and gets a zero after.
 use Prim.Native.Nat.{_-_}
 use native.Mathlib.Omega.{arith}
 use denote.Ref.{now}

@@ -1,4 +1,4 @@
--- `block_key::block_key` meets its contract: the mark goes in with the key, or waits until behind the block, by the version.
+-- `block_key::block_key` meets its contract: the mark is absorbed with the key, or waits until after the block, by the version.
 use borrow.Author.Needs.{needs}
 use mathlib.Core.Path.{sym, ap, _∙_}
 use Rattle.block.specs.Blocks.{wide}

@@ -1,4 +1,4 @@
--- `block_walk::verify_blocks` meets its contract: each turn takes one whole block off what is left, and its message goes in.
+-- `block_walk::verify_blocks` meets its contract: each turn takes one whole block off what is left, and its message is absorbed.
 use borrow.Author.Needs.{needs}
 use denote.Ref.{now}
 use lib.ListN.{length, drop, length-drop, length-take}

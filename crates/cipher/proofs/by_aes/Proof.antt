@@ -1,4 +1,4 @@
--- `cipher::by_aes` meets its contract: the engine on the bytes of both blocks, lent the one element of the slice.
+-- `cipher::by_aes` meets its contract: the engine on the bytes of both blocks, with the one element of the borrowed slice.
 use Rattle.aes_spec.specs.Cipher.{cipher}
 use Rattle.cipher.proofs.Paths.{through-whole}
 use borrow.Author.Needs.{needs}

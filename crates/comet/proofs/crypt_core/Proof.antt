@@ -42,7 +42,7 @@ none n h = omega arith
 small : (x a b : ℕ) → x ≡ add 64 a b → x < 2 ^ 64
 small x a b e = subst (λ (n : ℕ). n < 2 ^ 64) (sym e) (mod-lt (a + b) (omega arith))
 
--- behind the associated data, where the ways meet: it was walked, or there was none
+-- after the associated data, where the ways meet: it was walked, or there was none
 module _ (j : tie.Joined1) where
   abbrev st : tie.Start
   st = j .before .before .before .before .before .before
@@ -69,7 +69,7 @@ module _ (j : tie.Joined1) where
       ))
       (j .if1 .came)
 
--- and behind the text
+-- and after the text
 module _ (k : tie.Joined2) where
   abbrev j : tie.Joined1
   j = k .before

@@ -1,4 +1,4 @@
--- The question of room leaves the lists as they were; so 36 is told of unchanged lists, and the pass that writes has room.
+-- The question of room leaves the lists unchanged; so 36 is told of unchanged lists, and the pass that writes has room.
 use mathlib.Core.Path.{sym, _∙_}
 use Rattle.shift_compare.proofs.Cases.{too-long, writing, all-listed, still, as-they-were}
 use borrow.Author.Needs.{needs}

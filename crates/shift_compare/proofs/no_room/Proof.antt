@@ -1,4 +1,4 @@
--- Buffers with a place for each row need no counting; the pass that counts leaves the lists as they were.
+-- Buffers with a place for each row need no counting; the pass that counts leaves the lists unchanged.
 use mathlib.Core.Path.{refl, sym, _∙_}
 use borrow.Author.Tests.{not-true}
 use denote.Ref.{now}

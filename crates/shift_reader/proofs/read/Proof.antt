@@ -77,7 +77,7 @@ module _ {M : Type 1} (𝓤 : URA M) (H : Heap 𝓤) (A : Atoms 𝓤) (W : Given
   abbrev Own : Fml
   Own = ShrSlice (named 0) κ u8 .own s (v ∷ [])
 
-  -- the call of `start`: what it is passed, what it asks, and what is known of its result
+  -- the call of `start`: what it is passed, what it requires, and what is known of its result
   abbrev to : Start 𝓤 H A mem run .Ghost
   to = (((κ, tt), (q, tt), tt, (s, tt), (v ∷ [], tt)), tt)
 

@@ -1,4 +1,4 @@
--- After some looks a stretch is left, and halving that gives the whole answer.
+-- After some looks a stretch is left, and binary search that gives the whole answer.
 use Prim.Native.Nat.{ℕ}
 use mathlib.Core.Path.{sym, ap, _∙_}
 use native.Mathlib.Omega.{arith}

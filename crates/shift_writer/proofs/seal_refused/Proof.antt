@@ -1,4 +1,4 @@
--- A refused check stands; then the first tag that is set; then the first suite that seals no more; then the lengths.
+-- A refused check stands; then the first tag that is set; then the first suite that is retired; then the lengths.
 use borrow.Author.Needs.{needs}
 use denote.Ref.{now}
 use mathlib.Core.Path.{_≡_, sym, ap, _∙_}

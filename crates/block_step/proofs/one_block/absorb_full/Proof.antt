@@ -1,4 +1,4 @@
--- `block_step::one_block::absorb_full` meets its contract: a full block goes in as it is.
+-- `block_step::one_block::absorb_full` meets its contract: a full block is absorbed as it is.
 use borrow.Author.Needs.{needs}
 use denote.Ref.{now}
 use Rattle.cipher.proofs.Suites.{full-two}

@@ -1,4 +1,4 @@
--- `block_step::one_block::absorb_short` meets its contract: the block that came goes in padded or, in opening, what goes out for it.
+-- `block_step::one_block::absorb_short` meets its contract: the block that came is absorbed padded or, in opening, the output for it.
 use borrow.Author.Needs.{needs}
 use denote.Ref.{now}
 use lib.ListN.{length}

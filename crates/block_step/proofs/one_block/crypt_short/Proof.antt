@@ -1,4 +1,4 @@
--- `block_step::one_block::crypt_short` meets its contract: the mask is of X, and the message goes in padded, whichever way the text goes.
+-- `block_step::one_block::crypt_short` meets its contract: the mask is of X, and the message is absorbed padded, whichever way the text goes.
 use borrow.Author.Needs.{needs}
 use denote.Ref.{now}
 use lib.ListN.{length, take}
@@ -21,7 +21,7 @@ module _ (d : tie.After-put) where
   abbrev B : List ℕ
   B = now (st .args .block)
 
-  -- the first bytes of c go out
+  -- the first bytes of c are output
   out-is : take (length B) (wide (d .before .before .xor .result)) ≡ hidden (cipherOf (st .args .suite)) (st .args .mark) (twoOf (st .args .suite) (st .args .state)) B
   out-is =
       let a = st .args in

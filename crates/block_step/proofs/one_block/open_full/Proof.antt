@@ -1,4 +1,4 @@
--- `block_step::one_block::open_full` meets its contract: the mask is of X, and what goes out goes in.
+-- `block_step::one_block::open_full` meets its contract: the mask is of X, and the output is absorbed.
 use borrow.Author.Needs.{needs}
 use denote.Ref.{now}
 use mathlib.Core.Path.{_∙_}

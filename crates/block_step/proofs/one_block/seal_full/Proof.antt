@@ -1,4 +1,4 @@
--- `block_step::one_block::seal_full` meets its contract: the mask is of X, and the block that came goes in.
+-- `block_step::one_block::seal_full` meets its contract: the mask is of X, and the block that came is absorbed.
 use borrow.Author.Needs.{needs}
 use denote.Ref.{now}
 use mathlib.Core.Path.{_∙_}

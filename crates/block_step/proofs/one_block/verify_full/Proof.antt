@@ -1,4 +1,4 @@
--- `block_step::one_block::verify_full` meets its contract: what goes out for a full block goes in, and is written nowhere.
+-- `block_step::one_block::verify_full` meets its contract: the output for a full block is absorbed, and is written nowhere.
 use borrow.Author.Needs.{needs}
 use denote.Ref.{now}
 use Rattle.cipher.proofs.Suites.{full-two}

@@ -8,7 +8,7 @@ use Rattle.block_step.proofs.Words.{pad-low, place-is, place-low}
 use Rattle.block_step.proofs.pad.padded8.Statement.{statement}
 use Rattle.block_step.proofs.pad.padded8.Tie as tie
 
--- the place of the byte behind k others
+-- the place of the byte after k others
 place : ℕ → ℕ
 place k = (1 * 2 ^ (8 * k)) % 2 ^ 64
 

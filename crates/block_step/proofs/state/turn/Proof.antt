@@ -1,4 +1,4 @@
--- `block_step::state::turn` meets its contract: the cipher is called under the block's key, and Z is kept behind it.
+-- `block_step::state::turn` meets its contract: the cipher is called under the block's key, and Z is kept after it.
 use borrow.Author.Needs.{needs}
 use lib.ListN.{take}
 use mathlib.Core.List.{List}

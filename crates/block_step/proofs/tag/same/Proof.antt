@@ -1,4 +1,4 @@
--- `block_step::tag::same` meets its contract: the zeros behind both do not matter.
+-- `block_step::tag::same` meets its contract: the zeros after both do not matter.
 use borrow.Author.Needs.{needs}
 use denote.Ref.{now}
 use lib.ListN.{length, take, replicate, take-append-drop}

@@ -1,4 +1,4 @@
--- `comet::text::absorb_all` meets its contract: behind the whole blocks the short one goes in, if there is one.
+-- `comet::text::absorb_all` meets its contract: after the whole blocks the short one is absorbed, if there is one.
 use borrow.Author.Needs.{needs}
 use denote.Ref.{now}
 use lib.ListN.{length}

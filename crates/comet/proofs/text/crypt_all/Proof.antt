@@ -1,4 +1,4 @@
--- `comet::text::crypt_all` meets its contract: behind the whole blocks the short one goes in, if there is one, and what goes out takes its place.
+-- `comet::text::crypt_all` meets its contract: after the whole blocks the short one is absorbed, if there is one, and the output takes its place.
 use borrow.Author.Needs.{needs}
 use denote.Ref.{now}
 use lib.ListN.{length, take, drop}
@@ -40,7 +40,7 @@ module _ (g : tie.After-crypt) where
   abbrev l : List ℕ
   l = now (st .args .text)
 
-  -- the text behind the walk
+  -- the text after the walk
   abbrev o : List ℕ
   o = g .crypt .last .1 .1 .1 .1 .1 .0
 

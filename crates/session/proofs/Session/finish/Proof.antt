@@ -1,4 +1,4 @@
--- `session::Session::finish` meets its contract: a refusal hands the session back; else the rest and the tag are made, and the suite's cipher is lent what it asks for, or nothing.
+-- `session::Session::finish` meets its contract: a refusal returns the session unchanged; else the rest and the tag are computed, with the tables that the suite's cipher needs, or none.
 use borrow.Author.Needs.{needs}
 use denote.Ref.{now}
 use lib.ListN.{length}

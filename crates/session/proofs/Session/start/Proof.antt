@@ -1,4 +1,4 @@
--- `session::Session::start` meets its contract: a refusal hands back a session that is over; else the suite's cipher is lent what it asks for, or nothing.
+-- `session::Session::start` meets its contract: a refusal returns a session that is over; else the cipher borrows the tables that the suite needs, or none.
 use borrow.Author.Needs.{needs}
 use denote.Ref.{now}
 use lib.ListN.{length}

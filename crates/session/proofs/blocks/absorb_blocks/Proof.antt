@@ -1,4 +1,4 @@
--- `session::blocks::absorb_blocks` meets its contract: what is left behind the whole blocks is held.
+-- `session::blocks::absorb_blocks` meets its contract: what is left after the whole blocks is held.
 use borrow.Author.Needs.{needs}
 use denote.Ref.{now}
 use mathlib.Core.Path.{ap, _∙_}

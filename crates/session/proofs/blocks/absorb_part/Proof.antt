@@ -1,4 +1,4 @@
--- `session::blocks::absorb_part` meets its contract: less than a block is held; else the suite's cipher is lent what it asks for, or nothing.
+-- `session::blocks::absorb_part` meets its contract: less than a block is buffered; else the cipher borrows the tables that the suite needs, or none.
 use borrow.Author.Needs.{needs}
 use denote.Ref.{now}
 use lib.ListN.{length, take, length-append}

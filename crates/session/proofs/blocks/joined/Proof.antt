@@ -1,4 +1,4 @@
--- `session::blocks::joined` meets its contract: each turn copies one more byte behind the held ones.
+-- `session::blocks::joined` meets its contract: each turn copies one more byte after the held ones.
 use Prim.Native.Nat.{ℕ, _≤_, _-_, _+_}
 use mathlib.Core.Path.{_≡_, sym, ap, ap₂, _∙_}
 use native.Mathlib.Nat.{sub-zero}

@@ -1,4 +1,4 @@
--- `session::work::close` meets its contract: the held bytes go in as the last block, and the tag is made.
+-- `session::work::close` meets its contract: the held bytes are absorbed as the last block, and the tag is made.
 use borrow.Author.Needs.{needs}
 use denote.Ref.{now}
 use lib.ListN.{length, take}

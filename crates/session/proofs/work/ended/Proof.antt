@@ -1,4 +1,4 @@
--- `session::work::ended` meets its contract.
+-- `session::work::ended` meets its contract: the struct of zeros stands for the dead session, field by field.
 use mathlib.Core.Path.{refl}
 use Rattle.block.specs.Bytes.{bytes}
 use Rattle.session.proofs.work.ended.Statement.{statement}

@@ -1,4 +1,4 @@
--- `session::work::packed` meets its contract.
+-- `session::work::packed` meets its contract: the fields are the states' own words, and what the suite does not use is zero.
 use borrow.Author.Needs.{needs}
 use mathlib.Core.Path.{ap}
 use mathlib.Core.List.{List}

@@ -1,4 +1,4 @@
--- `session::work::seal_in` meets its contract: the held bytes and the part go in, and what they complete goes out.
+-- `session::work::seal_in` meets its contract: the held bytes and the part are absorbed, and what they complete is output.
 use borrow.Author.Needs.{needs}
 use denote.Ref.{now}
 use lib.ListN.{length}

@@ -1,4 +1,4 @@
--- `session::work::take_in` meets its contract: the held bytes and the part go in.
+-- `session::work::take_in` meets its contract: the held bytes and the part are absorbed.
 use borrow.Author.Needs.{needs}
 use denote.Ref.{now}
 use lib.ListN.{length, take}

@@ -1,4 +1,4 @@
--- Each part is one block, with zeros behind it.
+-- Each part is one block, with zeros after it.
 use Rattle.shift_compare.proofs.Strings.{same-filled}
 use mathlib.Core.Path.{_∙_}
 use denote.Ref.{now}

@@ -1,4 +1,4 @@
--- What is copied stands behind what was there.
+-- What is copied stands after what was there.
 use Prim.Native.Nat.{_+_, _-_, _≤_}
 use native.Mathlib.Omega.{arith}
 use lib.ListN.{length}

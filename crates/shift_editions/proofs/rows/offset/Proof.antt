@@ -1,4 +1,4 @@
--- The offset lies behind the old table, and not past the file.
+-- The offset lies after the old table, and not past the file.
 use Prim.Native.Nat.{ℕ}
 use mathlib.Core.Path.{ap}
 use native.Mathlib.Omega.{arith}

@@ -1,4 +1,4 @@
--- Three parts, one behind the other: up to the offset, the offset, and what follows it.
+-- Three parts, one after the other: up to the offset, the offset, and what follows it.
 use native.Mathlib.Omega.{arith}
 use denote.Ref.{now}
 use Rattle.shift_editions.proofs.Fronts.{new-row, old-row, rest-put}

@@ -1,4 +1,4 @@
--- The row's front, and its rest behind it.
+-- The row's front, and its rest after it.
 use denote.Ref.{now}
 use Rattle.shift_editions.proofs.Fronts.{row-put}
 use borrow.Author.Needs.{needs}

@@ -1,4 +1,4 @@
--- The rows below i stand in the output, one behind the other.
+-- The rows below i stand in the output, one after the other.
 use Prim.Native.Nat.{_-_, _≤_}
 use mathlib.Core.Path.{_≡_, refl, _∙_}
 use mathlib.Core.List.{_++_}

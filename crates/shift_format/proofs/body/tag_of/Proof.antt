@@ -1,4 +1,4 @@
--- The tag starts behind the text, is one block long, and ends where the body does.
+-- The tag starts after the text, is one block long, and ends where the body does.
 use borrow.Author.Needs.{needs}
 use mathlib.Core.Path.{ap}
 use native.Mathlib.Omega.{arith}

@@ -1,4 +1,4 @@
--- The text starts behind the associated data, and lies in the body.
+-- The text starts after the associated data, and lies in the body.
 use borrow.Author.Needs.{needs}
 use mathlib.Core.Path.{refl}
 use native.Mathlib.Omega.{arith}

@@ -1,4 +1,4 @@
--- What is read lies in the row's last sixteen bytes, zeros behind it.
+-- What is read lies in the row's last sixteen bytes, zeros after it.
 use native.Mathlib.Omega.{arith}
 use mathlib.Core.Path.{ap, ap₂, _∙_}
 use Prim.Native.Nat.{ℕ}

@@ -1,4 +1,4 @@
--- The place is below the bound that is asked, so neither the product nor the sum wraps.
+-- The place is below the bound that is checked, so neither the product nor the sum wraps.
 use borrow.Author.Needs.{needs}
 use native.Mathlib.Omega.{arith}
 use Rattle.shift_format.specs.Format.{rowStart}

@@ -1,4 +1,4 @@
--- The part from a place on has the length that is asked.
+-- The part from a place on has the length that is checked.
 use mathlib.Core.Path.{refl}
 use native.Mathlib.Nat.{add-sub-cancel-left}
 use denote.Ref.{now}

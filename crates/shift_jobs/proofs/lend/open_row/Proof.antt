@@ -1,4 +1,4 @@
--- What the opener is lent is the entry's own bytes, so its answer is the definition's.
+-- The opener borrows the entry's own bytes, so its status is the definition's.
 use borrow.Author.Needs.{needs}
 use denote.Ref.{now}
 use Rattle.shift_jobs.proofs.Entries.{lent}

@@ -1,4 +1,4 @@
--- What the sealer is lent beside the text is the entry's own bytes, so its answer is the definition's.
+-- Besides the text the sealer borrows the entry's own bytes, so its status is the definition's.
 use borrow.Author.Needs.{needs}
 use denote.Ref.{now}
 use Rattle.shift_jobs.proofs.Entries.{lent-sealer}

@@ -1,4 +1,4 @@
--- What the record's test is lent is the entry's own bytes, so its number is the definition's.
+-- The verifier borrows the entry's own bytes, so its status is the definition's.
 use borrow.Author.Needs.{needs}
 use denote.Ref.{now}
 use Rattle.shift_jobs.proofs.Entries.{lent-test}

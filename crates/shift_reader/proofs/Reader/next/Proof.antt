@@ -110,7 +110,7 @@ module _ {M : Type 1} (𝓤 : URA M) (H : Heap 𝓤) (A : Atoms 𝓤) (W : Given
   abbrev to : Ask 𝓤 H A mem run .Ghost
   to = (((κ, tt), (q, tt), tt, (d .place, (d .src, tt)), passed), tt)
 
-  -- what the struct owns gives what the callee asks, and is kept
+  -- what the struct owns gives what the callee requires, and is kept
   apart : ent 𝓤 (onEntry 𝓤 H A next.signature (κ, tt) (q, tt) (d, tt) (mach ∷ [], tt)) (sep 𝓤 (Ask 𝓤 H A mem run .pre to) (sem 𝓤 H A Own))
   apart =
       qed W ((‵ (flft κ q) ⊛ ‵ ftrue) ∷ ‵ (owns (B (κ, tt) ∷ []) (d, tt) (mach ∷ [], tt)) ∷ []) ∵

@@ -1,4 +1,4 @@
--- After i turns both lists hold the first i entries, and what stood behind them.
+-- After i turns both lists hold the first i entries, and what stood after them.
 use Prim.Native.Nat.{_-_, _≤_, _<_}
 use native.Mathlib.Omega.{arith}
 use mathlib.Core.Path.{_≡_, ap}

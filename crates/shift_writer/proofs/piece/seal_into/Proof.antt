@@ -1,4 +1,4 @@
--- The text is sealed where it stands, at the front, and its tag, from the front of a local block, is put behind it.
+-- The text is sealed where it stands, at the front, and its tag, from the front of a local block, is put after it.
 use borrow.Author.Needs.{needs}
 use denote.Ref.{now}
 use lib.ListN.{length, take, replicate, length-take}

@@ -1,4 +1,4 @@
--- The draft's text is put into its place in the output, and sealed there.
+-- The draft's text is inlined into its place in the output, and sealed there.
 use borrow.Author.Needs.{needs}
 use denote.Ref.{now}
 use lib.ListN.{length, take}
@@ -35,7 +35,7 @@ add-e c = search needs
 text-of-requires : tie.Need-text-of-requires
 text-of-requires c κs = rw (c .before .before .before .row-of .ensures) (c .before .before .before .before .before .before .before .pre .0 .entry .body-in)
 
--- the entry's places, once its text is lent
+-- the entry's places, once its text borrows
 module _ (d : tie.After-text-of) where
   abbrev s : tie.Start
   s = d .before .before .before .before .before .before .before .before
@@ -68,7 +68,7 @@ module _ (d : tie.After-text-of) where
   place-long : length (stretch out a (a + len - a)) ≡ len
   place-long = stretch-length out a (a + len - a) (omega (arith, inside)) ∙ omega arith
 
-  -- the text t is in its place
+  -- the text t is in place
   module _ (t : List ℕ) (k : length t ≡ length (stretch out a (a + len - a))) where
     abbrev m : List ℕ
     m = putMid a (a + len - a) out t

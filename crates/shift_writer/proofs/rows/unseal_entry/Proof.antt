@@ -1,4 +1,4 @@
--- The text is opened into the output; where its tag is right, zeros stand behind it.
+-- The text is opened into the output; where its tag is right, zeros follows it.
 use borrow.Author.Needs.{needs}
 use denote.Ref.{now}
 use lib.ListN.{length, replicate}
