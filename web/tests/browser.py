@@ -170,7 +170,8 @@ return [...document.querySelectorAll('.unit, .mark, .button, .suite, .retired, h
   const box = n.closest('td, li, dl, .slot, .units, .actions, .unit-banner, .entry-head, .block, .summary-file, section');
   if (!box || box === n) return false;
   const [a, b] = [n.getBoundingClientRect(), box.getBoundingClientRect()];
-  return a.width > 0 && (a.right > b.right + 1 || a.left < b.left - 1);
+  const cut = n.matches('h2, h3, .unit, .mark, button, .suite') && n.scrollWidth > n.clientWidth + 1 && n.clientWidth > 0;
+  return a.width > 0 && (cut || a.right > b.right + 1 || a.left < b.left - 1);
 }).map((n) => `${n.className || n.tagName}: ${n.textContent.trim().slice(0, 40)}`).slice(0, 5);
 """
 
