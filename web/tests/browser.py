@@ -145,6 +145,16 @@ def shot(name, whole=True):
     (SHOTS / f"{name}.png").write_bytes(base64.b64decode(got["data"]))
 
 
+def picture(name):
+    """The page without its footer, for docs/."""
+    if not SHOTS:
+        return
+    height = js("return document.querySelector('main').getBoundingClientRect().bottom + 16")
+    clip = {"x": 0, "y": 0, "width": 1280, "height": height, "scale": 1}
+    got = driver.execute_cdp_cmd("Page.captureScreenshot", {"format": "png", "captureBeyondViewport": True, "clip": clip})
+    (SHOTS / f"{name}.png").write_bytes(base64.b64decode(got["data"]))
+
+
 # Texts with less contrast than WCAG AA asks for.
 CONTRAST = r"""
 const parse = (s) => { const m = s.match(/[\d.]+/g).map(Number); return s.startsWith('color(') ? [m[0]*255, m[1]*255, m[2]*255, m[3] ?? 1] : [m[0], m[1], m[2], m[3] ?? 1]; };
@@ -175,6 +185,11 @@ return [...document.querySelectorAll('.unit, .mark, .button, .suite, .retired, h
 }).map((n) => `${n.className || n.tagName}: ${n.textContent.trim().slice(0, 40)}`).slice(0, 5);
 """
 
+# "do not use" and "claimed" that are struck through.
+STRUCK = """
+const struck = (n) => n && (getComputedStyle(n).textDecorationLine.includes('line-through') || struck(n.parentElement));
+return [...document.querySelectorAll('.unit-trust')].filter((n) => n.checkVisibility() && struck(n)).length"""
+
 WIDER = """
 return [...document.querySelectorAll('body *')].filter(n => n.getBoundingClientRect().right > innerWidth + 1).slice(0, 5)
   .map(n => n.tagName + '.' + n.className + ' ' + n.getBoundingClientRect().right)"""
@@ -188,6 +203,7 @@ def look(name):
         check(js("return document.documentElement.scrollWidth <= innerWidth"), f"{where} is wider than the window: {js(WIDER)}")
         equal(js(SPILLS), [], f"{where}: runs out of its box")
         equal(js(CONTRAST), [], f"{where}: too little contrast")
+        equal(js(STRUCK), 0, f"{where}: words on trust are struck through")
         shot(where, whole=not name.startswith("entry"))
     screen(1280, 900, False)
 
@@ -252,6 +268,7 @@ def genuine():
     equal(column("verdict"), ["genuine"] * 8)
     check(hashlib.sha256((FILES / "day.shift").read_bytes()).hexdigest() in one("#facts").text, "SHA-256")
     look("2-genuine")
+    picture("page-genuine")
     named()
 
 
@@ -323,6 +340,7 @@ def forged():
     equal(one("#verdict").get_attribute("data-verdict"), "forged")
     equal([i for i, v in enumerate(column("verdict")) if v == "FORGED"], [1, 6])
     look("3-forged")
+    picture("page-forged")
     one("#only-forged").click()
     equal(column("job"), ["4102", "4210"])
     equal(one("#shown-count").text, "2 of 8 entries")

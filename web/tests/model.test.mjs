@@ -236,7 +236,7 @@ const numbersIn = (line) => line.split(' ').slice(0, 6).map(Number);
 test("the gate's data: check, lookup and opening", () => {
   const statuses = new Set();
   const calls = CALLS.filter(({ op }) => op === 0);
-  for (const { files: [file, keys], job, numbers, line } of calls) {
+  for (const { files: [file, keys], job, numbers, lines: [line] } of calls) {
     const [status, row, looked, at] = numbersIn(line);
     const r = inspect(reader, file, keys);
     assert.deepEqual([r.verdict === 'refused' ? r.status : 0, r.row], [status, status === 0 ? 0 : row], line);
@@ -246,7 +246,10 @@ test("the gate's data: check, lookup and opening", () => {
     assert.equal(opened.status, Number(opens), line);
     if (opened.status === 0) assert.equal(inLine(opened.message, hex), out, line);
     const entry = r.entries.find((e) => e.job === job);
-    if (entry) assert.deepEqual([entry.dataAt, entry.dataLength, inLine(file.slice(Number(place), Number(place) + Number(length)), hex)], [Number(place), Number(length), data]);
+    if (entry) {
+      const part = file.slice(entry.dataAt, entry.dataAt + entry.dataLength);
+      assert.deepEqual([entry.dataAt, entry.dataLength, inLine(part, hex)], [Number(place), Number(length), data], line);
+    }
     if (entry && keys.length === 256 && opens !== '6') assert.equal(entry.status, Number(opens), line);
     statuses.add(status).add(Number(opens));
   }
@@ -257,7 +260,7 @@ test("the gate's data: check, lookup and opening", () => {
 test("the gate's data: reports", () => {
   const calls = CALLS.filter(({ op }) => op === 5);
   let lists = 0;
-  for (const { files: [file, keys], numbers, line } of calls) {
+  for (const { files: [file, keys], numbers, lines: [line] } of calls) {
     const [status, row, count] = numbersIn(line);
     const r = inspect(reader, file, keys);
     if (status === 20 && file.length > 65280) continue; // the report's own limit
@@ -276,7 +279,7 @@ test("the gate's data: reports", () => {
 
 test("the gate's data: comparisons and amendments", () => {
   const kinds = [0, 0];
-  for (const { op, files, job, numbers, line } of CALLS.filter((c) => c.op === 3 || c.op === 4)) {
+  for (const { op, files, job, numbers, lines: [line] } of CALLS.filter((c) => c.op === 3 || c.op === 4)) {
     const [status, file, row, first, second, differ] = numbersIn(line);
     if (op === 4) {
       const c = compareFiles(reader, files[0], files[1], ring);
@@ -296,6 +299,17 @@ test("the gate's data: comparisons and amendments", () => {
     }
   }
   assert.ok(kinds[0] > 100 && kinds[1] > 100, `${kinds}`);
+});
+
+test("the gate's data: table of contents", (t) => {
+  const calls = CALLS.filter(({ op }) => op === 10);
+  if (calls.length === 0) return t.skip('crates/test_shift has no calls of the table of contents');
+  for (const { files: [file], job: first, lines: [head, ...rows] } of calls) {
+    assert.equal(Object.values(reader.rows(file)).join(' '), head);
+    const answers = reader.rowsAt(file, rows.map((_, i) => first + i));
+    assert.deepEqual(answers.map((r) => Object.values(r).join(' ')), rows);
+  }
+  return assert.ok(calls.length > 30);
 });
 
 // ---- amendments
@@ -351,6 +365,9 @@ test('in which field entries differ', () => {
   const unit = compareFiles(library, day, exchanged, ring);
   assert.deepEqual([unit.headline, unit.warnings], ['Different: 1 in both but different', ['The claimed unit of job 4103 differs.']]);
   assert.equal(differing(unit.differ[0]), 'Unit,Verdict');
+  // A file of edition 1 has station 0 in every row, as its move to edition 2 has.
+  const moved = compareFiles(library, day, library.toEdition2(exchanged).out, ring);
+  assert.deepEqual(moved.differ.map((d) => [d.job, differing(d)]), [[4103, 'Unit,Verdict']]);
   assert.deepEqual(compareFiles(library, day, changing, ring).warnings, ['The unit of job 4103 differs.']);
   const resealed = compareFiles(library, day, library.reseal(day, ring).out, ring);
   assert.deepEqual(resealed.differ.map((d) => [d.job, differing(d)]), [[4105, 'Suite,Tag']]);
@@ -371,7 +388,9 @@ test('bytes as text or as a hex dump', () => {
   assert.deepEqual(shown(new Uint8Array(0)), { form: 'empty', text: '' });
   assert.deepEqual(shown(utf8('12 N·m ± 3 %\nsecond line')), { form: 'text', text: '12 N·m ± 3 %\nsecond line' });
   assert.equal(shown(new Uint8Array([0x41, 0x0d])).text, `0000  41 0d${' '.repeat(42)}  A.`);
-  for (const hidden of ['\u202e12.5', 'a\u200bb', '\u0007', '\ufeffx', '\u2028', '\u009b31m']) assert.equal(shown(utf8(hidden)).form, 'hex', JSON.stringify(hidden));
+  for (const hidden of ['\u202e12.5', 'a\u200bb', '\u0007', '\ufeffx', '\u2028', '\u009b31m']) {
+    assert.equal(shown(utf8(hidden)).form, 'hex', JSON.stringify(hidden));
+  }
   assert.equal(shown(new Uint8Array([0xc3])).form, 'hex');
   assert.equal(shown(new Uint8Array(65536).fill(65)).text.length, 65536);
 });
@@ -401,7 +420,8 @@ test('the CSV follows an amendment', () => {
   const lines = toCsv([named('day.shift', day)], context).trim().split('\r\n').map((line) => line.split(','));
   const rows = lines.slice(1).map((cells) => [cells[0], cells[4], cells[6], cells.at(-1)]);
   assert.equal(rows.length, 10);
-  assert.deepEqual(rows.filter(([, job]) => job === '4103'), [['changing.shift', '4103', 'newton-metres', 'replaces'], ['day.shift', '4103', 'inch-pounds', 'replaced']]);
+  assert.deepEqual(rows.filter(([, job]) => job === '4103'), [
+    ['changing.shift', '4103', 'newton-metres', 'replaces'], ['day.shift', '4103', 'inch-pounds', 'replaced']]);
   assert.deepEqual(rows.at(-1), ['changing.shift', '4300', 'inch-pounds', 'adds']);
   const refusedAmendment = { ...context, amended: inspectAmended(library, day.slice(1), day, ring), amendment: { name: 'bad.shift', sha256: 'x' } };
   const other = toCsv([named('day.shift', day)], refusedAmendment).trim().split('\r\n');
