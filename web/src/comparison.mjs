@@ -77,7 +77,7 @@ function showTabs(c) {
   if (!c) return;
   const total = c.onlyFirst.length + c.onlySecond.length + c.differ.length;
   $('tab-entries').textContent = `Entries (${viewedReport().entries.length})`;
-  $('tab-comparison').textContent = `Comparison (${c.status === 0 ? total : 'refused'})`;
+  $('tab-comparison').textContent = `Comparison (${{ refused: 'refused', broken: 'no verdict' }[c.verdict] ?? total})`;
 }
 
 export function showComparison() {

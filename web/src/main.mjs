@@ -30,7 +30,7 @@ function save(name, type, text) {
 const stem = () => (state.files.length > 1 ? 'shift-files' : viewed().name.replace(/\.shift$/, ''));
 
 function saveAs(kind, type, write) {
-  const context = { ...state, time: state.time.toISOString(), library: $('library').textContent, viewed: viewed().name };
+  const context = { ...state, time: state.time.toISOString(), library: $('library').textContent };
   save(`${stem()}.report.${kind}`, type, write(state.files, context));
 }
 

@@ -16,7 +16,7 @@ const plainReport = ({ verdict, headline, status, row, size, edition, counts, wa
   { verdict, headline, status, row, size, edition, counts, warnings, notes, entries: entries.map(plainEntry) });
 
 function plainComparison({ verdict, headline, status, file, row, warnings, notes, onlyFirst, onlySecond, differ }, first, second) {
-  const names = { first, second: second.name, secondSha256: second.sha256 };
+  const names = { first: first.name, firstSha256: first.sha256, second: second.name, secondSha256: second.sha256 };
   const refused = { ...names, verdict, headline, status, file, row, warnings, notes };
   if (status !== 0) return refused;
   const fields = (d) => d.fields.filter((f) => !f.same).map((f) => f.name);
@@ -26,17 +26,21 @@ function plainComparison({ verdict, headline, status, file, row, warnings, notes
   };
 }
 
-// files: [{ name, sha256, report }]; context: { time, library, ring, viewed, amendment, amended, second, comparison }, where
-// viewed is the name of the file that the amendment and the comparison belong to.
+// files: [{ name, sha256, report }]; context: { time, library, ring, viewedIndex, amendment, amended, second, comparison }, where
+// viewedIndex is the index of the file that the amendment and the comparison belong to.
 export function toJson(files, context) {
-  const { time, library, ring, viewed, amendment, amended, second, comparison } = context;
+  const { time, library, ring, amendment, amended, second, comparison } = context;
+  const viewed = files[context.viewedIndex];
   const out = {
     about: 'Report on shift files. Rows are counted from 0. Every verdict is a status of the proved library.',
     time, library,
     ring: ring ? { name: ring.name, length: ring.size } : null,
     files: files.map(({ name, sha256, report }) => ({ name, sha256, ...plainReport(report) })),
   };
-  if (amended) out.amended = { file: viewed, amendment: amendment.name, sha256: amendment.sha256, ...plainReport(amended) };
+  if (amended) {
+    const names = { file: viewed.name, fileSha256: viewed.sha256, amendment: amendment.name, amendmentSha256: amendment.sha256 };
+    out.amended = { ...names, ...plainReport(amended) };
+  }
   if (comparison) out.comparison = plainComparison(comparison, viewed, second);
   return JSON.stringify(out, null, 2) + '\n';
 }
@@ -74,6 +78,7 @@ function amendedLines(day, { amendment, amended }) {
 
 // files and context as in toJson. The lines of the viewed file follow its amendment.
 export function toCsv(files, context = {}) {
-  const lines = files.flatMap((file) => (context.amended && file.name === context.viewed ? amendedLines(file, context) : fileLines(file)));
+  const isAmended = (i) => context.amended && i === context.viewedIndex;
+  const lines = files.flatMap((file, i) => (isAmended(i) ? amendedLines(file, context) : fileLines(file)));
   return [COLUMNS_CSV, ...lines].map((line) => line.map(csvCell).join(',')).join('\r\n') + '\r\n';
 }

@@ -598,6 +598,48 @@ def on_paper():
     equal(js("return [...document.querySelectorAll('#rows tr')].filter(n => n.checkVisibility()).length"), 8, "filters do not count on paper")
 
 
+# ---- errors
+
+# Replaces a function of the module: arguments are its name and what it does instead.
+BREAK = """
+const real = WebAssembly.instantiate;
+WebAssembly.instantiate = async (...words) => {
+  const { instance } = await real(...words);
+  return { instance: { exports: { ...instance.exports, %s: (...given) => (%s)(instance.exports, given) } } };
+};"""
+REFUSE = "WebAssembly.instantiate = async () => { throw new Error('no WebAssembly here'); };"
+
+
+def broken_by(script):
+    """Loads the page with a script that runs before it."""
+    added = driver.execute_cdp_cmd("Page.addScriptToEvaluateOnNewDocument", {"source": script})
+    driver.get(PAGE.as_uri())
+    driver.execute_cdp_cmd("Page.removeScriptToEvaluateOnNewDocument", {"identifier": added["identifier"]})
+
+
+def no_verdict_on_an_error():
+    """A trap, an unknown status, or functions that contradict each other give no verdict and no table."""
+    faults = {
+        "a trap": ("shift_verified", "() => { throw new WebAssembly.RuntimeError('unreachable') }"),
+        "an unknown status": ("shift_verified", "() => 5"),
+        "data elsewhere": ("shift_verified", "(c, g) => { const s = c.shift_verified(...g); new Uint32Array(c.memory.buffer)[g[6] >> 2] += 1; return s; }"),
+        "another row count": ("shift_row", "() => 32"),
+    }
+    for what, (name, fault) in faults.items():
+        broken_by(BREAK % (name, fault))
+        wait(lambda: js("return document.documentElement.dataset.ready") == "true", what)
+        choose("ring", "ring.keys")
+        choose("files", "day.shift")
+        shows("No verdict: the inspection failed")
+        equal([one("#verdict").get_attribute("data-verdict"), texts("#rows tr")], ["broken", []], what)
+        check("Please report this" in one("#warnings").text, what)
+        if what == "a trap":
+            screen(1280, 900, False)
+            look("10-no-verdict")
+    broken_by(REFUSE)
+    shows("No verdict: this browser cannot load the library")
+
+
 # ---- network
 
 class Listener(http.server.SimpleHTTPRequestHandler):
@@ -697,7 +739,7 @@ def from_a_server():
 
 SCENARIOS = [start, not_verified, genuine, units_differ_without_colour, one_entry_by_keyboard, every_control_by_tab, forged, refused,
              rings, stations, several_dropped, reports_byte_for_byte, amended, amendment_changes_a_unit, compared, many_rows,
-             longest_file, markup, on_paper, no_request_and_nothing_stored, policy_blocks_every_way_out, from_a_server]
+             longest_file, markup, on_paper, no_verdict_on_an_error, no_request_and_nothing_stored, policy_blocks_every_way_out, from_a_server]
 
 
 def main():

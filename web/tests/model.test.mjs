@@ -404,7 +404,7 @@ test('SHA-256', () => {
 
 const named = (name, bytes, keys = ring) => ({ name, sha256: sha256(bytes), size: bytes.length, report: inspect(library, bytes, keys) });
 const context = {
-  time: '2026-11-16T12:00:00.000Z', library: 'LIBRARY', ring: { name: 'ring.keys', size: 256 }, viewed: 'day.shift',
+  time: '2026-11-16T12:00:00.000Z', library: 'LIBRARY', ring: { name: 'ring.keys', size: 256 }, viewedIndex: 0,
   amendment: named('changing.shift', changing), amended: inspectAmended(library, changing, day, ring),
   second: named('exchanged.shift', exchanged), comparison: compareFiles(library, day, exchanged, ring),
 };
@@ -423,6 +423,8 @@ test('the CSV follows an amendment', () => {
   assert.deepEqual(rows.filter(([, job]) => job === '4103'), [
     ['changing.shift', '4103', 'newton-metres', 'replaces'], ['day.shift', '4103', 'inch-pounds', 'replaced']]);
   assert.deepEqual(rows.at(-1), ['changing.shift', '4300', 'inch-pounds', 'adds']);
+  // Of two files with one name, only the viewed one is amended.
+  assert.equal(toCsv([named('day.shift', day), named('day.shift', day)], context).trim().split('\r\n').length, 1 + 10 + 8);
   const refusedAmendment = { ...context, amended: inspectAmended(library, day.slice(1), day, ring), amendment: { name: 'bad.shift', sha256: 'x' } };
   const other = toCsv([named('day.shift', day)], refusedAmendment).trim().split('\r\n');
   assert.equal(other.length, 1 + 8 + 1);
@@ -431,7 +433,7 @@ test('the CSV follows an amendment', () => {
 
 test('reports contain no message and no key; a cell is no formula', () => {
   const files = [{ ...named('=day.shift', day) }, named('x,y.shift', day.slice(1))];
-  const json = toJson(files, { ...context, viewed: '=day.shift' });
+  const json = toJson(files, context);
   assert.ok(!json.includes('bolt') && !json.includes('torque') && !json.includes(hex(ring.subarray(0, 16))));
   const csv = toCsv(files).split('\r\n');
   assert.ok(csv[1].startsWith("'=day.shift,") && csv[9].startsWith('"x,y.shift",') && !csv.join().includes('torque'));
