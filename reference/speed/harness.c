@@ -261,7 +261,7 @@ static N file(B *f, U n, N a, N m, int suite, int like) {
     return len;
 }
 
-/* A file of n rows of suite 1 whose marks all stand in one place of the check's filter (crates/table/src/marks.rt): the two
+/* A file of n rows of suite 1 whose marks all stand in one place of the check's filter (crates/shift_check/src/marks.rt): the two
  * words of a nonce fold to the same value in each row. So every row is compared with every earlier one. */
 static N colliding(B *f, U n) {
     N len = file(f, n, 5, 0, 1, 0);

@@ -1,9 +1,13 @@
 // The sealer and the opener: COMET under every suite.
-use cipher::Lent;
-use numbers::verdict::Verdict;
-use numbers::verdict::refused;
-use step::tag::Last;
-use words::block::Block;
+use block::Block;
+use block_step::marks::MARK_FIRST_DATA;
+use block_step::marks::MARK_FIRST_TEXT;
+use block_step::marks::MARK_SHORT_DATA;
+use block_step::marks::MARK_SHORT_TEXT;
+use block_step::tag::TagAndCalls;
+use cipher::AesTables;
+use status::verdict::Verdict;
+use status::verdict::refused;
 
 mod text;
 
@@ -11,15 +15,15 @@ ghost use mathlib.Core.Path.{_≡_};
 ghost use mathlib.Core.Bool.{true, false};
 ghost use Prim.Native.Nat.{_≤_};
 ghost use lib.ListN.{length, take};
-ghost use Rattle.words.specs.Blocks.{wide};
-ghost use Rattle.cipher.specs.Cipher.{Ready, IsSuite, sizeOf, nonceOf, cipherOf, limit};
+ghost use Rattle.block.specs.Blocks.{wide};
+ghost use Rattle.cipher.specs.Cipher.{TablesFit, IsSuite, sizeOf, nonceOf, cipherOf, limit};
 ghost use Rattle.mode.specs.Mode.{textOut, tagOut, calls};
-ghost use Rattle.step.specs.Two.{Clean};
-ghost use Rattle.numbers.specs.Verdicts.{numberOf, refusal};
+ghost use Rattle.block_step.specs.Two.{Clean};
+ghost use Rattle.status.specs.Verdicts.{numberOf, refusal};
 ghost use Rattle.comet.specs.Answers.{Sealed, sealing, Opened, opening, verifying};
 ghost use Rattle.comet.specs.Counted.{Counting, sealingCounted, openingCounted};
 
-// What a call answers, and how many cipher calls it took.
+// The status of a call, and how many cipher calls it took.
 pub struct Counted {
     pub verdict: Verdict,
     pub calls: u64,
@@ -50,49 +54,64 @@ fn refused_for(
     )
 }
 
-// Seals or opens text in its place under these tables; returns the tag and the count of cipher calls. Every length is right. Empty inputs are skipped, so that the states stay in registers.
-fn crypt_with(
-    lent: &[Lent],
+// Seals or opens text in place under these tables; returns the tag and the count of cipher calls. Every length is right. Empty inputs are skipped, so that the states stay in registers.
+fn crypt_core(
+    tables: &[AesTables],
     opening: bool,
     suite: u8,
     key: &[u8],
     nonce: &[u8],
     ad: &[u8],
     text: &mut [u8],
-) -> Last
-    requires { ⌜ Ready suite (now lent) × IsSuite suite × (length (now key) ≡ 16) × (length (now nonce) ≡ nonceOf suite) × (length (now ad) ≤ limit) × (length (now text) ≤ limit) ⌝ }
+) -> TagAndCalls
+    requires { ⌜ TablesFit suite (now tables) × IsSuite suite × (length (now key) ≡ 16) × (length (now nonce) ≡ nonceOf suite) × (length (now ad) ≤ limit) × (length (now text) ≤ limit) ⌝ }
     ensures text { λ _. ⌜ now (text .exit) ≡ textOut (cipherOf suite) opening (now (key .entry)) (now (nonce .entry)) (now (ad .entry)) (now (text .entry)) ⌝ }
     ensures tag { λ r. ⌜ take (sizeOf suite) (wide (r .tag)) ≡ tagOut (cipherOf suite) opening (now (key .entry)) (now (nonce .entry)) (now (ad .entry)) (now (text .entry)) ⌝ }
     ensures rest { λ r. ⌜ Clean suite (r .tag)
         × (r .calls ≡ length (calls (cipherOf suite) opening (now (key .entry)) (now (nonce .entry)) (now (ad .entry)) (now (text .entry)))) ⌝ }
 {
-    let mut s = step::state::start(lent, suite, key, nonce);
+    let mut s = block_step::state::start(tables, suite, key, nonce);
     if ad.len() != 0 {
-        s = text::absorb_all(lent, false, suite, s, 0x08, 0x10, ad);
+        s = text::absorb_all(
+            tables,
+            false,
+            suite,
+            s,
+            MARK_FIRST_DATA,
+            MARK_SHORT_DATA,
+            ad,
+        );
     }
     if 0 < text.len() {
-        s = text::crypt_all(lent, opening, suite, s, text);
+        s = text::crypt_all(tables, opening, suite, s, text);
     }
-    step::tag::tag_of(lent, suite, s)
+    block_step::tag::tag_of(tables, suite, s)
 }
 
-// `crypt_with` under the tables that the suite needs: only suites 1 and 5 spend time on filling them. Their 4 KiB are in this function's stack frame, whichever the suite.
-fn crypt(opening: bool, suite: u8, key: &[u8], nonce: &[u8], ad: &[u8], text: &mut [u8]) -> Last
+// `crypt_core` under the tables that the suite needs: only suites 1 and 5 spend time on filling them. Their 4 KiB are in this function's stack frame, whichever the suite.
+fn crypt(
+    opening: bool,
+    suite: u8,
+    key: &[u8],
+    nonce: &[u8],
+    ad: &[u8],
+    text: &mut [u8],
+) -> TagAndCalls
     requires { ⌜ IsSuite suite × (length (now key) ≡ 16) × (length (now nonce) ≡ nonceOf suite) × (length (now ad) ≤ limit) × (length (now text) ≤ limit) ⌝ }
     ensures text { λ _. ⌜ now (text .exit) ≡ textOut (cipherOf suite) opening (now (key .entry)) (now (nonce .entry)) (now (ad .entry)) (now (text .entry)) ⌝ }
     ensures tag { λ r. ⌜ take (sizeOf suite) (wide (r .tag)) ≡ tagOut (cipherOf suite) opening (now (key .entry)) (now (nonce .entry)) (now (ad .entry)) (now (text .entry)) ⌝ }
     ensures rest { λ r. ⌜ Clean suite (r .tag)
         × (r .calls ≡ length (calls (cipherOf suite) opening (now (key .entry)) (now (nonce .entry)) (now (ad .entry)) (now (text .entry)))) ⌝ }
 {
-    if cipher::lends(suite) {
-        let lent = cipher::tables(suite);
-        return crypt_with(&lent, opening, suite, key, nonce, ad, text);
+    if cipher::needs_tables(suite) {
+        let tables = cipher::tables(suite);
+        return crypt_core(&tables, opening, suite, key, nonce, ad, text);
     }
-    crypt_with(&[], opening, suite, key, nonce, ad, text)
+    crypt_core(&[], opening, suite, key, nonce, ad, text)
 }
 
-// Seals text in its place and writes its tag: what sealing into another buffer and in place share. Every length is right.
-fn seal_taken(
+// Seals text in place and writes its tag: what sealing into another buffer and in place share. Every length is right.
+fn seal_checked(
     suite: u8,
     key: &[u8],
     nonce: &[u8],
@@ -106,7 +125,7 @@ fn seal_taken(
 {
     let t = crypt(false, suite, key, nonce, ad, text);
     let g = t.tag;
-    words::block::put_whole(g, tag);
+    block::put_whole(g, tag);
     Counted {
         verdict: Verdict::Done,
         calls: t.calls,
@@ -142,8 +161,8 @@ pub fn seal_counted(
             calls: 0,
         };
     };
-    runs::copy(msg, out);
-    seal_taken(suite, key, nonce, ad, out, tag)
+    byte_runs::copy(msg, out);
+    seal_checked(suite, key, nonce, ad, out, tag)
 }
 
 // Seals msg into out, and its tag into tag: `seal_counted` without its count.
@@ -162,7 +181,7 @@ pub fn seal(
     seal_counted(suite, key, nonce, ad, msg, out, tag).verdict
 }
 
-// Seals text in its place, and its tag into tag.
+// Seals text in place and writes its tag to tag.
 pub fn seal_in_place(
     suite: u8,
     key: &[u8],
@@ -187,11 +206,11 @@ pub fn seal_in_place(
     let Verdict::Done = a else {
         return a;
     };
-    seal_taken(suite, key, nonce, ad, text, tag).verdict
+    seal_checked(suite, key, nonce, ad, text, tag).verdict
 }
 
-// Opens text in its place, or overwrites it with zeros if its tag is wrong: what opening into another buffer and in place share. Every length is right.
-fn unseal_taken(
+// Opens text in place, or overwrites it with zeros if its tag is wrong: what opening into another buffer and in place share. Every length is right.
+fn unseal_checked(
     suite: u8,
     key: &[u8],
     nonce: &[u8],
@@ -205,9 +224,9 @@ fn unseal_taken(
 {
     let t = crypt(true, suite, key, nonce, ad, text);
     let g = t.tag;
-    let right = step::tag::same(g, tag);
+    let right = block_step::tag::same(g, tag);
     if !right {
-        runs::wipe(text);
+        byte_runs::wipe(text);
         return Counted {
             verdict: Verdict::Forged,
             calls: t.calls,
@@ -248,8 +267,8 @@ pub fn unseal_counted(
             calls: 0,
         };
     };
-    runs::copy(text, out);
-    unseal_taken(suite, key, nonce, ad, out, tag)
+    byte_runs::copy(text, out);
+    unseal_checked(suite, key, nonce, ad, out, tag)
 }
 
 // Opens text into out, if its tag is right; else every byte of out is 0: `unseal_counted` without its count.
@@ -268,7 +287,7 @@ pub fn unseal(
     unseal_counted(suite, key, nonce, ad, text, tag, out).verdict
 }
 
-// Opens text in its place, if its tag is right; else every byte of it is 0.
+// Opens text in place if its tag is right; else every byte of it is 0.
 pub fn unseal_in_place(
     suite: u8,
     key: &[u8],
@@ -293,40 +312,63 @@ pub fn unseal_in_place(
     let Verdict::Done = a else {
         return a;
     };
-    unseal_taken(suite, key, nonce, ad, text, tag).verdict
+    unseal_checked(suite, key, nonce, ad, text, tag).verdict
 }
 
 // The tag of the message that text opens to, under these tables: no text is written. Every length is right.
-fn tag_with(lent: &[Lent], suite: u8, key: &[u8], nonce: &[u8], ad: &[u8], text: &[u8]) -> Block
-    requires { ⌜ Ready suite (now lent) × IsSuite suite × (length (now key) ≡ 16) × (length (now nonce) ≡ nonceOf suite) ⌝ }
+fn tag_core(
+    tables: &[AesTables],
+    suite: u8,
+    key: &[u8],
+    nonce: &[u8],
+    ad: &[u8],
+    text: &[u8],
+) -> Block
+    requires { ⌜ TablesFit suite (now tables) × IsSuite suite × (length (now key) ≡ 16) × (length (now nonce) ≡ nonceOf suite) ⌝ }
     ensures tag { λ r. ⌜ take (sizeOf suite) (wide r) ≡ tagOut (cipherOf suite) true (now (key .entry)) (now (nonce .entry)) (now (ad .entry)) (now (text .entry)) ⌝ }
     ensures rest { λ r. ⌜ Clean suite r ⌝ }
 {
-    let mut s = step::state::start(lent, suite, key, nonce);
+    let mut s = block_step::state::start(tables, suite, key, nonce);
     if ad.len() != 0 {
-        s = text::absorb_all(lent, false, suite, s, 0x08, 0x10, ad);
+        s = text::absorb_all(
+            tables,
+            false,
+            suite,
+            s,
+            MARK_FIRST_DATA,
+            MARK_SHORT_DATA,
+            ad,
+        );
     }
     if text.len() != 0 {
-        s = text::absorb_all(lent, true, suite, s, 0x20, 0x40, text);
+        s = text::absorb_all(
+            tables,
+            true,
+            suite,
+            s,
+            MARK_FIRST_TEXT,
+            MARK_SHORT_TEXT,
+            text,
+        );
     }
-    let l = step::tag::tag_of(lent, suite, s);
+    let l = block_step::tag::tag_of(tables, suite, s);
     l.tag
 }
 
-// `tag_with` under the tables that the suite needs.
+// `tag_core` under the tables that the suite needs.
 fn tag_under(suite: u8, key: &[u8], nonce: &[u8], ad: &[u8], text: &[u8]) -> Block
     requires { ⌜ IsSuite suite × (length (now key) ≡ 16) × (length (now nonce) ≡ nonceOf suite) ⌝ }
     ensures tag { λ r. ⌜ take (sizeOf suite) (wide r) ≡ tagOut (cipherOf suite) true (now (key .entry)) (now (nonce .entry)) (now (ad .entry)) (now (text .entry)) ⌝ }
     ensures rest { λ r. ⌜ Clean suite r ⌝ }
 {
-    if cipher::lends(suite) {
-        let lent = cipher::tables(suite);
-        return tag_with(&lent, suite, key, nonce, ad, text);
+    if cipher::needs_tables(suite) {
+        let tables = cipher::tables(suite);
+        return tag_core(&tables, suite, key, nonce, ad, text);
     }
-    tag_with(&[], suite, key, nonce, ad, text)
+    tag_core(&[], suite, key, nonce, ad, text)
 }
 
-// Whether a record is genuine: the opener's answer, and no text is written anywhere.
+// Whether a record is genuine: the opener's status, without writing a text anywhere.
 pub fn verify(suite: u8, key: &[u8], nonce: &[u8], ad: &[u8], text: &[u8], tag: &[u8]) -> Verdict
     ensures { λ r. ⌜ numberOf r ≡ verifying suite (now (key .entry)) (now (nonce .entry)) (now (ad .entry)) (now (text .entry)) (now (tag .entry)) ⌝ }
 {
@@ -344,7 +386,7 @@ pub fn verify(suite: u8, key: &[u8], nonce: &[u8], ad: &[u8], text: &[u8], tag: 
         return a;
     };
     let g = tag_under(suite, key, nonce, ad, text);
-    let genuine = step::tag::same(g, tag);
+    let genuine = block_step::tag::same(g, tag);
     if !genuine {
         return Verdict::Forged;
     }

@@ -11,10 +11,10 @@ use Rattle.session.specs.Calls.{Shut}
 use Rattle.session.proofs.Parts.{done-number}
 use Rattle.session.proofs.Whatever.{over-shut}
 use Rattle.session.proofs.AnyValue.{data-shut, text-shut, end-shut}
-use Rattle.format.specs.Format.{firstEdition, newest}
-use Rattle.table.proofs.Passed.{passes}
-use Rattle.reader.specs.declared.contents.HeaderFields.{HeaderFields}
-use Rattle.reader.proofs.ByRow.{header-given, row-given, row-past}
+use Rattle.shift_format.specs.Format.{firstEdition, newest}
+use Rattle.shift_check.proofs.Passed.{passes}
+use Rattle.shift_reader.specs.declared.contents.HeaderFields.{HeaderFields}
+use Rattle.shift_reader.proofs.ByRow.{header-given, row-given, row-past}
 use Rattle.snoekeldraf.specs.Fields.{InFields, inFields}
 use Rattle.snoekeldraf.specs.Words.{Nine, ofWords, wordsOf, after, inWords}
 use Rattle.snoekeldraf.proofs.Words.{kept, dead, dead-words}

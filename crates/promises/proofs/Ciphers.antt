@@ -1,5 +1,5 @@
--- By citation: each cipher's own laws, the contract of `aes::sbox_table`, and the field's inverse.
-use Rattle.fips197.proofs.Inverse.{inverse-is, inverse-only}
+-- By citation: each cipher's own laws, the contract of `aes_plain::sbox_table`, and the field's inverse.
+use Rattle.aes_spec.proofs.Inverse.{inverse-is, inverse-only}
 use Rattle.cipher.proofs.Lawful.{lawful}
 use Rattle.promises.specs.Ciphers.{Ciphers}
 

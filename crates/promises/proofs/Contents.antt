@@ -1,5 +1,5 @@
 -- The table of contents by citation.
-use Rattle.reader.proofs.ByRow.{header-given, rows-as-read, row-given, row-as-entry}
+use Rattle.shift_reader.proofs.ByRow.{header-given, rows-as-read, row-given, row-as-entry}
 use Rattle.promises.specs.Contents.{Contents}
 
 pub contents : Contents

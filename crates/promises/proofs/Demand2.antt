@@ -5,14 +5,14 @@ use Prim.Native.Nat.{ℕ, zero, suc, _≤_}
 use native.Mathlib.Nat.{suc-ne-zero}
 use mathlib.Core.List.{List}
 use lib.ListN.{length}
-use Rattle.words.specs.Bytes.{AllBytes}
+use Rattle.block.specs.Bytes.{AllBytes}
 use Rattle.cipher.specs.Cipher.{Block, cipherOf, limit}
 use Rattle.cipher.proofs.Lawful.{lawful}
 use Rattle.mode.specs.Mode.{ciphertext, tag, textOut, tagOut}
 use Rattle.mode.proofs.Demand2.{text-length, text-bytes, text-back, tag-back, tag-block}
 use Rattle.comet.specs.Answers.{Sealed, sealedAs, sealing, Opened}
-use Rattle.numbers.specs.Verdicts.{refusal}
-use Rattle.numbers.proofs.Refuse.{none-bad}
+use Rattle.status.specs.Verdicts.{refusal}
+use Rattle.status.proofs.Refuse.{none-bad}
 use Rattle.promises.specs.Input.{Input}
 use Rattle.promises.specs.Demand2.{Sealing, Accepting, AcceptsSealed, Returning, RoundTrip}
 use Rattle.promises.proofs.Answers.{fits, nonce-right, opens, opened-tag}
@@ -66,7 +66,7 @@ with-text suite key nonce ad text other i h e =
       text-most = subst (λ (n : ℕ). n ≤ limit) (sym e) (i .text-most);
     }
 
--- what the sealer leaves with 0 is what it worked out
+-- what the sealer leaves with 0 is what it computed
 sealed-pair : (n : ℕ) (text tag out₁ tag₁ c t : List ℕ) → sealedAs n text tag out₁ tag₁ ≡ record { number = 0; out = c; tag = t } → (text ≡ c) × (tag ≡ t)
 sealed-pair zero text tag out₁ tag₁ c t e = (ap (λ (r : Sealed). r .out) e, ap (λ (r : Sealed). r .tag) e)
 sealed-pair (suc n) text tag out₁ tag₁ c t e = absurd (suc-ne-zero n (ap (λ (r : Sealed). r .number) e))

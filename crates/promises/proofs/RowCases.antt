@@ -7,11 +7,11 @@ use native.Mathlib.Omega.{arith}
 use mathlib.Core.List.{List}
 use lib.Dec.{eqb, ltb}
 use borrow.Author.Tests.{eqb-true, eqb-false, ltb-true, ltb-false}
-use Rattle.format.specs.Format.{countOf, firstEdition, newest}
-use Rattle.reader.specs.declared.contents.HeaderFields.{HeaderFields}
-use Rattle.reader.specs.declared.contents.RowFields.{RowFields}
-use Rattle.reader.specs.Contents.{headStatus, noHeader, headerAnswer, noFields, rowAnswer}
-use Rattle.reader.proofs.ByRow.{header-goes, header-stops, row-goes, row-past, row-stops}
+use Rattle.shift_format.specs.Format.{countOf, firstEdition, newest}
+use Rattle.shift_reader.specs.declared.contents.HeaderFields.{HeaderFields}
+use Rattle.shift_reader.specs.declared.contents.RowFields.{RowFields}
+use Rattle.shift_reader.specs.Contents.{headStatus, noHeader, headerAnswer, noFields, rowAnswer}
+use Rattle.shift_reader.proofs.ByRow.{header-goes, header-stops, row-goes, row-past, row-stops}
 use Rattle.promises.specs.Tables.{None}
 use Rattle.promises.specs.Numbers.{headTable}
 use Rattle.promises.specs.Cases.{ContentsCases}

@@ -7,7 +7,7 @@ use lib.ListN.{length, drop}
 use lib.Seq.{drop-append-seam}
 use lib.Dec.{eqb, ltb}
 use borrow.Author.Tests.{le-leb}
-use Rattle.words.specs.Bytes.{AllBytes}
+use Rattle.block.specs.Bytes.{AllBytes}
 use Rattle.cipher.specs.Cipher.{Seals, cipherOf, sizeOf, limit}
 use Rattle.cipher.proofs.Suites.{seals-has}
 use Rattle.comet.specs.Answers.{opening}

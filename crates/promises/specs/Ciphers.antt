@@ -3,18 +3,18 @@ use mathlib.Core.Path.{_≡_}
 use Prim.Native.Nat.{ℕ, _<_}
 use contract.Lifetimes.{Lfts}
 use borrow.Fn.Kinds.{Dens}
-use Rattle.words.specs.Outcome.{Outcome}
-use Rattle.fips197.specs.Field.{IsInverse, inverse}
-use Rattle.fips197.specs.Sbox.{IsSbox}
-use Rattle.aes.proofs.sbox_table.Kinds as sbox-kinds
-use Rattle.aes.proofs.sbox_table.Reads as sbox-reads
+use Rattle.block.specs.Outcome.{Outcome}
+use Rattle.aes_spec.specs.Field.{IsInverse, inverse}
+use Rattle.aes_spec.specs.Sbox.{IsSbox}
+use Rattle.aes_plain.proofs.sbox_table.Kinds as sbox-kinds
+use Rattle.aes_plain.proofs.sbox_table.Reads as sbox-reads
 use Rattle.cipher.specs.Cipher.{IsSuite, Lawful, cipherOf}
 
 -- "under each key no two blocks share an image": the cipher of every suite has blocks of 16 or 8 bytes, encrypts blocks to blocks, and is injective under each key
 abbrev pub AllLawful : Type 0
 AllLawful = (suite : ℕ) → IsSuite suite → Lawful (cipherOf suite)
 
--- "all 256 entries obey the inverse-and-affine rule": of whatever `aes::sbox_table` may return
+-- "all 256 entries obey the inverse-and-affine rule": of whatever `aes_plain::sbox_table` may return
 abbrev pub SboxRule : Type 0
 SboxRule = (κs : Lfts 0) (a : Dens κs sbox-kinds.ps) (x : Outcome sbox-kinds.ps sbox-kinds.r sbox-reads.Post κs a) → IsSbox (x .result)
 

@@ -1,10 +1,10 @@
--- Demand 2: for a suite that seals, sealing gives exactly COMET's ciphertext and tag; for every suite that we have, opening accepts exactly the specification's pairs, those that sealing makes from some message, and returns that message. Of suite 4, which seals no more, it speaks of opening alone (document 02, W7). That the routines give what `sealing` and `opening` say is `Routines.antt`'s.
+-- Demand 2: for a suite that seals, sealing gives exactly COMET's ciphertext and tag; for every suite that we have, opening accepts exactly the specification's pairs, those that sealing makes from some message, and returns that message. Of suite 4, which is retired, it speaks of opening alone (document 02, W7). That the routines give what `sealing` and `opening` say is `Routines.antt`'s.
 use mathlib.Core.Path.{_≡_}
 use mathlib.Core.Logic.{_↔_}
 use Prim.Native.Nat.{ℕ}
 use mathlib.Core.List.{List}
 use lib.ListN.{length}
-use Rattle.words.specs.Bytes.{AllBytes}
+use Rattle.block.specs.Bytes.{AllBytes}
 use Rattle.cipher.specs.Cipher.{Seals, cipherOf, sizeOf}
 use Rattle.mode.specs.Mode.{ciphertext, tag}
 use Rattle.comet.specs.Answers.{sealing, opening}

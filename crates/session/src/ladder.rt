@@ -3,14 +3,14 @@ use cipher::LIMIT;
 ghost use mathlib.Core.Path.{_≡_};
 ghost use Rattle.session.specs.Value.{sound, startNumber, dataNumber, textNumber, endNumber};
 
-// The number of a start, from the lengths of key and nonce: what a call under a key has of the sealer's ladder.
+// The number of a start, from the lengths of key and nonce: the sealer's checks of suite, key and nonce.
 pub(crate) fn start_number(suite: u8, key: usize, nonce: usize) -> u8
     ensures { λ r. ⌜ r ≡ startNumber suite key nonce ⌝ }
 {
-    numbers::verdict::under_key(false, suite, key, nonce).number()
+    status::verdict::under_key(false, suite, key, nonce).number()
 }
 
-// Whether a session is one that goes on.
+// Whether a session is in progress.
 fn goes_on(suite: u8, ad_total: usize, text_total: usize) -> bool
     ensures { λ r. ⌜ r ≡ sound suite «ad_total» «text_total» ⌝ }
 {

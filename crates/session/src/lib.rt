@@ -1,5 +1,5 @@
-// Sealing in parts: a session by value, handed back by every call.
-use words::block::Block;
+// Sealing in parts: a session by value, which every call returns.
+use block::Block;
 
 mod blocks;
 mod ladder;
@@ -10,7 +10,7 @@ ghost use mathlib.Core.List.{[]};
 ghost use Rattle.session.specs.Value.{dataPart, textPart, ending, starting};
 ghost use Rattle.session.specs.Structs.{asValue, gives};
 
-// Y and Z, the bytes held back (the first of the sixteen, as many as a total leaves over whole blocks), and how many bytes of associated data and of message have come. Any value may arrive: the methods ask nothing of it.
+// Y and Z, the buffered bytes (the first of the sixteen, as many as a total leaves over whole blocks), and the bytes of associated data and of message so far. Any value may arrive: the methods have no precondition.
 pub struct Session {
     pub suite: u8,
     pub y: Block,
@@ -20,7 +20,7 @@ pub struct Session {
     pub text_total: usize,
 }
 
-// What a call gives: the next session, the number, and how many bytes it wrote at the output's start.
+// The result of a call: the next session, the status, and how many bytes it wrote at the output's start.
 pub struct Step {
     pub next: Session,
     pub number: u8,
@@ -28,7 +28,7 @@ pub struct Step {
 }
 
 impl Session {
-    // A session's start. Only a suite whose engine is lent tables pays for them, here and below, and a part only where a block goes in.
+    // Starts a session. Only suites whose engine needs tables construct them, here and below, and a part only if it completes a block.
     pub fn start(suite: u8, key: &[u8], nonce: &[u8]) -> Step
         ensures { λ r. ⌜ gives r [] [] ≡ starting suite (now (key .entry)) (now (nonce .entry)) ⌝ }
     {
@@ -36,9 +36,9 @@ impl Session {
         if k != 0 {
             return work::refused(k);
         }
-        if cipher::lends(suite) {
-            let lent = cipher::tables(suite);
-            return work::started(&lent, suite, key, nonce);
+        if cipher::needs_tables(suite) {
+            let tables = cipher::tables(suite);
+            return work::started(&tables, suite, key, nonce);
         }
         work::started(&[], suite, key, nonce)
     }
@@ -101,9 +101,9 @@ impl Session {
                 count: 0,
             };
         }
-        if cipher::lends(suite) {
-            let lent = cipher::tables(suite);
-            return work::close(&lent, self, out, tag);
+        if cipher::needs_tables(suite) {
+            let tables = cipher::tables(suite);
+            return work::close(&tables, self, out, tag);
         }
         work::close(&[], self, out, tag)
     }

@@ -1,7 +1,7 @@
 -- What `shift_row` leaves: the fields of a row as nine words of 32 bits, in the order of C's `shift_fields`.
 use Prim.Native.Nat.{ℕ}
 use mathlib.Core.List.{List, [], _∷_}
-use Rattle.reader.specs.declared.contents.RowFields.{RowFields}
+use Rattle.shift_reader.specs.declared.contents.RowFields.{RowFields}
 
 -- the status, and the nine words
 pub record InFields : Type 0 where

@@ -1,7 +1,7 @@
 // The table of contents, by row number.
 ghost use mathlib.Core.Path.{_≡_};
-ghost use Rattle.reader.specs.declared.contents.HeaderFields.{HeaderFields};
-ghost use Rattle.reader.specs.Contents.{headerAnswer, rowAnswer};
+ghost use Rattle.shift_reader.specs.declared.contents.HeaderFields.{HeaderFields};
+ghost use Rattle.shift_reader.specs.Contents.{headerAnswer, rowAnswer};
 ghost use Rattle.snoekeldraf.specs.Fields.{InFields, inFields};
 
 // 20 to 24 alone, then the file's edition and row count; both are 0 after every status but 0.
@@ -9,7 +9,7 @@ ghost use Rattle.snoekeldraf.specs.Fields.{InFields, inFields};
 pub extern "C" fn shift_rows(file: &[u8], edition: &mut u32, count: &mut u32) -> u32
     ensures { λ r. ⌜ _≡_ {A = HeaderFields} (record { status = r; edition = now (edition .exit); count = now (count .exit) }) (headerAnswer (now (file .entry))) ⌝ }
 {
-    let h = reader::contents::header(file);
+    let h = shift_reader::contents::header(file);
     *edition = h.edition;
     *count = h.count;
     h.status as u32
@@ -20,7 +20,7 @@ pub extern "C" fn shift_rows(file: &[u8], edition: &mut u32, count: &mut u32) ->
 pub extern "C" fn shift_row(file: &[u8], row: u32, fields: &mut [u32; 9]) -> u32
     ensures { λ r. ⌜ _≡_ {A = InFields} (record { status = r; fields = now (fields .exit) }) (inFields (rowAnswer (now (file .entry)) row)) ⌝ }
 {
-    let x = reader::contents::row(file, row);
+    let x = shift_reader::contents::row(file, row);
     *fields = [
         x.job,
         x.station,

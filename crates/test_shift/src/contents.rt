@@ -2,14 +2,14 @@
 //
 // A line of status, edition and row count; then a line for each row from the first on: status, job, station, suite, key
 // number, offset of the nonce, offset and length of the associated data, offset and length of the text.
-use lines::call::Call;
-use lines::text::and_list;
-use lines::text::and_number;
-use lines::text::end;
-use lines::text::number;
-use reader::contents::RowFields;
-use reader::contents::header;
-use reader::contents::row;
+use program_text::call::Call;
+use program_text::text::and_list;
+use program_text::text::and_number;
+use program_text::text::end;
+use program_text::text::number;
+use shift_reader::contents::RowFields;
+use shift_reader::contents::header;
+use shift_reader::contents::row;
 
 fn header_line(file: &[u8], line: &mut [u8]) -> usize {
     let h = header(file);
@@ -55,7 +55,7 @@ fn rows(file: &[u8], first: u32, count: usize, line: &mut [u8], start: usize) ->
 // Reads the file of a call into f and runs it; no line where f has no room or the input ends.
 fn run_in(f: &mut [u8], c: Call, line: &mut [u8]) -> usize {
     let n = c.first;
-    let file = lines::read::field(f, n);
+    let file = program_text::read::field(f, n);
     if file.len() != n {
         return 0;
     }
@@ -64,6 +64,6 @@ fn run_in(f: &mut [u8], c: Call, line: &mut [u8]) -> usize {
 }
 
 pub(crate) fn run(c: Call, line: &mut [u8]) -> usize {
-    let mut f = lines::read::file_room();
+    let mut f = program_text::read::file_room();
     run_in(&mut f, c, line)
 }

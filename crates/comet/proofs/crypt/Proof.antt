@@ -1,21 +1,21 @@
--- `comet::crypt` meets its contract: `crypt_with` gets the tables that the suite needs, or none.
+-- `comet::crypt` meets its contract: `crypt_core` gets the tables that the suite needs, or none.
 use borrow.Author.Needs.{needs}
 use mathlib.Core.Path.{sym, _∙_}
 use Rattle.cipher.proofs.Suites.{none-ready}
 use Rattle.comet.proofs.crypt.Statement.{statement}
 use Rattle.comet.proofs.crypt.Tie as tie
 
-lends-requires : tie.Need-lends-requires
-lends-requires c κs = search needs
+needs-tables-requires : tie.Need-needs-tables-requires
+needs-tables-requires c κs = search needs
 
 tables-requires : tie.Need-tables-requires
-tables-requires c κs = sym (c .before .lends .ensures) ∙ c .if1 .taken
+tables-requires c κs = sym (c .before .needs-tables .ensures) ∙ c .if1 .taken
 
-slice-aggregate-crypt-with : tie.Need-slice-aggregate-crypt-with
-slice-aggregate-crypt-with c = search needs
+slice-aggregate-crypt-core : tie.Need-slice-aggregate-crypt-core
+slice-aggregate-crypt-core c = search needs
 
-crypt-with-requires : tie.Need-crypt-with-requires
-crypt-with-requires c κs =
+crypt-core-requires : tie.Need-crypt-core-requires
+crypt-core-requires c κs =
     let p = c .before .before .before .before .before .before .before .before .before .pre in
     (c .before .before .tables .ensures, p .0, p .1, p .2, p .3, p .4)
 
@@ -25,14 +25,14 @@ same-length c = search needs
 returns : tie.Need-returns
 returns c = search needs
 
-slice-aggregate-crypt-with-2 : tie.Need-slice-aggregate-crypt-with-2
-slice-aggregate-crypt-with-2 c = search needs
+slice-aggregate-crypt-core-2 : tie.Need-slice-aggregate-crypt-core-2
+slice-aggregate-crypt-core-2 c = search needs
 
-crypt-with-requires-2 : tie.Need-crypt-with-requires-2
-crypt-with-requires-2 c κs =
+crypt-core-requires-2 : tie.Need-crypt-core-requires-2
+crypt-core-requires-2 c κs =
     let st = c .before .before .before .before .before .before .before .before in
     let p = st .pre in
-    (none-ready (st .args .suite) (sym (c .before .before .before .lends .ensures) ∙ c .before .before .if1 .left), p .0, p .1, p .2, p .3, p .4)
+    (none-ready (st .args .suite) (sym (c .before .before .before .needs-tables .ensures) ∙ c .before .before .if1 .left), p .0, p .1, p .2, p .3, p .4)
 
 same-length-2 : tie.Need-same-length-2
 same-length-2 c = search needs
@@ -44,13 +44,13 @@ pub crypt-spec : {M : Type 1} → statement M
 crypt-spec =
     tie.close
     (tie.spec
-    lends-requires
+    needs-tables-requires
     tables-requires
-    slice-aggregate-crypt-with
-    crypt-with-requires
+    slice-aggregate-crypt-core
+    crypt-core-requires
     same-length
     returns
-    slice-aggregate-crypt-with-2
-    crypt-with-requires-2
+    slice-aggregate-crypt-core-2
+    crypt-core-requires-2
     same-length-2
     returns-2)

@@ -1,35 +1,35 @@
--- `comet::tag_under` meets its contract: `tag_with` gets the tables that the suite needs, or none.
+-- `comet::tag_under` meets its contract: `tag_core` gets the tables that the suite needs, or none.
 use borrow.Author.Needs.{needs}
 use mathlib.Core.Path.{sym, _∙_}
 use Rattle.cipher.proofs.Suites.{none-ready}
 use Rattle.comet.proofs.tag_under.Statement.{statement}
 use Rattle.comet.proofs.tag_under.Tie as tie
 
-lends-requires : tie.Need-lends-requires
-lends-requires c κs = search needs
+needs-tables-requires : tie.Need-needs-tables-requires
+needs-tables-requires c κs = search needs
 
 tables-requires : tie.Need-tables-requires
-tables-requires c κs = sym (c .before .lends .ensures) ∙ c .if1 .taken
+tables-requires c κs = sym (c .before .needs-tables .ensures) ∙ c .if1 .taken
 
-slice-aggregate-tag-with : tie.Need-slice-aggregate-tag-with
-slice-aggregate-tag-with c = search needs
+slice-aggregate-tag-core : tie.Need-slice-aggregate-tag-core
+slice-aggregate-tag-core c = search needs
 
-tag-with-requires : tie.Need-tag-with-requires
-tag-with-requires c κs =
+tag-core-requires : tie.Need-tag-core-requires
+tag-core-requires c κs =
     let p = c .before .before .before .before .before .before .before .before .pre in
     (c .before .tables .ensures, p .0, p .1, p .2)
 
 returns : tie.Need-returns
 returns c = search needs
 
-slice-aggregate-tag-with-2 : tie.Need-slice-aggregate-tag-with-2
-slice-aggregate-tag-with-2 c = search needs
+slice-aggregate-tag-core-2 : tie.Need-slice-aggregate-tag-core-2
+slice-aggregate-tag-core-2 c = search needs
 
-tag-with-requires-2 : tie.Need-tag-with-requires-2
-tag-with-requires-2 c κs =
+tag-core-requires-2 : tie.Need-tag-core-requires-2
+tag-core-requires-2 c κs =
     let st = c .before .before .before .before .before .before .before in
     let p = st .pre in
-    (none-ready (st .args .suite) (sym (c .before .before .lends .ensures) ∙ c .before .if1 .left), p .0, p .1, p .2)
+    (none-ready (st .args .suite) (sym (c .before .before .needs-tables .ensures) ∙ c .before .if1 .left), p .0, p .1, p .2)
 
 returns-2 : tie.Need-returns-2
 returns-2 c = search needs
@@ -38,11 +38,11 @@ pub tag-under-spec : {M : Type 1} → statement M
 tag-under-spec =
     tie.close
     (tie.spec
-    lends-requires
+    needs-tables-requires
     tables-requires
-    slice-aggregate-tag-with
-    tag-with-requires
+    slice-aggregate-tag-core
+    tag-core-requires
     returns
-    slice-aggregate-tag-with-2
-    tag-with-requires-2
+    slice-aggregate-tag-core-2
+    tag-core-requires-2
     returns-2)

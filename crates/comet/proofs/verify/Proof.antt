@@ -7,14 +7,14 @@ use mathlib.Core.Bool.{Bool, true, false}
 use mathlib.Core.List.{List}
 use mathlib.Core.Path.{_≡_, refl, sym, ap, _∙_}
 use Prim.Native.Nat.{ℕ, _-_}
-use Rattle.words.specs.Blocks.{wide}
-use Rattle.words.specs.Bytes.{sameBytes}
+use Rattle.block.specs.Blocks.{wide}
+use Rattle.block.specs.Bytes.{sameBytes}
 use Rattle.cipher.specs.Cipher.{cipherOf}
 use Rattle.cipher.proofs.Suites.{full-two}
 use Rattle.mode.specs.Mode.{textOut, tagOut}
-use Rattle.numbers.specs.Verdicts.{numberOf, refusal}
+use Rattle.status.specs.Verdicts.{numberOf, refusal}
 use Rattle.comet.specs.Answers.{Opened, openedAs, verifying}
-use Rattle.numbers.proofs.Refuse.{Passed, passed, done-zero, other-some}
+use Rattle.status.proofs.Refuse.{Passed, passed, done-zero, other-some}
 use Rattle.comet.proofs.Left.{opening-kept, opening-done}
 use Rattle.comet.proofs.verify.Statement.{statement}
 use Rattle.comet.proofs.verify.Tie as tie

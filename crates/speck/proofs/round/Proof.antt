@@ -2,7 +2,7 @@
 use borrow.Author.Needs.{needs}
 use mathlib.Core.Path.{ap, ap₂, _∙_}
 use Prim.Native.Nat.{ℕ}
-use Rattle.words.specs.Words.{add, xor}
+use Rattle.block.specs.Words.{add, xor}
 use Rattle.speck.proofs.round.Statement.{statement}
 use Rattle.speck.proofs.round.Tie as tie
 

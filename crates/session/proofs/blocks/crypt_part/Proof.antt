@@ -10,13 +10,13 @@ use mathlib.Core.Path.{_≡_, sym, ap, ap₂, _∙_}
 use native.Mathlib.Nat.{div-add-mod', mod-lt, le-div-iff-mul-le, mul-le-mul-right}
 use native.Mathlib.Omega.{arith}
 use Prim.Native.Nat.{ℕ, _+_, _-_, _*_, _/_, _%_, _≤_, _<_}
-use Rattle.words.specs.Blocks.{filled}
+use Rattle.block.specs.Blocks.{filled}
 use Rattle.cipher.specs.Cipher.{sizeOf, cipherOf}
 use Rattle.mode.specs.Blocks.{blocks}
 use Rattle.mode.specs.Walk.{whole, rest, walked, covered}
 use Rattle.mode.proofs.Cut.{length-whole, rest-less, rest-short}
-use Rattle.step.specs.Two.{twoOf}
-use Rattle.walk.proofs.Front.{short-walk, short-cover}
+use Rattle.block_step.specs.Two.{twoOf}
+use Rattle.block_walk.proofs.Front.{short-walk, short-cover}
 use Rattle.session.specs.Value.{written}
 use Rattle.session.proofs.Hold.{lent-again, twice-written, whole-is, rest-is, whole-alone}
 use Rattle.session.proofs.blocks.crypt_part.Statement.{statement}
