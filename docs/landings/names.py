@@ -177,6 +177,7 @@ def rewrite(change):
 
 OLD = "|".join(sorted(CRATES, key=len, reverse=True))
 IMPORT = re.compile(rf"Rattle·({OLD})(?=[.·\s])")
+WALKED = re.compile(rf"((?<![\w-])calls-|#)({OLD})(?=·)")  # names of functions in a walk by hand, _ as -
 PATH = re.compile(rf"(?<![\w:./·-])({OLD})(?=::)")
 FOLDER = re.compile(rf"(?<![\w/·-])(crates/)?({OLD})(?=/(?:src|specs|proofs|must-fail)\b)")
 UNDER_CRATES = re.compile(rf"\bcrates/({OLD})\b(?!-)")
@@ -247,6 +248,7 @@ def crate_change(known, shadowed):
         if name == "crates.txt":
             return crates_txt(text)
         text = IMPORT.sub(lambda m: "Rattle·" + new_name(m), text)
+        text = WALKED.sub(lambda m: m.group(1) + CRATES[m.group(2)].replace("_", "-"), text)
         if name == "README.md":
             text = "\n".join(layout_line(line) for line in text.split("\n"))
         text = in_folders(text)

@@ -56,9 +56,9 @@ use Rattle.shift_reader.proofs.cursor.Stepped as S
 use Rattle.shift_reader.proofs.cursor.Stepped.Laws as S′
 use Rattle.shift_reader.proofs.Reader.next as next
 use Rattle.shift_reader.proofs.Reader.next.Symbol as next-def
-use Rattle.shift_reader.proofs.Reader.next.Symbol.{name as #reader·Reader·next}
+use Rattle.shift_reader.proofs.Reader.next.Symbol.{name as #shift-reader·Reader·next}
 use Rattle.shift_reader.proofs.Reader.next.Met as next-thm
-use Rattle.shift_reader.proofs.step_at.Key.{name as #reader·step-at}
+use Rattle.shift_reader.proofs.step_at.Key.{name as #shift-reader·step-at}
 use Rattle.shift_reader.proofs.step_at as step-at
 use Rattle.shift_reader.proofs.step_at.Statement as stated
 use Rattle.shift_reader.proofs.step_at.Code as code
@@ -153,7 +153,7 @@ module _ {M : Type 1} (𝓤 : URA M) (H : Heap 𝓤) (A : Atoms 𝓤) (W : Given
       -- [what place owns; nothing; what src owns; what entry owns]
       move ! (0 ∷ 3 ∷ []) $ fjoin ! $ keep ! (0 ∷ []) $ by ! (own-shut 𝓤 H A W S.the-type S′.the-laws (t .reader .place, (t .entry, tt)))))
 
-  module _ (Cs : Calls 𝓤 H) (Λ : Loops 𝓤 H) (fm : FmC 𝓤 H (W .laws) Cs) (known : Triple 𝓤 (Cs #reader·Reader·next) (Next 𝓤 H A mem run)) where
+  module _ (Cs : Calls 𝓤 H) (Λ : Loops 𝓤 H) (fm : FmC 𝓤 H (W .laws) Cs) (known : Triple 𝓤 (Cs #shift-reader·Reader·next) (Next 𝓤 H A mem run)) where
     walk : Is (ShrSlice (named 0) κ u8) s (v ∷ []) → Is C.the-row c (C′.lowered c ∷ []) → ent 𝓤 (onEntry 𝓤 H A step-at.signature (κ, tt) (q, tt) (s, (c, tt)) at) (WpFn 𝓤 H Cs Λ code.function (v ∷ C′.lowered c ∷ []) Post)
     walk p pc =
         qed W (raw (onEntry 𝓤 H A step-at.signature (κ, tt) (q, tt) (s, (c, tt)) at) ∷ []) ∵ enter ! Cs Λ code.function (v ∷ C′.lowered c ∷ []) _ $
@@ -182,13 +182,13 @@ module _ {M : Type 1} (𝓤 : URA M) (H : Heap 𝓤) (A : Atoms 𝓤) (W : Given
         by ! (exits t e))))))))))))
 
 module _ {M : Type 1} (𝓤 : URA M) (H : Heap 𝓤) (A : Atoms 𝓤) (W : Given 𝓤 H A) (mem : Memory → SProp 𝓤) (run : Routine → Fun 𝓤) where
-  step-at-walks : (Cs : Calls 𝓤 H) (Λ : Loops 𝓤 H) → FmC 𝓤 H (W .laws) Cs → Triple 𝓤 (Cs #reader·Reader·next) (Next 𝓤 H A mem run)
+  step-at-walks : (Cs : Calls 𝓤 H) (Λ : Loops 𝓤 H) → FmC 𝓤 H (W .laws) Cs → Triple 𝓤 (Cs #shift-reader·Reader·next) (Next 𝓤 H A mem run)
       → Walks 𝓤 H A step-at.ended stayed (WpFn 𝓤 H Cs Λ code.function) (step-at.clauses 𝓤 H A mem run)
   step-at-walks Cs Λ fm known = walked 𝓤 H A step-at.ended stayed (step-at.clauses 𝓤 H A mem run) (WpFn 𝓤 H Cs Λ code.function) (λ κs. (slice-vals, (LL.vals C.the-type C′.the-laws, tt))) (λ κs. (shr-slice-tells (named 0) (κs .0) u8, (LL.tells C.the-type C′.the-laws, tt)))
       (λ κs qs bounds a g are. via 𝓤 _ (fst∗ 𝓤 _ (emp 𝓤)) (walk 𝓤 H A W mem run (κs .0) (qs .0) (a .0) (a .1 .0) Cs Λ fm known (are .0) (are .1 .0)))
 
 step-at-meets : {M : Type 1} (𝓤 : URA M) (H : Heap 𝓤) (A : Atoms 𝓤) (W : Given 𝓤 H A) (mem : Memory → SProp 𝓤) (run : Routine → Fun 𝓤) (𝓣 : Tables 𝓤 H)
-    → Triple 𝓤 (𝓣 .C #reader·Reader·next) (Next 𝓤 H A mem run)
+    → Triple 𝓤 (𝓣 .C #shift-reader·Reader·next) (Next 𝓤 H A mem run)
     → Meets 𝓤 H A step-at.signature (WpFn 𝓤 H (𝓣 .C) (𝓣 .Λ) code.function) (step-at.spec 𝓤 H A mem run)
 step-at-meets 𝓤 H A W mem run 𝓣 known = walk-meets 𝓤 H A step-at.ended stayed W (goes-none-slice 𝓤 H A W 1 (0 ∷ []) tt (plain (λ _. u8)) yes, (goes-none 𝓤 H A W 1 (λ _. C.the-row) yes (λ κs x f. refl), tt)) (step-at.clauses 𝓤 H A mem run) (WpFn 𝓤 H (𝓣 .C) (𝓣 .Λ) code.function) (WpFn-mono 𝓤 H (W .laws) 𝓣 code.function)
     (step-at-walks 𝓤 H A W mem run (𝓣 .C) (𝓣 .Λ) (fmOf 𝓤 H (W .laws) 𝓣) known)
@@ -197,6 +197,6 @@ pub step-at-spec : {M : Type 1} → stated.statement M
 unfolding code.routine tablesOf
 step-at-spec 𝓤 H 𝓜 𝓖 𝓡 =
     entered 𝓤 H (tripleOf 𝓤 H (𝓖 .A) step-at.signature (step-at.spec 𝓤 H (𝓖 .A) (𝓜 .mem) (𝓡 .run)))
-    (tables 𝓤 H 𝓜 𝓡 code.env .C) (tables 𝓤 H 𝓜 𝓡 code.env .Λ) #reader·step-at code.function (code.unfolded 𝓤 H 𝓜 𝓡)
+    (tables 𝓤 H 𝓜 𝓡 code.env .C) (tables 𝓤 H 𝓜 𝓡 code.env .Λ) #shift-reader·step-at code.function (code.unfolded 𝓤 H 𝓜 𝓡)
     (step-at-meets 𝓤 H (𝓖 .A) (givenOf 𝓤 H 𝓜 𝓖) (𝓜 .mem) (𝓡 .run) (tablesOf 𝓤 H 𝓜 (tables 𝓤 H 𝓜 𝓡 code.env))
-    (cited 𝓤 H (Next 𝓤 H (𝓖 .A) (𝓜 .mem) (𝓡 .run)) 𝓜 𝓡 code.env #reader·Reader·next next-def.routine code.calls-reader·Reader·next (next-thm.met 𝓤 H 𝓜 𝓖 𝓡)))
+    (cited 𝓤 H (Next 𝓤 H (𝓖 .A) (𝓜 .mem) (𝓡 .run)) 𝓜 𝓡 code.env #shift-reader·Reader·next next-def.routine code.calls-shift-reader·Reader·next (next-thm.met 𝓤 H 𝓜 𝓖 𝓡)))

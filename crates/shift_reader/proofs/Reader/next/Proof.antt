@@ -51,9 +51,9 @@ use Rattle.shift_reader.proofs.cursor.Stepped as S
 use Rattle.shift_reader.proofs.cursor.Stepped.Laws as S′
 use Rattle.shift_reader.proofs.cursor.ask as ask
 use Rattle.shift_reader.proofs.cursor.ask.Symbol as ask-def
-use Rattle.shift_reader.proofs.cursor.ask.Symbol.{name as #reader·cursor·ask}
+use Rattle.shift_reader.proofs.cursor.ask.Symbol.{name as #shift-reader·cursor·ask}
 use Rattle.shift_reader.proofs.cursor.ask.Met as ask-thm
-use Rattle.shift_reader.proofs.Reader.next.Key.{name as #reader·Reader·next}
+use Rattle.shift_reader.proofs.Reader.next.Key.{name as #shift-reader·Reader·next}
 use Rattle.shift_reader.proofs.Reader.next as next
 use Rattle.shift_reader.proofs.Reader.next.Statement as stated
 use Rattle.shift_reader.proofs.Reader.next.Code as code
@@ -136,7 +136,7 @@ module _ {M : Type 1} (𝓤 : URA M) (H : Heap 𝓤) (A : Atoms 𝓤) (W : Given
       use1 W (‵ (B (κ, tt) .own (moved t) (LL.val (T.the-type α) (T′.the-laws α) (moved t) ∷ []))) (own-shut 𝓤 H A W (T.the-type α) (T′.the-laws α) (d .src, (t .next, tt))) $ fjoin ! $
       by ! (own-shut 𝓤 H A W (N.the-type α) (N′.the-laws α) (moved t, (t .entry, tt)))))
 
-  module _ (Cs : Calls 𝓤 H) (Λ : Loops 𝓤 H) (fm : FmC 𝓤 H (W .laws) Cs) (known : Triple 𝓤 (Cs #reader·cursor·ask) (Ask 𝓤 H A mem run)) where
+  module _ (Cs : Calls 𝓤 H) (Λ : Loops 𝓤 H) (fm : FmC 𝓤 H (W .laws) Cs) (known : Triple 𝓤 (Cs #shift-reader·cursor·ask) (Ask 𝓤 H A mem run)) where
     walk : Is (B (κ, tt)) d (mach ∷ []) → ent 𝓤 (onEntry 𝓤 H A next.signature (κ, tt) (q, tt) (d, tt) (mach ∷ [], tt)) (WpFn 𝓤 H Cs Λ code.function (mach ∷ []) Post)
     walk p =
         let wt = LL.lawful (T.the-type α) (T′.the-laws α) 𝓤 H A W .typed d _ p .0 in
@@ -165,13 +165,13 @@ module _ {M : Type 1} (𝓤 : URA M) (H : Heap 𝓤) (A : Atoms 𝓤) (W : Given
         by ! (exits t e))))))))))))
 
 module _ {M : Type 1} (𝓤 : URA M) (H : Heap 𝓤) (A : Atoms 𝓤) (W : Given 𝓤 H A) (mem : Memory → SProp 𝓤) (run : Routine → Fun 𝓤) where
-  next-walks : (Cs : Calls 𝓤 H) (Λ : Loops 𝓤 H) → FmC 𝓤 H (W .laws) Cs → Triple 𝓤 (Cs #reader·cursor·ask) (Ask 𝓤 H A mem run)
+  next-walks : (Cs : Calls 𝓤 H) (Λ : Loops 𝓤 H) → FmC 𝓤 H (W .laws) Cs → Triple 𝓤 (Cs #shift-reader·cursor·ask) (Ask 𝓤 H A mem run)
       → Walks 𝓤 H A next.ended stayed (WpFn 𝓤 H Cs Λ code.function) (next.clauses 𝓤 H A mem run)
   next-walks Cs Λ fm known = walked 𝓤 H A next.ended stayed (next.clauses 𝓤 H A mem run) (WpFn 𝓤 H Cs Λ code.function) (λ κs. (LL.vals (T.the-type (namedLft 1 0 tt κs)) (T′.the-laws (namedLft 1 0 tt κs)), tt)) (λ κs. (LL.tells (T.the-type (namedLft 1 0 tt κs)) (T′.the-laws (namedLft 1 0 tt κs)), tt))
       (λ κs qs bounds a g are. via 𝓤 _ (fst∗ 𝓤 _ (emp 𝓤)) (walk 𝓤 H A W mem run (κs .0) (qs .0) (a .0) Cs Λ fm known (are .0)))
 
 next-meets : {M : Type 1} (𝓤 : URA M) (H : Heap 𝓤) (A : Atoms 𝓤) (W : Given 𝓤 H A) (mem : Memory → SProp 𝓤) (run : Routine → Fun 𝓤) (𝓣 : Tables 𝓤 H)
-    → Triple 𝓤 (𝓣 .C #reader·cursor·ask) (Ask 𝓤 H A mem run)
+    → Triple 𝓤 (𝓣 .C #shift-reader·cursor·ask) (Ask 𝓤 H A mem run)
     → Meets 𝓤 H A next.signature (WpFn 𝓤 H (𝓣 .C) (𝓣 .Λ) code.function) (next.spec 𝓤 H A mem run)
 next-meets 𝓤 H A W mem run 𝓣 known = walk-meets 𝓤 H A next.ended stayed W (goes-none 𝓤 H A W 1 B yes (λ κs x f. refl), tt) (next.clauses 𝓤 H A mem run) (WpFn 𝓤 H (𝓣 .C) (𝓣 .Λ) code.function) (WpFn-mono 𝓤 H (W .laws) 𝓣 code.function)
     (next-walks 𝓤 H A W mem run (𝓣 .C) (𝓣 .Λ) (fmOf 𝓤 H (W .laws) 𝓣) known)
@@ -180,6 +180,6 @@ pub next-spec : {M : Type 1} → stated.statement M
 unfolding code.routine tablesOf
 next-spec 𝓤 H 𝓜 𝓖 𝓡 =
     entered 𝓤 H (tripleOf 𝓤 H (𝓖 .A) next.signature (next.spec 𝓤 H (𝓖 .A) (𝓜 .mem) (𝓡 .run)))
-    (tables 𝓤 H 𝓜 𝓡 code.env .C) (tables 𝓤 H 𝓜 𝓡 code.env .Λ) #reader·Reader·next code.function (code.unfolded 𝓤 H 𝓜 𝓡)
+    (tables 𝓤 H 𝓜 𝓡 code.env .C) (tables 𝓤 H 𝓜 𝓡 code.env .Λ) #shift-reader·Reader·next code.function (code.unfolded 𝓤 H 𝓜 𝓡)
     (next-meets 𝓤 H (𝓖 .A) (givenOf 𝓤 H 𝓜 𝓖) (𝓜 .mem) (𝓡 .run) (tablesOf 𝓤 H 𝓜 (tables 𝓤 H 𝓜 𝓡 code.env))
-    (cited 𝓤 H (Ask 𝓤 H (𝓖 .A) (𝓜 .mem) (𝓡 .run)) 𝓜 𝓡 code.env #reader·cursor·ask ask-def.routine code.calls-reader·cursor·ask (ask-thm.met 𝓤 H 𝓜 𝓖 𝓡)))
+    (cited 𝓤 H (Ask 𝓤 H (𝓖 .A) (𝓜 .mem) (𝓡 .run)) 𝓜 𝓡 code.env #shift-reader·cursor·ask ask-def.routine code.calls-shift-reader·cursor·ask (ask-thm.met 𝓤 H 𝓜 𝓖 𝓡)))
