@@ -1,5 +1,6 @@
-//! Under the feature `linked`: compiles plain/comet.c, and bridge/bridge.c with the archive of the proved library.
-//! Without the feature it does nothing, and neither a C compiler nor the archive is needed.
+//! Under the feature `linked`: compiles plain/comet.c, links the proved library's archive of this processor (`cfg(native)`),
+//! and links bridge/bridge.c with the archive for x86-64 (`cfg(bridged)`). An archive that is not there is left out; where
+//! neither is there the build stops. Without the feature it does nothing, and needs neither a C compiler nor an archive.
 
 use std::env;
 use std::path::{Path, PathBuf};
@@ -7,6 +8,8 @@ use std::process::{exit, Command};
 
 /// What compiles for x86-64 on another processor.
 const CROSS_COMPILER: &str = "x86_64-linux-gnu-gcc";
+
+const ARCHIVE: &str = "libsnoekeldraf.a";
 
 /// Ends the build with one sentence.
 fn stop(sentence: String) -> ! {
@@ -26,7 +29,7 @@ fn native_compiler() -> String {
 }
 
 /// The archive of plain/comet.c, at -O3; its functions are aligned, so that the speed of a short loop does not
-/// hang on what is linked before it.
+/// depend on what is linked before it.
 fn compile_plain(here: &Path, to: &Path) {
     let (object, archive) = (to.join("comet.o"), to.join("libplain.a"));
     let flags = ["-O3", "-falign-functions=64", "-c"];
@@ -36,25 +39,38 @@ fn compile_plain(here: &Path, to: &Path) {
     println!("cargo:rustc-link-lib=static=plain");
 }
 
-/// The folder of the proved library's archive; SNOEKELDRAF_DIR names another than target/staticlib/.
-fn folder_of_archive(here: &Path) -> PathBuf {
-    let folder = env::var("SNOEKELDRAF_DIR").map_or(here.join("../target/staticlib"), PathBuf::from);
-    let archive = folder.join("libsnoekeldraf.a");
-    if !archive.exists() {
-        stop(format!("{} is not there: run `rt staticlib snoekeldraf` first", archive.display()));
+/// The first of these folders that has an archive.
+fn with_archive(folders: Vec<PathBuf>) -> Option<PathBuf> {
+    for folder in &folders {
+        println!("cargo:rerun-if-changed={}", folder.join(ARCHIVE).display());
     }
-    println!("cargo:rerun-if-changed={}", archive.display());
-    folder
+    folders.into_iter().find(|folder| folder.join(ARCHIVE).exists())
 }
 
-/// The program that `compare` asks. It is for x86-64 whatever the processor, as the archive is.
-fn compile_bridge(here: &Path, to: &Path, folder: &Path, is_x86: bool) {
+/// Where the archive for x86-64 may be: as `./run library x86-64` writes it, or `rt staticlib snoekeldraf`.
+fn folders_of_x86(built: &Path) -> Vec<PathBuf> {
+    vec![built.join("x86-64"), built.join("staticlib")]
+}
+
+/// Links the archive of this processor; SNOEKELDRAF_DIR names another folder than that of `./run library`.
+fn link_native(built: &Path, is_x86: bool) -> bool {
+    let named = env::var("SNOEKELDRAF_DIR").map(|folder| vec![PathBuf::from(folder)]);
+    let arch = env::var("CARGO_CFG_TARGET_ARCH").unwrap();
+    let usual = if is_x86 { folders_of_x86(built) } else { vec![built.join(arch)] };
+    let Some(folder) = with_archive(named.unwrap_or(usual)) else { return false };
+    println!("cargo:rustc-link-search=native={}", folder.display());
+    println!("cargo:rustc-link-lib=static=snoekeldraf");
+    println!("cargo:rustc-cfg=native");
+    true
+}
+
+/// The C program that calls the archive for x86-64. On another processor it is left out where no compiler for x86-64 is.
+fn compile_bridge(here: &Path, built: &Path, to: &Path, is_x86: bool) -> bool {
+    let Some(folder) = with_archive(folders_of_x86(built)) else { return false };
     let compiler = if is_x86 { native_compiler() } else { CROSS_COMPILER.to_string() };
-    if !is_x86 && Command::new(&compiler).arg("--version").output().is_err() {
-        stop(format!(
-            "the archive of the proved library is for x86-64 alone: to compare with it on this processor, install \
-             {CROSS_COMPILER} (Debian's package gcc-x86-64-linux-gnu)"
-        ));
+    if Command::new(&compiler).arg("--version").output().is_err() {
+        println!("cargo:warning={compiler} is not there: the archive for x86-64 is not compared");
+        return false;
     }
     let program = to.join("bridge");
     let mut command = Command::new(compiler);
@@ -63,11 +79,16 @@ fn compile_bridge(here: &Path, to: &Path, folder: &Path, is_x86: bool) {
         // so that the emulator needs no libraries for x86-64
         command.arg("-static");
     }
-    run(command.arg(here.join("bridge/bridge.c")).arg(folder.join("libsnoekeldraf.a")).arg("-o").arg(&program));
+    run(command.arg(here.join("bridge/bridge.c")).arg(folder.join(ARCHIVE)).arg("-o").arg(&program));
     println!("cargo:rustc-env=BRIDGE={}", program.display());
+    println!("cargo:rustc-cfg=bridged");
+    true
 }
 
 fn main() {
+    for name in ["native", "bridged"] {
+        println!("cargo:rustc-check-cfg=cfg({name})");
+    }
     for path in ["build.rs", "plain", "bridge", "../include"] {
         println!("cargo:rerun-if-changed={path}");
     }
@@ -79,11 +100,10 @@ fn main() {
     let here = PathBuf::from(env::var("CARGO_MANIFEST_DIR").unwrap());
     let to = PathBuf::from(env::var("OUT_DIR").unwrap());
     let is_x86 = env::var("CARGO_CFG_TARGET_ARCH").unwrap() == "x86_64";
-    let folder = folder_of_archive(&here);
-    compile_bridge(&here, &to, &folder, is_x86);
-    compile_plain(&here, &to);
-    if is_x86 {
-        println!("cargo:rustc-link-search=native={}", folder.display());
-        println!("cargo:rustc-link-lib=static=snoekeldraf");
+    let built = here.join("../target");
+    let [linked, bridged] = [link_native(&built, is_x86), compile_bridge(&here, &built, &to, is_x86)];
+    if !linked && !bridged {
+        stop("no archive of the proved library is there: run `./run library` with this processor's name first".into());
     }
+    compile_plain(&here, &to);
 }

@@ -3,14 +3,12 @@
  * A call is the number of a function of the table below (1 byte) and the function's arguments in the order of
  * snoekeldraf.h: a number is 8 bytes; bytes, and whatever is lent for writing, are a length (4 bytes) and that many
  * bytes. The answer is what the function gives (4 bytes), then all that was lent for writing, in the same order.
- * A session is the bytes of its struct. Of a step the number is what the function gives; for the next session and the
- * count there is something lent for writing, last of all.
+ * A session is lent for writing as the 72 bytes of its words. A function that gives nothing is said to give 0.
  * Numbers are little-endian. The program ends where its input does.
  */
 #include "snoekeldraf.h"
 #include <stdio.h>
 #include <stdlib.h>
-#include <string.h>
 
 /* ---- what a call brings; it lies in one room, that the next call takes anew ---- */
 
@@ -107,44 +105,40 @@ static uint32_t entry(void) {
     return shift_entry(SLICE(file), job, row, ad_at, ad_len, text_at, text_len);
 }
 
-static comet_session session(void) {
-    comet_session s;
-    bytes b = given();
-    if (b.len != sizeof s) exit(2);
-    memcpy(&s, b.at, sizeof s);
-    return s;
-}
-
-static uint32_t stepped(comet_step step) {
-    bytes next = lent();
-    if (next.len != sizeof step.next) exit(2);
-    memcpy(next.at, &step.next, next.len);
-    *lent_number() = (uint32_t)step.count;
-    return step.number;
+static comet_session *session(void) {
+    bytes b = lent();
+    if (b.len != sizeof(comet_session)) exit(2);
+    return (comet_session *)b.at;
 }
 
 static uint32_t session_start(void) {
+    comet_session *s = session();
     uint8_t suite = (uint8_t)number();
     bytes key = given(), nonce = given();
-    return stepped(comet_session_start(suite, SLICE(key), SLICE(nonce)));
+    return comet_session_start(s, suite, SLICE(key), SLICE(nonce));
 }
 
 static uint32_t session_data(void) {
-    comet_session s = session();
+    comet_session *s = session();
     bytes ad = given();
-    return stepped(comet_session_data(s, SLICE(ad)));
+    return comet_session_data(s, SLICE(ad));
 }
 
 static uint32_t session_part(void) {
-    comet_session s = session();
+    comet_session *s = session();
     bytes msg = given(), out = lent();
-    return stepped(comet_session_part(s, SLICE(msg), SLICE(out)));
+    return comet_session_part(s, SLICE(msg), SLICE(out), lent_number());
 }
 
 static uint32_t session_end(void) {
-    comet_session s = session();
+    comet_session *s = session();
     bytes out = lent(), tag = lent();
-    return stepped(comet_session_end(s, SLICE(out), SLICE(tag)));
+    return comet_session_end(s, SLICE(out), SLICE(tag), lent_number());
+}
+
+static uint32_t session_wipe(void) {
+    comet_session_wipe(session());
+    return 0;
 }
 
 static uint32_t seal_file(void) {
@@ -246,6 +240,12 @@ static uint32_t moved_length(void) {
     return (uint32_t)shift_moved_length(SLICE(file));
 }
 
+static uint32_t verified(void) {
+    bytes file = given(), ring = given();
+    uint32_t job = (uint32_t)number(), *row = lent_number(), *at = lent_number(), *len = lent_number();
+    return shift_verified(SLICE(file), SLICE(ring), job, row, at, len);
+}
+
 static uint32_t (*const functions[])(void) = {
     seal, open_record, check, lookup, associated, open_job, entry,
     session_start, session_data, session_part, session_end,
@@ -259,6 +259,8 @@ static uint32_t (*const functions[])(void) = {
     report,
     seal_in_place, open_in_place, verify,
     moved_length,
+    session_wipe,
+    verified,
 };
 
 int main(void) {

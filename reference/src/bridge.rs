@@ -1,7 +1,7 @@
-//! The proved library, asked through the C program bridge/bridge.c, which is linked with its archive.
+//! The proved library for x86-64, called by the C program bridge/bridge.c, which is linked with its archive.
 //!
-//! The archive is for x86-64 alone. On another processor that program is compiled for x86-64 by a cross compiler
-//! and runs under the emulator of the kit that proves the library.
+//! On another processor that program is compiled for x86-64 by a cross compiler and runs under the emulator of the kit that
+//! proves the library, or under a `qemu-x86_64` on the path.
 
 use crate::amendment::Amended;
 use crate::calls::Library;
@@ -12,8 +12,8 @@ use crate::shift::{Answer, Places};
 use std::env;
 use std::io::{BufReader, BufWriter, Read, Write};
 use std::path::PathBuf;
-use std::process::{ChildStdin, ChildStdout, Command, Stdio};
-use std::sync::{Mutex, OnceLock};
+use std::process::{Child, ChildStdin, ChildStdout, Command, Stdio};
+use std::sync::Mutex;
 
 /// The program, as build.rs compiled it.
 const PROGRAM: &str = env!("BRIDGE");
@@ -38,6 +38,21 @@ fn emulator() -> PathBuf {
 struct Bridge {
     calls: BufWriter<ChildStdin>,
     answers: BufReader<ChildStdout>,
+    program: Child,
+}
+
+/// Started with the first call.
+static BRIDGE: Mutex<Option<Bridge>> = Mutex::new(None);
+
+/// Closes the program's input and waits until it has ended; says whether it ended well.
+pub fn finish() -> bool {
+    match BRIDGE.lock().unwrap().take() {
+        Some(Bridge { calls, mut program, .. }) => {
+            drop(calls);
+            program.wait().is_ok_and(|status| status.success())
+        }
+        None => true,
+    }
 }
 
 impl Bridge {
@@ -50,8 +65,9 @@ impl Bridge {
             command
         };
         let started = command.stdin(Stdio::piped()).stdout(Stdio::piped()).spawn();
-        let child = started.unwrap_or_else(|e| panic!("{command:?}: {e}"));
-        Bridge { calls: BufWriter::new(child.stdin.unwrap()), answers: BufReader::new(child.stdout.unwrap()) }
+        let mut program = started.unwrap_or_else(|e| panic!("{command:?}: {e}"));
+        let (calls, answers) = (program.stdin.take().unwrap(), program.stdout.take().unwrap());
+        Bridge { calls: BufWriter::new(calls), answers: BufReader::new(answers), program }
     }
 
     /// Puts a call and waits for its answer.
@@ -95,11 +111,11 @@ const UNWRITTEN: [u8; 4] = [0xa5; 4];
 
 /// What a function gives, and the numbers that it writes last; its number is its place in the table of bridge.c.
 fn ask<const N: usize>(function: u8, given: Vec<Argument>) -> (u32, [u32; N]) {
-    static BRIDGE: OnceLock<Mutex<Bridge>> = OnceLock::new();
     let mut numbers = [UNWRITTEN; N];
     let mut arguments = given;
     arguments.extend(numbers.iter_mut().map(|number| Lent(number)));
-    let mut bridge = BRIDGE.get_or_init(|| Mutex::new(Bridge::start())).lock().unwrap();
+    let mut bridge = BRIDGE.lock().unwrap();
+    let bridge = bridge.get_or_insert_with(Bridge::start);
     let answer = bridge.ask(function, &mut arguments).unwrap_or_else(|e| panic!("{PROGRAM}, function {function}: {e}"));
     (answer, numbers.map(u32::from_le_bytes))
 }
@@ -140,40 +156,52 @@ fn entry(file: &[u8], job: u32) -> (Answer, Places) {
     ((number, row), places.map(|place| place as usize))
 }
 
-/// A session as the struct comet_session lies in memory: suite and seven bytes of nothing, Y, Z, held bytes, totals.
-fn flat(s: &Session) -> Vec<u8> {
-    let suite = (s.suite as u64).to_le_bytes();
-    [&suite[..], &s.y, &s.z, &s.held, &s.ad_total.to_le_bytes(), &s.text_total.to_le_bytes()].concat()
+fn verified(file: &[u8], ring: &[u8], job: u32) -> (Answer, usize, usize) {
+    let (number, [row, at, length]) = ask(28, vec![Given(file), Given(ring), Number(job.into())]);
+    ((number, row), at as usize, length as usize)
+}
+
+/// A session's nine words as they lie in memory: suite, Y, Z, held bytes, totals.
+fn flat(s: &Session) -> [u8; 72] {
+    let [suite, ad_total, text_total] = [s.suite as u64, s.ad_total as u64, s.text_total as u64].map(u64::to_le_bytes);
+    let all = [&suite[..], &s.y, &s.z, &s.held, &ad_total, &text_total].concat();
+    all.try_into().unwrap()
 }
 
 fn raised(flat: &[u8; 72]) -> Session {
     let block = |at: usize| flat[at..at + 16].try_into().unwrap();
-    let total = |at: usize| usize::from_le_bytes(flat[at..at + 8].try_into().unwrap());
-    Session { suite: flat[0], y: block(8), z: block(24), held: block(40), ad_total: total(56), text_total: total(64) }
+    let word = |at: usize| u64::from_le_bytes(flat[at..at + 8].try_into().unwrap());
+    let suite = word(0).try_into().expect("no call writes a suite over 255");
+    let [ad_total, text_total] = [56, 64].map(|at| word(at) as usize);
+    Session { suite, y: block(8), z: block(24), held: block(40), ad_total, text_total }
 }
 
-fn step(function: u8, given: Vec<Argument>) -> Step {
-    let mut next = [0xa5; 72];
-    let mut arguments = given;
-    arguments.push(Lent(&mut next));
-    let (number, [count]) = ask(function, arguments);
-    Step { next: raised(&next), number, count: count as usize }
+/// A call on a session's words. Only the calls with an output write a count: `N` is 1 for these, else 0.
+fn step<const N: usize>(function: u8, mut words: [u8; 72], given: Vec<Argument>) -> Step {
+    let mut arguments = vec![Lent(&mut words)];
+    arguments.extend(given);
+    let (number, counts) = ask::<N>(function, arguments);
+    Step { next: raised(&words), number, count: counts.first().map_or(0, |count| *count as usize) }
 }
 
 fn session_start(suite: u8, key: &[u8], nonce: &[u8]) -> Step {
-    step(7, vec![Number(suite.into()), Given(key), Given(nonce)])
+    step::<0>(7, [0xa5; 72], vec![Number(suite.into()), Given(key), Given(nonce)])
 }
 
 fn session_data(session: Session, ad: &[u8]) -> Step {
-    step(8, vec![Given(&flat(&session)), Given(ad)])
+    step::<0>(8, flat(&session), vec![Given(ad)])
 }
 
 fn session_part(session: Session, msg: &[u8], out: &mut [u8]) -> Step {
-    step(9, vec![Given(&flat(&session)), Given(msg), Lent(out)])
+    step::<1>(9, flat(&session), vec![Given(msg), Lent(out)])
 }
 
 fn session_end(session: Session, out: &mut [u8], tag: &mut [u8]) -> Step {
-    step(10, vec![Given(&flat(&session)), Lent(out), Lent(tag)])
+    step::<1>(10, flat(&session), vec![Lent(out), Lent(tag)])
+}
+
+fn session_wipe(session: Session) -> Session {
+    step::<0>(27, flat(&session), vec![]).next
 }
 
 fn seal_file(draft: &[u8], ring: &[u8], out: &mut [u8]) -> Answer {
@@ -303,10 +331,12 @@ pub const PROVED: Library = Library {
     associated,
     entry,
     open_job,
+    verified,
     session_start,
     session_data,
     session_part,
     session_end,
+    session_wipe,
     seal_file,
     unseal_file,
     search,

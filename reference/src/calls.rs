@@ -26,7 +26,8 @@ pub type OnRecord = fn(u8, &[u8], &[u8], &[u8], &mut [u8], &mut [u8]) -> u32;
 /// Takes a file and a ring, and writes a file.
 pub type Rewrite = fn(&[u8], &[u8], &mut [u8]) -> shift::Answer;
 
-/// An implementation. `associated` gives the lookup's number, and place and length in the file.
+/// An implementation. `associated` gives the lookup's number, and offset and length in the file; `verified` number and row,
+/// and the same.
 #[derive(Clone, Copy)]
 pub struct Library {
     pub seal: Seal,
@@ -39,10 +40,12 @@ pub struct Library {
     pub associated: fn(&[u8], u32) -> (u32, usize, usize),
     pub entry: fn(&[u8], u32) -> (shift::Answer, shift::Places),
     pub open_job: fn(&[u8], &[u8], u32, &mut [u8]) -> shift::Answer,
+    pub verified: fn(&[u8], &[u8], u32) -> (shift::Answer, usize, usize),
     pub session_start: fn(u8, &[u8], &[u8]) -> Step,
     pub session_data: fn(Session, &[u8]) -> Step,
     pub session_part: fn(Session, &[u8], &mut [u8]) -> Step,
     pub session_end: fn(Session, &mut [u8], &mut [u8]) -> Step,
+    pub session_wipe: fn(Session) -> Session,
     pub seal_file: Rewrite,
     pub unseal_file: Rewrite,
     pub search: fn(&[u8], u32) -> (shift::Answer, u32),
@@ -72,10 +75,12 @@ pub const REFERENCE: Library = Library {
     },
     entry: shift::entry,
     open_job: shift::open_job,
+    verified: shift::verified,
     session_start: session::start,
     session_data: session::data,
     session_part: session::part,
     session_end: session::end,
+    session_wipe: |_| session::OVER,
     seal_file: writer::seal_file,
     unseal_file: writer::unseal_file,
     search: search::search,
@@ -290,6 +295,7 @@ pub struct FileOutcome {
     pub associated: (u32, usize, usize),
     pub entry: (shift::Answer, shift::Places),
     pub open: shift::Answer,
+    pub verified: (shift::Answer, usize, usize),
     pub out: Vec<u8>,
 }
 
@@ -331,6 +337,7 @@ impl Case for FileCall {
             associated: (by.associated)(&self.file, self.job),
             entry: (by.entry)(&self.file, self.job),
             open: (by.open_job)(&self.file, &self.ring, self.job, &mut out),
+            verified: (by.verified)(&self.file, &self.ring, self.job),
             out,
         }
     }

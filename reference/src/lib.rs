@@ -1,10 +1,10 @@
-//! A second implementation of the four block ciphers, COMET versions 1 and 2, the plant's shift file and its tools.
+//! The reference implementation of the four block ciphers, COMET versions 1 and 2, the plant's shift file and its tools.
 //!
-//! It is written from the papers and documents 01 and 02 alone and shares nothing with the proved crates:
-//! what both say is said twice, by two hands.
+//! It is written separately, from the papers and documents 01 and 02 alone, and shares nothing with the proved crates.
 //!
-//! The first list of modules below is the implementation. The rest makes inputs of it: `random`, `plan` and `calls` say what a call is, `data` holds the calls that the test programs run and
-//! compare with, and `trials` and `data` those of the comparison with the proved library.
+//! The first list of modules below is the implementation. The rest makes inputs of it: `random`, `plan` and `calls` say what a
+//! call is, `data` holds the calls that the test programs run and compare with, and `trials` and `data` those of the comparison
+//! with the proved library.
 
 pub mod aes;
 pub mod amendment;
@@ -28,7 +28,12 @@ pub mod random;
 pub mod show;
 pub mod trials;
 
-#[cfg(feature = "linked")]
+#[cfg(bridged)]
 pub mod bridge;
 #[cfg(feature = "linked")]
 pub mod linked;
+/// The declarations of the C functions, the same file as in the Rust crate.
+#[cfg(native)]
+#[allow(dead_code)]
+#[path = "../../bindings/rust/src/raw.rs"]
+mod raw;

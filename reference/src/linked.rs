@@ -1,13 +1,12 @@
-//! What is linked into this program: the plain C and, where it can be, the proved library; behind safe functions.
+//! What is linked into this program: the plain C, and the proved library where the archive of this processor was found.
 
-use crate::bridge;
 use crate::calls::{Library, REFERENCE};
 
 /// What a number that is lent for writing holds before.
 const UNWRITTEN: u32 = 0xa5a5_a5a5;
 
-/// A sealer, an opener and a check with the C names given. A slice of bytes passes as a pointer and a length: each
-/// pointer stands beside the length of the slice that it comes from, and lives through the call.
+/// A sealer, an opener and a check of plain/comet.c with the names given. A slice is passed as its pointer and its length; it
+/// outlives the call, and what is written is borrowed by `&mut`.
 macro_rules! linked {
     ($seal:ident, $open:ident, $check:ident) => {
         #[rustfmt::skip]
@@ -27,6 +26,7 @@ macro_rules! linked {
 
         #[rustfmt::skip]
         pub fn seal(suite: u8, key: &[u8], nonce: &[u8], ad: &[u8], msg: &[u8], out: &mut [u8], tag: &mut [u8]) -> u32 {
+            // SAFETY: see above.
             unsafe {
                 $seal(suite, key.as_ptr(), key.len(), nonce.as_ptr(), nonce.len(), ad.as_ptr(), ad.len(),
                     msg.as_ptr(), msg.len(), out.as_mut_ptr(), out.len(), tag.as_mut_ptr(), tag.len())
@@ -35,6 +35,7 @@ macro_rules! linked {
 
         #[rustfmt::skip]
         pub fn open(suite: u8, key: &[u8], nonce: &[u8], ad: &[u8], text: &[u8], tag: &[u8], out: &mut [u8]) -> u32 {
+            // SAFETY: see above.
             unsafe {
                 $open(suite, key.as_ptr(), key.len(), nonce.as_ptr(), nonce.len(), ad.as_ptr(), ad.len(),
                     text.as_ptr(), text.len(), tag.as_ptr(), tag.len(), out.as_mut_ptr(), out.len())
@@ -43,6 +44,7 @@ macro_rules! linked {
 
         pub fn check(file: &[u8]) -> crate::shift::Answer {
             let mut row = super::UNWRITTEN;
+            // SAFETY: see above.
             let number = unsafe { $check(file.as_ptr(), file.len(), &mut row) };
             (number, row)
         }
@@ -57,115 +59,106 @@ mod columns {
     linked!(columns_seal, columns_open, plain_check);
 }
 
-/// The proved library's archive links into programs for x86-64 alone.
-#[cfg(target_arch = "x86_64")]
+/// The proved library, called through the declarations of the Rust crate.
+#[cfg(native)]
 mod proved {
+    use crate::amendment::Amended;
+    use crate::calls::Library;
+    use crate::difference::Compared;
+    use crate::raw::{self, Words};
+    use crate::report::Report;
     use crate::session::{Session, Step};
-    use crate::shift::Answer;
 
-    linked!(comet_seal, comet_open, shift_check);
-
-    /// The suite is the first byte of the first eight.
-    #[repr(C)]
-    struct CSession {
-        suite: u64,
-        y: [u8; 16],
-        z: [u8; 16],
-        held: [u8; 16],
-        ad_total: usize,
-        text_total: usize,
+    /// A session as its nine words: suite, Y, Z, held bytes, totals.
+    fn words(s: &Session) -> Words {
+        let [y, z, held] = [s.y, s.z, s.held].map(|block| {
+            let halves = [0, 8].map(|at| u64::from_le_bytes(block[at..at + 8].try_into().unwrap()));
+            (halves[0], halves[1])
+        });
+        [s.suite.into(), y.0, y.1, z.0, z.1, held.0, held.1, s.ad_total as u64, s.text_total as u64]
     }
 
-    #[repr(C)]
-    struct CStep {
-        next: CSession,
-        number: u32,
-        count: usize,
+    fn session(words: &Words) -> Session {
+        let block = |at: usize| core::array::from_fn(|i| words[at + i / 8].to_le_bytes()[i % 8]);
+        let [suite, .., ad_total, text_total] = *words;
+        let suite = suite.try_into().expect("no call writes a suite over 255");
+        let [ad_total, text_total] = [ad_total, text_total].map(|total| total as usize);
+        Session { suite, y: block(1), z: block(3), held: block(5), ad_total, text_total }
     }
 
-    #[rustfmt::skip]
-    extern "C" {
-        fn comet_session_start(suite: u8, key: *const u8, key_len: usize, nonce: *const u8, nonce_len: usize) -> CStep;
-        fn comet_session_data(session: CSession, ad: *const u8, ad_len: usize) -> CStep;
-        fn comet_session_part(session: CSession, msg: *const u8, msg_len: usize, out: *mut u8, out_len: usize) -> CStep;
-        fn comet_session_end(session: CSession, out: *mut u8, out_len: usize, tag: *mut u8, tag_len: usize) -> CStep;
-        fn shift_seal_file(
-            draft: *const u8, draft_len: usize, ring: *const u8, ring_len: usize, out: *mut u8, out_len: usize,
-            row: *mut u32,
-        ) -> u32;
-        fn shift_lookup(file: *const u8, file_len: usize, job: u32, row: *mut u32) -> u32;
-        fn shift_search(file: *const u8, file_len: usize, job: u32, row: *mut u32, looked: *mut u32) -> u32;
+    /// A step: what the call makes of the session's words, its number, and its count.
+    fn step(given: Words, call: impl FnOnce(&mut Words) -> (u32, u32)) -> Step {
+        let mut words = given;
+        let (number, count) = call(&mut words);
+        Step { next: session(&words), number, count: count as usize }
     }
 
-    fn given(s: Session) -> CSession {
-        CSession { suite: s.suite as u64, y: s.y, z: s.z, held: s.held, ad_total: s.ad_total, text_total: s.text_total }
-    }
-
-    fn stepped(CStep { next: s, number, count }: CStep) -> Step {
-        let (ad_total, text_total) = (s.ad_total, s.text_total);
-        let next = Session { suite: s.suite as u8, y: s.y, z: s.z, held: s.held, ad_total, text_total };
-        Step { next, number, count }
-    }
-
-    pub fn session_start(suite: u8, key: &[u8], nonce: &[u8]) -> Step {
-        stepped(unsafe { comet_session_start(suite, key.as_ptr(), key.len(), nonce.as_ptr(), nonce.len()) })
-    }
-
-    pub fn session_data(session: Session, ad: &[u8]) -> Step {
-        stepped(unsafe { comet_session_data(given(session), ad.as_ptr(), ad.len()) })
-    }
-
-    pub fn session_part(session: Session, msg: &[u8], out: &mut [u8]) -> Step {
-        let (out_at, out_length) = (out.as_mut_ptr(), out.len());
-        stepped(unsafe { comet_session_part(given(session), msg.as_ptr(), msg.len(), out_at, out_length) })
-    }
-
-    pub fn session_end(session: Session, out: &mut [u8], tag: &mut [u8]) -> Step {
-        let (out_at, out_length) = (out.as_mut_ptr(), out.len());
-        stepped(unsafe { comet_session_end(given(session), out_at, out_length, tag.as_mut_ptr(), tag.len()) })
-    }
-
-    pub fn seal_file(draft: &[u8], ring: &[u8], out: &mut [u8]) -> Answer {
-        let mut row = super::UNWRITTEN;
-        let (draft_at, ring_at, out_at) = (draft.as_ptr(), ring.as_ptr(), out.as_mut_ptr());
-        let number =
-            unsafe { shift_seal_file(draft_at, draft.len(), ring_at, ring.len(), out_at, out.len(), &mut row) };
-        (number, row)
-    }
-
-    pub fn lookup(file: &[u8], job: u32) -> Answer {
-        let mut row = super::UNWRITTEN;
-        let number = unsafe { shift_lookup(file.as_ptr(), file.len(), job, &mut row) };
-        (number, row)
-    }
-
-    pub fn search(file: &[u8], job: u32) -> (Answer, u32) {
-        let (mut row, mut looked) = (super::UNWRITTEN, super::UNWRITTEN);
-        let number = unsafe { shift_search(file.as_ptr(), file.len(), job, &mut row, &mut looked) };
-        ((number, row), looked)
-    }
+    pub const PROVED: Library = Library {
+        seal: raw::seal,
+        open: raw::open,
+        seal_in_place: raw::seal_in_place,
+        open_in_place: |suite, key, nonce, ad, text, tag| raw::open_in_place(suite, key, nonce, ad, text, tag),
+        verify: |suite, key, nonce, ad, text, tag| raw::verify(suite, key, nonce, ad, text, tag),
+        check: raw::check,
+        lookup: raw::lookup,
+        associated: |file, job| {
+            let (number, [at, len]) = raw::associated(file, job);
+            (number, at as usize, len as usize)
+        },
+        entry: |file, job| {
+            let (answer, places) = raw::entry(file, job);
+            (answer, places.map(|place| place as usize))
+        },
+        open_job: raw::open_job,
+        verified: |file, ring, job| {
+            let (answer, [at, len]) = raw::verified(file, ring, job);
+            (answer, at as usize, len as usize)
+        },
+        session_start: |suite, key, nonce| {
+            step([u64::MAX; 9], |words| (raw::session_start(words, suite, key, nonce), 0))
+        },
+        session_data: |session, ad| step(words(&session), |words| (raw::session_data(words, ad), 0)),
+        session_part: |session, msg, out| step(words(&session), |words| raw::session_part(words, msg, out)),
+        session_end: |session, out, tag| step(words(&session), |words| raw::session_end(words, out, tag)),
+        session_wipe: |given| {
+            let mut words = words(&given);
+            raw::session_wipe(&mut words);
+            session(&words)
+        },
+        seal_file: raw::seal_file,
+        unseal_file: raw::unseal_file,
+        search: raw::search,
+        reseal: raw::reseal,
+        compare: |first, second, [one, other, both]| {
+            let (number, [file, row], counts) = raw::compare(first, second, one, other, both);
+            Compared { number, file, row, counts }
+        },
+        moved_length: |file| raw::moved_length(file) as usize,
+        to_edition2: raw::to_edition2,
+        to_edition1: raw::to_edition1,
+        amended: |amendment, day, job| {
+            let (number, [file, row, at, len]) = raw::amended(amendment, day, job);
+            Amended { number, file, row, at: at as usize, length: len as usize }
+        },
+        open_current: |amendment, day, ring, job, out| {
+            let (number, [file, row]) = raw::open_amended(amendment, day, ring, job, out);
+            (number, file, row)
+        },
+        seal_counted: raw::seal_counted,
+        open_counted: raw::open_counted,
+        report: |file, ring, jobs, numbers| {
+            let ((number, row), count) = raw::report(file, ring, jobs, numbers);
+            Report { number, row, count }
+        },
+    };
 }
+#[cfg(all(bridged, not(native)))]
+pub use crate::bridge::PROVED;
+#[cfg(native)]
+pub use proved::PROVED;
 
 /// The plain C has no lookup and opens no job: the reference stands in for those.
 pub const PLAIN: Library = Library { seal: plain::seal, open: plain::open, check: plain::check, ..REFERENCE };
 
 /// The plain C with AES by four tables.
 pub const COLUMNS: Library = Library { seal: columns::seal, open: columns::open, check: columns::check, ..REFERENCE };
-
-/// The proved library as `bench` measures it: with nothing between, where it can be linked.
-#[cfg(target_arch = "x86_64")]
-pub const PROVED: Library = Library {
-    seal: proved::seal,
-    open: proved::open,
-    check: proved::check,
-    session_start: proved::session_start,
-    session_data: proved::session_data,
-    session_part: proved::session_part,
-    session_end: proved::session_end,
-    seal_file: proved::seal_file,
-    lookup: proved::lookup,
-    search: proved::search,
-    ..bridge::PROVED
-};
-#[cfg(not(target_arch = "x86_64"))]
-pub const PROVED: Library = bridge::PROVED;

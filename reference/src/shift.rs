@@ -241,3 +241,16 @@ pub fn open_job(file: &[u8], ring: &[u8], job: u32, out: &mut [u8]) -> Answer {
     }
     (row(file, i as usize).open(file, ring, out), 0)
 }
+
+/// Where the associated data of a job lies whose tag is right under the ring: number and row, offset and length. The full
+/// check, 32, 2, 8; offset and length are 0 on a refusal.
+pub fn verified(file: &[u8], ring: &[u8], job: u32) -> (Answer, usize, usize) {
+    let (answer, [at, length, _, message]) = entry(file, job);
+    if answer.0 != 0 {
+        return (answer, 0, 0);
+    }
+    match open_job(file, ring, job, &mut vec![0; message]) {
+        (0, _) => ((0, 0), at, length),
+        refused => (refused, 0, 0),
+    }
+}

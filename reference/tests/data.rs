@@ -3,8 +3,7 @@
 use reference::calls::{Case, Deed, REFERENCE};
 use reference::data::{
     amending, cases, comparing, counted, files, in_place, moving, parts, printing, reading, resealing, searching,
-    sessions,
-    writing, FOLDERS,
+    sessions, writing, FOLDERS,
 };
 use reference::random::Random;
 use reference::trials;

@@ -13,7 +13,7 @@ use alloc::{vec, vec::Vec};
 /// assert_eq!(snoekeldraf::moved_len(&file), file.len() - 4 * 8);
 /// ```
 pub fn moved_len(file: &[u8]) -> usize {
-    raw::moved_length(file)
+    raw::moved_length(file) as usize
 }
 
 /// Moves a file of edition 1 to edition 2, where every row has a station number, 0 everywhere. The total length and every

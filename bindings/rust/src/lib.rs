@@ -50,7 +50,7 @@ mod difference;
 mod editions;
 mod file;
 mod keys;
-#[allow(unsafe_code)]
+#[allow(unsafe_code, dead_code)]
 mod raw;
 mod record;
 mod refused;

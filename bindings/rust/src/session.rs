@@ -54,7 +54,7 @@ use core::fmt::{Debug, Display, Formatter, Result as Written};
 #[must_use = "a session that is dropped seals nothing"]
 pub struct Session {
     suite: Suite,
-    state: raw::CometSession,
+    words: raw::Words,
 }
 
 impl Session {
@@ -69,9 +69,9 @@ impl Session {
     /// assert_eq!(refused.number, 3);
     /// ```
     pub fn start(suite: Suite, key: &Key, nonce: &[u8]) -> Result<Session, Refused> {
-        let step = raw::session_start(suite.number(), key.bytes(), nonce);
-        done(step.number)?;
-        Ok(Session { suite, state: step.next })
+        let mut words = [0; 9];
+        done(raw::session_start(&mut words, suite.number(), key.bytes(), nonce))?;
+        Ok(Session { suite, words })
     }
 
     /// Brings a part of the associated data, of any length, as long as no byte of the message has come.
@@ -88,9 +88,9 @@ impl Session {
     /// assert_eq!(handed_back.refused.number, 9);
     /// # Ok::<(), snoekeldraf::Refused>(())
     /// ```
-    pub fn data(self, ad: &[u8]) -> Result<Session, HandedBack> {
-        let (session, _) = stepped(self.suite, raw::session_data(self.state, ad))?;
-        Ok(session)
+    pub fn data(mut self, ad: &[u8]) -> Result<Session, HandedBack> {
+        let number = raw::session_data(&mut self.words, ad);
+        self.stepped(number, 0).map(|(session, _)| session)
     }
 
     /// Brings a part of the message, of any length. The ciphertext of the blocks that it completes comes back, a part of
@@ -110,8 +110,9 @@ impl Session {
     /// assert_eq!(text.len(), 16); // four bytes wait for their block
     /// # Ok::<(), snoekeldraf::Refused>(())
     /// ```
-    pub fn part<'o>(self, msg: &[u8], out: &'o mut [u8]) -> Result<(Session, &'o [u8]), HandedBack> {
-        let (session, count) = stepped(self.suite, raw::session_part(self.state, msg, out))?;
+    pub fn part<'o>(mut self, msg: &[u8], out: &'o mut [u8]) -> Result<(Session, &'o [u8]), HandedBack> {
+        let (number, count) = raw::session_part(&mut self.words, msg, out);
+        let (session, count) = self.stepped(number, count)?;
         Ok((session, &out[..count]))
     }
 
@@ -131,10 +132,19 @@ impl Session {
     /// assert_eq!((rest.len(), tag.len()), (6, 8));
     /// # Ok::<(), snoekeldraf::Refused>(())
     /// ```
-    pub fn end(self, out: &mut [u8]) -> Result<(&[u8], Tag), HandedBack> {
+    pub fn end(mut self, out: &mut [u8]) -> Result<(&[u8], Tag), HandedBack> {
         let mut tag = Tag::unwritten(self.suite);
-        let (_ended, count) = stepped(self.suite, raw::session_end(self.state, out, tag.lent()))?;
+        let (number, count) = raw::session_end(&mut self.words, out, tag.lent());
+        let (_ended, count) = self.stepped(number, count)?;
         Ok((&out[..count], tag))
+    }
+
+    /// The next session and how many bytes were written; or, as it was, the session that was given.
+    fn stepped(self, number: u32, count: u32) -> Result<(Session, usize), HandedBack> {
+        match done(number) {
+            Ok(()) => Ok((self, count as usize)),
+            Err(refused) => Err(HandedBack { session: self, refused }),
+        }
     }
 
     /// The suite that it was started with.
@@ -191,15 +201,6 @@ impl Session {
         let (rest, tag) = self.end(&mut room)?;
         text.extend_from_slice(rest);
         Ok(tag)
-    }
-}
-
-/// The next session and how many bytes were written; or the session that was given.
-fn stepped(suite: Suite, step: raw::CometStep) -> Result<(Session, usize), HandedBack> {
-    let session = Session { suite, state: step.next };
-    match done(step.number) {
-        Ok(()) => Ok((session, step.count)),
-        Err(refused) => Err(HandedBack { session, refused }),
     }
 }
 

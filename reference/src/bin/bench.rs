@@ -197,8 +197,8 @@ fn measure_sizes(
 }
 
 fn main() {
-    if !cfg!(target_arch = "x86_64") {
-        eprintln!("bench: the proved library is for x86-64 alone, and a time under emulation means nothing");
+    if !cfg!(native) {
+        eprintln!("bench: no archive of this processor is linked, and a time under emulation means nothing");
         std::process::exit(1);
     }
     let repetitions = std::env::args().nth(1).map_or(101, |count| count.parse().expect("REPETITIONS is a number"));

@@ -2,19 +2,29 @@
 //! byte of what is lent, over random and edge inputs. Ends with status 1 where anything differs.
 //!
 //!     compare [SEED]
+//!
+//! The library is compared as its archives are there: the one of this processor, linked into this program, and the one for
+//! x86-64, called by a C program.
 
-use reference::bridge::PROVED;
+#[cfg(bridged)]
+use reference::bridge;
 use reference::calls::{Call, Case, CountedCall, InPlaceCall, Library, REFERENCE};
 use reference::data::{
     amending, cases, comparing, counted, files, in_place, moving, reading, resealing, searching, sessions, writing,
 };
-use reference::linked::{COLUMNS, PLAIN};
+use reference::linked;
 use reference::random::Random;
 use reference::show::hex;
 use reference::trials;
 
-const LIBRARIES: [(&str, Library); 3] =
-    [("the proved library", PROVED), ("the plain C", PLAIN), ("the plain C by tables", COLUMNS)];
+const PROVED: &[(&str, Library)] = &[
+    #[cfg(native)]
+    ("the proved library", linked::PROVED),
+    #[cfg(bridged)]
+    ("the proved library for x86-64", bridge::PROVED),
+];
+
+const PLAIN: &[(&str, Library)] = &[("the plain C", linked::PLAIN), ("the plain C by tables", linked::COLUMNS)];
 
 const SHOWN_DIFFERENCES: usize = 10;
 
@@ -36,12 +46,12 @@ impl Tally {
 
     /// A case that the plain C knows too.
     fn all<C: Case>(&mut self, case: &C) {
-        self.put(case, &LIBRARIES);
+        self.put(case, &[PROVED, PLAIN].concat());
     }
 
     /// A case that the proved library alone knows.
     fn proved<C: Case>(&mut self, case: &C) {
-        self.put(case, &LIBRARIES[..1]);
+        self.put(case, PROVED);
     }
 
     fn put<C: Case>(&mut self, case: &C, libraries: &[(&str, Library)]) {
@@ -186,6 +196,7 @@ fn compare_reports(tally: &mut Tally, random: &mut Random) {
 
 fn main() {
     let seed = std::env::args().nth(1).map_or(2026, |seed| seed.parse().expect("SEED is a number"));
+    PROVED.iter().for_each(|(name, _)| println!("compared: {name}"));
     let mut tally = Tally::default();
     let mut random = Random::new(seed);
     compare_records(&mut tally, &mut random);
@@ -201,6 +212,8 @@ fn main() {
     compare_reports(&mut tally, &mut random);
     compare_in_place(&mut tally, &mut random);
     println!("{} cases, {} differences", tally.cases, tally.differences);
+    #[cfg(bridged)]
+    assert!(bridge::finish(), "the C program did not end well");
     if tally.differences > 0 {
         std::process::exit(1);
     }

@@ -19,12 +19,13 @@ pub enum SessionCall {
 
 use SessionCall::{Data, End, Forge, Start};
 
-/// What a call gives. `next` is settled: what no later call can see is zero in it.
+/// What a call gives. `next` is settled: what no later call can see is zero in it. `wiped` is what wiping makes of it.
 #[derive(PartialEq)]
 pub struct StepOutcome {
     pub number: u32,
     pub count: usize,
     pub next: Session,
+    pub wiped: Session,
     pub is_as_it_was: bool,
     pub out: Vec<u8>,
     pub tag: Vec<u8>,
@@ -62,7 +63,8 @@ impl SessionCall {
             }
         };
         let is_as_it_was = next == session;
-        (next, StepOutcome { number, count, next: settled(next), is_as_it_was, out, tag })
+        let wiped = (by.session_wipe)(next);
+        (next, StepOutcome { number, count, next: settled(next), wiped, is_as_it_was, out, tag })
     }
 
     fn record(&self) -> Vec<u8> {
