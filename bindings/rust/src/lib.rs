@@ -47,8 +47,8 @@
 //! # Secrets
 //!
 //! [`Key`], [`Ring`] and [`Session`] are overwritten with zeros when they are dropped. After each call that has a key, the
-//! stack that the library used is overwritten too. Moving a value copies it: the place it was moved from is not overwritten.
-//! Messages in the caller's buffers, `Vec`s included, are the caller's to overwrite.
+//! stack that the library used is overwritten too. Moving a value copies it: the place it was moved from is not overwritten
+//! ([`forget`] overwrites the stack). Messages in the caller's buffers, `Vec`s included, are the caller's to overwrite.
 //!
 //! # Limits
 //!
@@ -96,6 +96,7 @@ pub use record::{
 };
 pub use refused::{Reason, Refused};
 pub use report::{report, Report};
+pub use secret::forget;
 pub use session::{HandedBack, Session};
 pub use suite::Suite;
 pub use tag::Tag;

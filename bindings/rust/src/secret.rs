@@ -20,6 +20,28 @@ pub(crate) fn forgetting<T>(call: impl FnOnce() -> T) -> T {
     answer
 }
 
+/// Overwrites the stack below the caller, 12 KiB of it: as much as the library's deepest call takes.
+///
+/// Every function of this crate that has a key does so itself. Call it after a function of your own has moved a secret: a move
+/// copies, and the copy stays in that function's frame.
+///
+/// ```
+/// use snoekeldraf::{forget, Key, Nonce, Refused, Session, Suite};
+///
+/// fn begin() -> Result<Box<Session>, Refused> {
+///     let key = Key::from([7; 16]); // in a plant: from where it is kept
+///     Ok(Box::new(Session::start(Suite::Speck64, &key, Nonce::assume_fresh(&[2; 15])?)?))
+/// }
+///
+/// let session = begin()?;
+/// forget(); // what `begin` left on the stack
+/// # let _ = session;
+/// # Ok::<(), Refused>(())
+/// ```
+pub fn forget() {
+    raw::forget();
+}
+
 const _: () = assert!(size_of::<[Key; 16]>() == 256 && align_of::<Key>() == 1);
 
 /// The bytes of a ring's keys, one key after another.

@@ -54,8 +54,8 @@ use core::fmt::{Debug, Display, Formatter, Result as Written};
 /// session.part(b"48.7", &mut two).unwrap();
 /// ```
 ///
-/// A session holds key material. It is overwritten with zeros when it is dropped, and `Debug` does not show it. As with a
-/// [`Key`], moving it leaves a copy behind: start it where it stays.
+/// A session holds key material. It is overwritten with zeros when it is dropped, and `Debug` does not show it. A move
+/// copies it: after the function that starts or ends it, [`forget`](crate::forget) overwrites what is left on the stack.
 #[must_use = "a session that is dropped seals nothing"]
 pub struct Session {
     suite: Suite,
