@@ -6,7 +6,8 @@
 
 pub mod oracle;
 pub use oracle::{
-    aes, amendment, cham, comet, difference, editions, printed, report, reseal, search, session, shift, speck, writer,
+    aes, amendment, cham, comet, contents, difference, editions, printed, report, reseal, search, session, shift,
+    speck, writer,
 };
 
 // The cases: what is put to an implementation, and the data of the test programs.

@@ -40,6 +40,7 @@ use Rattle.promises.specs.Cases.{HeadNumbers, LookupCases, JobCases, Sea
 use Rattle.promises.proofs.Tables.{Tells, tells-eq, tells-lt, tells-same, tells-not, tells-or, tells-and, tells-true, not-told, ladder, By, lines, table, answers}
 use Rattle.promises.proofs.Checks.{head-rungs, head-is, none-head}
 use Rattle.promises.proofs.Orders.{firstRow, then-none, order}
+use Rattle.promises.proofs.RowCases.{contents-cases}
 
 head-numbers : HeadNumbers
 head-numbers low high f = table _ (headTable low high f) (head-rungs low high f) refl (head-is low high f)
@@ -424,6 +425,7 @@ cases = record {
   to-edition2 = up-cases;
   to-edition1 = back-cases;
   report = report-cases;
+  contents = contents-cases;
   seal-file = seal-order;
   unseal-file = unseal-order;
   reseal = reseal-order;

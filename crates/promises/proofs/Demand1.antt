@@ -60,6 +60,8 @@ entry-points =
       start = record { asks-nothing = λ κs a. tt; one-outcome = reading.start };
       ask = record { asks-nothing = λ κs a. tt; one-outcome = reading.ask };
       report = record { asks-nothing = λ κs a. tt; one-outcome = reading.report };
+      header = record { asks-nothing = λ κs a. tt; one-outcome = reading.header };
+      row = record { asks-nothing = λ κs a. tt; one-outcome = reading.row };
       reseal = record { asks-nothing = λ κs a. tt; one-outcome = resealer.reseal };
       seal-counted = record { asks-nothing = λ κs a. tt; one-outcome = comet.seal-counted };
       unseal-counted = record { asks-nothing = λ κs a. tt; one-outcome = comet.unseal-counted };

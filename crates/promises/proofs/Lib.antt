@@ -3,6 +3,7 @@ pub mod Tables
 pub mod Orders
 pub mod Numbers
 pub mod Checks
+pub mod RowCases
 pub mod Cases
 pub mod Demand1
 pub mod Demand2
@@ -21,6 +22,7 @@ pub mod Versions
 pub mod Compare
 pub mod Reading
 pub mod Readers
+pub mod Contents
 pub mod Retired
 pub mod Reseal
 pub mod Calls

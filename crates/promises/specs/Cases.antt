@@ -22,6 +22,8 @@ use Rattle.editions.specs.Files.{moved}
 use Rattle.editions.specs.Answers.{FileMoved, toEdition2, toEdition1}
 use Rattle.editions.specs.Promised.{done}
 use Rattle.reader.specs.Reporting.{jobOf, tagNumber, front, entries, stopped as unreported, longest, reporting}
+use Rattle.reader.specs.Reading.{listedOf}
+use Rattle.reader.specs.Contents.{noHeader, headerOf, headerAnswer, noFields, fieldsOf, rowAnswer}
 use Rattle.promises.specs.Tables.{Line, _when_, None, Lines, Table}
 use Rattle.promises.specs.Orders.{whole, rows, Order}
 use Rattle.promises.specs.Numbers.{headTable}
@@ -115,6 +117,14 @@ pub record ReportCases (f ring jobs numbers : List ℕ) : Type 0 where
   pub lines : length f ≤ longest → checkFile f .number ≡ 0 → length ring ≡ 256 → countOf f ≤ length jobs → countOf f ≤ length numbers
       → reporting f ring jobs numbers ≡ record { said = entries (countOf f); jobs = front (jobOf f) (countOf f) jobs; numbers = front (tagNumber f ring) (countOf f) numbers }
 
+-- the table of contents by row number: each of 20 to 24, and 32 past the rows, without a field; else the header's and the row's own fields, whatever they hold
+pub record ContentsCases (f : List ℕ) (i : ℕ) : Type 0 where
+  pub no-header : Lines (λ k. headerAnswer f ≡ noHeader k) Unit (headTable firstEdition newest f)
+  pub header : None (headTable firstEdition newest f) → headerAnswer f ≡ headerOf f
+  pub no-table : Lines (λ k. rowAnswer f i ≡ noFields k) Unit (headTable firstEdition newest f)
+  pub no-row : Lines (λ k. rowAnswer f i ≡ noFields k) (None (headTable firstEdition newest f)) ((32 when (i < countOf f → ⊥)) ∷ [])
+  pub row : None (headTable firstEdition newest f) → i < countOf f → rowAnswer f i ≡ fieldsOf (listedOf f i)
+
 -- sealing a draft that passes its checks (W4; 10 is W7's): 33 with the first row, 10 with the first row, 2, 6
 abbrev pub SealOrder : Type 0
 SealOrder =
@@ -156,6 +166,7 @@ pub record Cases : Type 0 where
   pub to-edition2 : (f out : List ℕ) → UpCases f out
   pub to-edition1 : (f out : List ℕ) → BackCases f out
   pub report : (f ring jobs numbers : List ℕ) → ReportCases f ring jobs numbers
+  pub contents : (f : List ℕ) (i : ℕ) → ContentsCases f i
   pub seal-file : SealOrder
   pub unseal-file : UnsealOrder
   pub reseal : ResealOrder

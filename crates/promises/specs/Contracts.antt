@@ -62,6 +62,10 @@ use Rattle.reader.proofs.cursor.start.Kinds as start-kinds
 use Rattle.reader.proofs.cursor.start.Reads as start-reads
 use Rattle.reader.proofs.cursor.ask.Kinds as ask-kinds
 use Rattle.reader.proofs.cursor.ask.Reads as ask-reads
+use Rattle.reader.proofs.contents.header.Kinds as header-kinds
+use Rattle.reader.proofs.contents.header.Reads as header-reads
+use Rattle.reader.proofs.contents.row.Kinds as row-kinds
+use Rattle.reader.proofs.contents.row.Reads as row-reads
 use Rattle.reader.proofs.report.Kinds as report-kinds
 use Rattle.reader.proofs.report.Reads as report-reads
 use Rattle.snoekeldraf.proofs.record.comet_seal.Kinds as comet-seal-kinds
@@ -122,6 +126,10 @@ use Rattle.snoekeldraf.proofs.listing.shift_compare.Kinds as shift-compare-kind
 use Rattle.snoekeldraf.proofs.listing.shift_compare.Reads as shift-compare-reads
 use Rattle.snoekeldraf.proofs.reporting.shift_report.Kinds as shift-report-kinds
 use Rattle.snoekeldraf.proofs.reporting.shift_report.Reads as shift-report-reads
+use Rattle.snoekeldraf.proofs.contents.shift_rows.Kinds as shift-rows-kinds
+use Rattle.snoekeldraf.proofs.contents.shift_rows.Reads as shift-rows-reads
+use Rattle.snoekeldraf.proofs.contents.shift_row.Kinds as shift-row-kinds
+use Rattle.snoekeldraf.proofs.contents.shift_row.Reads as shift-row-reads
 
 -- what a routine takes and gives, what it asks of its arguments, and what it ensures
 pub record Contract : Type 3 where
@@ -221,6 +229,12 @@ start = record { lifetimes = 1; params = start-kinds.ps; result = start-kinds.r;
 abbrev pub ask : Contract
 ask = record { lifetimes = 1; params = ask-kinds.ps; result = ask-kinds.r; Pre = ask-reads.Pre; Post = ask-reads.Post }
 
+abbrev pub header : Contract
+header = record { lifetimes = 1; params = header-kinds.ps; result = header-kinds.r; Pre = header-reads.Pre; Post = header-reads.Post }
+
+abbrev pub row : Contract
+row = record { lifetimes = 1; params = row-kinds.ps; result = row-kinds.r; Pre = row-reads.Pre; Post = row-reads.Post }
+
 abbrev pub report : Contract
 report = record { lifetimes = 4; params = report-kinds.ps; result = report-kinds.r; Pre = report-reads.Pre; Post = report-reads.Post }
 
@@ -312,3 +326,9 @@ shift-compare = record { lifetimes = 10; params = shift-compare-kinds.ps; result
 
 abbrev pub shift-report : Contract
 shift-report = record { lifetimes = 6; params = shift-report-kinds.ps; result = shift-report-kinds.r; Pre = shift-report-reads.Pre; Post = shift-report-reads.Post }
+
+abbrev pub shift-rows : Contract
+shift-rows = record { lifetimes = 3; params = shift-rows-kinds.ps; result = shift-rows-kinds.r; Pre = shift-rows-reads.Pre; Post = shift-rows-reads.Post }
+
+abbrev pub shift-row : Contract
+shift-row = record { lifetimes = 2; params = shift-row-kinds.ps; result = shift-row-kinds.r; Pre = shift-row-reads.Pre; Post = shift-row-reads.Post }

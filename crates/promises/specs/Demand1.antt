@@ -70,6 +70,9 @@ pub record EntryPoints : Type 0 where
   pub start : Answers the.start
   pub ask : Answers the.ask
   pub report : Answers the.report
+  -- the table of contents by row number
+  pub header : Answers the.header
+  pub row : Answers the.row
 
 -- the sealer gives 0 to 7 and 10, and on any but 0 both buffers are as they were
 abbrev pub SealKeeps : Type 0

@@ -21,6 +21,7 @@ pub mod Versions
 pub mod Compare
 pub mod Reading
 pub mod Readers
+pub mod Contents
 pub mod Retired
 pub mod Reseal
 pub mod Calls

@@ -29,6 +29,7 @@ use Rattle.compare.specs.Comparing.{findingOf, Comparison, comparison}
 use Rattle.reader.specs.declared.cursor.Cursor.{Cursor}
 use Rattle.reader.specs.Reading.{startOf, askOf}
 use Rattle.reader.specs.Reporting.{saidOf, Report, reporting}
+use Rattle.reader.specs.Contents.{headerAnswer, rowAnswer}
 use Rattle.promises.specs.Contracts as the
 use Rattle.promises.specs.Demand1.{Gave}
 
@@ -125,3 +126,8 @@ pub record Routines : Type 0 where
   pub report : (κs : Lfts 4) (file ring jobs numbers : RefT (List ℕ)) (x : Gave the.report κs (file, (ring, (jobs, (numbers, tt))))) →
       let (_, (_, (jobs′, (numbers′, _)))) = x .last in
       _≡_ {A = Report} (record { said = saidOf (x .result); jobs = jobs′; numbers = numbers′ }) (reporting (now file) (now ring) (now jobs) (now numbers))
+  -- the table of contents by row number
+  pub header : (κs : Lfts 1) (file : RefT (List ℕ)) (x : Gave the.header κs (file, tt)) →
+      x .result ≡ headerAnswer (now file)
+  pub row : (κs : Lfts 1) (file : RefT (List ℕ)) (i : ℕ) (x : Gave the.row κs (file, (i, tt))) →
+      x .result ≡ rowAnswer (now file) i

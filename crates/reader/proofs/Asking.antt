@@ -56,7 +56,7 @@ unfolding rowsLaid
 laid-none f x q = simp (ne-eqb (headNumber firstEdition newest f) 0 (λ z. refusal-some x (ap numberOf (sym q) ∙ z)))
 
 -- a file that passes has the rows that its header lays down
-both-all : (f : List ℕ) → checkFile f .number ≡ 0 → rowsIn f ≡ rowsLaid f
+pub both-all : (f : List ℕ) → checkFile f .number ≡ 0 → rowsIn f ≡ rowsLaid f
 both-all f z = rows-all f z ∙ sym (laid-all f (passes firstEdition newest f z .zero))
 
 -- a row that is laid down lies in the file
@@ -70,10 +70,10 @@ laid-in f i l = lies (eqb (headNumber firstEdition newest f) 0) refl l
 
 -- ---- one ask
 
-abbrev moved : Cursor → Cursor
+abbrev pub moved : Cursor → Cursor
 moved c = record { at = c .at + 1; end = c .end }
 
-going : (c : Cursor) (f : List ℕ) → c .end ≡ rowsLaid f → c .at < rowsLaid f → askOf c f ≡ record { next = moved c; entry = Row (listedOf f (c .at)) }
+pub going : (c : Cursor) (f : List ℕ) → c .end ≡ rowsLaid f → c .at < rowsLaid f → askOf c f ≡ record { next = moved c; entry = Row (listedOf f (c .at)) }
 unfolding askOf
 going c f q l = simp (eq-eqb (c .end) (rowsLaid f) q, lt-ltb (c .at) (rowsLaid f) l)
 
@@ -88,7 +88,7 @@ other c f h = simp (ne-eqb (c .end) (rowsLaid f) h)
 -- ---- all of them, one after the other
 
 -- the answer that is made of a step
-abbrev made : RefT (List ℕ) → Stepped → Asked
+abbrev pub made : RefT (List ℕ) → Stepped → Asked
 made s t = record { reader = record { src = s; place = t .next }; entry = t .entry }
 
 -- a reader that gives nothing stays where it is

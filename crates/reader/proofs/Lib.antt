@@ -1,4 +1,5 @@
 pub mod Asking
+pub mod ByRow
 pub mod Fronts
 pub mod Tags
 pub mod Written

@@ -1,4 +1,4 @@
--- One outcome for each input: what a contract says that the cursor, the step and the report equal is one value.
+-- One outcome for each input: what a contract says that the cursor, the step, the table's answers and the report equal is one value.
 use mathlib.Core.Path.{_≡_, refl, sym, ap, _∙_}
 use mathlib.Core.Bool.{cond}
 use mathlib.Core.Logic.{inl}
@@ -16,6 +16,10 @@ use Rattle.reader.proofs.cursor.start.Kinds as start-kinds
 use Rattle.reader.proofs.cursor.start.Reads as start-reads
 use Rattle.reader.proofs.cursor.ask.Kinds as ask-kinds
 use Rattle.reader.proofs.cursor.ask.Reads as ask-reads
+use Rattle.reader.proofs.contents.header.Kinds as header-kinds
+use Rattle.reader.proofs.contents.header.Reads as header-reads
+use Rattle.reader.proofs.contents.row.Kinds as row-kinds
+use Rattle.reader.proofs.contents.row.Reads as row-reads
 use Rattle.reader.proofs.report.Kinds as report-kinds
 use Rattle.reader.proofs.report.Reads as report-reads
 use Rattle.reader.proofs.answers.Reported.said.Kinds as said-kinds
@@ -40,6 +44,12 @@ start κs a h x y = (x .ensures ∙ sym (y .ensures), refl)
 
 pub ask : OneOutcome ask-kinds.ps ask-kinds.r ask-reads.Pre ask-reads.Post
 ask κs a h x y = (x .ensures ∙ sym (y .ensures), refl)
+
+pub header : OneOutcome header-kinds.ps header-kinds.r header-reads.Pre header-reads.Post
+header κs a h x y = (x .ensures ∙ sym (y .ensures), refl)
+
+pub row : OneOutcome row-kinds.ps row-kinds.r row-reads.Pre row-reads.Post
+row κs a h x y = (x .ensures ∙ sym (y .ensures), refl)
 
 pub report : OneOutcome report-kinds.ps report-kinds.r report-reads.Pre report-reads.Post
 report κs a h x y =

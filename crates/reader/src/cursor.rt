@@ -72,7 +72,7 @@ fn laid(file: &[u8]) -> usize
 }
 
 // A row, as it is listed.
-fn listed_at(file: &[u8], index: usize) -> Listed
+pub(crate) fn listed_at(file: &[u8], index: usize) -> Listed
     requires { ⌜ RowIn (rowSizeOf (now file)) (now file) index ⌝ }
     ensures { λ r. ⌜ r ≡ listedOf (now (file .entry)) index ⌝ }
 {

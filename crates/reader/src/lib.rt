@@ -1,6 +1,7 @@
 // The entries of a shift file, one after another: a cursor by value, a reader that holds the file and its place in it, and
 // the report on all of them.
 pub mod answers;
+pub mod contents;
 pub mod cursor;
 mod entries;
 

@@ -75,6 +75,12 @@ use Rattle.snoekeldraf.proofs.listing.shift_compare.Reads as compare-re
 use Rattle.reader.specs.Reporting.{Report}
 use Rattle.snoekeldraf.proofs.reporting.shift_report.Kinds as report-kinds
 use Rattle.snoekeldraf.proofs.reporting.shift_report.Reads as report-reads
+use Rattle.reader.specs.declared.contents.HeaderFields.{HeaderFields}
+use Rattle.snoekeldraf.specs.Fields.{InFields}
+use Rattle.snoekeldraf.proofs.contents.shift_rows.Kinds as rows-kinds
+use Rattle.snoekeldraf.proofs.contents.shift_rows.Reads as rows-reads
+use Rattle.snoekeldraf.proofs.contents.shift_row.Kinds as row-kinds
+use Rattle.snoekeldraf.proofs.contents.shift_row.Reads as row-reads
 
 pub comet-seal : OneOutcome seal-kinds.ps seal-kinds.r seal-reads.Pre seal-reads.Post
 comet-seal κs a h x y =
@@ -217,3 +223,13 @@ pub shift-report : OneOutcome report-kinds.ps report-kinds.r report-reads.Pre re
 shift-report κs a h x y =
     let e = x .ensures ∙ sym (y .ensures) in
     (ap (λ (w : Report). w .said .number) e, ap (λ (w : Report). (tt, (tt, (w .jobs, (w .numbers, (w .said .count, (w .said .row, tt))))))) e)
+
+pub shift-rows : OneOutcome rows-kinds.ps rows-kinds.r rows-reads.Pre rows-reads.Post
+shift-rows κs a h x y =
+    let e = x .ensures ∙ sym (y .ensures) in
+    (ap (λ (w : HeaderFields). w .status) e, ap (λ (w : HeaderFields). (tt, (w .edition, (w .count, tt)))) e)
+
+pub shift-row : OneOutcome row-kinds.ps row-kinds.r row-reads.Pre row-reads.Post
+shift-row κs a h x y =
+    let e = x .ensures ∙ sym (y .ensures) in
+    (ap (λ (w : InFields). w .status) e, ap (λ (w : InFields). (tt, (tt, (w .fields, tt)))) e)

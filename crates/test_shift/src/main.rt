@@ -1,9 +1,11 @@
 // Runs the calls that read shift files, and writes the lines of each.
 //
-// The call's op says which: 0 and 1 `opening`, 2 `halving`, 3 `amended`, 4 `compared`, 5 `report`, 6 to 9 `printing`. What a call's
-// numbers are, what follows them and what its lines say stands in the module of that name. Lent buffers hold 0xa5 before the call.
+// The call's op says which: 0 and 1 `opening`, 2 `halving`, 3 `amended`, 4 `compared`, 5 `report`, 6 to 9 `printing`, 10
+// `contents`. What a call's numbers are, what follows them and what its lines say stands in the module of that name. Lent
+// buffers hold 0xa5 before the call.
 mod amended;
 mod compared;
+mod contents;
 mod halving;
 mod opening;
 mod printing;
@@ -25,6 +27,7 @@ fn run(c: Call, line: &mut [u8]) -> usize {
         7 => printing::run_current(c, line),
         8 => printing::run(c, line),
         9 => printing::run(c, line),
+        10 => contents::run(c, line),
         _ => 0,
     }
 }
