@@ -123,12 +123,12 @@ fn seal_checked(
     ensures { λ r. ⌜ _≡_ {A = Counting Sealed} (record { leaves = record { number = numberOf (r .verdict); out = now (text .exit); tag = now (tag .exit) }; calls = r .calls })
         (sealingCounted suite (now (key .entry)) (now (nonce .entry)) (now (ad .entry)) (now (text .entry)) (now (text .entry)) (now (tag .entry))) ⌝ }
 {
-    let t = crypt(false, suite, key, nonce, ad, text);
-    let g = t.tag;
-    block::put_whole(g, tag);
+    let done = crypt(false, suite, key, nonce, ad, text);
+    let computed = done.tag;
+    block::put_whole(computed, tag);
     Counted {
         verdict: Verdict::Done,
-        calls: t.calls,
+        calls: done.calls,
     }
 }
 
@@ -145,7 +145,7 @@ pub fn seal_counted(
     ensures { λ r. ⌜ _≡_ {A = Counting Sealed} (record { leaves = record { number = numberOf (r .verdict); out = now (out .exit); tag = now (tag .exit) }; calls = r .calls })
         (sealingCounted suite (now (key .entry)) (now (nonce .entry)) (now (ad .entry)) (now (msg .entry)) (now (out .entry)) (now (tag .entry))) ⌝ }
 {
-    let a = refused_for(
+    let verdict = refused_for(
         false,
         suite,
         key,
@@ -155,9 +155,9 @@ pub fn seal_counted(
         out.len(),
         tag.len(),
     );
-    let Verdict::Done = a else {
+    let Verdict::Done = verdict else {
         return Counted {
-            verdict: a,
+            verdict: verdict,
             calls: 0,
         };
     };
@@ -193,7 +193,7 @@ pub fn seal_in_place(
     ensures { λ r. ⌜ _≡_ {A = Sealed} (record { number = numberOf r; out = now (text .exit); tag = now (tag .exit) })
         (sealing suite (now (key .entry)) (now (nonce .entry)) (now (ad .entry)) (now (text .entry)) (now (text .entry)) (now (tag .entry))) ⌝ }
 {
-    let a = refused_for(
+    let verdict = refused_for(
         false,
         suite,
         key,
@@ -203,8 +203,8 @@ pub fn seal_in_place(
         text.len(),
         tag.len(),
     );
-    let Verdict::Done = a else {
-        return a;
+    let Verdict::Done = verdict else {
+        return verdict;
     };
     seal_checked(suite, key, nonce, ad, text, tag).verdict
 }
@@ -222,19 +222,19 @@ fn unseal_checked(
     ensures { λ r. ⌜ _≡_ {A = Counting Opened} (record { leaves = record { number = numberOf (r .verdict); out = now (text .exit) }; calls = r .calls })
         (openingCounted suite (now (key .entry)) (now (nonce .entry)) (now (ad .entry)) (now (text .entry)) (now (tag .entry)) (now (text .entry))) ⌝ }
 {
-    let t = crypt(true, suite, key, nonce, ad, text);
-    let g = t.tag;
-    let right = block_step::tag::same(g, tag);
+    let done = crypt(true, suite, key, nonce, ad, text);
+    let computed = done.tag;
+    let right = block_step::tag::same(computed, tag);
     if !right {
         byte_runs::wipe(text);
         return Counted {
             verdict: Verdict::Forged,
-            calls: t.calls,
+            calls: done.calls,
         };
     }
     Counted {
         verdict: Verdict::Done,
-        calls: t.calls,
+        calls: done.calls,
     }
 }
 
@@ -251,7 +251,7 @@ pub fn unseal_counted(
     ensures { λ r. ⌜ _≡_ {A = Counting Opened} (record { leaves = record { number = numberOf (r .verdict); out = now (out .exit) }; calls = r .calls })
         (openingCounted suite (now (key .entry)) (now (nonce .entry)) (now (ad .entry)) (now (text .entry)) (now (tag .entry)) (now (out .entry))) ⌝ }
 {
-    let a = refused_for(
+    let verdict = refused_for(
         true,
         suite,
         key,
@@ -261,9 +261,9 @@ pub fn unseal_counted(
         out.len(),
         tag.len(),
     );
-    let Verdict::Done = a else {
+    let Verdict::Done = verdict else {
         return Counted {
-            verdict: a,
+            verdict: verdict,
             calls: 0,
         };
     };
@@ -299,7 +299,7 @@ pub fn unseal_in_place(
     ensures { λ r. ⌜ _≡_ {A = Opened} (record { number = numberOf r; out = now (text .exit) })
         (opening suite (now (key .entry)) (now (nonce .entry)) (now (ad .entry)) (now (text .entry)) (now (tag .entry)) (now (text .entry))) ⌝ }
 {
-    let a = refused_for(
+    let verdict = refused_for(
         true,
         suite,
         key,
@@ -309,8 +309,8 @@ pub fn unseal_in_place(
         text.len(),
         tag.len(),
     );
-    let Verdict::Done = a else {
-        return a;
+    let Verdict::Done = verdict else {
+        return verdict;
     };
     unseal_checked(suite, key, nonce, ad, text, tag).verdict
 }
@@ -351,8 +351,8 @@ fn tag_core(
             text,
         );
     }
-    let l = block_step::tag::tag_of(tables, suite, s);
-    l.tag
+    let last = block_step::tag::tag_of(tables, suite, s);
+    last.tag
 }
 
 // `tag_core` under the tables that the suite needs.
@@ -372,7 +372,7 @@ fn tag_under(suite: u8, key: &[u8], nonce: &[u8], ad: &[u8], text: &[u8]) -> Blo
 pub fn verify(suite: u8, key: &[u8], nonce: &[u8], ad: &[u8], text: &[u8], tag: &[u8]) -> Verdict
     ensures { λ r. ⌜ numberOf r ≡ verifying suite (now (key .entry)) (now (nonce .entry)) (now (ad .entry)) (now (text .entry)) (now (tag .entry)) ⌝ }
 {
-    let a = refused_for(
+    let verdict = refused_for(
         true,
         suite,
         key,
@@ -382,11 +382,11 @@ pub fn verify(suite: u8, key: &[u8], nonce: &[u8], ad: &[u8], text: &[u8], tag: 
         text.len(),
         tag.len(),
     );
-    let Verdict::Done = a else {
-        return a;
+    let Verdict::Done = verdict else {
+        return verdict;
     };
-    let g = tag_under(suite, key, nonce, ad, text);
-    let genuine = block_step::tag::same(g, tag);
+    let computed = tag_under(suite, key, nonce, ad, text);
+    let genuine = block_step::tag::same(computed, tag);
     if !genuine {
         return Verdict::Forged;
     }

@@ -28,14 +28,14 @@ pub(crate) fn absorb_all(
     ensures state { λ r. ⌜ twoOf suite r ≡ walked (cipherOf suite) opening first short (twoOf suite s) (blocks (sizeOf suite) (now (b .entry))) ⌝ }
     ensures calls { λ r. ⌜ r .calls ≡ add 64 (s .calls) (length (blocks (sizeOf suite) (now (b .entry)))) ⌝ }
 {
-    let w = block_walk::absorb(tables, opening, suite, s, first, b);
-    let t = w.s;
-    let m = w.mark;
-    let i = w.at;
-    if i < b.len() {
-        return absorb_short(tables, opening, suite, t, m ^ short, &b[i..b.len()]);
+    let whole = block_walk::absorb(tables, opening, suite, s, first, b);
+    let state = whole.s;
+    let mark = whole.mark;
+    let at = whole.at;
+    if at < b.len() {
+        return absorb_short(tables, opening, suite, state, mark ^ short, &b[at..b.len()]);
     }
-    t
+    state
 }
 
 // Seals or opens all blocks of a nonempty text in place, one cipher call each.
@@ -62,19 +62,19 @@ pub(crate) fn crypt_all(
             text,
         );
     }
-    let w = block_walk::crypt(tables, opening, suite, s, MARK_FIRST_TEXT, text);
-    let t = w.s;
-    let m = w.mark;
-    let i = w.at;
-    if i < end {
+    let whole = block_walk::crypt(tables, opening, suite, s, MARK_FIRST_TEXT, text);
+    let state = whole.s;
+    let mark = whole.mark;
+    let at = whole.at;
+    if at < end {
         return crypt_short(
             tables,
             opening,
             suite,
-            t,
-            m ^ MARK_SHORT_TEXT,
-            &mut text[i..end],
+            state,
+            mark ^ MARK_SHORT_TEXT,
+            &mut text[at..end],
         );
     }
-    t
+    state
 }

@@ -43,11 +43,14 @@ fn absorb_blocks(tables: &[AesTables], suite: u8, s: State, ad: &[u8]) -> Absorb
     ensures states { λ r. ⌜ twoOf suite (r .s) ≡ walked (cipherOf suite) false 0 0x10 (twoOf suite s) (blocks (sizeOf suite) (whole (sizeOf suite) (now (ad .entry)))) ⌝ }
     ensures held { λ r. ⌜ r .held ≡ filled (rest (sizeOf suite) (now (ad .entry))) ⌝ }
 {
-    let w = block_walk::absorb(tables, false, suite, s, 0, ad);
-    let t = w.s;
-    let i = w.at;
-    let h = byte_runs::filled_bytes(&ad[i..ad.len()]);
-    Absorbed { s: t, held: h }
+    let whole = block_walk::absorb(tables, false, suite, s, 0, ad);
+    let state = whole.s;
+    let at = whole.at;
+    let rest = byte_runs::filled_bytes(&ad[at..ad.len()]);
+    Absorbed {
+        s: state,
+        held: rest,
+    }
 }
 
 // Absorbs the whole blocks of h buffered bytes followed by ad, which completes one, the first under the mark m, and buffers the rest.
@@ -66,9 +69,9 @@ fn absorb_past(
 {
     let n = cipher::size_of(suite);
     let need = n - h;
-    let b = joined(held, h, &ad[0..need]);
-    let t = block_walk::absorb(tables, false, suite, s, m, &b[0..n]);
-    absorb_blocks(tables, suite, t.s, &ad[need..ad.len()])
+    let first = joined(held, h, &ad[0..need]);
+    let whole = block_walk::absorb(tables, false, suite, s, m, &first[0..n]);
+    absorb_blocks(tables, suite, whole.s, &ad[need..ad.len()])
 }
 
 // Absorbs the whole blocks of h buffered bytes followed by ad, the first under the mark m, and buffers the rest. Tables are constructed only if a block is completed.
@@ -86,8 +89,11 @@ pub(crate) fn absorb_part(
 {
     let n = cipher::size_of(suite);
     if ad.len() < n - h {
-        let g = joined(held, h, ad);
-        return Absorbed { s: s, held: g };
+        let buffered = joined(held, h, ad);
+        return Absorbed {
+            s: s,
+            held: buffered,
+        };
     }
     if cipher::needs_tables(suite) {
         let tables = cipher::tables(suite);
@@ -145,23 +151,23 @@ pub(crate) fn crypt_part(
     let n = cipher::size_of(suite);
     let all = h + part.len();
     if all < n {
-        let g = joined(held, h, part);
+        let buffered = joined(held, h, part);
         return Sealed {
             s: s,
-            held: g,
+            held: buffered,
             count: 0,
         };
     }
-    let w = all - all % n;
-    let e = w - h;
-    gather(held, h, &part[0..e], &mut out[0..w]);
-    let t = crypt_blocks(suite, s, m, &mut out[0..w]);
-    let u = t.s;
-    let g = byte_runs::filled_bytes(&part[e..part.len()]);
+    let whole = all - all % n;
+    let taken = whole - h;
+    gather(held, h, &part[0..taken], &mut out[0..whole]);
+    let done = crypt_blocks(suite, s, m, &mut out[0..whole]);
+    let state = done.s;
+    let buffered = byte_runs::filled_bytes(&part[taken..part.len()]);
     Sealed {
-        s: u,
-        held: g,
-        count: w,
+        s: state,
+        held: buffered,
+        count: whole,
     }
 }
 

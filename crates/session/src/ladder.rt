@@ -14,8 +14,8 @@ pub(crate) fn start_number(suite: u8, key: usize, nonce: usize) -> u8
 fn goes_on(suite: u8, ad_total: usize, text_total: usize) -> bool
     ensures { λ r. ⌜ r ≡ sound suite «ad_total» «text_total» ⌝ }
 {
-    let b = cipher::seals(suite);
-    if !b {
+    let seals = cipher::seals(suite);
+    if !seals {
         return false;
     }
     if LIMIT < ad_total {
@@ -28,8 +28,8 @@ fn goes_on(suite: u8, ad_total: usize, text_total: usize) -> bool
 pub(crate) fn data_number(suite: u8, ad_total: usize, text_total: usize, part: usize) -> u8
     ensures { λ r. ⌜ r ≡ dataNumber suite «ad_total» «text_total» part ⌝ }
 {
-    let b = goes_on(suite, ad_total, text_total);
-    if !b {
+    let sound = goes_on(suite, ad_total, text_total);
+    if !sound {
         return 9;
     }
     if text_total != 0 {
@@ -51,8 +51,8 @@ pub(crate) fn text_number(
 ) -> u8
     ensures { λ r. ⌜ r ≡ textNumber suite «ad_total» «text_total» part out ⌝ }
 {
-    let b = goes_on(suite, ad_total, text_total);
-    if !b {
+    let sound = goes_on(suite, ad_total, text_total);
+    if !sound {
         return 9;
     }
     if LIMIT - text_total < part {
@@ -75,8 +75,8 @@ pub(crate) fn end_number(
 ) -> u8
     ensures { λ r. ⌜ r ≡ endNumber suite «ad_total» «text_total» out tag ⌝ }
 {
-    let b = goes_on(suite, ad_total, text_total);
-    if !b {
+    let sound = goes_on(suite, ad_total, text_total);
+    if !sound {
         return 9;
     }
     let n = cipher::size_of(suite);

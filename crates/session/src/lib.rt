@@ -32,9 +32,9 @@ impl Session {
     pub fn start(suite: u8, key: &[u8], nonce: &[u8]) -> Step
         ensures { λ r. ⌜ gives r [] [] ≡ starting suite (now (key .entry)) (now (nonce .entry)) ⌝ }
     {
-        let k = ladder::start_number(suite, key.len(), nonce.len());
-        if k != 0 {
-            return work::refused(k);
+        let number = ladder::start_number(suite, key.len(), nonce.len());
+        if number != 0 {
+            return work::refused(number);
         }
         if cipher::needs_tables(suite) {
             let tables = cipher::tables(suite);
@@ -50,11 +50,11 @@ impl Session {
         let suite = self.suite;
         let ad_total = self.ad_total;
         let text_total = self.text_total;
-        let k = ladder::data_number(suite, ad_total, text_total, part.len());
-        if k != 0 {
+        let number = ladder::data_number(suite, ad_total, text_total, part.len());
+        if number != 0 {
             return Step {
                 next: self,
-                number: k,
+                number: number,
                 count: 0,
             };
         }
@@ -68,11 +68,11 @@ impl Session {
         let suite = self.suite;
         let ad_total = self.ad_total;
         let text_total = self.text_total;
-        let k = ladder::text_number(suite, ad_total, text_total, part.len(), out.len());
-        if k != 0 {
+        let number = ladder::text_number(suite, ad_total, text_total, part.len(), out.len());
+        if number != 0 {
             return Step {
                 next: self,
-                number: k,
+                number: number,
                 count: 0,
             };
         }
@@ -93,11 +93,11 @@ impl Session {
         let suite = self.suite;
         let ad_total = self.ad_total;
         let text_total = self.text_total;
-        let k = ladder::end_number(suite, ad_total, text_total, out.len(), tag.len());
-        if k != 0 {
+        let number = ladder::end_number(suite, ad_total, text_total, out.len(), tag.len());
+        if number != 0 {
             return Step {
                 next: self,
-                number: k,
+                number: number,
                 count: 0,
             };
         }

@@ -83,8 +83,8 @@ pub(crate) fn started(tables: &[AesTables], suite: u8, key: &[u8], nonce: &[u8])
     ensures { λ r. ⌜ gives r [] [] ≡ starting suite (now (key .entry)) (now (nonce .entry)) ⌝ }
 {
     let s = block_step::state::start(tables, suite, key, nonce);
-    let z = [0u8; 16];
-    let next = packed(suite, Absorbed { s: s, held: z }, 0, 0);
+    let zeros = [0u8; 16];
+    let next = packed(suite, Absorbed { s: s, held: zeros }, 0, 0);
     Step {
         next: next,
         number: 0,
@@ -119,8 +119,8 @@ pub(crate) fn take_in(s: Session, part: &[u8]) -> Step
         z: z,
         calls: 0,
     };
-    let f = crate::blocks::absorb_part(suite, two, m, held, h, part);
-    let next = packed(suite, f, ad_total + part.len(), text_total);
+    let absorbed = crate::blocks::absorb_part(suite, two, m, held, h, part);
+    let next = packed(suite, absorbed, ad_total + part.len(), text_total);
     Step {
         next: next,
         number: 0,
@@ -199,19 +199,22 @@ pub(crate) fn seal_in(s: Session, part: &[u8], out: &mut [u8]) -> Step
     let n = cipher::size_of(suite);
     let m = first_mark(suite, MARK_FIRST_TEXT, text_total);
     let h = text_total % n;
-    let f = crate::blocks::crypt_part(suite, two, m, held, h, part, out);
-    let u = f.s;
-    let g = f.held;
+    let sealed = crate::blocks::crypt_part(suite, two, m, held, h, part, out);
+    let state = sealed.s;
+    let buffered = sealed.held;
     let next = packed(
         suite,
-        Absorbed { s: u, held: g },
+        Absorbed {
+            s: state,
+            held: buffered,
+        },
         ad_total,
         text_total + part.len(),
     );
     Step {
         next: next,
         number: 0,
-        count: f.count,
+        count: sealed.count,
     }
 }
 
@@ -227,10 +230,10 @@ pub(crate) fn close(tables: &[AesTables], s: Session, out: &mut [u8], tag: &mut 
     let n = cipher::size_of(suite);
     let m = first_mark(suite, MARK_FIRST_TEXT, text_total);
     let h = text_total % n;
-    let t = crate::blocks::last_in(tables, suite, two, m, held, h, out);
-    let l = block_step::tag::tag_of(tables, suite, t);
-    let g = l.tag;
-    byte_runs::put(g, tag);
+    let state = crate::blocks::last_in(tables, suite, two, m, held, h, out);
+    let last = block_step::tag::tag_of(tables, suite, state);
+    let computed = last.tag;
+    byte_runs::put(computed, tag);
     let next = ended();
     Step {
         next: next,

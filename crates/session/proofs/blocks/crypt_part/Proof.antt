@@ -118,14 +118,14 @@ returns c =
       ),
     )
 
-rem-w : tie.Need-rem-w
-rem-w c = search needs
+rem-whole : tie.Need-rem-whole
+rem-whole c = search needs
 
-sub-w : tie.Need-sub-w
-sub-w c = omega (arith, div-add-mod' (c .before .before .before .before .args .h + length (now (c .before .before .before .before .args .part))) (c .before .size-of .result))
+sub-whole : tie.Need-sub-whole
+sub-whole c = omega (arith, div-add-mod' (c .before .before .before .before .args .h + length (now (c .before .before .before .before .args .part))) (c .before .size-of .result))
 
-sub-e : tie.Need-sub-e
-sub-e c = h-within c
+sub-taken : tie.Need-sub-taken
+sub-taken c = h-within c
 
 sub-gather : tie.Need-sub-gather
 sub-gather c = search needs
@@ -222,9 +222,9 @@ crypt-part-spec =
     add-all
     joined-requires
     returns
-    rem-w
-    sub-w
-    sub-e
+    rem-whole
+    sub-whole
+    sub-taken
     sub-gather
     part-gather-start
     part-gather-end
