@@ -190,10 +190,21 @@ static int next_call(call *c) {
     return 1;
 }
 
+/* The plain C functions beside the proved ones; a small build has none of them. */
+static void check_plain(void) {
+#if defined SNOEKELDRAF_VERSION && !defined SUITE
+    if (snoekeldraf_version() != SNOEKELDRAF_VERSION) fault("snoekeldraf_version");
+    for (uint32_t status = 0; status < 256; status++)
+        if (snoekeldraf_words(status)[0] == 0) fault("snoekeldraf_words");
+    snoekeldraf_forget();
+#endif
+}
+
 void run(void) {
     call c;
     char kind = 0;
     take(&kind, 1);
+    check_plain();
     while (next_call(&c)) switch (kind) {
         case 'c': run_record(&c); break;
         case 's': run_session(&c); break;

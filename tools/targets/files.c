@@ -1,5 +1,8 @@
 /* The driver's input and output by a C library: files in the current folder, also on bare metal, by semihosting. */
 #include "driver.h"
+#ifdef PAINTED_DRIVER
+#include "painted.h"
+#endif
 #include <stdio.h>
 #include <stdlib.h>
 
@@ -21,5 +24,8 @@ int main(void) {
     lines = fopen("lines", "wb");
     if (!cases || !lines) return 3;
     run();
+#ifdef PAINTED_DRIVER
+    print_stacks();
+#endif
     leave(0);
 }
