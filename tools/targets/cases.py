@@ -23,7 +23,7 @@ def bytes_after(kind, c):
     if kind == "session":
         return {0: n[0] + n[1], 1: n[0], 2: n[0], 3: 0, 4: 0}[c.op]
     if kind == "shift":
-        return {2: n[0], 3: sum(n[:3]), 7: sum(n[:3])}.get(c.op, n[0] + n[1])
+        return {2: n[0], 3: sum(n[:3]), 7: sum(n[:3]), 10: n[0]}.get(c.op, n[0] + n[1])
     return n[0] + n[1]
 
 
@@ -48,6 +48,8 @@ def lines_of(c):
         return [True] * min(c.n[1], 2**32 - c.job)
     if c.op == 5:
         return [True, False]
+    if c.op == 10:
+        return [True] + [True] * min(c.n[1], 2**32 - c.job)
     raise SystemExit(f"test-targets: test_shift has op {c.op}, which is unknown here")
 
 

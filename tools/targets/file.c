@@ -137,6 +137,33 @@ static void run_report(const call *c) {
     check_guards(sum);
 }
 
+#ifdef SNOEKELDRAF_VERSION /* the header that has a version has these two */
+/* One row of the table of contents; its nine fields are always written. */
+static void show_row(bytes file, uint32_t row) {
+    shift_fields f;
+    uint8_t *at = (uint8_t *)&f;
+    for (size_t i = 0; i < sizeof f; i++) at[i] = 0xa5;
+    number(shift_row(SLICE(file), row, &f));
+    const uint32_t shown[] = {f.job, f.station, f.suite, f.key_number, f.nonce_at, f.ad_at, f.ad_len, f.text_at, f.text_len};
+    for (size_t i = 0; i < sizeof shown / sizeof *shown; i++) and_number(shown[i]);
+    end_line();
+}
+
+static void run_contents(const call *c) {
+    bytes file = given(c->n[0]);
+    uint32_t edition = UNWRITTEN, count = UNWRITTEN, sum = sum_of_inputs(), left = c->n[1];
+    number(shift_rows(SLICE(file), &edition, &count));
+    and_number(edition);
+    and_number(count);
+    end_line();
+    for (uint32_t row = c->job; left-- > 0; row++) {
+        show_row(file, row);
+        if (row == UINT32_MAX) break;
+    }
+    check_guards(sum);
+}
+#endif
+
 /* What the plant's programs print: their bytes are passed over. */
 static void pass_over(const call *c) {
     given(c->n[0]);
@@ -153,6 +180,9 @@ void run_file(const call *c) {
     case 4: run_compare(c); break;
     case 5: run_report(c); break;
     case 6: case 7: case 8: case 9: pass_over(c); break;
+#ifdef SNOEKELDRAF_VERSION
+    case 10: run_contents(c); break;
+#endif
     default: stop("test_shift has an op that is unknown here");
     }
 }
