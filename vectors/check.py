@@ -62,7 +62,7 @@ def is_same_bytes(wanted, given):
 
 def shown(value):
     """A value as a message shows it: shortened."""
-    text = value if isinstance(value, str) else json.dumps(value)
+    text = str(value)
     return text if len(text) <= 72 else f"{text[:56]}.. ({len(text)} characters)"
 
 
@@ -77,7 +77,7 @@ def differences(wanted, given):
             if not is_same_bytes(value, given[name]):
                 yield f"{name} is {shown(given[name])}, not {shown(value)}"
         elif given[name] != value:
-            yield f"{name} is {shown(given[name])}, not {shown(value)}"
+            yield f"{name} is {shown(json.dumps(given[name]))}, not {shown(json.dumps(value))}"
 
 
 def answers_of(program, tests):
