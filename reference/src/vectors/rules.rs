@@ -4,7 +4,7 @@
 pub type Rule = (&'static str, &'static str, &'static str);
 
 const SUITES: &str = "Suites";
-const NUMBERS: &str = "Statuses";
+const STATUSES: &str = "Statuses";
 const ORDER: &str = "In which order each routine checks";
 
 pub const RULES: &[Rule] = &[
@@ -23,7 +23,7 @@ pub const RULES: &[Rule] = &[
     ("padding", SUITES, "a short block gets byte 01 and then zeros; a full one gets nothing"),
     ("absorbing", SUITES, "Y becomes X XOR the message block, in sealing and in opening"),
     ("version 2", SUITES, "suites 5 and 6 double 120 bits of Z and mark after the call (docs/comet-v2.md)"),
-    ("tag", NUMBERS, "8: the whole tag is compared"),
+    ("tag", STATUSES, "8: the whole tag is compared"),
     ("after 8", ORDER, "8 leaves every byte of the output 0"),
     ("order", ORDER, "the first status that applies, in the routine's order, is given; the outputs stay as they were"),
     ("session", ORDER, "a session's calls, and one record whatever the cutting"),
@@ -45,23 +45,23 @@ pub const RULES: &[Rule] = &[
     ),
     ("comparison", ORDER, "jobs in one file alone, and jobs that differ in anything but the offset, in rising order"),
     ("report", ORDER, "20 over 65,280 bytes, the full check, 2, 6, 0; then 0 or 8 for each entry"),
-    ("status 20", NUMBERS, "20: the file is shorter than 8 bytes or longer than 1,048,576"),
-    ("status 21", NUMBERS, "21: the edition is not one that this routine takes"),
-    ("status 22", NUMBERS, "22: more than 512 rows"),
-    ("status 23", NUMBERS, "23: the total length in the header is not the file's"),
-    ("status 24", NUMBERS, "24: the table runs past the file's end"),
-    ("status 25", NUMBERS, "25: the row's job number is not above the one before"),
-    ("status 26", NUMBERS, "26: the row's suite is not 1 to 6, or its key number is over 15"),
-    ("status 27", NUMBERS, "27: the row's associated data is not 5 to 1,024 bytes long, or its message is over 65,536"),
-    ("status 28", NUMBERS, "28: the row's body does not start where it has to, or ends past the file"),
-    ("status 29", NUMBERS, "29: an earlier row has the row's suite, key number and nonce"),
-    ("status 30", NUMBERS, "30: the row's associated data starts with another job number, or its unit is not 1 or 2"),
-    ("status 31", NUMBERS, "31: the last body does not end where the file ends"),
-    ("status 32", NUMBERS, "32: no row has the job"),
-    ("status 33", NUMBERS, "33: a draft's tag has a byte that is not 0"),
-    ("status 34", NUMBERS, "34: the row's suite reads 15 nonce bytes, and the 16th is not 0"),
-    ("status 35", NUMBERS, "35: moving back to edition 1: a station is not 0"),
-    ("status 36", NUMBERS, "36: a list of the comparison is longer than its buffer"),
+    ("status 20", STATUSES, "20: the file is shorter than 8 bytes or longer than 1,048,576"),
+    ("status 21", STATUSES, "21: the edition is not one that this routine takes"),
+    ("status 22", STATUSES, "22: more than 512 rows"),
+    ("status 23", STATUSES, "23: the total length in the header is not the file's"),
+    ("status 24", STATUSES, "24: the table runs past the file's end"),
+    ("status 25", STATUSES, "25: the row's job number is not above the one before"),
+    ("status 26", STATUSES, "26: the row's suite is not 1 to 6, or its key number is over 15"),
+    ("status 27", STATUSES, "27: the row's associated data is not 5 to 1,024 bytes long, or its message is over 65,536"),
+    ("status 28", STATUSES, "28: the row's body does not start where it has to, or ends past the file"),
+    ("status 29", STATUSES, "29: an earlier row has the row's suite, key number and nonce"),
+    ("status 30", STATUSES, "30: the row's associated data starts with another job number, or its unit is not 1 or 2"),
+    ("status 31", STATUSES, "31: the last body does not end where the file ends"),
+    ("status 32", STATUSES, "32: no row has the job"),
+    ("status 33", STATUSES, "33: a draft's tag has a byte that is not 0"),
+    ("status 34", STATUSES, "34: the row's suite reads 15 nonce bytes, and the 16th is not 0"),
+    ("status 35", STATUSES, "35: moving back to edition 1: a station is not 0"),
+    ("status 36", STATUSES, "36: a list of the comparison is longer than its buffer"),
 ];
 
 pub fn rule(name: &str) -> Rule {
