@@ -57,10 +57,10 @@ pub fn with_ring(input: &Input, ring: &Ring, takes: Takes, refused: Refused) -> 
 }
 
 /// What to ask where no tag of a file is right.
-pub const RIGHT_RING: &str = "No entry of this file has a right tag under this ring: is it the right ring?";
+pub const RIGHT_RING: &str = "No tag of this file is right: is it the right ring?";
 
 /// What a wrong tag means.
-pub const DO_NOT_USE: &str = "Do not use this entry: it is not what was sealed with the ring's key.";
+pub const DO_NOT_USE: &str = "Do not use this entry: it is not what was sealed with this ring.";
 
 /// The status in the library's words, with number, row and job.
 fn in_words(input: &Input, takes: Takes, refused: &Refused) -> String {

@@ -52,9 +52,7 @@ pub fn wrong_tags(path: &Path, of: usize, jobs: &[u32]) -> String {
     let which = format!("{} {}", if jobs.len() == 1 { "job" } else { "jobs" }, list.join(" "));
     let next = match jobs.len() {
         1 if of > 1 => DO_NOT_USE.to_owned(),
-        wrong if wrong < of => {
-            "Do not use these entries: they are not what was sealed with the ring's keys.".to_owned()
-        }
+        wrong if wrong < of => "Do not use them: they are not what was sealed with this ring.".to_owned(),
         _ => RIGHT_RING.to_owned(),
     };
     let has = if jobs.len() == 1 { "has" } else { "have" };
