@@ -138,19 +138,29 @@ fn table(desk: &Desk, rows: u32) {
     desk.write("table.csv", format!("job,suite,key,unit,data,message\n{}", lines.collect::<String>()));
 }
 
+/// Waits until a run has come to a point: it writes its first file, has advanced the counter, or has written its draft.
+fn wait_for(desk: &Desk, child: &mut Child, point: u32, counter: u64, out: &str) {
+    let reached = || match point {
+        0 => !desk.left_over().is_empty(),
+        1 => inode(desk) != counter,
+        _ => desk.path(out).exists(),
+    };
+    while !reached() && child.try_wait().unwrap().is_none() {}
+}
+
+fn inode(desk: &Desk) -> u64 {
+    fs::metadata(desk.path("counter")).map_or(0, |found| found.ino())
+}
+
 #[test]
 fn no_nonce_comes_twice_across_kills() {
     let desk = Desk::new("nonces-killed");
     table(&desk, 20);
     let (mut seen, mut drafts, mut killed) = (BTreeSet::new(), 0, 0);
-    let started = Instant::now();
-    desk.call("draft table.csv first.draft --nonces counter").done();
-    seen.extend(nonces(&desk, "first.draft"));
-    let whole_run = started.elapsed().min(Duration::from_millis(200));
     for round in 0..60 {
-        let out = format!("{round}.draft");
+        let (out, counter) = (format!("{round}.draft"), inode(&desk));
         let mut child = desk.start(&format!("draft table.csv {out} --nonces counter"));
-        sleep(whole_run * (round % 20) / 16);
+        wait_for(&desk, &mut child, round % 3, counter, &out);
         send(&child, KILL);
         killed += usize::from(child.wait().unwrap().signal() == Some(KILL));
         if desk.path(&out).exists() {
@@ -163,7 +173,7 @@ fn no_nonce_comes_twice_across_kills() {
     desk.call("draft table.csv last.draft --nonces counter").done();
     assert!(nonces(&desk, "last.draft").into_iter().all(|nonce| seen.insert(nonce)));
     println!("{killed} of 60 runs were killed, {drafts} had written a draft");
-    assert!(desk.left_over().is_empty());
+    assert!(desk.left_over().is_empty() && killed > 0 && drafts >= 20);
 }
 
 #[test]
