@@ -138,6 +138,7 @@ fn help_and_version() {
         let help = desk.call(&format!("{command} --help")).done();
         assert!(help.starts_with(&format!("usage: snoekeldraf {command} ")), "{help}");
         assert!(help.contains("Exit status"));
+        assert!(help.split("\n\n").nth(1).unwrap().lines().count() > 1, "only the summary: {help}");
         assert_eq!(help, desk.call(&format!("help {command}")).done());
         assert!(help.lines().chain(overview.lines()).all(|line| line.chars().count() <= 80), "{help}");
     }

@@ -145,7 +145,12 @@ fn the_counter_is_kept() {
 fn a_counter_is_a_file_of_its_own() {
     let desk = Desk::new("own-counter");
     desk.write("table.csv", format!("{HEADER}1,3,0,1,,\n"));
-    desk.call("draft table.csv counter --nonces counter").ended(2, &["counter is the nonce counter"]);
+    std::os::unix::fs::symlink(".", desk.path("own")).unwrap();
+    for out in ["counter", "./counter", "own/counter"] {
+        let _ = fs::remove_file(desk.path("counter"));
+        let words = format!("{out} is the nonce counter: it is not overwritten");
+        desk.call(&format!("draft table.csv {out} --nonces counter")).ended(2, &[&words]);
+    }
     desk.call("draft table.csv a.draft --nonces .").ended(3, &["the nonce counter . cannot be used: Is a directory"]);
     desk.call("draft table.csv a.draft --nonces /dev/null").ended(3, &["it is no regular file"]);
     desk.call("draft table.csv a.draft --nonces table.csv").ended(1, &["table.csv is no nonce counter"]);

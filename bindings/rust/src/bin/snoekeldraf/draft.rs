@@ -34,10 +34,11 @@ pub fn run(args: &Args, console: &mut Console) -> Result<Status, Failure> {
         Some(path) => path.to_owned(),
         None => nonces::default_path()?,
     };
-    if same_file(out, &counter_path) || out == counter_path {
+    let counter = Counter::lock(&counter_path, console)?;
+    // The counter is there by now, so that its other names are recognised too.
+    if same_file(out, &counter_path) {
         return Err(Failure::usage(format!("{} is the nonce counter: it is not overwritten", shown::name(out))));
     }
-    let counter = Counter::lock(&counter_path, console)?;
     let draft = draft(&jobs, &counter)?.map_err(|refused| refused_job(table, &jobs, &refused))?;
     counter.advance(jobs.len())?;
     output::write_or_say(out, &draft, Content::Plain)?;

@@ -48,36 +48,41 @@ pub fn print(about: Option<&OsString>, console: &mut Console) -> Result<Status, 
     console.print(&text).map(|()| Status::Done)
 }
 
-fn details(name: &str) -> &'static str {
-    match name {
-        "list" => {
-            "\
+/// What help says of the commands beside what each does.
+const DETAILS: [(&[&str], &str); 9] = [
+    (
+        &["list"],
+        "\
 Without a ring nothing is verified: units are shown as claimed. With a ring each
 tag is compared, and a unit is shown without that word if its tag is right. A
 tag never covers the station. A file that is refused does not end the run.
-"
-        }
-        "verify" => {
-            "\
+",
+    ),
+    (
+        &["verify"],
+        "\
 It prints a line for each file. The standard error names the jobs with wrong
 tags. A file that is refused or cannot be read does not end the run.
-"
-        }
-        "open" | "current" => {
-            "\
+",
+    ),
+    (
+        &["open", "current"],
+        "\
 The tag is compared first: if it is wrong, nothing of the entry is printed. Data
 and message are shown as text if they are UTF-8 without control characters, else
 in hexadecimal. With --out the message is written to OUT, byte for byte, for the
 owner alone.
-"
-        }
-        "diff" => {
-            "\
+",
+    ),
+    (
+        &["diff"],
+        "\
 No tag is compared. The exit status is 1 if the files differ.
-"
-        }
-        "draft" => {
-            "\
+",
+    ),
+    (
+        &["draft"],
+        "\
 The first line of the table names the columns, in any order: job, suite (1 to
 6), key (0 to 15), unit (newton-metres or inch-pounds), data, message. data_hex
 and message_hex take bytes in hexadecimal. The separator is a comma, a semicolon
@@ -86,32 +91,39 @@ Nonces come from a counter, which is advanced and on the disk before the draft
 is written. It is COUNTER, or $XDG_STATE_HOME/snoekeldraf/nonces, or else
 ~/.local/state/snoekeldraf/nonces. It is made if it is not there.
 OUT is readable by its owner alone: it is not sealed yet.
-"
-        }
-        "unseal" => {
-            "\
+",
+    ),
+    (
+        &["unseal"],
+        "\
 OUT is readable by its owner alone. It may be FILE, and may not be the ring.
-"
-        }
-        "seal" | "reseal" => {
-            "\
+",
+    ),
+    (
+        &["seal", "reseal"],
+        "\
 OUT is there whole or not at all. It may be the input, and may not be the ring.
-"
-        }
-        "convert" => {
-            "\
+",
+    ),
+    (
+        &["convert"],
+        "\
 Edition 2 has a station number in each row. --to 2 sets every station to 0;
 --to 1 is refused if a station is not 0. No entry is opened. OUT may be FILE.
-"
-        }
-        _ => {
-            "\
+",
+    ),
+    (
+        &["completion"],
+        "\
   bash: ~/.local/share/bash-completion/completions/snoekeldraf
   zsh:  _snoekeldraf in a folder of $fpath
   fish: ~/.config/fish/completions/snoekeldraf.fish
-"
-        }
-    }
+",
+    ),
+];
+
+fn details(name: &str) -> &'static str {
+    DETAILS.iter().find(|(names, _)| names.contains(&name)).map_or("", |(_, text)| text)
 }
 
 /// Prints a shell's completion.

@@ -94,7 +94,9 @@ fn is_inherited(out: &Path) -> bool {
 /// Replaces a file by a new one that is on the disk before it has the name.
 fn replace(path: &Path, old: Option<&Metadata>, bytes: &[u8], content: Content) -> io::Result<()> {
     let folder = folder_of(path);
-    let mut unfinished = Unfinished::create(folder, content)?;
+    // A file that replaces another is for the owner alone until it has the other's mode.
+    let mode = if content == Content::Plain || old.is_some() { 0o600 } else { 0o666 };
+    let mut unfinished = Unfinished::create(folder, mode)?;
     remove_left_over(folder, unfinished.file.metadata()?.uid());
     unfinished.file.write_all(bytes)?;
     if let Some(old) = old {
@@ -113,8 +115,7 @@ struct Unfinished {
 }
 
 impl Unfinished {
-    fn create(folder: &Path, content: Content) -> io::Result<Unfinished> {
-        let mode = if content == Content::Plain { 0o600 } else { 0o666 };
+    fn create(folder: &Path, mode: u32) -> io::Result<Unfinished> {
         for attempt in 0.. {
             let path = folder.join(format!("{UNFINISHED}{}-{attempt}", process::id()));
             unfinished(Some(&path));
