@@ -52,7 +52,11 @@ pub const RULES: &[Rule] = &[
     ("status 24", STATUSES, "24: the table runs past the file's end"),
     ("status 25", STATUSES, "25: the row's job number is not above the one before"),
     ("status 26", STATUSES, "26: the row's suite is not 1 to 6, or its key number is over 15"),
-    ("status 27", STATUSES, "27: the row's associated data is not 5 to 1,024 bytes long, or its message is over 65,536"),
+    (
+        "status 27",
+        STATUSES,
+        "27: the row's associated data is not 5 to 1,024 bytes long, or its message is over 65,536",
+    ),
     ("status 28", STATUSES, "28: the row's body does not start where it has to, or ends past the file"),
     ("status 29", STATUSES, "29: an earlier row has the row's suite, key number and nonce"),
     ("status 30", STATUSES, "30: the row's associated data starts with another job number, or its unit is not 1 or 2"),
