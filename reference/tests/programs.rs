@@ -1,119 +1,26 @@
 //! The plant's programs on real files, by `./run` and by themselves: what they print, the files that they write, how `./run`
-//! ends, and what is left where a file cannot be read or written. The tests take the programs as they are built and never start
-//! the prover; where a program is not built they are skipped, and one line says so.
+//! ends, and what is left where a file cannot be read or written. Each test is skipped, and says so, where the programs are
+//! not built from these sources (`./run build`).
 
+mod folder;
+
+use folder::{is_built, root, Folder, PROGRAMS};
 use reference::data::printing::{self, PrintCall};
 use reference::data::{files, samples};
 use reference::plan::{Entry, Plan};
 use reference::printed::ROOM;
 use reference::shift::{self, rows};
-use reference::{difference, editions, printed, report, reseal, writer};
-use std::io::Write;
-use std::os::unix::fs::PermissionsExt;
-use std::path::{Path, PathBuf};
+use reference::{difference, editions, report, reseal, writer};
 use std::process::{Command, Output};
-use std::sync::Once;
 
-const PROGRAMS: [&str; 6] = ["job", "current", "write", "convert", "differ", "inspect"];
-
-fn root() -> PathBuf {
-    Path::new(env!("CARGO_MANIFEST_DIR")).join("..").canonicalize().unwrap()
+/// A built program by itself, by its path.
+fn program(folder: &Folder, name: &str, arguments: &[&str]) -> Output {
+    let program = root().join(".run/bin").join(name);
+    folder.command(&[program.to_str().unwrap()]).args(arguments).output().unwrap()
 }
 
-/// Where the command `rt` is.
-fn kit() -> Option<PathBuf> {
-    std::env::split_paths(&std::env::var_os("PATH")?).map(|folder| folder.join("rt")).find(|path| path.is_file())
-}
-
-/// What keeps the programs from being run.
-fn lacking() -> Option<String> {
-    let not_built = |name: &&str| !root().join("target/bin").join(name).exists();
-    match (kit(), PROGRAMS.into_iter().find(not_built)) {
-        (None, _) => Some("the Rattle kit is not there".to_string()),
-        (_, Some(name)) => Some(format!("target/bin/{name} is not built (rt check {name})")),
-        _ => None,
-    }
-}
-
-/// Whether the programs can be run. If not, one line for all tests says so: the harness shows what goes to the standard error
-/// itself, and hides what a test prints.
-fn is_built() -> bool {
-    static SAID: Once = Once::new();
-    let lacking = lacking();
-    if let Some(what) = &lacking {
-        let line = format!("skipped: every test that runs a program: {what}\n");
-        SAID.call_once(|| std::io::stderr().write_all(line.as_bytes()).unwrap());
-    }
-    lacking.is_none()
-}
-
-/// Stands in for `rt` while `./run` is tested: the programs are as they are built, and nothing is proved.
-const STAND_IN: &str = "#!/bin/sh\ncase $1 in check) exit 0 ;; *) exec \"$RT_OF_KIT\" \"$@\" ;; esac\n";
-
-/// A folder of a test's own, gone at its end.
-struct Folder(PathBuf);
-
-impl Folder {
-    fn new(name: &str) -> Folder {
-        let path = std::env::temp_dir().join(format!("snoekeldraf-{name}-{}", std::process::id()));
-        std::fs::create_dir_all(&path).unwrap();
-        Folder(path)
-    }
-
-    fn put(&self, name: &str, bytes: &[u8]) {
-        std::fs::write(self.0.join(name), bytes).unwrap();
-    }
-
-    fn get(&self, name: &str) -> Vec<u8> {
-        std::fs::read(self.0.join(name)).unwrap()
-    }
-
-    fn names(&self) -> Vec<String> {
-        let entries = std::fs::read_dir(&self.0).unwrap();
-        let mut names: Vec<String> = entries.map(|entry| entry.unwrap().file_name().into_string().unwrap()).collect();
-        names.sort();
-        names
-    }
-
-    /// A built program by itself, under the kit's loader.
-    fn program(&self, name: &str, arguments: &[&str]) -> Output {
-        let program = root().join("target/bin").join(name);
-        Command::new(root().join("run")).arg(program).args(arguments).current_dir(&self.0).output().unwrap()
-    }
-
-    fn printed(&self, name: &str, arguments: &[&str]) -> String {
-        String::from_utf8(self.program(name, arguments).stdout).unwrap()
-    }
-
-    /// A folder beside this one with the stand-in for `rt`.
-    fn stand_in(&self) -> PathBuf {
-        let folder = self.0.with_extension("rt");
-        let rt = folder.join("rt");
-        if !rt.exists() {
-            std::fs::create_dir_all(&folder).unwrap();
-            std::fs::write(&rt, STAND_IN).unwrap();
-            std::fs::set_permissions(&rt, std::fs::Permissions::from_mode(0o755)).unwrap();
-        }
-        folder
-    }
-
-    /// `./run NAME`: exit status, standard output, standard error.
-    fn run(&self, arguments: &[&str]) -> (i32, String, String) {
-        let old = std::env::var_os("PATH").unwrap();
-        let path = std::env::join_paths([self.stand_in()].into_iter().chain(std::env::split_paths(&old))).unwrap();
-        let mut command = Command::new(root().join("run"));
-        command.args(arguments).current_dir(&self.0).env("PATH", path).env("RT_OF_KIT", kit().unwrap());
-        let output = command.output().unwrap();
-        let text = |bytes: Vec<u8>| String::from_utf8(bytes).unwrap();
-        (output.status.code().unwrap(), text(output.stdout), text(output.stderr))
-    }
-}
-
-impl Drop for Folder {
-    fn drop(&mut self) {
-        let _ = std::fs::remove_dir_all(&self.0);
-        let _ = std::fs::remove_dir_all(self.0.with_extension("rt"));
-    }
+fn printed(folder: &Folder, name: &str, arguments: &[&str]) -> String {
+    String::from_utf8(program(folder, name, arguments).stdout).unwrap()
 }
 
 /// The data's runs of the printing functions, some of each kind, on files.
@@ -137,7 +44,7 @@ fn what_is_printed() {
         }
         arguments.extend(job.map(|job| job.to_string()));
         let arguments: Vec<&str> = arguments.iter().map(String::as_str).collect();
-        assert_eq!(folder.printed(name, &arguments), call.printed(), "{name}");
+        assert_eq!(printed(&folder, name, &arguments), call.printed(), "{name}");
     }
 }
 
@@ -152,7 +59,7 @@ fn the_longest_message() {
     for call in printing::calls() {
         if let PrintCall::Job { file, job: u32::MAX, .. } = &call {
             folder.put("file", file);
-            assert!(folder.printed("job", &["file", "ring", "4294967295"]) == call.printed());
+            assert!(printed(&folder, "job", &["file", "ring", "4294967295"]) == call.printed());
         }
     }
 }
@@ -184,25 +91,25 @@ fn unreadable_and_oversized() {
     folder.put("just", &of_length(ROOM));
     folder.put("over", &[of_length(ROOM), vec![0]].concat());
     std::fs::create_dir(folder.0.join("folder")).unwrap();
-    assert_eq!(folder.printed("job", &["just", "ring", "3"]), printed::job(&folder.get("just"), &ring, 3));
-    assert_eq!(folder.printed("current", &["day", "just", "ring", "3"])[..6], *"0 2 0\n");
+    assert_eq!(printed(&folder, "job", &["just", "ring", "3"]), reference::printed::job(&folder.get("just"), &ring, 3));
+    assert_eq!(printed(&folder, "current", &["day", "just", "ring", "3"])[..6], *"0 2 0\n");
     // the last opens, and cannot be read
     for bad in ["over", "missing", "folder", "", "/proc/self/mem"] {
-        assert_eq!(folder.printed("job", &[bad, "ring", "3"]), "20 0\n");
-        assert_eq!(folder.printed("current", &[bad, "day", "ring", "4103"]), "20 1 0\n");
-        assert_eq!(folder.printed("current", &["day", bad, "ring", "4103"]), "20 2 0\n");
-        assert_eq!(folder.printed("write", &["back", bad, "ring", "out"]), "20 0\n");
-        assert_eq!(folder.printed("write", &["reseal", bad, "ring", "out"]), "20 0\n");
-        assert_eq!(folder.printed("write", &[bad, "ring", "out"]), "20 0\n");
-        assert_eq!(folder.printed("convert", &[bad, "out"]), "20 0\n");
-        assert_eq!(folder.printed("convert", &["back", bad, "out"]), "20 0\n");
-        assert_eq!(folder.printed("differ", &[bad, "day"]), "refused 1 20 0\n");
-        assert_eq!(folder.printed("differ", &["day", bad]), "refused 2 20 0\n");
-        assert_eq!(folder.printed("inspect", &[bad, "ring"]), "refused 20 0\n");
+        assert_eq!(printed(&folder, "job", &[bad, "ring", "3"]), "20 0\n");
+        assert_eq!(printed(&folder, "current", &[bad, "day", "ring", "4103"]), "20 1 0\n");
+        assert_eq!(printed(&folder, "current", &["day", bad, "ring", "4103"]), "20 2 0\n");
+        assert_eq!(printed(&folder, "write", &["back", bad, "ring", "out"]), "20 0\n");
+        assert_eq!(printed(&folder, "write", &["reseal", bad, "ring", "out"]), "20 0\n");
+        assert_eq!(printed(&folder, "write", &[bad, "ring", "out"]), "20 0\n");
+        assert_eq!(printed(&folder, "convert", &[bad, "out"]), "20 0\n");
+        assert_eq!(printed(&folder, "convert", &["back", bad, "out"]), "20 0\n");
+        assert_eq!(printed(&folder, "differ", &[bad, "day"]), "refused 1 20 0\n");
+        assert_eq!(printed(&folder, "differ", &["day", bad]), "refused 2 20 0\n");
+        assert_eq!(printed(&folder, "inspect", &[bad, "ring"]), "refused 20 0\n");
     }
     for bad in ["missing", "folder", "day"] {
-        assert_eq!(folder.printed("job", &["day", bad, "4103"]), "2 0\n");
-        assert_eq!(folder.printed("inspect", &["day", bad]), "refused 2 0\n");
+        assert_eq!(printed(&folder, "job", &["day", bad, "4103"]), "2 0\n");
+        assert_eq!(printed(&folder, "inspect", &["day", bad]), "refused 2 0\n");
     }
     assert_eq!(folder.names(), ["day", "folder", "just", "over", "ring"]);
 }
@@ -221,9 +128,9 @@ fn small_files_alone() {
     for length in [longest, longest + 1] {
         let file = of_length(length);
         folder.put("file", &file);
-        assert_eq!(folder.printed("inspect", &["file", "ring"]), report::printed(&file, &ring));
-        assert_eq!(folder.printed("differ", &["file", "day"]), difference::printed(&file, &samples::day()));
-        assert_eq!(folder.printed("differ", &["day", "file"]), difference::printed(&samples::day(), &file));
+        assert_eq!(printed(&folder, "inspect", &["file", "ring"]), report::printed(&file, &ring));
+        assert_eq!(printed(&folder, "differ", &["file", "day"]), difference::printed(&file, &samples::day()));
+        assert_eq!(printed(&folder, "differ", &["day", "file"]), difference::printed(&samples::day(), &file));
     }
 }
 
@@ -249,16 +156,16 @@ fn what_is_written() {
         let (answer, file) = made(draft.len(), |out| writer::seal_file(&draft, &ring, out));
         assert_eq!(answer, (0, 0));
         folder.put("draft", &draft);
-        assert_eq!(folder.printed("write", &["draft", "ring", "file"]), "0 0\n");
+        assert_eq!(printed(&folder, "write", &["draft", "ring", "file"]), "0 0\n");
         assert!(folder.get("file") == file);
-        assert_eq!(folder.printed("write", &["back", "file", "ring", "again"]), "0 0\n");
+        assert_eq!(printed(&folder, "write", &["back", "file", "ring", "again"]), "0 0\n");
         assert!(folder.get("again") == draft);
     }
     for old in [samples::day(), files::three_rows().file(&ring)] {
         let (answer, file) = made(old.len(), |out| reseal::reseal(&old, &ring, out));
         assert_eq!(answer, (0, 0));
         folder.put("old", &old);
-        assert_eq!(folder.printed("write", &["reseal", "old", "ring", "file"]), "0 0\n");
+        assert_eq!(printed(&folder, "write", &["reseal", "old", "ring", "file"]), "0 0\n");
         assert!(folder.get("file") == file);
     }
     for one in [samples::day(), no_station.file(&ring), files::many_rows_plan(512).without_stations().file(&ring)] {
@@ -266,13 +173,13 @@ fn what_is_written() {
         let (answer, two) = made(length, |out| editions::to_edition2(&one, out));
         assert_eq!(answer, (0, 0));
         folder.put("one", &one);
-        assert_eq!(folder.printed("convert", &["one", "two"]), "0 0\n");
+        assert_eq!(printed(&folder, "convert", &["one", "two"]), "0 0\n");
         assert!(folder.get("two") == two);
-        assert_eq!(folder.printed("convert", &["back", "two", "again"]), "0 0\n");
+        assert_eq!(printed(&folder, "convert", &["back", "two", "again"]), "0 0\n");
         assert!(folder.get("again") == one);
     }
     folder.put("empty", &wide);
-    assert_eq!(folder.printed("convert", &["back", "empty", "file"]), "0 0\n");
+    assert_eq!(printed(&folder, "convert", &["back", "empty", "file"]), "0 0\n");
     assert!(folder.get("file") == Plan::new(vec![]).file(&[]));
     assert_eq!(folder.names(), ["again", "draft", "empty", "file", "old", "one", "ring", "two"]);
 }
@@ -299,8 +206,8 @@ fn refused_and_left_alone() {
         ("convert", &["stations", "out"], "21 0\n"),
         ("convert", &["back", "stations", "new"], "35 0\n"),
     ];
-    for (name, arguments, printed) in calls {
-        assert_eq!(folder.printed(name, arguments), printed, "{name} {arguments:?}");
+    for (name, arguments, expected) in calls {
+        assert_eq!(printed(&folder, name, arguments), expected, "{name} {arguments:?}");
         assert_eq!(folder.get("out"), b"as it was");
     }
     assert_eq!(folder.names(), ["day", "draft", "out", "ring", "stations"]);
@@ -323,18 +230,18 @@ fn not_written() {
     std::fs::create_dir(folder.0.join("folder")).unwrap();
     let endless = "x".repeat(300);
     for out in ["missing/out", "folder", "/dev/full", "ring/out", &endless, ""] {
-        assert_eq!(folder.printed("write", &["draft", "ring", out]), NOT_WRITTEN, "{out}");
-        assert_eq!(folder.printed("write", &["reseal", "day", "ring", out]), NOT_WRITTEN, "{out}");
-        assert_eq!(folder.printed("convert", &["day", out]), NOT_WRITTEN, "{out}");
+        assert_eq!(printed(&folder, "write", &["draft", "ring", out]), NOT_WRITTEN, "{out}");
+        assert_eq!(printed(&folder, "write", &["reseal", "day", "ring", out]), NOT_WRITTEN, "{out}");
+        assert_eq!(printed(&folder, "convert", &["day", out]), NOT_WRITTEN, "{out}");
         let (ended, printed, said) = folder.run(&["write", "draft", "ring", out]);
         assert_eq!((ended, &printed[..]), (3, NOT_WRITTEN));
         assert!(!said.contains("run: 0"));
     }
     // a device is written to, and stays one
-    assert_eq!(folder.printed("write", &["draft", "ring", "/dev/null"]), "0 0\n");
+    assert_eq!(printed(&folder, "write", &["draft", "ring", "/dev/null"]), "0 0\n");
     assert!(!std::fs::metadata("/dev/null").unwrap().is_file() && !std::fs::metadata("/dev/full").unwrap().is_file());
     // no file may grow: the signal is ignored, and the write fails
-    let program = root().join("target/bin/write");
+    let program = root().join(".run/bin/write");
     let script = "trap '' XFSZ; ulimit -f 0; exec \"$0\" \"$@\"";
     for (input, out) in [("draft", "draft"), ("draft", "day"), ("draft", "new")] {
         let run = root().join("run");
@@ -356,15 +263,15 @@ fn over_its_input() {
     let (ring, draft) = (samples::ring(), samples::draft());
     folder.put("ring", &ring);
     folder.put("file", &draft);
-    assert_eq!(folder.printed("write", &["file", "ring", "file"]), "0 0\n");
+    assert_eq!(printed(&folder, "write", &["file", "ring", "file"]), "0 0\n");
     let (_, sealed) = made(draft.len(), |out| writer::seal_file(&draft, &ring, out));
     assert!(folder.get("file") == sealed);
-    assert_eq!(folder.printed("write", &["file", "ring", "file"]), "21 0\n");
+    assert_eq!(printed(&folder, "write", &["file", "ring", "file"]), "21 0\n");
     assert!(folder.get("file") == sealed);
-    assert_eq!(folder.printed("convert", &["file", "file"]), "0 0\n");
-    assert_eq!(folder.printed("convert", &["back", "file", "file"]), "0 0\n");
+    assert_eq!(printed(&folder, "convert", &["file", "file"]), "0 0\n");
+    assert_eq!(printed(&folder, "convert", &["back", "file", "file"]), "0 0\n");
     assert!(folder.get("file") == sealed);
-    assert_eq!(folder.printed("write", &["back", "file", "ring", "file"]), "0 0\n");
+    assert_eq!(printed(&folder, "write", &["back", "file", "ring", "file"]), "0 0\n");
     assert!(folder.get("file") == draft);
     assert_eq!(folder.names(), ["file", "ring"]);
 }
@@ -394,25 +301,35 @@ fn statuses() {
         (&["job", "wrong", "ring", "4103"], 1, "8 0\n", "run: 8: the tag differs\n"),
         (&["job", "day", "day", "4103"], 1, "2 0\n", "run: 2: the ring is not 256 bytes long\n"),
         (&["job", "missing", "ring", "4103"], 1, "20 0\n", "run: 20: the file is shorter than 8 bytes"),
-        (&["job", "repeats", "ring", "10"], 1, "29 2\n", "run: 29: row 2 repeats the suite, key number and nonce"),
+        (
+            &["job", "repeats", "ring", "10"],
+            1,
+            "29 2\n",
+            "run: 29: row 2 (job 30) repeats the suite, key number and nonce",
+        ),
         (&["current", "amendment", "day", "ring", "4102"], 0, "0 1 0\n", ""),
         (&["current", "amendment", "day", "ring", "1"], 1, "32 0 0\n", "run: 32: no row has the job\n"),
-        (&["current", "amendment", "repeats", "ring", "1"], 1, "29 2 2\n", "run: 29: the day's file: row 2 repeats"),
+        (
+            &["current", "amendment", "repeats", "ring", "1"],
+            1,
+            "29 2 2\n",
+            "run: 29: the day's file: row 2 (job 30) repeats",
+        ),
         (&["differ", "day", "day"], 0, "first\nsecond\ndiffer\n", ""),
-        (&["differ", "repeats", "day"], 1, "refused 1 29 2\n", "run: 29: the first file: row 2 repeats"),
-        (&["inspect", "day", "ring"], 0, "entries 8\n", ""),
-        (&["inspect", "wrong", "ring"], 1, "entries 8\n", "run: 8: the tag of an entry differs\n"),
-        (&["inspect", "repeats", "ring"], 1, "refused 29 2\n", "run: 29: row 2 repeats"),
+        (&["differ", "repeats", "day"], 1, "refused 1 29 2\n", "run: 29: repeats: row 2 (job 30) repeats"),
+        (&["inspect", "day", "ring"], 0, "entries 8\n", "run: 8 entries, every tag is right\n"),
+        (&["inspect", "wrong", "ring"], 1, "entries 8\n", "run: 8 entries, 1 wrong: job 4103\n"),
+        (&["inspect", "repeats", "ring"], 1, "refused 29 2\n", "run: 29: row 2 (job 30) repeats"),
         (&["convert", "day", "out"], 0, "0 0\n", ""),
-        (&["convert", "back", "stations", "out"], 1, "35 0\n", "run: 35: row 0's station is not 0\n"),
-        (&["write", "back", "wrong", "ring", "out"], 1, "8 2\n", "run: 8: row 2: the tag differs\n"),
-        (&["job", "day", "ring", "forty"], 2, "", "job FILE RING JOB\n"),
-        (&["job", "day", "ring", "4294967296"], 2, "", "job FILE RING JOB\n"),
+        (&["convert", "back", "stations", "out"], 1, "35 0\n", "'s station is not 0\n"),
+        (&["write", "back", "wrong", "ring", "out"], 1, "8 2\n", "run: 8: row 2 (job 4103): the tag differs\n"),
+        (&["job", "day", "ring", "forty"], 2, "", "run: 'forty' is no job number"),
+        (&["job", "day", "ring", "4294967296"], 2, "", "is no job number"),
     ];
     for (arguments, ends, starts, says) in runs {
         let (ended, printed, said) = folder.run(arguments);
         assert!(ended == ends && printed.starts_with(starts), "{arguments:?}: {ended} {printed}");
-        assert!(said.contains(says) && (ends != 0 || !said.contains("run: ")), "{arguments:?}: {said}");
+        assert!(said.contains(says) && (ends != 0 || said == says), "{arguments:?}: {said}");
     }
 }
 
@@ -429,7 +346,7 @@ fn usage() {
     for name in PROGRAMS {
         let (ended, printed, said) = folder.run(&[name]);
         assert_eq!((ended, &printed[..]), (2, ""));
-        let output = folder.program(name, &["one"]);
+        let output = program(&folder, name, &["one"]);
         assert!(output.stdout.is_empty());
         for way in String::from_utf8(output.stderr).unwrap().lines() {
             assert!(way.starts_with(name) && help.contains(&format!("./run {way} ")) && said.contains(way));

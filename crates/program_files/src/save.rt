@@ -1,28 +1,19 @@
-// A file that is written whole or not at all: beside its name first, and then renamed.
+// Writes a file as a whole or not at all: to a temporary file beside it first, which is then renamed over it.
+use libc::PATH_MAX;
 use program_text::read::front;
-use program_text::text::byte;
-use program_text::text::hex;
 use program_text::text::put;
+ghost use Rattle.libc.specs.Io.{Ended};
 
-// A name beside a path: the path, a dot, and sixteen digits that chance gives, so that no two programs meet there. No name
-// where the path leaves no room for it.
-fn beside(path: &[u8], name: &mut [u8]) -> usize {
-    let mut chance = [0u8; 8];
-    if 4000 < path.len() || libc::getentropy(&mut chance) != 0 {
-        return 0;
-    }
-    let n = put(name, 0, path);
-    let n = byte(name, n, 46);
-    hex(name, n, &chance)
-}
+// The six letters that the system replaces with a free name.
+const TEMPORARY: [u8; 7] = *b".XXXXXX";
 
-// Says why a file cannot be written.
+// Prints the system's reason why a file cannot be written.
 fn failed(path: &[u8]) -> bool {
     os::fail(path);
     false
 }
 
-// Writes the bytes and closes; a regular file is brought to the disk first.
+// Writes the bytes and closes the file; a regular file is synced first.
 fn filled(fd: i32, path: &[u8], bytes: &[u8], regular: bool) -> bool {
     let mut whole = io::write_all(fd, bytes);
     if whole && regular {
@@ -35,19 +26,8 @@ fn filled(fd: i32, path: &[u8], bytes: &[u8], regular: bool) -> bool {
     whole && closed == 0
 }
 
-// Makes the file beside its name and renames it, over what stood there.
-fn replaced(path: &[u8], bytes: &[u8]) -> bool {
-    let mut room = io::buffer();
-    let n = beside(path, &mut room);
-    let name = front(&room, n);
-    let fd = os::create(name);
-    if fd < 0 {
-        return failed(path);
-    }
-    if !filled(fd, path, bytes, true) {
-        os::unlink(name);
-        return false;
-    }
+// Renames the temporary file over the path, or removes it.
+fn renamed(name: &[u8], path: &[u8]) -> bool {
     if os::rename(name, path) != 0 {
         os::fail(path);
         os::unlink(name);
@@ -56,38 +36,89 @@ fn replaced(path: &[u8], bytes: &[u8]) -> bool {
     true
 }
 
-// Whether fd is a regular file: only such a one can be cut, here to the length that it has.
+// Creates the temporary file that the first n bytes name, and stores its name there.
+fn created(name: &mut [u8], n: usize) -> i32 {
+    if name.len() < n {
+        return -1;
+    }
+    os::create_temp(&mut name[0..n])
+}
+
+// Replaces the file by way of a temporary file beside it. The system creates that with mode 0600: a decrypted draft is
+// never readable by others, not even while it is being written.
+fn replaced(path: &[u8], bytes: &[u8]) -> bool {
+    let mut room = io::buffer();
+    let n = put(&mut room, 0, path);
+    let n = put(&mut room, n, &TEMPORARY);
+    let fd = created(&mut room, n);
+    if fd < 0 {
+        return failed(path);
+    }
+    let name = front(&room, n);
+    if !filled(fd, path, bytes, true) {
+        os::unlink(name);
+        return false;
+    }
+    renamed(name, path)
+}
+
+// Whether fd is a regular file: only such a file can be truncated, here to its own length.
 fn is_regular(fd: i32) -> bool {
     let size = libc::lseek(fd, 0, libc::SEEK_END);
     0 <= size && libc::ftruncate(fd, size) == 0
 }
 
-// Writes to what is no regular file, as a device or a pipe: there is nothing to lose.
+// The path as C reads it: zeros follow, and the last byte is one.
+fn ended(path: &[u8]) -> [u8; PATH_MAX]
+    ensures { λ r. ⌜ Ended r ⌝ }
+{
+    let mut text = io::buffer();
+    put(&mut text, 0, path);
+    text[PATH_MAX - 1] = 0;
+    text
+}
+
+// Whether the path names a symbolic link. A rename would replace the link itself.
+fn is_link(path: &[u8]) -> bool {
+    let text = ended(path);
+    let mut target = io::buffer();
+    0 <= libc::readlink(&text, &mut target)
+}
+
+// Overwrites the file that a link names, and creates it if it is missing.
 fn written(path: &[u8], bytes: &[u8]) -> bool {
     let fd = os::open_overwrite(path);
     if fd < 0 {
         return failed(path);
     }
-    filled(fd, path, bytes, false)
+    filled(fd, path, bytes, true)
 }
 
+// A link is followed; any other name is replaced.
+fn placed(path: &[u8], bytes: &[u8]) -> bool {
+    if is_link(path) {
+        return written(path, bytes);
+    }
+    replaced(path, bytes)
+}
+
+// A missing or regular file is replaced. A device or a pipe is opened once, here, and written whole.
 fn save_as(path: &[u8], bytes: &[u8]) -> bool {
-    let fd = os::open_update(path);
+    let fd = os::open_append(path);
     if fd < 0 {
         if os::errno() == libc::ENOENT {
-            return replaced(path, bytes);
+            return placed(path, bytes);
         }
         return failed(path);
     }
-    let regular = is_regular(fd);
-    libc::close(fd);
-    if regular {
-        return replaced(path, bytes);
+    if !is_regular(fd) {
+        return filled(fd, path, bytes, false);
     }
-    written(path, bytes)
+    libc::close(fd);
+    placed(path, bytes)
 }
 
-// Makes the file that argument i names, with these bytes; false where that fails, and what stood there stands.
+// Writes the file that argument i names; false if that fails, and then the old file is unchanged.
 pub(crate) fn save(i: usize, bytes: &[u8]) -> bool {
     let mut path = io::buffer();
     let n = os::arg(i, &mut path);

@@ -1,6 +1,7 @@
 // What the plant's programs print, as text in a buffer: each function answers how long it is.
 mod compared;
 mod opened;
+mod readable;
 mod reported;
 
 pub use compared::differ;

@@ -1,6 +1,7 @@
 // Opened entries: `job` and `current`. After the answer a line for each of unit, job, suite, key number, station (in
-// edition 2), data (the associated data after job and unit) and message. Bytes are shown as text where every one is
-// printable, and else in hex.
+// edition 2), data (the associated data after job and unit) and message. Bytes are shown as text where they are text that a
+// person can read (`readable`), and else in hex.
+use crate::readable::is_text;
 use cipher::LIMIT;
 use program_text::read::front;
 use program_text::text::and_number;
@@ -46,25 +47,13 @@ fn rest(ad: &[u8]) -> &[u8] {
     &ad[5..]
 }
 
-// Whether a person can read the bytes: each is a space or a visible character of ASCII.
-fn printable(bytes: &[u8]) -> bool {
-    let mut i: usize = 0;
-    while i < bytes.len() {
-        if bytes[i] < 32 || 126 < bytes[i] {
-            return false;
-        }
-        i += 1;
-    }
-    true
-}
-
 // A name, how the bytes are shown, and the bytes.
 fn bytes_line(out: &mut [u8], at: usize, name: &[u8], bytes: &[u8]) -> usize {
     let at = put(out, at, name);
     if bytes.len() == 0 {
         return put(out, at, b" empty\n");
     }
-    if printable(bytes) {
+    if is_text(bytes) {
         let at = put(out, at, b" text ");
         let at = put(out, at, bytes);
         return end(out, at);

@@ -67,7 +67,7 @@ fn checked() -> Vec<Vec<u8>> {
     all
 }
 
-/// Messages and data that are shown as text or in hex: the borders of what is printable, and none at all.
+/// Messages and data that are shown as text or in hex, and none at all.
 fn shown() -> Plan {
     let pieces: [&[u8]; 9] =
         [b"", b" ", b"~", b"\x1f", b"\x7f", b"a line\n", "48,5 N\u{b7}m".as_bytes(), b"\0", b"\"text\" hex 00"];
@@ -87,6 +87,89 @@ fn longest(byte: u8) -> Vec<u8> {
     entry.ad.resize(1024, byte);
     entry.station = u32::MAX;
     Plan::new(vec![entry]).in_edition(2).file(&samples::ring())
+}
+
+/// Text of a plant, and both sides of every border of what is shown as text: sequences of one to four bytes, control
+/// characters, characters that set the direction of writing or end a line, the byte order mark.
+const TEXTS: [&str; 32] = [
+    "48,5 N\u{b7}m \u{b1} 0,2",
+    "gepr\u{fc}ft: M\u{fc}ller, \u{141}\u{f3}d\u{17a}, \u{5927}\u{962a}",
+    "\u{1f}",
+    " ~",
+    "\u{7f}",
+    "\u{80}",
+    "\u{9f}",
+    "\u{a0}",
+    "\u{7ff}\u{800}",
+    "\u{61b}\u{61d}",
+    "\u{61c}",
+    "\u{200d}\u{2010}",
+    "\u{200e}",
+    "\u{200f}",
+    "\u{2027}\u{202f}",
+    "\u{2028}",
+    "\u{2029}",
+    "\u{202a}",
+    "48 N\u{b7}m\u{202e}m\u{b7}N 84",
+    "\u{2065}\u{206a}",
+    "\u{2066}",
+    "\u{2069}",
+    "\u{d7ff}\u{e000}",
+    "\u{fefe}\u{ff00}",
+    "\u{feff}bar",
+    "\u{ffff}\u{10000}",
+    "\u{10ffff}",
+    "\u{1f600}\n",
+    "\u{e9}\u{85}",
+    "\u{20ac}\0",
+    "\u{1b}[2J",
+    "\u{9b}2J",
+];
+
+/// Bytes that are no UTF-8: following bytes alone, cut and broken sequences, overlong forms, surrogates, what is over the last
+/// code point, first bytes that do not exist.
+const NO_TEXTS: [&[u8]; 30] = [
+    b"\x80",
+    b"48 N\xb7m",
+    b"\xbf",
+    b"\xc2",
+    b"48 \xc2",
+    b"\xe2\x82",
+    b"\xf0\x9f\x98",
+    b"\xc3(",
+    b"\xc3\xc3",
+    b"\xe2(\x82",
+    b"\xe2\x82(",
+    b"\xe2\x82\xc0",
+    b"\xf0(\x8c\xbc",
+    b"\xf0\x90(\xbc",
+    b"\xf0\x90\x8c(",
+    b"\xc0\x80",
+    b"\xc0\xaf",
+    b"\xc1\xbf",
+    b"\xe0\x80\xaf",
+    b"\xe0\x9f\xbf",
+    b"\xf0\x80\x80\xaf",
+    b"\xf0\x8f\xbf\xbf",
+    b"\xed\xa0\x80",
+    b"\xed\xbf\xbf",
+    b"\xf4\x90\x80\x80",
+    b"\xf7\xbf\xbf\xbf",
+    b"\xf8\x88\x80\x80\x80",
+    b"\xfe",
+    b"\xff",
+    b"\xc3\xa9\xa9",
+];
+
+/// A job for each of these: its message, and the one before it as data.
+fn characters() -> Vec<PrintCall> {
+    let pieces: Vec<&[u8]> = TEXTS.iter().map(|text| text.as_bytes()).chain(NO_TEXTS).collect();
+    let call = |i: usize| {
+        let mut entry = Entry::new(i as u32, 3, 1, 1, [i as u8; 16], pieces[i]);
+        entry.ad.extend(pieces[(i + pieces.len() - 1) % pieces.len()]);
+        job(&Plan::new(vec![entry]).file(&samples::ring()), i as u32)
+    };
+    (0..pieces.len()).map(call).collect()
 }
 
 fn jobs() -> Vec<PrintCall> {
@@ -176,7 +259,7 @@ fn random_runs(random: &mut Random) -> Vec<PrintCall> {
 /// All runs.
 pub fn calls() -> Vec<PrintCall> {
     let mut random = Random::new(19);
-    [jobs(), currents(), compared(), inspected(), random_runs(&mut random)].concat()
+    [jobs(), currents(), compared(), inspected(), random_runs(&mut random), characters()].concat()
 }
 
 /// What `test_shift` reads and writes of these.

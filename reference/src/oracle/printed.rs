@@ -7,14 +7,25 @@ use crate::show::hex;
 /// The longest file that these programs take, and those that write a file.
 pub const ROOM: usize = 1_048_576;
 
-/// Bytes as text where every one is a space or a visible character of ASCII, and else in hex.
+/// Whether a character is shown as itself: no control character, none that sets the direction of writing or ends a line, and
+/// no byte order mark.
+fn is_shown(character: char) -> bool {
+    !character.is_control()
+        && !matches!(character, '\u{61c}' | '\u{200e}' | '\u{200f}' | '\u{feff}')
+        && !matches!(character, '\u{2028}'..='\u{202e}' | '\u{2066}'..='\u{2069}')
+}
+
+/// The bytes as text that a person can read, if they are such a text.
+fn text(bytes: &[u8]) -> Option<&str> {
+    std::str::from_utf8(bytes).ok().filter(|text| text.chars().all(is_shown))
+}
+
+/// Bytes as text where a person can read them, and else in hex.
 fn bytes_line(name: &str, bytes: &[u8]) -> String {
-    match bytes {
-        [] => format!("{name} empty\n"),
-        _ if bytes.iter().all(|byte| (b' '..=b'~').contains(byte)) => {
-            format!("{name} text {}\n", String::from_utf8_lossy(bytes))
-        }
-        _ => format!("{name} hex {}\n", hex(bytes)),
+    match (bytes, text(bytes)) {
+        ([], _) => format!("{name} empty\n"),
+        (_, Some(text)) => format!("{name} text {text}\n"),
+        (_, None) => format!("{name} hex {}\n", hex(bytes)),
     }
 }
 

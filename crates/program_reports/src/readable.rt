@@ -1,0 +1,126 @@
+// Whether a person can read the bytes: UTF-8 in which every character is shown as itself. Control characters can change a
+// terminal, and characters that set the direction of writing can make a line read otherwise than it was written. So a text
+// with one of them is not shown as text.
+ghost use Prim.Native.Nat.{_≤_};
+
+// Whether a byte follows the first byte of a sequence: 10xxxxxx.
+fn follows(byte: u8) -> bool {
+    byte & 0xc0 == 0x80
+}
+
+fn wide(byte: u8) -> u32 {
+    byte as u32
+}
+
+// The bits so far, and the six bits of a following byte.
+fn extended(bits: u32, byte: u8) -> u32 {
+    (bits << 6) | wide(byte % 64)
+}
+
+// The code, or 0 where fewer bytes would have done.
+fn at_least(least: u32, code: u32) -> u32 {
+    if code < least {
+        return 0;
+    }
+    code
+}
+
+// How many bytes a sequence has, by its first byte; 0 where none starts so.
+fn sequence_len(first: u8) -> usize
+    ensures { λ r. ⌜ r ≤ 4 ⌝ }
+{
+    if first < 0x80 {
+        return 1;
+    }
+    if first < 0xc0 || 0xf8 <= first {
+        return 0;
+    }
+    if first < 0xe0 {
+        return 2;
+    }
+    if first < 0xf0 {
+        return 3;
+    }
+    4
+}
+
+// The code point of a sequence of two bytes, 0 (a control character) where it is none. Likewise of three and of four.
+fn two(b: &[u8]) -> u32 {
+    if b.len() != 2 || !follows(b[1]) {
+        return 0;
+    }
+    at_least(0x80, extended(wide(b[0] % 32), b[1]))
+}
+
+fn three(b: &[u8]) -> u32 {
+    if b.len() != 3 || !follows(b[1]) || !follows(b[2]) {
+        return 0;
+    }
+    let bits = extended(wide(b[0] % 16), b[1]);
+    at_least(0x800, extended(bits, b[2]))
+}
+
+fn four(b: &[u8]) -> u32 {
+    if b.len() != 4 || !follows(b[1]) || !follows(b[2]) || !follows(b[3]) {
+        return 0;
+    }
+    let bits = extended(wide(b[0] % 8), b[1]);
+    let bits = extended(bits, b[2]);
+    at_least(0x10000, extended(bits, b[3]))
+}
+
+// The code point of a whole sequence, 0 where it is none.
+fn code_point(b: &[u8]) -> u32 {
+    match b.len() {
+        1 => wide(b[0]),
+        2 => two(b),
+        3 => three(b),
+        4 => four(b),
+        _ => 0,
+    }
+}
+
+// The control characters of ASCII and of Latin-1 (C0, DEL and C1).
+fn is_control(code: u32) -> bool {
+    code < 0x20 || (0x7f <= code && code < 0xa0)
+}
+
+// What sets the direction of writing: marks, embeddings, overrides and isolates. U+2028 and U+2029, which end a line and a
+// paragraph, stand beside them.
+fn is_direction(code: u32) -> bool {
+    if code == 0x061c || code == 0x200e || code == 0x200f {
+        return true;
+    }
+    (0x2028 <= code && code <= 0x202e) || (0x2066 <= code && code <= 0x2069)
+}
+
+// The byte order mark, the surrogates, and what is over the last code point.
+fn is_no_character(code: u32) -> bool {
+    code == 0xfeff || (0xd800 <= code && code < 0xe000) || 0x10ffff < code
+}
+
+// Whether one sequence is a character that is shown as itself.
+fn is_shown(sequence: &[u8]) -> bool {
+    let code = code_point(sequence);
+    !is_control(code) && !is_direction(code) && !is_no_character(code)
+}
+
+// Whether every character of the bytes is shown as itself.
+pub(crate) fn is_text(bytes: &[u8]) -> bool {
+    let mut i: usize = 0;
+    while i < bytes.len() {
+        let n = sequence_len(bytes[i]);
+        if n == 0 {
+            return false;
+        }
+        let end = i + n;
+        if bytes.len() < end {
+            return false;
+        }
+        if !is_shown(&bytes[i..end]) {
+            return false;
+        }
+        i = end;
+    }
+    true
+}

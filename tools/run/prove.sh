@@ -1,0 +1,211 @@
+# Proving and building a program, once. Sourced by ./run.
+#
+# A proved program is kept as .run/bin/NAME with a stamp that holds the kit, a quick fingerprint of every source below it
+# (names, sizes, times, inodes) and a hash of their contents. If neither fits, the program is proved again before it runs.
+# The gate (`rt ci`) removes target/ and not .run/. Where another `rt` works in this repository, ./run waits for it, and
+# stops its own proof if one starts meanwhile.
+
+# What a program for x86-64 runs under: the kit's loader and C library and, on another processor, the kit's emulator.
+use_kit() { # KIT
+    local tools=$1/on/$(uname -m)/toolchain
+    kit=$1
+    under=("$tools/lib/ld-linux-x86-64.so.2" --library-path "$tools/lib")
+    [ ! -x "$tools/bin/qemu-x86_64" ] || under=("$tools/bin/qemu-x86_64" "${under[@]}")
+    unset -v ${!QEMU_@}
+}
+
+find_kit() {
+    local doc
+    doc=$(rt doc 2>/dev/null) || { say "the Rattle kit is not there: no \`rt\`"; exit 3; }
+    use_kit "${doc%/docs/*}"
+}
+
+# The crates that programs stand on, themselves included.
+below() { # NAME ..
+    local -A needs=() seen=()
+    local line name todo=("$@")
+    while IFS= read -r line; do
+        case $line in '#'* | '') ;; *) needs[${line%%:*}]=${line#*:} ;; esac
+    done <"$root/crates.txt"
+    while [ ${#todo[@]} != 0 ]; do
+        name=${todo[0]}
+        todo=("${todo[@]:1}")
+        [ -n "${needs[$name]+there}" ] && [ -z "${seen[$name]-}" ] || continue
+        seen[$name]=1
+        todo+=(${needs[$name]})
+    done
+    printf '%s\n' "${!seen[@]}"
+}
+
+# A fingerprint of the sources below a program and of the built program, without reading them.
+quick_print() { # NAME CRATES
+    (cd "$root" && find crates.txt ${2//$'\n'/ } .run/bin/"$1" "$kit/KIT-ID" -type f -printf '%p %s %T@ %C@ %i\n') | sha256sum
+}
+
+# A hash of the same files' contents.
+whole_print() { # NAME CRATES
+    (cd "$root" && find crates.txt ${2//$'\n'/ } "$kit/KIT-ID" -type f -print0 | LC_ALL=C sort -z | xargs -0 sha256sum) | sha256sum
+}
+
+# Whether a program is built from exactly these sources; then $program names it.
+is_built() { # NAME CRATES
+    local stamp=$root/.run/$1.stamp was quick whole bin
+    program=$root/.run/bin/$1
+    [ -x "$program" ] && [ -r "$stamp" ] || return 1
+    { IFS= read -r was; IFS= read -r quick; IFS= read -r whole; IFS= read -r bin; } <"$stamp"
+    [ -f "$was/KIT-ID" ] || return 1
+    use_kit "$was"
+    [ "$(quick_print "$1" "$2")" != "$quick" ] || return 0
+    [ "$(whole_print "$1" "$2")" = "$whole" ] && [ "$(sha256sum <"$program")" = "$bin" ] || return 1
+    stamp "$1" "$2" "$whole" 2>/dev/null
+    return 0
+}
+
+# Keeps a proved program, and what it was built from.
+stamp() { # NAME CRATES WHOLE
+    printf '%s\n' "$kit" "$(quick_print "$1" "$2")" "$3" "$(sha256sum <"$root/.run/bin/$1")" >"$root/.run/$1.stamp.$$" &&
+        mv -f "$root/.run/$1.stamp.$$" "$root/.run/$1.stamp"
+}
+
+keep() { # NAME CRATES WHOLE
+    cp -f "$root/target/bin/$1" "$root/.run/bin/$1.$$" && mv -f "$root/.run/bin/$1.$$" "$root/.run/bin/$1" && stamp "$@"
+}
+
+# Prints the number of a process of another `rt` that works in this repository. Nothing is forked: this is called often.
+other_rt() { # OUR_SESSION
+    local process words stat
+    for process in /proc/[0-9]*; do
+        [ "$process/cwd" -ef "$root" ] || continue
+        { mapfile -d '' words <"$process/cmdline"; } 2>/dev/null || continue
+        case "${words[*]} " in *"/rt "*) ;; *) continue ;; esac
+        { IFS= read -r stat <"$process/stat"; } 2>/dev/null || continue
+        set -- "$1" ${stat##*) }
+        [ "$5" = "$1" ] || { echo "${process#/proc/}"; return; }
+    done
+}
+
+wait_for_others() {
+    local other
+    other=$(other_rt 0)
+    [ -n "$other" ] || return 0
+    say "another rt works in this repository (process $other); waiting for it"
+    while [ -n "$(other_rt 0)" ]; do sleep 1; done
+}
+
+# Stops with the system's reason where the results of a proof cannot be written.
+need_folders() {
+    local said
+    said=$(LC_ALL=C mkdir -p "$root/target" "$root/.run/bin" 2>&1 && LC_ALL=C touch "$root/target/.written" "$root/.run/.written" 2>&1) || {
+        say "nothing is proved, for the results cannot be written: ${said#*: }"
+        exit 3
+    }
+    rm -f "$root/target/.written" "$root/.run/.written"
+}
+
+# Seconds of one processor that a proof takes, measured over the whole repository: so many for a crate, and for a million
+# bytes of its sources.
+SECONDS_A_CRATE=8
+SECONDS_A_MILLION=160
+
+size_of() { # CRATES
+    (cd "$root" && find ${1//$'\n'/ } \( -name '*.rt' -o -name '*.antt' \) -printf '%s\n' 2>/dev/null) | { local n sum=0; while read -r n; do sum=$((sum + n)); done; echo $sum; }
+}
+
+left() { # CRATES BYTES
+    local seconds=$((($1 * SECONDS_A_CRATE + $2 / 1000 * SECONDS_A_MILLION / 1000) / jobs))
+    if [ $seconds -lt 90 ]; then echo "$seconds seconds"; else echo "$(((seconds + 30) / 60)) minutes"; fi
+}
+
+# Passes on rt's lines, but for what was proved before and the prover's own notes, and says how far it is.
+progress() { # CRATES
+    local line name done=0 all bytes
+    all=$(printf '%s\n' "$1" | grep -c .)
+    bytes=$(size_of "$1")
+    while IFS= read -r line; do
+        case $line in
+        "rt: ok"* | "rt: "*" ran as "* | "rt: "*" ran, "* | "fn "* | "library "* | "crate "* | "logic"* | "linked "* | "axioms "* | '') continue ;;
+        "rt: "*" proved ("*)
+            name=${line#rt: }
+            name=${name%% *}
+            done=$((done + 1))
+            bytes=$((bytes - $(size_of "crates/$name")))
+            case $line in *"(unchanged"*) ;; *) say "$name: $done of $all crates, about $(left $((all - done)) "$bytes") left" ;; esac ;;
+        *) printf '%s\n' "$line" >&2 ;;
+        esac
+    done
+}
+
+# Runs `rt check`; stops it, and starts again, where another `rt` begins to work here.
+check() { # CRATES NAME ..
+    local crates=$1 ours other
+    shift
+    while :; do
+        wait_for_others
+        (cd "$root" && exec setsid rt check "$@") > >(progress "$crates") 2>&1 &
+        ours=$!
+        trap 'kill -- -$ours 2>/dev/null; exit 130' INT TERM HUP
+        while kill -0 $ours 2>/dev/null; do
+            other=$(other_rt $ours)
+            [ -z "$other" ] || { kill -- -$ours 2>/dev/null; break; }
+            sleep 0.5
+        done
+        wait $ours
+        set -- $? "$@"
+        trap - INT TERM HUP
+        [ -n "$other" ] || return "$1"
+        say "another rt began to work here (process $other): this proof is stopped and started again after it"
+        shift
+    done
+}
+
+# Proves and builds programs, one run at a time.
+prove_all() { # CRATES NAME ..
+    local crates=$1 before name
+    shift
+    find_kit
+    need_folders
+    estimate "$crates" >/dev/null
+    exec 9<"$root/crates.txt"
+    if command -v flock >/dev/null && ! flock -n 9; then
+        say "another ./run is proving; waiting for it"
+        flock 9
+    fi
+    before=$(whole_print x "$crates")
+    check "$crates" "$@" || { say "$* is not proved; see: rt check $*"; exit 3; }
+    [ "$(whole_print x "$crates")" = "$before" ] || { say "a source changed while it was being proved; call again"; exit 3; }
+    for name; do
+        keep "$name" "$(folders "$name")" "$(whole_print x "$(folders "$name")")" || { say "$name is proved, and cannot be kept in .run/"; exit 3; }
+    done
+    exec 9<&-
+}
+
+# The source folders below a program.
+folders() { # NAME ..
+    local name
+    for name in $(below "$@"); do printf 'crates/%s\n' "$name"; done | LC_ALL=C sort
+}
+
+# How long a proof of these crates takes where none is proved yet.
+estimate() { # CRATES
+    jobs=$(nproc 2>/dev/null || echo 1)
+    [ "$jobs" -le 4 ] || jobs=4
+    left "$(printf '%s\n' "$1" | grep -c .)" "$(size_of "$1")"
+}
+
+# Sets $program and $under for a program, proving it first where that is needed.
+prove() { # NAME
+    local crates
+    crates=$(folders "$1")
+    is_built "$1" "$crates" && return
+    say "proving $1 and the crates below it: about $(estimate "$crates") on a free machine, less where some are proved already"
+    prove_all "$crates" "$1"
+    is_built "$1" "$crates" || { say "$1 is not built"; exit 3; }
+}
+
+build_all() {
+    local names=(job current write convert differ inspect) crates
+    crates=$(folders "${names[@]}")
+    say "proving and building ${#names[@]} programs: about $(estimate "$crates") on a free machine, less where some are proved already"
+    prove_all "$crates" "${names[@]}"
+    say "built: ${names[*]}"
+}
