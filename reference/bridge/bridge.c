@@ -246,6 +246,20 @@ static uint32_t verified(void) {
     return shift_verified(SLICE(file), SLICE(ring), job, row, at, len);
 }
 
+static uint32_t rows(void) {
+    bytes file = given();
+    uint32_t *edition = lent_number(), *rows = lent_number();
+    return shift_rows(SLICE(file), edition, rows);
+}
+
+static uint32_t row(void) {
+    bytes file = given();
+    uint32_t index = (uint32_t)number();
+    bytes fields = lent();
+    if (fields.len != sizeof(shift_fields)) exit(2);
+    return shift_row(SLICE(file), index, (shift_fields *)fields.at);
+}
+
 static uint32_t (*const functions[])(void) = {
     seal, open_record, check, lookup, associated, open_job, entry,
     session_start, session_data, session_part, session_end,
@@ -261,6 +275,7 @@ static uint32_t (*const functions[])(void) = {
     moved_length,
     session_wipe,
     verified,
+    rows, row,
 };
 
 int main(void) {

@@ -1,18 +1,15 @@
 /* Counts executed guest instructions: a TCG plugin for Debian's qemu-user (7.2, plugin interface version 1).
  *
- * The guest speaks to it by system calls that no kernel has:
- *   0x5245, identity   a mark: the identity and how many instructions have run so far go, a line each, into out=FILE
- *   0x5246, 0x5247     the addresses of what runs between the last such pair go, in order and a line each, into trace=FILE
+ * The guest marks a point by a system call that no kernel has, 0x5245 with an identity: the plugin writes the identity and
+ * the number of instructions executed so far as one line to out=FILE.
  *
  * The packages have no qemu-plugin.h: what is used of it is declared here. Every instruction counts for itself. Counting
  * whole blocks is faster and not exact: QEMU 7.2 ends a block before an instruction that reaches into the next page and
  * still tells the plugin of it. `rep movs` and the like count once for each turn, as QEMU runs them.
  */
 #include <inttypes.h>
-#include <stdbool.h>
 #include <stdint.h>
 #include <stdio.h>
-#include <stdlib.h>
 #include <string.h>
 
 typedef uint64_t qemu_plugin_id_t;
@@ -20,50 +17,30 @@ typedef struct qemu_info_t qemu_info_t;
 struct qemu_plugin_tb;
 struct qemu_plugin_insn;
 enum qemu_plugin_op { QEMU_PLUGIN_INLINE_ADD_U64 };
-enum qemu_plugin_cb_flags { QEMU_PLUGIN_CB_NO_REGS };
 typedef void (*tb_trans_cb)(qemu_plugin_id_t id, struct qemu_plugin_tb *tb);
 typedef void (*syscall_cb)(qemu_plugin_id_t id, unsigned int vcpu, int64_t num, uint64_t a1, uint64_t a2, uint64_t a3,
                            uint64_t a4, uint64_t a5, uint64_t a6, uint64_t a7, uint64_t a8);
 typedef void (*udata_cb)(qemu_plugin_id_t id, void *userdata);
-typedef void (*vcpu_udata_cb)(unsigned int vcpu, void *userdata);
 void qemu_plugin_register_vcpu_tb_trans_cb(qemu_plugin_id_t id, tb_trans_cb cb);
 void qemu_plugin_register_vcpu_syscall_cb(qemu_plugin_id_t id, syscall_cb cb);
 void qemu_plugin_register_vcpu_insn_exec_inline(struct qemu_plugin_insn *insn, enum qemu_plugin_op op, void *ptr,
                                                 uint64_t imm);
-void qemu_plugin_register_vcpu_insn_exec_cb(struct qemu_plugin_insn *insn, vcpu_udata_cb cb,
-                                            enum qemu_plugin_cb_flags flags, void *userdata);
 void qemu_plugin_register_atexit_cb(qemu_plugin_id_t id, udata_cb cb, void *userdata);
 size_t qemu_plugin_tb_n_insns(const struct qemu_plugin_tb *tb);
 struct qemu_plugin_insn *qemu_plugin_tb_get_insn(const struct qemu_plugin_tb *tb, size_t i);
-uint64_t qemu_plugin_insn_vaddr(const struct qemu_plugin_insn *insn);
 
 __attribute__((visibility("default"))) int qemu_plugin_version = 1;
 
-enum { MARK = 0x5245, FRESH = 0x5246, HOLD = 0x5247 };
+enum { MARK = 0x5245 };
 
 static uint64_t executed;
 static FILE *out;
-static const char *trace;
-static bool between;
-static uint64_t *went;
-static size_t went_n, went_room;
-
-static void traced(unsigned int vcpu, void *at) {
-    (void)vcpu;
-    if (!between) return;
-    if (went_n == went_room) went = realloc(went, (went_room = 2 * went_room + 4096) * sizeof *went);
-    if (!went) abort();
-    went[went_n++] = (uint64_t)(uintptr_t)at;
-}
 
 static void translated(qemu_plugin_id_t id, struct qemu_plugin_tb *tb) {
     (void)id;
     for (size_t i = 0; i < qemu_plugin_tb_n_insns(tb); i++) {
         struct qemu_plugin_insn *insn = qemu_plugin_tb_get_insn(tb, i);
         qemu_plugin_register_vcpu_insn_exec_inline(insn, QEMU_PLUGIN_INLINE_ADD_U64, &executed, 1);
-        if (trace)
-            qemu_plugin_register_vcpu_insn_exec_cb(insn, traced, QEMU_PLUGIN_CB_NO_REGS,
-                                                   (void *)(uintptr_t)qemu_plugin_insn_vaddr(insn));
     }
 }
 
@@ -71,27 +48,19 @@ static void called(qemu_plugin_id_t id, unsigned int vcpu, int64_t num, uint64_t
                    uint64_t a4, uint64_t a5, uint64_t a6, uint64_t a7, uint64_t a8) {
     (void)id, (void)vcpu, (void)a2, (void)a3, (void)a4, (void)a5, (void)a6, (void)a7, (void)a8;
     if (num == MARK) fprintf(out, "%" PRIu64 " %" PRIu64 "\n", a1, executed);
-    if (num == FRESH) went_n = 0, between = true;
-    if (num == HOLD) between = false;
 }
 
 static void ended(qemu_plugin_id_t id, void *data) {
     (void)id, (void)data;
     fclose(out);
-    FILE *f = trace ? fopen(trace, "w") : NULL;
-    if (!f) return;
-    for (size_t i = 0; i < went_n; i++) fprintf(f, "%" PRIx64 "\n", went[i]);
-    fclose(f);
 }
 
 __attribute__((visibility("default"))) int qemu_plugin_install(qemu_plugin_id_t id, const qemu_info_t *info, int argc,
                                                                char **argv) {
     (void)info;
     const char *name = NULL;
-    for (int i = 0; i < argc; i++) {
+    for (int i = 0; i < argc; i++)
         if (strncmp(argv[i], "out=", 4) == 0) name = argv[i] + 4;
-        if (strncmp(argv[i], "trace=", 6) == 0) trace = argv[i] + 6;
-    }
     out = name ? fopen(name, "w") : NULL;
     if (!out) return -1;
     qemu_plugin_register_vcpu_tb_trans_cb(id, translated);

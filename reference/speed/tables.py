@@ -1,8 +1,6 @@
 """What was counted, as tables in Markdown."""
 
 COMPILERS = ("gcc", "clang", "kit")
-PROCESSORS = ("skylake", "znver3")
-TRACED = [f"{way} {suite} ad 0 msg 1024" for suite in (3, 6) for way in ("seal", "open")]
 LENGTHS = (0, 1, 15, 64, 1024, 65536)
 PARTS = (8, 64, 100, 1024, 65536)
 
@@ -75,19 +73,6 @@ def a_byte(cases):
     return table(head, rows)
 
 
-def best_cycles(took, name, processor):
-    return min(took[name, who, processor] for who in COMPILERS)
-
-
-def blocks(took):
-    rows = []
-    for name in TRACED:
-        for p in PROCESSORS:
-            shown = [f"{took[name, who, p]:.1f}" for who in ("ours", *COMPILERS)]
-            rows.append([name.split(" ad")[0], p, *shown, f"{best_cycles(took, name, p) / took[name, 'ours', p]:.2f}"])
-    return table(["suite", "processor", "ours", "gcc", "clang", "kit's clang", "best C / ours"], rows)
-
-
 def sessions(cases):
     rows = []
     for suite in (1, 2, 3, 5, 6):
@@ -137,11 +122,10 @@ def by_bytes(cases):
     return table(["bytes a row", *map(str, each)], rows)
 
 
-def paper(cases, took):
+def paper(cases):
     parts = {
-        "Best C / ours, sealing and opening, by the message's bytes": ratios(cases),
+        "Instructions, best C / ours, sealing and opening, by the message's bytes": ratios(cases),
         "Instructions a byte at 64 KiB, and of a message of no bytes": a_byte(cases),
-        "Cycles a block, by llvm-mca": blocks(took),
         "One call / a session of 64 KiB, by the bytes of its parts": sessions(cases),
         "Routines of the shift file": routines(cases),
         "Instructions a row": by_rows(cases),

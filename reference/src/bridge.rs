@@ -5,6 +5,7 @@
 
 use crate::amendment::Amended;
 use crate::calls::Library;
+use crate::contents::{Fields, Header};
 use crate::difference::Compared;
 use crate::report::Report;
 use crate::session::{Session, Step};
@@ -320,6 +321,17 @@ fn report(file: &[u8], ring: &[u8], jobs: &mut [u32], numbers: &mut [u8]) -> Rep
     Report { number, row, count }
 }
 
+fn contents_header(file: &[u8]) -> Header {
+    let (status, [edition, count]) = ask(27, vec![Given(file)]);
+    (status, edition, count)
+}
+
+fn contents_row(file: &[u8], row: u32) -> (u32, Fields) {
+    let mut fields = [0xa5; 36];
+    let (status, []) = ask(28, vec![Given(file), Number(row.into()), Lent(&mut fields)]);
+    (status, numbers_of(&fields).try_into().unwrap())
+}
+
 pub const PROVED: Library = Library {
     seal,
     open,
@@ -350,4 +362,6 @@ pub const PROVED: Library = Library {
     seal_counted,
     open_counted,
     report,
+    contents_header,
+    contents_row,
 };

@@ -1,6 +1,7 @@
 //! What is put to an implementation, and what it answers: calls of the sealer, the opener and the shift file.
 
 use crate::amendment::{self, Amended};
+use crate::contents;
 use crate::difference::{self, Compared};
 use crate::report::{self, Report};
 use crate::session::{Session, Step};
@@ -59,6 +60,8 @@ pub struct Library {
     pub seal_counted: SealCounted,
     pub open_counted: OpenCounted,
     pub report: fn(&[u8], &[u8], &mut [u32], &mut [u8]) -> Report,
+    pub contents_header: fn(&[u8]) -> contents::Header,
+    pub contents_row: fn(&[u8], u32) -> (u32, contents::Fields),
 }
 
 pub const REFERENCE: Library = Library {
@@ -94,6 +97,8 @@ pub const REFERENCE: Library = Library {
     seal_counted: comet::seal_counted,
     open_counted: comet::open_counted,
     report: report::report,
+    contents_header: contents::header,
+    contents_row: contents::row,
 };
 
 /// What every call begins with, as the test programs read it: op, suite, job and six numbers, most of them lengths.

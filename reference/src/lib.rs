@@ -10,6 +10,7 @@ pub mod aes;
 pub mod amendment;
 pub mod cham;
 pub mod comet;
+pub mod contents;
 pub mod difference;
 pub mod editions;
 pub mod printed;

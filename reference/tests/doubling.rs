@@ -23,8 +23,8 @@ fn decisions(name: &str, function: &str) -> Option<u32> {
 
 #[test]
 fn a_doubling_decides_nothing() {
-    for function in ["keys::doubling", "keys::doubling120"] {
-        match decisions("keys", function) {
+    for function in ["block_key::doubling", "block_key::doubling120"] {
+        match decisions("block_key", function) {
             Some(count) => assert_eq!(count, 0),
             None => eprintln!("no rt on this machine: the MIR was not looked at"),
         }

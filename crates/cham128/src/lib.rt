@@ -2,8 +2,8 @@
 ghost use mathlib.Core.Path.{_≡_};
 ghost use Prim.Native.Nat.{_+_, _<_};
 ghost use lib.ListN.{getD};
-ghost use Rattle.words.specs.Bytes.{word};
-ghost use Rattle.cham.specs.Cham.{keyWord, mixed, secondPlace, roundKeys, turned, cham};
+ghost use Rattle.block.specs.Bytes.{word};
+ghost use Rattle.cham_spec.specs.Cham.{keyWord, mixed, secondPlace, roundKeys, turned, cham};
 
 // The state.
 struct Words {
@@ -21,7 +21,7 @@ fn key_word(key: [u8; 16], i: usize) -> u32
     let a = 4 * i;
     let b = a + 1;
     let c = b + 1;
-    arx::le32(key[a], key[b], key[c], key[c + 1])
+    word::le32(key[a], key[b], key[c], key[c + 1])
 }
 
 // A round key of a word of the key.
@@ -29,10 +29,10 @@ fn mix(k: u32, t: u32) -> u32
     requires { ⌜ (0 < t) × (t < 32) ⌝ }
     ensures { λ r. ⌜ r ≡ mixed 32 t k ⌝ }
 {
-    k ^ arx::rotl32(k, 1) ^ arx::rotl32(k, t)
+    k ^ word::rotl32(k, 1) ^ word::rotl32(k, t)
 }
 
-// The place of the second round key of word i.
+// The index of the second round key of word i.
 fn second_place(i: usize) -> usize
     requires { ⌜ i < 4 ⌝ }
     ensures { λ r. ⌜ (r ≡ secondPlace 32 i) × (r < 8) ⌝ }
@@ -40,7 +40,7 @@ fn second_place(i: usize) -> usize
     (i + 4) ^ 1
 }
 
-// The round keys, each at its place.
+// The round keys, each at its index.
 fn round_keys(key: [u8; 16]) -> [u32; 8]
     ensures { λ r. ⌜ r ≡ roundKeys 32 key ⌝ }
 {
@@ -56,15 +56,15 @@ fn round_keys(key: [u8; 16]) -> [u32; 8]
     keys
 }
 
-// The word that round i makes of the first two.
+// The new word of round i, from the first two.
 fn turn(a: u32, b: u32, r: u32, i: u32, p: u32, q: u32) -> u32
     requires { ⌜ (0 < p) × (p < 32) × (0 < q) × (q < 32) ⌝ }
     ensures { λ x. ⌜ x ≡ turned 32 p q a b r i ⌝ }
 {
-    arx::rotl32(arx::add32(a ^ i, arx::rotl32(b, p) ^ r), q)
+    word::rotl32(word::add32(a ^ i, word::rotl32(b, p) ^ r), q)
 }
 
-// Rounds i to i + 3, where i is even, with the four round keys from place `at` on: each overwrites the word that leaves the state.
+// Rounds i to i + 3, where i is even, with the four round keys from index `at` on. Each round overwrites the word that leaves the state.
 fn four_rounds(s: Words, keys: &[u32; 8], at: usize, i: u32) -> Words
     requires { ⌜ (at + 3 < 8) × (i < 80) ⌝ }
     ensures { λ x. ⌜ (x .s0 ≡ turned 32 1 8 (s .s0) (s .s1) (getD (now (keys .entry)) at 0) i)
@@ -88,14 +88,14 @@ fn words_of(b: [u8; 16]) -> Words
     ensures { λ x. ⌜ (x .s0 ≡ word 4 b 0) × (x .s1 ≡ word 4 b 4) × (x .s2 ≡ word 4 b 8) × (x .s3 ≡ word 4 b 12) ⌝ }
 {
     Words {
-        s0: arx::le32(b[0], b[1], b[2], b[3]),
-        s1: arx::le32(b[4], b[5], b[6], b[7]),
-        s2: arx::le32(b[8], b[9], b[10], b[11]),
-        s3: arx::le32(b[12], b[13], b[14], b[15]),
+        s0: word::le32(b[0], b[1], b[2], b[3]),
+        s1: word::le32(b[4], b[5], b[6], b[7]),
+        s2: word::le32(b[8], b[9], b[10], b[11]),
+        s3: word::le32(b[12], b[13], b[14], b[15]),
     }
 }
 
-// The image of the block under the key.
+// The encryption of the block under the key.
 pub fn encrypt(key: [u8; 16], block: [u8; 16]) -> [u8; 16]
     ensures { λ r. ⌜ r ≡ cham 32 key block ⌝ }
 {
@@ -107,5 +107,5 @@ pub fn encrypt(key: [u8; 16], block: [u8; 16]) -> [u8; 16]
         s = four_rounds(s, &keys, 4, i + 4);
         i += 8;
     }
-    arx::store4_32(s.s0, s.s1, s.s2, s.s3)
+    word::store4_32(s.s0, s.s1, s.s2, s.s3)
 }

@@ -1,6 +1,6 @@
 -- The engine leaves one outcome: its contract gives the result.
 use mathlib.Core.Path.{refl, sym, _∙_}
-use Rattle.words.specs.Outcome.{OneOutcome}
+use Rattle.block.specs.Outcome.{OneOutcome}
 use Rattle.cham64.proofs.encrypt.Kinds as encrypt-kinds
 use Rattle.cham64.proofs.encrypt.Reads as encrypt-reads
 

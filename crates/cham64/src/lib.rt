@@ -2,8 +2,8 @@
 ghost use mathlib.Core.Path.{_≡_};
 ghost use Prim.Native.Nat.{_+_, _<_};
 ghost use lib.ListN.{getD};
-ghost use Rattle.words.specs.Bytes.{word};
-ghost use Rattle.cham.specs.Cham.{keyWord, mixed, secondPlace, roundKeys, turned, cham};
+ghost use Rattle.block.specs.Bytes.{word};
+ghost use Rattle.cham_spec.specs.Cham.{keyWord, mixed, secondPlace, roundKeys, turned, cham};
 
 // The state.
 struct Words {
@@ -19,7 +19,7 @@ fn key_word(key: [u8; 16], i: usize) -> u16
     ensures { λ r. ⌜ r ≡ keyWord 16 key i ⌝ }
 {
     let a = 2 * i;
-    arx::le16(key[a], key[a + 1])
+    word::le16(key[a], key[a + 1])
 }
 
 // A round key of a word of the key.
@@ -27,10 +27,10 @@ fn mix(k: u16, t: u16) -> u16
     requires { ⌜ (0 < t) × (t < 16) ⌝ }
     ensures { λ r. ⌜ r ≡ mixed 16 t k ⌝ }
 {
-    k ^ arx::rotl16(k, 1) ^ arx::rotl16(k, t)
+    k ^ word::rotl16(k, 1) ^ word::rotl16(k, t)
 }
 
-// The place of the second round key of word i.
+// The index of the second round key of word i.
 fn second_place(i: usize) -> usize
     requires { ⌜ i < 8 ⌝ }
     ensures { λ r. ⌜ (r ≡ secondPlace 16 i) × (r < 16) ⌝ }
@@ -38,7 +38,7 @@ fn second_place(i: usize) -> usize
     (i + 8) ^ 1
 }
 
-// The round keys, each at its place.
+// The round keys, each at its index.
 fn round_keys(key: [u8; 16]) -> [u16; 16]
     ensures { λ r. ⌜ r ≡ roundKeys 16 key ⌝ }
 {
@@ -54,15 +54,15 @@ fn round_keys(key: [u8; 16]) -> [u16; 16]
     keys
 }
 
-// The word that round i makes of the first two.
+// The new word of round i, from the first two.
 fn turn(a: u16, b: u16, r: u16, i: u16, p: u16, q: u16) -> u16
     requires { ⌜ (0 < p) × (p < 16) × (0 < q) × (q < 16) ⌝ }
     ensures { λ x. ⌜ x ≡ turned 16 p q a b r i ⌝ }
 {
-    arx::rotl16(arx::add16(a ^ i, arx::rotl16(b, p) ^ r), q)
+    word::rotl16(word::add16(a ^ i, word::rotl16(b, p) ^ r), q)
 }
 
-// Rounds i to i + 3, where i is even, with the four round keys from place `at` on: each overwrites the word that leaves the state.
+// Rounds i to i + 3, where i is even, with the four round keys from index `at` on. Each round overwrites the word that leaves the state.
 fn four_rounds(s: Words, keys: &[u16; 16], at: usize, i: u16) -> Words
     requires { ⌜ (at + 3 < 16) × (i < 80) ⌝ }
     ensures { λ x. ⌜ (x .s0 ≡ turned 16 1 8 (s .s0) (s .s1) (getD (now (keys .entry)) at 0) i)
@@ -86,14 +86,14 @@ fn words_of(b: [u8; 8]) -> Words
     ensures { λ x. ⌜ (x .s0 ≡ word 2 b 0) × (x .s1 ≡ word 2 b 2) × (x .s2 ≡ word 2 b 4) × (x .s3 ≡ word 2 b 6) ⌝ }
 {
     Words {
-        s0: arx::le16(b[0], b[1]),
-        s1: arx::le16(b[2], b[3]),
-        s2: arx::le16(b[4], b[5]),
-        s3: arx::le16(b[6], b[7]),
+        s0: word::le16(b[0], b[1]),
+        s1: word::le16(b[2], b[3]),
+        s2: word::le16(b[4], b[5]),
+        s3: word::le16(b[6], b[7]),
     }
 }
 
-// The image of the block under the key.
+// The encryption of the block under the key.
 pub fn encrypt(key: [u8; 16], block: [u8; 8]) -> [u8; 8]
     ensures { λ r. ⌜ r ≡ cham 16 key block ⌝ }
 {
@@ -107,5 +107,5 @@ pub fn encrypt(key: [u8; 16], block: [u8; 8]) -> [u8; 8]
         s = four_rounds(s, &keys, 12, i + 12);
         i += 16;
     }
-    arx::store4_16(s.s0, s.s1, s.s2, s.s3)
+    word::store4_16(s.s0, s.s1, s.s2, s.s3)
 }

@@ -3,10 +3,10 @@ use mathlib.Core.Path.{_≡_}
 use mathlib.Core.List.{List}
 use Prim.Native.Nat.{ℕ, _*_, _/_, _%_, _≤_}
 use native.Mathlib.Omega.{arith}
-use Rattle.fips197.specs.Cipher.{cipher}
-use Rattle.fips197.proofs.Injective as aes
-use Rattle.cham.specs.Cham.{cham}
-use Rattle.cham.proofs.Injective as cham-laws
+use Rattle.aes_spec.specs.Cipher.{cipher}
+use Rattle.aes_spec.proofs.Injective as aes
+use Rattle.cham_spec.specs.Cham.{cham}
+use Rattle.cham_spec.proofs.Injective as cham-laws
 use Rattle.speck.specs.Speck.{speck}
 use Rattle.speck.proofs.Injective as speck-laws
 use Rattle.cipher.specs.Cipher.{Block, Lawful, imageOf, Facts, sizeOf, engineOf, cipherOf}

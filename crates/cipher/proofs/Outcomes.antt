@@ -5,11 +5,11 @@ use Prim.Native.Nat.{ℕ, zero, suc, _<_}
 use native.Mathlib.Omega.{arith}
 use lib.ListN.{getD}
 use lib.Seq.{ext-getD}
-use Rattle.words.specs.Outcome.{OneOutcome}
-use Rattle.words.proofs.Bytes.{bytes-inj}
-use Rattle.words.proofs.Lists.{parts-told}
-use Rattle.words.proofs.Blocks.{wide-told}
-use Rattle.columns.proofs.Table.{table-only}
+use Rattle.block.specs.Outcome.{OneOutcome}
+use Rattle.block.proofs.Bytes.{bytes-inj}
+use Rattle.block.proofs.Lists.{parts-told}
+use Rattle.block.proofs.Blocks.{wide-told}
+use Rattle.aes_tables.proofs.Table.{table-only}
 use Rattle.cipher.specs.Cipher.{Full, sizeOf}
 use Rattle.cipher.proofs.is_suite.Kinds as is-suite-kinds
 use Rattle.cipher.proofs.is_suite.Reads as is-suite-reads
@@ -21,8 +21,8 @@ use Rattle.cipher.proofs.nonce_size.Kinds as nonce-size-kinds
 use Rattle.cipher.proofs.nonce_size.Reads as nonce-size-reads
 use Rattle.cipher.proofs.is_second.Kinds as is-second-kinds
 use Rattle.cipher.proofs.is_second.Reads as is-second-reads
-use Rattle.cipher.proofs.lends.Kinds as lends-kinds
-use Rattle.cipher.proofs.lends.Reads as lends-reads
+use Rattle.cipher.proofs.needs_tables.Kinds as needs-tables-kinds
+use Rattle.cipher.proofs.needs_tables.Reads as needs-tables-reads
 use Rattle.cipher.proofs.tables.Kinds as tables-kinds
 use Rattle.cipher.proofs.tables.Reads as tables-reads
 use Rattle.cipher.proofs.encipher16.Kinds as encipher16-kinds
@@ -33,8 +33,8 @@ use Rattle.cipher.proofs.encipher.Kinds as encipher-kinds
 use Rattle.cipher.proofs.encipher.Reads as encipher-reads
 
 -- what is full is one element, the tables
-same-lent : (s t : List (List (List ℕ))) → Full s → Full t → s ≡ t
-same-lent s t p q = ext-getD [] s t (p .0 ∙ sym (q .0)) (λ i h. first i (omega (arith, p .0)))
+same-tables : (s t : List (List (List ℕ))) → Full s → Full t → s ≡ t
+same-tables s t p q = ext-getD [] s t (p .0 ∙ sym (q .0)) (λ i h. first i (omega (arith, p .0)))
   where
     first : (i : ℕ) → i < 1 → getD s i [] ≡ getD t i []
     first zero h = table-only (getD s 0 []) (getD t 0 []) (p .1) (q .1)
@@ -55,11 +55,11 @@ nonce-size κs a h x y = (x .ensures ∙ sym (y .ensures), refl)
 pub is-second : OneOutcome is-second-kinds.ps is-second-kinds.r is-second-reads.Pre is-second-reads.Post
 is-second κs a h x y = (x .ensures ∙ sym (y .ensures), refl)
 
-pub lends : OneOutcome lends-kinds.ps lends-kinds.r lends-reads.Pre lends-reads.Post
-lends κs a h x y = (x .ensures ∙ sym (y .ensures), refl)
+pub needs-tables : OneOutcome needs-tables-kinds.ps needs-tables-kinds.r needs-tables-reads.Pre needs-tables-reads.Post
+needs-tables κs a h x y = (x .ensures ∙ sym (y .ensures), refl)
 
 pub tables : OneOutcome tables-kinds.ps tables-kinds.r tables-reads.Pre tables-reads.Post
-tables κs a h x y = (same-lent (x .result) (y .result) (x .ensures .full h) (y .ensures .full h), refl)
+tables κs a h x y = (same-tables (x .result) (y .result) (x .ensures .full h) (y .ensures .full h), refl)
 
 pub encipher16 : OneOutcome encipher16-kinds.ps encipher16-kinds.r encipher16-reads.Pre encipher16-reads.Post
 encipher16 κs a h x y = (wide-told (x .result) (y .result) (omega arith) (omega arith) (omega arith) (omega arith) (x .ensures ∙ sym (y .ensures)), refl)

@@ -8,11 +8,11 @@ use native.Mathlib.Omega.{arith}
 use native.Mathlib.Decide.{decLe}
 use lib.Dec.{leb, eqb}
 use borrow.Author.Tests.{le-leb, lt-leb, eqb-true, eq-eqb, ne-eqb, not-false}
-use Rattle.words.proofs.Tests.{both-true}
-use Rattle.fips197.specs.Cipher.{cipher}
-use Rattle.cham.specs.Cham.{cham}
+use Rattle.block.proofs.Tests.{both-true}
+use Rattle.aes_spec.specs.Cipher.{cipher}
+use Rattle.cham_spec.specs.Cham.{cham}
 use Rattle.speck.specs.Speck.{speck}
-use Rattle.cipher.specs.Cipher.{Version, one, two, isTwo, BlockCipher, aes128, cham128, speck64, cham64, imageOf, isLent, Facts, facts, factsOf, sizeOf, nonceOf, engineOf, versionOf, lends, Ready, isSuite, IsSuite, retired, seals, Seals}
+use Rattle.cipher.specs.Cipher.{Version, one, two, isTwo, BlockCipher, aes128, cham128, speck64, cham64, imageOf, hasTables, Facts, facts, factsOf, sizeOf, nonceOf, engineOf, versionOf, needsTables, TablesFit, isSuite, IsSuite, retired, seals, Seals}
 
 abbrev pub Engine : Type 0
 Engine = List ℕ → List ℕ → List ℕ
@@ -207,21 +207,21 @@ is-two one e = absurd (false≢true e)
 is-two two e = refl
 
 -- engines
-pub engine-1 : (s : ℕ) → lends s ≡ true → engineOf s ≡ cipher
-unfolding lends engineOf
+pub engine-1 : (s : ℕ) → needsTables s ≡ true → engineOf s ≡ cipher
+unfolding needsTables engineOf
 engine-1 s = lent (factsOf s .engine)
   where
-    lent : (c : BlockCipher) → isLent c ≡ true → imageOf c ≡ cipher
+    lent : (c : BlockCipher) → hasTables c ≡ true → imageOf c ≡ cipher
     lent aes128 e = refl
     lent cham128 e = absurd (false≢true e)
     lent speck64 e = absurd (false≢true e)
     lent cham64 e = absurd (false≢true e)
 
 abbrev Wide : Facts → Type 0
-Wide f = isLent (f .engine) ≡ false → f .block ≡ 16 → imageOf (f .engine) ≡ cham 32
+Wide f = hasTables (f .engine) ≡ false → f .block ≡ 16 → imageOf (f .engine) ≡ cham 32
 
-pub engine-2 : (s : ℕ) → lends s ≡ false → sizeOf s ≡ 16 → engineOf s ≡ cham 32
-unfolding lends engineOf sizeOf
+pub engine-2 : (s : ℕ) → needsTables s ≡ false → sizeOf s ≡ 16 → engineOf s ≡ cham 32
+unfolding needsTables engineOf sizeOf
 engine-2 = each Wide (λ g e. absurd (true≢false g)) (λ g e. refl) narrow narrow (λ g e. absurd (true≢false g)) narrow
   where
     narrow : {P Q : Type 0} → Q → _≡_ {A = ℕ} 8 16 → P
@@ -245,32 +245,32 @@ pub engine-4 : (s : ℕ) → s ≡ 4 → engineOf s ≡ cham 16
 unfolding engineOf
 engine-4 s e = ap (λ (f : Facts). imageOf (f .engine)) (line-4 s e)
 
--- ---- what they are lent
+-- ---- the tables that they borrow
 
-abbrev lentBy : Facts → Bool
-lentBy f = isLent (f .engine)
+abbrev tablesBy : Facts → Bool
+tablesBy f = hasTables (f .engine)
 
-pub lends-early : (s : ℕ) → s ≤ 1 → lends s ≡ true
-unfolding lends
-lends-early s h = ap lentBy (line-1 s h)
+pub needs-tables-early : (s : ℕ) → s ≤ 1 → needsTables s ≡ true
+unfolding needsTables
+needs-tables-early s h = ap tablesBy (line-1 s h)
 
-pub lends-late : (s : ℕ) → 1 < s → lends s ≡ eqb s 5
-unfolding lends
-lends-late s h =
+pub needs-tables-late : (s : ℕ) → 1 < s → needsTables s ≡ eqb s 5
+unfolding needsTables
+needs-tables-late s h =
     elim (decLe s 2) [
-      | yes a ↦ ap lentBy (line-2 s h a) ∙ sym (ne-eqb s 5 (λ e. omega arith))
+      | yes a ↦ ap tablesBy (line-2 s h a) ∙ sym (ne-eqb s 5 (λ e. omega arith))
       | no a ↦ elim (decLe s 3) [
-        | yes b ↦ ap lentBy (line-3 s (omega arith)) ∙ sym (ne-eqb s 5 (λ e. omega arith))
+        | yes b ↦ ap tablesBy (line-3 s (omega arith)) ∙ sym (ne-eqb s 5 (λ e. omega arith))
         | no b ↦ elim (decLe s 4) [
-          | yes c ↦ ap lentBy (line-4 s (omega arith)) ∙ sym (ne-eqb s 5 (λ e. omega arith))
+          | yes c ↦ ap tablesBy (line-4 s (omega arith)) ∙ sym (ne-eqb s 5 (λ e. omega arith))
           | no c ↦ elim (decLe s 5) [
-            | yes d ↦ ap lentBy (line-5 s (omega arith)) ∙ sym (eq-eqb s 5 (omega arith))
-            | no d ↦ ap lentBy (line-6 s (omega arith)) ∙ sym (ne-eqb s 5 (λ e. omega arith))
+            | yes d ↦ ap tablesBy (line-5 s (omega arith)) ∙ sym (eq-eqb s 5 (omega arith))
+            | no d ↦ ap tablesBy (line-6 s (omega arith)) ∙ sym (ne-eqb s 5 (λ e. omega arith))
           ]
         ]
       ]
     ]
 
--- where a suite's engine is lent nothing, nothing is ready for it
-pub none-ready : (s : ℕ) → lends s ≡ false → Ready s []
+-- for a suite whose engine needs no tables, the empty slice fits
+pub none-ready : (s : ℕ) → needsTables s ≡ false → TablesFit s []
 none-ready s h = record { full = λ e. absurd (true≢false (sym e ∙ h)) }

@@ -5,11 +5,11 @@ use mathlib.Core.Logic.{_⊎_}
 use Prim.Native.Nat.{ℕ}
 use lib.Dec.{leb, eqb}
 use lib.ListN.{length, getD}
-use Rattle.words.specs.Bytes.{AllBytes}
+use Rattle.block.specs.Bytes.{AllBytes}
 use mathlib.Core.Bool.{Bool, true, false, cond, _&&_, not}
-use Rattle.fips197.specs.Cipher.{cipher}
-use Rattle.columns.specs.Tables.{IsTables}
-use Rattle.cham.specs.Cham.{cham}
+use Rattle.aes_spec.specs.Cipher.{cipher}
+use Rattle.aes_tables.specs.Tables.{IsTables}
+use Rattle.cham_spec.specs.Cham.{cham}
 use Rattle.speck.specs.Speck.{speck}
 
 -- a block of n bytes
@@ -22,13 +22,13 @@ pub data Version : Type 0 where
   one : Version
   two : Version
 
--- what the mode is built over: a block cipher, by its block size and the image of a block under a key, and the version
+-- what the mode is built over: a block cipher, by its block size and the encryption of a block under a key, and the version
 pub record Cipher : Type 0 where
   pub size : ℕ
   pub E : List ℕ → List ℕ → List ℕ
   pub version : Version
 
--- what the cipher promises: blocks of 16 or 8 bytes, images are blocks, and under each key no two blocks share an image
+-- what the cipher promises: blocks of 16 or 8 bytes, encryptions are blocks, and under each key encryption is injective
 pub record Lawful (κ : Cipher) : Type 0 where
   pub sizes : (κ .size ≡ 16) ⊎ (κ .size ≡ 8)
   pub image : (k b : List ℕ) → Block 16 k → Block (κ .size) b → Block (κ .size) (κ .E k b)
@@ -41,19 +41,19 @@ pub data BlockCipher : Type 0 where
   speck64 : BlockCipher
   cham64 : BlockCipher
 
--- the image of a block under a key
+-- the encryption of a block under a key
 abbrev pub imageOf : BlockCipher → List ℕ → List ℕ → List ℕ
 imageOf aes128 = cipher
 imageOf cham128 = cham 32
 imageOf speck64 = speck
 imageOf cham64 = cham 16
 
--- the engine of AES is lent the tables of its columns, the others nothing
-abbrev pub isLent : BlockCipher → Bool
-isLent aes128 = true
-isLent cham128 = false
-isLent speck64 = false
-isLent cham64 = false
+-- the engine of AES reads the tables of its columns, the others none
+abbrev pub hasTables : BlockCipher → Bool
+hasTables aes128 = true
+hasTables cham128 = false
+hasTables speck64 = false
+hasTables cham64 = false
 
 -- what a suite has: block, nonce and tag in bytes, its version of COMET, and its cipher
 pub record Facts : Type 0 where
@@ -80,21 +80,21 @@ factsOf s =
     (cond (leb s 5) (facts 16 16 16 two aes128)
     (facts 8 15 8 two speck64)))))
 
--- a suite that we have; of any other number the table's facts are asked nowhere
+-- a suite that exists; the table's facts of any other number are never used
 unfoldable pub isSuite : ℕ → Bool
 isSuite s = leb 1 s && leb s 6
 
 abbrev pub IsSuite : ℕ → Type 0
 IsSuite s = isSuite s ≡ true
 
--- suite 4 is retired (document 02, W7): it still opens, and seals no more
+-- suite 4 is retired (document 02, W7): it still opens, but no longer seals
 abbrev pub retiredSuite : ℕ
 retiredSuite = 4
 
 unfoldable pub retired : ℕ → Bool
 retired s = eqb s retiredSuite
 
--- a suite that seals: one that we have, and that is not retired
+-- a suite that seals: one that exists and is not retired
 unfoldable pub seals : ℕ → Bool
 seals s = isSuite s && not (retired s)
 
@@ -107,15 +107,6 @@ sizeOf s = factsOf s .block
 
 unfoldable pub nonceOf : ℕ → ℕ
 nonceOf s = factsOf s .nonce
-
--- numbers 1, 10, 2 and 3 of every call under a key (10 where the call does not take the suite), from the suite and the lengths of key and nonce: the first that applies, and where none does the call's own
-abbrev pub underKey : Bool → ℕ → ℕ → ℕ → ℕ → ℕ
-underKey taken suite key nonce own =
-    cond (not (isSuite suite)) 1
-    (cond (not taken) 10
-    (cond (not (eqb key 16)) 2
-    (cond (not (eqb nonce (nonceOf suite))) 3
-    own)))
 
 unfoldable pub engineOf : ℕ → List ℕ → List ℕ → List ℕ
 engineOf s = imageOf (factsOf s .engine)
@@ -131,13 +122,13 @@ abbrev pub isTwo : Version → Bool
 isTwo one = false
 isTwo two = true
 
--- whether the suite's engine is lent anything
-unfoldable pub lends : ℕ → Bool
-lends s = isLent (factsOf s .engine)
+-- whether the suite's engine reads the tables of AES
+unfoldable pub needsTables : ℕ → Bool
+needsTables s = hasTables (factsOf s .engine)
 
 abbrev pub Full : List (List (List ℕ)) → Type 0
 Full t = (length t ≡ 1) × IsTables (getD t 0 [])
 
--- what is lent is fit for the suite's engine
-pub record Ready (s : ℕ) (t : List (List (List ℕ))) : Type 0 where
-  pub full : lends s ≡ true → Full t
+-- the tables that a caller passes are those that the suite's engine reads
+pub record TablesFit (s : ℕ) (t : List (List (List ℕ))) : Type 0 where
+  pub full : needsTables s ≡ true → Full t

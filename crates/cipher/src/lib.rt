@@ -1,21 +1,24 @@
-// The block ciphers of the six suites, under one promise.
-use words::block::Block;
+// The block ciphers of the six suites after one contract.
+use block::Block;
 ghost use mathlib.Core.Path.{_≡_};
 ghost use mathlib.Core.Bool.{true};
 ghost use mathlib.Core.List.{_++_};
 ghost use Prim.Native.Nat.{_-_, _≤_, _<_};
 ghost use lib.ListN.{take, drop, replicate};
-ghost use Rattle.words.specs.Bytes.{bytes};
-ghost use Rattle.words.specs.Blocks.{wide};
-ghost use Rattle.fips197.specs.Cipher.{cipher};
-ghost use Rattle.cham.specs.Cham.{cham};
+ghost use Rattle.block.specs.Bytes.{bytes};
+ghost use Rattle.block.specs.Blocks.{wide};
+ghost use Rattle.aes_spec.specs.Cipher.{cipher};
+ghost use Rattle.cham_spec.specs.Cham.{cham};
 ghost use Rattle.speck.specs.Speck.{speck};
-ghost use Rattle.cipher.specs.Cipher.{lends, Full, Ready, isSuite, IsSuite, isTwo, sizeOf, nonceOf, versionOf, cipherOf, seals};
+ghost use Rattle.cipher.specs.Cipher.{needsTables, Full, TablesFit, isSuite, IsSuite, isTwo, sizeOf, nonceOf, versionOf, cipherOf, seals};
 
 // The most bytes of associated data, and the most of a message.
 pub const LIMIT: usize = 65536;
 
-// Whether we have the suite.
+// Suite 4, over CHAM-64/128. It is retired (document 02, W7): it opens, and is retired.
+pub const RETIRED: u8 = 4;
+
+// Whether the suite exists.
 pub fn is_suite(suite: u8) -> bool
     ensures { λ r. ⌜ r ≡ isSuite suite ⌝ }
 {
@@ -25,14 +28,14 @@ pub fn is_suite(suite: u8) -> bool
     suite <= 6
 }
 
-// Whether the suite seals: suite 4 is retired.
+// Whether the suite seals.
 pub fn seals(suite: u8) -> bool
     ensures { λ r. ⌜ r ≡ seals suite ⌝ }
 {
     if !is_suite(suite) {
         return false;
     }
-    suite != 4
+    suite != RETIRED
 }
 
 // The suite's block size.
@@ -53,19 +56,19 @@ pub fn nonce_size(suite: u8) -> usize
     if size_of(suite) == 16 { 16 } else { 15 }
 }
 
-// Whether the suite is of COMET's version 2.
+// Whether the suite uses COMET version 2.
 pub fn is_second(suite: u8) -> bool
     ensures { λ r. ⌜ r ≡ isTwo (versionOf suite) ⌝ }
 {
     4 < suite
 }
 
-// What an engine is lent, made once a message: a slice of one, or of none where the suite's engine is lent nothing.
-pub type Lent = columns::Tables;
+// The lookup tables of AES, copied once a message. Functions take them as a slice: of one element where the suite needs them, else empty.
+pub type AesTables = aes_tables::Tables;
 
-// Whether the suite's engine is lent anything.
-pub fn lends(suite: u8) -> bool
-    ensures { λ r. ⌜ r ≡ lends suite ⌝ }
+// Whether the suite's engine reads the tables of AES.
+pub fn needs_tables(suite: u8) -> bool
+    ensures { λ r. ⌜ r ≡ needsTables suite ⌝ }
 {
     if suite <= 1 {
         return true;
@@ -73,79 +76,79 @@ pub fn lends(suite: u8) -> bool
     suite == 5
 }
 
-pub fn tables(suite: u8) -> [Lent; 1]
-    requires { ⌜ lends suite ≡ true ⌝ }
-    ensures { λ r. ⌜ Ready suite r ⌝ }
+pub fn tables(suite: u8) -> [AesTables; 1]
+    requires { ⌜ needsTables suite ≡ true ⌝ }
+    ensures { λ r. ⌜ TablesFit suite r ⌝ }
 {
-    [columns::tables()]
+    [aes_tables::tables()]
 }
 
-fn by_aes(lent: &[Lent], key: Block, block: Block) -> Block
-    requires { ⌜ Full (now lent) ⌝ }
+fn by_aes(tables: &[AesTables], key: Block, block: Block) -> Block
+    requires { ⌜ Full (now tables) ⌝ }
     ensures { λ r. ⌜ wide r ≡ cipher (wide key) (wide block) ⌝ }
 {
-    let k = words::block::bytes_of(key);
-    let b = words::block::bytes_of(block);
-    words::block::block_of(columns::encrypt_with(&lent[0], k, b))
+    let k = block::bytes_of(key);
+    let b = block::bytes_of(block);
+    block::block_of(aes_tables::encrypt_with(&tables[0], k, b))
 }
 
 fn by_cham128(key: Block, block: Block) -> Block
     ensures { λ r. ⌜ wide r ≡ cham 32 (wide key) (wide block) ⌝ }
 {
-    let k = words::block::bytes_of(key);
-    let b = words::block::bytes_of(block);
-    words::block::block_of(cham128::encrypt(k, b))
+    let k = block::bytes_of(key);
+    let b = block::bytes_of(block);
+    block::block_of(cham128::encrypt(k, b))
 }
 
 fn by_speck(key0: u64, key1: u64, block: u64) -> u64
     ensures { λ r. ⌜ bytes 8 r ≡ speck (bytes 8 key0 ++ bytes 8 key1) (bytes 8 block) ⌝ }
 {
-    let k = words::block::bytes_of(Block { a: key0, b: key1 });
-    let b = words::block::bytes8(block);
-    words::block::number8(speck::encrypt(k, b))
+    let k = block::bytes_of(Block { a: key0, b: key1 });
+    let b = block::bytes8(block);
+    block::number8(speck::encrypt(k, b))
 }
 
 fn by_cham64(key0: u64, key1: u64, block: u64) -> u64
     ensures { λ r. ⌜ bytes 8 r ≡ cham 16 (bytes 8 key0 ++ bytes 8 key1) (bytes 8 block) ⌝ }
 {
-    let k = words::block::bytes_of(Block { a: key0, b: key1 });
-    let b = words::block::bytes8(block);
-    words::block::number8(cham64::encrypt(k, b))
+    let k = block::bytes_of(Block { a: key0, b: key1 });
+    let b = block::bytes8(block);
+    block::number8(cham64::encrypt(k, b))
 }
 
-// The image of a block of 16 bytes.
-pub fn encipher16(lent: &[Lent], suite: u8, key: Block, block: Block) -> Block
-    requires { ⌜ Ready suite (now lent) × IsSuite suite × (sizeOf suite ≡ 16) ⌝ }
+// The encryption of a block of 16 bytes.
+pub fn encipher16(tables: &[AesTables], suite: u8, key: Block, block: Block) -> Block
+    requires { ⌜ TablesFit suite (now tables) × IsSuite suite × (sizeOf suite ≡ 16) ⌝ }
     ensures { λ r. ⌜ wide r ≡ cipherOf suite .E (wide key) (wide block) ⌝ }
 {
-    if lends(suite) {
-        return by_aes(lent, key, block);
+    if needs_tables(suite) {
+        return by_aes(tables, key, block);
     }
     by_cham128(key, block)
 }
 
-// The image of a block of 8 bytes: as numbers, which pass in registers; the key's are its halves.
+// The encryption of a block of 8 bytes, as a number: numbers pass in registers. The key is given by its two halves.
 pub fn encipher8(suite: u8, key0: u64, key1: u64, block: u64) -> u64
     requires { ⌜ IsSuite suite × (sizeOf suite ≡ 8) ⌝ }
     ensures { λ r. ⌜ bytes 8 r ≡ cipherOf suite .E (bytes 8 key0 ++ bytes 8 key1) (bytes 8 block) ⌝ }
 {
-    if suite == 4 {
+    if suite == RETIRED {
         return by_cham64(key0, key1, block);
     }
     by_speck(key0, key1, block)
 }
 
-// The image of the block's first bytes, as many as the suite's block has, and zeros behind it. It calls the engine of suite 4
-// itself: one that has two callers stays a function of its own, and `encipher8` saves no registers for it where it runs Speck.
-pub fn encipher(lent: &[Lent], suite: u8, key: Block, block: Block) -> Block
-    requires { ⌜ Ready suite (now lent) × IsSuite suite ⌝ }
+// The image of the block's first bytes, as many as the suite's block has, and zeros after it. It calls the engine of suite 4
+// directly: an engine with two callers is not inlined, so `encipher8` saves no registers for it on the path to Speck.
+pub fn encipher(tables: &[AesTables], suite: u8, key: Block, block: Block) -> Block
+    requires { ⌜ TablesFit suite (now tables) × IsSuite suite ⌝ }
     ensures image { λ r. ⌜ take (sizeOf suite) (wide r) ≡ cipherOf suite .E (wide key) (take (sizeOf suite) (wide block)) ⌝ }
     ensures rest { λ r. ⌜ drop (sizeOf suite) (wide r) ≡ replicate (16 - sizeOf suite) 0 ⌝ }
 {
     if size_of(suite) == 16 {
-        return encipher16(lent, suite, key, block);
+        return encipher16(tables, suite, key, block);
     }
-    if suite != 4 {
+    if suite != RETIRED {
         return Block {
             a: encipher8(suite, key.a, key.b, block.a),
             b: 0,

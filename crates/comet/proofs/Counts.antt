@@ -7,19 +7,19 @@ use native.Mathlib.Omega.{arith}
 use native.Mathlib.Decide.{decLe}
 use mathlib.Core.List.{List}
 use lib.ListN.{length, drop, length-drop}
-use Rattle.words.specs.Words.{add}
-use Rattle.words.proofs.Lists.{nil-of}
+use Rattle.block.specs.Words.{add}
+use Rattle.block.proofs.Lists.{nil-of}
 use Rattle.cipher.specs.Cipher.{cipherOf}
 use Rattle.mode.specs.Blocks.{blocks}
 use Rattle.mode.specs.Mode.{calls}
 use Rattle.mode.proofs.Blocks.{blocks-nil, blocks-more}
-use Rattle.step.specs.Two.{oneMore}
-use Rattle.numbers.specs.Verdicts.{refusal}
+use Rattle.block_step.specs.Two.{oneMore}
+use Rattle.status.specs.Verdicts.{refusal}
 use Rattle.comet.specs.Counted.{Counting, countedAs, callsOf, sealingCounted, openingCounted}
-use Rattle.numbers.proofs.Refuse.{passed}
+use Rattle.status.proofs.Refuse.{passed}
 use Rattle.comet.proofs.Left.{sealing-over, opening-over}
 
--- a and m blocks, the start's call, and the tag's behind them
+-- a and m blocks, the start's call, and the tag's after them
 pub count-all : (a m x y k : ℕ) → a ≤ 65536 → m ≤ 65536 → x ≡ add 64 1 a → y ≡ add 64 x m → k ≡ oneMore y → k ≡ a + m + 2
 count-all a m x y k ha hm ex ey ek =
     let la : 1 + a < 2 ^ 64 = omega arith in

@@ -6,11 +6,11 @@ use native.Mathlib.Nat.{not-suc-le-zero}
 use native.Mathlib.Omega.{arith}
 use mathlib.Core.List.{List}
 use lib.ListN.{length, replicate}
-use Rattle.words.specs.Bytes.{sameBytes}
+use Rattle.block.specs.Bytes.{sameBytes}
 use Rattle.cipher.specs.Cipher.{cipherOf}
 use Rattle.mode.specs.Mode.{ciphertext, tag, textOut, tagOut}
-use Rattle.numbers.specs.Verdicts.{refusal}
-use Rattle.numbers.proofs.Refuse.{passed}
+use Rattle.status.specs.Verdicts.{refusal}
+use Rattle.status.proofs.Refuse.{passed}
 use Rattle.comet.specs.Answers.{Sealed, sealedAs, sealing, Opened, openedAs, opening}
 
 -- ---- the sealer
@@ -35,7 +35,7 @@ module _ (s : ℕ) (k v a m o t : List ℕ) (n : ℕ) (e : n ≡ refusal false s
       written : _≡_ {A = Sealed} (record { number = 0; out = x; tag = y }) (at 0)
       written = λ i. record { number = 0; out = ex i; tag = ey i }
 
--- where nothing is refused, the output's old bytes do not matter: a text that is sealed in its place is its own output
+-- where nothing is refused, the output's old bytes do not matter: a text that is sealed in place is its own output
 pub sealing-over : (s : ℕ) (k v a m o t : List ℕ) → refusal false s (length k) (length v) (length a) (length m) (length o) (length t) ≡ 0 → sealing s k v a m m t ≡ sealing s k v a m o t
 unfolding sealing
 sealing-over s k v a m o t z =

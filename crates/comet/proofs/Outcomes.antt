@@ -2,9 +2,9 @@
 use mathlib.Core.Path.{_≡_, refl, sym, ap, ap₂, _∙_}
 use mathlib.Core.List.{List}
 use Prim.Native.Nat.{ℕ}
-use Rattle.words.specs.Outcome.{OneOutcome}
-use Rattle.numbers.specs.declared.verdict.Verdict.{Verdict}
-use Rattle.numbers.proofs.Outcomes.{number-tells}
+use Rattle.block.specs.Outcome.{OneOutcome}
+use Rattle.status.specs.declared.verdict.Verdict.{Verdict}
+use Rattle.status.proofs.Outcomes.{number-tells}
 use Rattle.comet.specs.declared.Counted.{Counted}
 use Rattle.comet.specs.Answers.{Sealed, Opened}
 use Rattle.comet.specs.Counted.{Counting}

@@ -1,4 +1,4 @@
--- Behind the whole blocks of a text stands a short block or nothing: with it the walk has gone over all blocks, and what went out is the whole text.
+-- Behind the whole blocks of a text stands a short block or nothing: with it the walk has gone over all blocks, and what was output is the whole text.
 use mathlib.Core.Path.{_≡_, sym, ap, ap₂, _∙_}
 use mathlib.Core.Bool.{Bool, cond}
 use Prim.Native.Nat.{ℕ, _+_, _-_, _^_, _%_, _<_}
@@ -8,19 +8,19 @@ use mathlib.Core.List.{List, [], _++_, append-nil}
 use lib.ListN.{length, take, drop, length-append, drop-of-length-le}
 use lib.Seq.{take-at, take-all, drop-at}
 use borrow.Rule.Slice.PartMut.{postOf, putMid, post-is}
-use Rattle.words.proofs.Lists.{nil-of}
+use Rattle.block.proofs.Lists.{nil-of}
 use lib.Dec.{ltb}
-use Rattle.words.specs.Words.{xor, add}
+use Rattle.block.specs.Words.{xor, add}
 use Rattle.cipher.specs.Cipher.{Cipher}
 use Rattle.mode.specs.Blocks.{blocks}
 use Rattle.mode.specs.Walk.{States, whole, rest, turned, hidden, messageOf, walked, covered}
 use Rattle.mode.proofs.Cut.{rest-less, blocks-whole-rest}
 use Rattle.mode.proofs.Walk.{later, later-first, walked-append, covered-append}
-use Rattle.step.specs.Two.{oneMore}
-use Rattle.walk.specs.Behind.{wholes}
-use Rattle.walk.proofs.Front.{one-block, no-block, left-within, left-long, walk-short, cover-short, walk-none, cover-none}
+use Rattle.block_step.specs.Two.{oneMore}
+use Rattle.block_walk.specs.Progress.{wholes}
+use Rattle.block_walk.proofs.Front.{one-block, no-block, left-within, left-long, walk-short, cover-short, walk-none, cover-none}
 
--- u and k: the states and the mark behind the whole blocks of l
+-- u and k: the states and the mark after the whole blocks of l
 module _ (κ : Cipher) (pos : 0 < κ .size) (d : Bool) (first short : ℕ) (s : States) (l : List ℕ)
     (u : States) (k : ℕ) (eu : u ≡ walked κ d first short s (wholes (κ .size) l)) (ek : k ≡ cond (ltb (length l) (κ .size)) first 0) where
   abbrev n : ℕ
@@ -57,7 +57,7 @@ module _ (κ : Cipher) (pos : 0 < κ .size) (d : Bool) (first short : ℕ) (s : 
     pub none-walk : u ≡ walked κ d first short s (blocks n l)
     none-walk = sym (walk-on ∙ walk-none κ pos d short k u (rest n l) none)
 
-  -- text holds what went out for the whole blocks, and behind it, from i on, what is left
+  -- text holds what was output for the whole blocks, and after it, from i on, what is left
   module _ (text : List ℕ) (i : ℕ) (et : text ≡ covered κ d first short s (wholes n l) ++ rest n l) (lt : length text ≡ length l) (ei : i ≡ length (whole n l)) where
     abbrev front : List ℕ
     front = covered κ d first short s (wholes n l)
@@ -82,7 +82,7 @@ module _ (κ : Cipher) (pos : 0 < κ .size) (d : Bool) (first short : ℕ) (s : 
     pub none-out : length (rest n l) ≡ 0 → text ≡ covered κ d first short s (blocks n l)
     none-out none = et ∙ ap (λ (b : List ℕ). front ++ b) (nil-of (rest n l) none ∙ sym (cover-none κ pos d short k u (rest n l) none)) ∙ sym cover-on
 
--- the count behind the whole blocks of l, y before them
+-- the count after the whole blocks of l, y before them
 module _ (n : ℕ) (pos : 0 < n) (l : List ℕ) (x y : ℕ) (e : x ≡ add 64 y (length (wholes n l))) where
   blocks-all : length (blocks n l) ≡ length (wholes n l) + length (blocks n (rest n l))
   blocks-all = sym (ap length (blocks-whole-rest n pos l)) ∙ length-append (wholes n l) (blocks n (rest n l))

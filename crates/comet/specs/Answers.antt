@@ -1,20 +1,20 @@
--- What sealer and opener leave in every buffer, by the number that they give (document 01, "Numbers given by sealer and opener").
+-- The contents of every buffer after a call of sealer and opener, by its status (document 01, "Numbers given by sealer and opener").
 use mathlib.Core.Bool.{Bool, true, false}
 use Prim.Native.Nat.{ℕ, zero, suc}
 use mathlib.Core.List.{List}
 use lib.ListN.{length, replicate}
-use Rattle.words.specs.Bytes.{sameBytes}
+use Rattle.block.specs.Bytes.{sameBytes}
 use Rattle.cipher.specs.Cipher.{cipherOf}
-use Rattle.numbers.specs.Verdicts.{refusal}
+use Rattle.status.specs.Verdicts.{refusal}
 use Rattle.mode.specs.Mode.{ciphertext, tag, textOut, tagOut}
 
--- what a call of the sealer gives and leaves
+-- the status, output and tag of a sealer call
 pub record Sealed : Type 0 where
   pub number : ℕ
   pub out : List ℕ
   pub tag : List ℕ
 
--- on 0 the ciphertext and the tag; on any other number both buffers as they were
+-- on 0 the ciphertext and the tag; on any other number both buffers unchanged
 abbrev pub sealedAs : ℕ → List ℕ → List ℕ → List ℕ → List ℕ → Sealed
 sealedAs zero text tag out₀ tag₀ = record { number = 0; out = text; tag = tag }
 sealedAs (suc j) text tag out₀ tag₀ = record { number = suc j; out = out₀; tag = tag₀ }
@@ -24,12 +24,12 @@ sealing s key nonce ad msg out₀ tag₀ =
     sealedAs (refusal false s (length key) (length nonce) (length ad) (length msg) (length out₀) (length tag₀))
     (ciphertext (cipherOf s) key nonce ad msg) (tag (cipherOf s) key nonce ad msg) out₀ tag₀
 
--- what a call of the opener gives and leaves
+-- the status and output of an opener call
 pub record Opened : Type 0 where
   pub number : ℕ
   pub out : List ℕ
 
--- lengths right and the tag right: the message; lengths right and the tag wrong: 8, and every byte 0; any other number leaves the buffer as it was
+-- lengths and tag right: the message; lengths right and the tag wrong: 8, and every byte 0; any other number leaves the buffer unchanged
 abbrev pub openedAs : ℕ → Bool → List ℕ → List ℕ → Opened
 openedAs zero true text out₀ = record { number = 0; out = text }
 openedAs zero false text out₀ = record { number = 8; out = replicate (length out₀) 0 }
@@ -40,6 +40,6 @@ opening s key nonce ad text tag out₀ =
     openedAs (refusal true s (length key) (length nonce) (length ad) (length text) (length out₀) (length tag))
     (sameBytes (tagOut (cipherOf s) true key nonce ad text) tag) (textOut (cipherOf s) true key nonce ad text) out₀
 
--- the number of a record's test: the opener's, for an output of the text's length, so never 6
+-- the verifier's status: the opener's, for an output of the text's length, so never 6
 unfoldable pub verifying : ℕ → List ℕ → List ℕ → List ℕ → List ℕ → List ℕ → ℕ
 verifying s key nonce ad text tag = opening s key nonce ad text tag text .number

@@ -1,14 +1,14 @@
--- How many cipher calls sealer and opener report (document 02, W12): as many as the list of them is long where the text was worked on, 8 included, and 0 on the numbers before.
+-- How many cipher calls sealer and opener report (document 02, W12): the length of their list if the text was processed, 8 included, and 0 on the refusals before.
 use mathlib.Core.Bool.{Bool, true, false}
 use Prim.Native.Nat.{ℕ, zero, suc}
 use mathlib.Core.List.{List}
 use lib.ListN.{length}
 use Rattle.cipher.specs.Cipher.{cipherOf}
 use Rattle.mode.specs.Mode.{calls}
-use Rattle.numbers.specs.Verdicts.{refusal}
+use Rattle.status.specs.Verdicts.{refusal}
 use Rattle.comet.specs.Answers.{Sealed, sealing, Opened, opening}
 
--- what a call leaves, and how many cipher calls it took
+-- the result of a call, and how many cipher calls it took
 pub record Counting (A : Type 0) : Type 0 where
   pub leaves : A
   pub calls : ℕ

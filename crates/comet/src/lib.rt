@@ -1,9 +1,13 @@
 // The sealer and the opener: COMET under every suite.
-use cipher::Lent;
-use numbers::verdict::Verdict;
-use numbers::verdict::refused;
-use step::tag::Last;
-use words::block::Block;
+use block::Block;
+use block_step::marks::MARK_FIRST_DATA;
+use block_step::marks::MARK_FIRST_TEXT;
+use block_step::marks::MARK_SHORT_DATA;
+use block_step::marks::MARK_SHORT_TEXT;
+use block_step::tag::TagAndCalls;
+use cipher::AesTables;
+use status::verdict::Verdict;
+use status::verdict::refused;
 
 mod text;
 
@@ -11,88 +15,103 @@ ghost use mathlib.Core.Path.{_≡_};
 ghost use mathlib.Core.Bool.{true, false};
 ghost use Prim.Native.Nat.{_≤_};
 ghost use lib.ListN.{length, take};
-ghost use Rattle.words.specs.Blocks.{wide};
-ghost use Rattle.cipher.specs.Cipher.{Ready, IsSuite, sizeOf, nonceOf, cipherOf, limit, lends};
+ghost use Rattle.block.specs.Blocks.{wide};
+ghost use Rattle.cipher.specs.Cipher.{TablesFit, IsSuite, sizeOf, nonceOf, cipherOf, limit};
 ghost use Rattle.mode.specs.Mode.{textOut, tagOut, calls};
-ghost use Rattle.step.specs.Two.{Clean};
-ghost use Rattle.numbers.specs.Verdicts.{numberOf, refusal};
+ghost use Rattle.block_step.specs.Two.{Clean};
+ghost use Rattle.status.specs.Verdicts.{numberOf, refusal};
 ghost use Rattle.comet.specs.Answers.{Sealed, sealing, Opened, opening, verifying};
 ghost use Rattle.comet.specs.Counted.{Counting, sealingCounted, openingCounted};
 
-// What a call answers, and how many cipher calls it took.
+// The status of a call, and how many cipher calls it took.
 pub struct Counted {
     pub verdict: Verdict,
     pub calls: u64,
 }
 
-// What goes out in the text's place, the tag and the count of the calls, once every length is right: the cipher is lent what it needs. Where there is nothing, nobody is asked, and the states stay in registers.
-fn crypt(
-    lent: &[Lent],
+// `Done`, or why the sealer or the opener refuses a call with these buffers; text, out and tag are lengths.
+fn refused_for(
+    opening: bool,
+    suite: u8,
+    key: &[u8],
+    nonce: &[u8],
+    ad: &[u8],
+    text: usize,
+    out: usize,
+    tag: usize,
+) -> Verdict
+    ensures { λ r. ⌜ numberOf r ≡ refusal opening suite (length (now (key .entry))) (length (now (nonce .entry))) (length (now (ad .entry))) text out tag ⌝ }
+{
+    refused(
+        opening,
+        suite,
+        key.len(),
+        nonce.len(),
+        ad.len(),
+        text,
+        out,
+        tag,
+    )
+}
+
+// Seals or opens text in place under these tables; returns the tag and the count of cipher calls. Every length is right. Empty inputs are skipped, so that the states stay in registers.
+fn crypt_core(
+    tables: &[AesTables],
     opening: bool,
     suite: u8,
     key: &[u8],
     nonce: &[u8],
     ad: &[u8],
     text: &mut [u8],
-) -> Last
-    requires { ⌜ Ready suite (now lent) × IsSuite suite × (length (now key) ≡ 16) × (length (now nonce) ≡ nonceOf suite) × (length (now ad) ≤ limit) × (length (now text) ≤ limit) ⌝ }
+) -> TagAndCalls
+    requires { ⌜ TablesFit suite (now tables) × IsSuite suite × (length (now key) ≡ 16) × (length (now nonce) ≡ nonceOf suite) × (length (now ad) ≤ limit) × (length (now text) ≤ limit) ⌝ }
     ensures text { λ _. ⌜ now (text .exit) ≡ textOut (cipherOf suite) opening (now (key .entry)) (now (nonce .entry)) (now (ad .entry)) (now (text .entry)) ⌝ }
     ensures tag { λ r. ⌜ take (sizeOf suite) (wide (r .tag)) ≡ tagOut (cipherOf suite) opening (now (key .entry)) (now (nonce .entry)) (now (ad .entry)) (now (text .entry)) ⌝ }
     ensures rest { λ r. ⌜ Clean suite (r .tag)
         × (r .calls ≡ length (calls (cipherOf suite) opening (now (key .entry)) (now (nonce .entry)) (now (ad .entry)) (now (text .entry)))) ⌝ }
 {
-    let mut s = step::state::start(lent, suite, key, nonce);
+    let mut s = block_step::state::start(tables, suite, key, nonce);
     if ad.len() != 0 {
-        s = text::absorb_all(lent, false, suite, s, 0x08, 0x10, ad);
+        s = text::absorb_all(
+            tables,
+            false,
+            suite,
+            s,
+            MARK_FIRST_DATA,
+            MARK_SHORT_DATA,
+            ad,
+        );
     }
-    if text.len() != 0 {
-        s = text::crypt_all(lent, opening, suite, s, text);
+    if 0 < text.len() {
+        s = text::crypt_all(tables, opening, suite, s, text);
     }
-    step::tag::tag_of(lent, suite, s)
+    block_step::tag::tag_of(tables, suite, s)
 }
 
-// Seals text in its place, once every length is right: the cipher is lent what it needs.
-fn seal_with(
-    lent: &[Lent],
+// `crypt_core` under the tables that the suite needs: only suites 1 and 5 spend time on filling them. Their 4 KiB are in this function's stack frame, whichever the suite.
+fn crypt(
+    opening: bool,
     suite: u8,
     key: &[u8],
     nonce: &[u8],
     ad: &[u8],
     text: &mut [u8],
-    tag: &mut [u8],
-) -> Counted
-    requires { ⌜ Ready suite (now lent) × (refusal false suite (length (now key)) (length (now nonce)) (length (now ad)) (length (now text)) (length (now text)) (length (now tag)) ≡ 0) ⌝ }
-    ensures { λ r. ⌜ _≡_ {A = Counting Sealed} (record { leaves = record { number = numberOf (r .verdict); out = now (text .exit); tag = now (tag .exit) }; calls = r .calls })
-        (sealingCounted suite (now (key .entry)) (now (nonce .entry)) (now (ad .entry)) (now (text .entry)) (now (text .entry)) (now (tag .entry))) ⌝ }
+) -> TagAndCalls
+    requires { ⌜ IsSuite suite × (length (now key) ≡ 16) × (length (now nonce) ≡ nonceOf suite) × (length (now ad) ≤ limit) × (length (now text) ≤ limit) ⌝ }
+    ensures text { λ _. ⌜ now (text .exit) ≡ textOut (cipherOf suite) opening (now (key .entry)) (now (nonce .entry)) (now (ad .entry)) (now (text .entry)) ⌝ }
+    ensures tag { λ r. ⌜ take (sizeOf suite) (wide (r .tag)) ≡ tagOut (cipherOf suite) opening (now (key .entry)) (now (nonce .entry)) (now (ad .entry)) (now (text .entry)) ⌝ }
+    ensures rest { λ r. ⌜ Clean suite (r .tag)
+        × (r .calls ≡ length (calls (cipherOf suite) opening (now (key .entry)) (now (nonce .entry)) (now (ad .entry)) (now (text .entry)))) ⌝ }
 {
-    let t = crypt(lent, false, suite, key, nonce, ad, text);
-    let g = t.tag;
-    words::block::put_whole(g, tag);
-    Counted {
-        verdict: Verdict::Done,
-        calls: t.calls,
+    if cipher::needs_tables(suite) {
+        let tables = cipher::tables(suite);
+        return crypt_core(&tables, opening, suite, key, nonce, ad, text);
     }
+    crypt_core(&[], opening, suite, key, nonce, ad, text)
 }
 
-// Seals text in its place under tables: a function of its own, so that the way of the other suites copies no slice for it.
-fn seal_lent(
-    suite: u8,
-    key: &[u8],
-    nonce: &[u8],
-    ad: &[u8],
-    text: &mut [u8],
-    tag: &mut [u8],
-) -> Counted
-    requires { ⌜ (lends suite ≡ true) × (refusal false suite (length (now key)) (length (now nonce)) (length (now ad)) (length (now text)) (length (now text)) (length (now tag)) ≡ 0) ⌝ }
-    ensures { λ r. ⌜ _≡_ {A = Counting Sealed} (record { leaves = record { number = numberOf (r .verdict); out = now (text .exit); tag = now (tag .exit) }; calls = r .calls })
-        (sealingCounted suite (now (key .entry)) (now (nonce .entry)) (now (ad .entry)) (now (text .entry)) (now (text .entry)) (now (tag .entry))) ⌝ }
-{
-    let lent = cipher::tables(suite);
-    seal_with(&lent, suite, key, nonce, ad, text, tag)
-}
-
-// Seals text in its place, once every length is right. Only a suite whose engine is lent tables pays for them.
-fn seal_taken(
+// Seals text in place and writes its tag: what sealing into another buffer and in place share. Every length is right.
+fn seal_checked(
     suite: u8,
     key: &[u8],
     nonce: &[u8],
@@ -104,10 +123,13 @@ fn seal_taken(
     ensures { λ r. ⌜ _≡_ {A = Counting Sealed} (record { leaves = record { number = numberOf (r .verdict); out = now (text .exit); tag = now (tag .exit) }; calls = r .calls })
         (sealingCounted suite (now (key .entry)) (now (nonce .entry)) (now (ad .entry)) (now (text .entry)) (now (text .entry)) (now (tag .entry))) ⌝ }
 {
-    if cipher::lends(suite) {
-        return seal_lent(suite, key, nonce, ad, text, tag);
+    let done = crypt(false, suite, key, nonce, ad, text);
+    let computed = done.tag;
+    block::put_whole(computed, tag);
+    Counted {
+        verdict: Verdict::Done,
+        calls: done.calls,
     }
-    seal_with(&[], suite, key, nonce, ad, text, tag)
 }
 
 // Seals msg into out, and its tag into tag, and counts the cipher calls.
@@ -123,27 +145,27 @@ pub fn seal_counted(
     ensures { λ r. ⌜ _≡_ {A = Counting Sealed} (record { leaves = record { number = numberOf (r .verdict); out = now (out .exit); tag = now (tag .exit) }; calls = r .calls })
         (sealingCounted suite (now (key .entry)) (now (nonce .entry)) (now (ad .entry)) (now (msg .entry)) (now (out .entry)) (now (tag .entry))) ⌝ }
 {
-    let a = refused(
+    let verdict = refused_for(
         false,
         suite,
-        key.len(),
-        nonce.len(),
-        ad.len(),
+        key,
+        nonce,
+        ad,
         msg.len(),
         out.len(),
         tag.len(),
     );
-    let Verdict::Done = a else {
+    let Verdict::Done = verdict else {
         return Counted {
-            verdict: a,
+            verdict: verdict,
             calls: 0,
         };
     };
-    runs::copy(msg, out);
-    seal_taken(suite, key, nonce, ad, out, tag)
+    byte_runs::copy(msg, out);
+    seal_checked(suite, key, nonce, ad, out, tag)
 }
 
-// Seals msg into out, and its tag into tag.
+// Seals msg into out, and its tag into tag: `seal_counted` without its count.
 pub fn seal(
     suite: u8,
     key: &[u8],
@@ -159,7 +181,7 @@ pub fn seal(
     seal_counted(suite, key, nonce, ad, msg, out, tag).verdict
 }
 
-// Seals text in its place, and its tag into tag.
+// Seals text in place and writes its tag to tag.
 pub fn seal_in_place(
     suite: u8,
     key: &[u8],
@@ -171,71 +193,24 @@ pub fn seal_in_place(
     ensures { λ r. ⌜ _≡_ {A = Sealed} (record { number = numberOf r; out = now (text .exit); tag = now (tag .exit) })
         (sealing suite (now (key .entry)) (now (nonce .entry)) (now (ad .entry)) (now (text .entry)) (now (text .entry)) (now (tag .entry))) ⌝ }
 {
-    let a = refused(
+    let verdict = refused_for(
         false,
         suite,
-        key.len(),
-        nonce.len(),
-        ad.len(),
+        key,
+        nonce,
+        ad,
         text.len(),
         text.len(),
         tag.len(),
     );
-    let Verdict::Done = a else {
-        return a;
+    let Verdict::Done = verdict else {
+        return verdict;
     };
-    seal_taken(suite, key, nonce, ad, text, tag).verdict
+    seal_checked(suite, key, nonce, ad, text, tag).verdict
 }
 
-// Opens text in its place, once every length is right: the cipher is lent what it needs.
-fn unseal_with(
-    lent: &[Lent],
-    suite: u8,
-    key: &[u8],
-    nonce: &[u8],
-    ad: &[u8],
-    text: &mut [u8],
-    tag: &[u8],
-) -> Counted
-    requires { ⌜ Ready suite (now lent) × (refusal true suite (length (now key)) (length (now nonce)) (length (now ad)) (length (now text)) (length (now text)) (length (now tag)) ≡ 0) ⌝ }
-    ensures { λ r. ⌜ _≡_ {A = Counting Opened} (record { leaves = record { number = numberOf (r .verdict); out = now (text .exit) }; calls = r .calls })
-        (openingCounted suite (now (key .entry)) (now (nonce .entry)) (now (ad .entry)) (now (text .entry)) (now (tag .entry)) (now (text .entry))) ⌝ }
-{
-    let t = crypt(lent, true, suite, key, nonce, ad, text);
-    let g = t.tag;
-    let right = step::tag::same(g, tag);
-    if !right {
-        runs::wipe(text);
-        return Counted {
-            verdict: Verdict::Forged,
-            calls: t.calls,
-        };
-    }
-    Counted {
-        verdict: Verdict::Done,
-        calls: t.calls,
-    }
-}
-
-// Opens text in its place under tables: a function of its own, so that the way of the other suites copies no slice for it.
-fn unseal_lent(
-    suite: u8,
-    key: &[u8],
-    nonce: &[u8],
-    ad: &[u8],
-    text: &mut [u8],
-    tag: &[u8],
-) -> Counted
-    requires { ⌜ (lends suite ≡ true) × (refusal true suite (length (now key)) (length (now nonce)) (length (now ad)) (length (now text)) (length (now text)) (length (now tag)) ≡ 0) ⌝ }
-    ensures { λ r. ⌜ _≡_ {A = Counting Opened} (record { leaves = record { number = numberOf (r .verdict); out = now (text .exit) }; calls = r .calls })
-        (openingCounted suite (now (key .entry)) (now (nonce .entry)) (now (ad .entry)) (now (text .entry)) (now (tag .entry)) (now (text .entry))) ⌝ }
-{
-    let lent = cipher::tables(suite);
-    unseal_with(&lent, suite, key, nonce, ad, text, tag)
-}
-
-// Opens text in its place, once every length is right. Only a suite whose engine is lent tables pays for them.
-fn unseal_taken(
+// Opens text in place, or overwrites it with zeros if its tag is wrong: what opening into another buffer and in place share. Every length is right.
+fn unseal_checked(
     suite: u8,
     key: &[u8],
     nonce: &[u8],
@@ -247,10 +222,20 @@ fn unseal_taken(
     ensures { λ r. ⌜ _≡_ {A = Counting Opened} (record { leaves = record { number = numberOf (r .verdict); out = now (text .exit) }; calls = r .calls })
         (openingCounted suite (now (key .entry)) (now (nonce .entry)) (now (ad .entry)) (now (text .entry)) (now (tag .entry)) (now (text .entry))) ⌝ }
 {
-    if cipher::lends(suite) {
-        return unseal_lent(suite, key, nonce, ad, text, tag);
+    let done = crypt(true, suite, key, nonce, ad, text);
+    let computed = done.tag;
+    let right = block_step::tag::same(computed, tag);
+    if !right {
+        byte_runs::wipe(text);
+        return Counted {
+            verdict: Verdict::Forged,
+            calls: done.calls,
+        };
     }
-    unseal_with(&[], suite, key, nonce, ad, text, tag)
+    Counted {
+        verdict: Verdict::Done,
+        calls: done.calls,
+    }
 }
 
 // Opens text into out, if its tag is right, and counts the cipher calls; else every byte of out is 0.
@@ -266,27 +251,27 @@ pub fn unseal_counted(
     ensures { λ r. ⌜ _≡_ {A = Counting Opened} (record { leaves = record { number = numberOf (r .verdict); out = now (out .exit) }; calls = r .calls })
         (openingCounted suite (now (key .entry)) (now (nonce .entry)) (now (ad .entry)) (now (text .entry)) (now (tag .entry)) (now (out .entry))) ⌝ }
 {
-    let a = refused(
+    let verdict = refused_for(
         true,
         suite,
-        key.len(),
-        nonce.len(),
-        ad.len(),
+        key,
+        nonce,
+        ad,
         text.len(),
         out.len(),
         tag.len(),
     );
-    let Verdict::Done = a else {
+    let Verdict::Done = verdict else {
         return Counted {
-            verdict: a,
+            verdict: verdict,
             calls: 0,
         };
     };
-    runs::copy(text, out);
-    unseal_taken(suite, key, nonce, ad, out, tag)
+    byte_runs::copy(text, out);
+    unseal_checked(suite, key, nonce, ad, out, tag)
 }
 
-// Opens text into out, if its tag is right; else every byte of out is 0.
+// Opens text into out, if its tag is right; else every byte of out is 0: `unseal_counted` without its count.
 pub fn unseal(
     suite: u8,
     key: &[u8],
@@ -302,7 +287,7 @@ pub fn unseal(
     unseal_counted(suite, key, nonce, ad, text, tag, out).verdict
 }
 
-// Opens text in its place, if its tag is right; else every byte of it is 0.
+// Opens text in place if its tag is right; else every byte of it is 0.
 pub fn unseal_in_place(
     suite: u8,
     key: &[u8],
@@ -314,80 +299,96 @@ pub fn unseal_in_place(
     ensures { λ r. ⌜ _≡_ {A = Opened} (record { number = numberOf r; out = now (text .exit) })
         (opening suite (now (key .entry)) (now (nonce .entry)) (now (ad .entry)) (now (text .entry)) (now (tag .entry)) (now (text .entry))) ⌝ }
 {
-    let a = refused(
+    let verdict = refused_for(
         true,
         suite,
-        key.len(),
-        nonce.len(),
-        ad.len(),
+        key,
+        nonce,
+        ad,
         text.len(),
         text.len(),
         tag.len(),
     );
-    let Verdict::Done = a else {
-        return a;
+    let Verdict::Done = verdict else {
+        return verdict;
     };
-    unseal_taken(suite, key, nonce, ad, text, tag).verdict
+    unseal_checked(suite, key, nonce, ad, text, tag).verdict
 }
 
-// The tag of the message under text, once every length is right: nothing is written.
-fn tag_under(lent: &[Lent], suite: u8, key: &[u8], nonce: &[u8], ad: &[u8], text: &[u8]) -> Block
-    requires { ⌜ Ready suite (now lent) × IsSuite suite × (length (now key) ≡ 16) × (length (now nonce) ≡ nonceOf suite) ⌝ }
-    ensures tag { λ r. ⌜ take (sizeOf suite) (wide r) ≡ tagOut (cipherOf suite) true (now (key .entry)) (now (nonce .entry)) (now (ad .entry)) (now (text .entry)) ⌝ }
-    ensures rest { λ r. ⌜ Clean suite r ⌝ }
-{
-    let mut s = step::state::start(lent, suite, key, nonce);
-    if ad.len() != 0 {
-        s = text::absorb_all(lent, false, suite, s, 0x08, 0x10, ad);
-    }
-    if text.len() != 0 {
-        s = text::absorb_all(lent, true, suite, s, 0x20, 0x40, text);
-    }
-    let l = step::tag::tag_of(lent, suite, s);
-    l.tag
-}
-
-// Whether the tag is right, once every length is: the cipher is lent what it needs.
-fn verify_with(
-    lent: &[Lent],
+// The tag of the message that text opens to, under these tables: no text is written. Every length is right.
+fn tag_core(
+    tables: &[AesTables],
     suite: u8,
     key: &[u8],
     nonce: &[u8],
     ad: &[u8],
     text: &[u8],
-    tag: &[u8],
-) -> Verdict
-    requires { ⌜ Ready suite (now lent) × (refusal true suite (length (now key)) (length (now nonce)) (length (now ad)) (length (now text)) (length (now text)) (length (now tag)) ≡ 0) ⌝ }
-    ensures { λ r. ⌜ numberOf r ≡ verifying suite (now (key .entry)) (now (nonce .entry)) (now (ad .entry)) (now (text .entry)) (now (tag .entry)) ⌝ }
+) -> Block
+    requires { ⌜ TablesFit suite (now tables) × IsSuite suite × (length (now key) ≡ 16) × (length (now nonce) ≡ nonceOf suite) ⌝ }
+    ensures tag { λ r. ⌜ take (sizeOf suite) (wide r) ≡ tagOut (cipherOf suite) true (now (key .entry)) (now (nonce .entry)) (now (ad .entry)) (now (text .entry)) ⌝ }
+    ensures rest { λ r. ⌜ Clean suite r ⌝ }
 {
-    let g = tag_under(lent, suite, key, nonce, ad, text);
-    let genuine = step::tag::same(g, tag);
-    if !genuine {
-        return Verdict::Forged;
+    let mut s = block_step::state::start(tables, suite, key, nonce);
+    if ad.len() != 0 {
+        s = text::absorb_all(
+            tables,
+            false,
+            suite,
+            s,
+            MARK_FIRST_DATA,
+            MARK_SHORT_DATA,
+            ad,
+        );
     }
-    Verdict::Done
+    if text.len() != 0 {
+        s = text::absorb_all(
+            tables,
+            true,
+            suite,
+            s,
+            MARK_FIRST_TEXT,
+            MARK_SHORT_TEXT,
+            text,
+        );
+    }
+    let last = block_step::tag::tag_of(tables, suite, s);
+    last.tag
 }
 
-// Whether a record is genuine: the opener's answer, and no text is written anywhere.
+// `tag_core` under the tables that the suite needs.
+fn tag_under(suite: u8, key: &[u8], nonce: &[u8], ad: &[u8], text: &[u8]) -> Block
+    requires { ⌜ IsSuite suite × (length (now key) ≡ 16) × (length (now nonce) ≡ nonceOf suite) ⌝ }
+    ensures tag { λ r. ⌜ take (sizeOf suite) (wide r) ≡ tagOut (cipherOf suite) true (now (key .entry)) (now (nonce .entry)) (now (ad .entry)) (now (text .entry)) ⌝ }
+    ensures rest { λ r. ⌜ Clean suite r ⌝ }
+{
+    if cipher::needs_tables(suite) {
+        let tables = cipher::tables(suite);
+        return tag_core(&tables, suite, key, nonce, ad, text);
+    }
+    tag_core(&[], suite, key, nonce, ad, text)
+}
+
+// Whether a record is genuine: the opener's status, without writing a text anywhere.
 pub fn verify(suite: u8, key: &[u8], nonce: &[u8], ad: &[u8], text: &[u8], tag: &[u8]) -> Verdict
     ensures { λ r. ⌜ numberOf r ≡ verifying suite (now (key .entry)) (now (nonce .entry)) (now (ad .entry)) (now (text .entry)) (now (tag .entry)) ⌝ }
 {
-    let a = refused(
+    let verdict = refused_for(
         true,
         suite,
-        key.len(),
-        nonce.len(),
-        ad.len(),
+        key,
+        nonce,
+        ad,
         text.len(),
         text.len(),
         tag.len(),
     );
-    let Verdict::Done = a else {
-        return a;
+    let Verdict::Done = verdict else {
+        return verdict;
     };
-    if cipher::lends(suite) {
-        let lent = cipher::tables(suite);
-        return verify_with(&lent, suite, key, nonce, ad, text, tag);
+    let computed = tag_under(suite, key, nonce, ad, text);
+    let genuine = block_step::tag::same(computed, tag);
+    if !genuine {
+        return Verdict::Forged;
     }
-    verify_with(&[], suite, key, nonce, ad, text, tag)
+    Verdict::Done
 }

@@ -1,20 +1,22 @@
-// All blocks of the associated data and of the text, a step each: the whole ones (crate walk), and then the short one, if there is one.
-use cipher::Lent;
-use step::block::absorb_short;
-use step::block::crypt_short;
-use step::state::State;
+// All blocks of the associated data and of the text, a step each: the whole ones (crate block_walk), and then the short one, if there is one.
+use block_step::marks::MARK_FIRST_TEXT;
+use block_step::marks::MARK_SHORT_TEXT;
+use block_step::one_block::absorb_short;
+use block_step::one_block::crypt_short;
+use block_step::state::State;
+use cipher::AesTables;
 ghost use mathlib.Core.Path.{_≡_};
 ghost use Prim.Native.Nat.{_<_};
 ghost use lib.ListN.{length};
-ghost use Rattle.words.specs.Words.{add};
-ghost use Rattle.cipher.specs.Cipher.{Ready, IsSuite, sizeOf, cipherOf};
+ghost use Rattle.block.specs.Words.{add};
+ghost use Rattle.cipher.specs.Cipher.{TablesFit, IsSuite, sizeOf, cipherOf};
 ghost use Rattle.mode.specs.Blocks.{blocks};
 ghost use Rattle.mode.specs.Walk.{walked, covered};
-ghost use Rattle.step.specs.Two.{twoOf};
+ghost use Rattle.block_step.specs.Two.{twoOf};
 
-// All blocks of b go in, a call each, the first under the mark first and a short one under the mark short too; nothing is written.
+// Absorbs all blocks of b, one cipher call each, the first under the mark `first` and a short one also under the mark `short`; nothing is written.
 pub(crate) fn absorb_all(
-    lent: &[Lent],
+    tables: &[AesTables],
     opening: bool,
     suite: u8,
     s: State,
@@ -22,37 +24,57 @@ pub(crate) fn absorb_all(
     short: u8,
     b: &[u8],
 ) -> State
-    requires { ⌜ Ready suite (now lent) × IsSuite suite ⌝ }
+    requires { ⌜ TablesFit suite (now tables) × IsSuite suite ⌝ }
     ensures state { λ r. ⌜ twoOf suite r ≡ walked (cipherOf suite) opening first short (twoOf suite s) (blocks (sizeOf suite) (now (b .entry))) ⌝ }
     ensures calls { λ r. ⌜ r .calls ≡ add 64 (s .calls) (length (blocks (sizeOf suite) (now (b .entry)))) ⌝ }
 {
-    let w = walk::absorb(lent, opening, suite, s, first, b);
-    let t = w.s;
-    let m = w.mark;
-    let i = w.at;
-    if i < b.len() {
-        return absorb_short(lent, opening, suite, t, m ^ short, &b[i..b.len()]);
+    let whole = block_walk::absorb(tables, opening, suite, s, first, b);
+    let state = whole.s;
+    let mark = whole.mark;
+    let at = whole.at;
+    if at < b.len() {
+        return absorb_short(tables, opening, suite, state, mark ^ short, &b[at..b.len()]);
     }
-    t
+    state
 }
 
-// All blocks of a text that is not empty, a call each: what goes out takes its place.
-pub(crate) fn crypt_all(lent: &[Lent], opening: bool, suite: u8, s: State, text: &mut [u8]) -> State
-    requires { ⌜ Ready suite (now lent) × IsSuite suite × (0 < length (now text)) ⌝ }
+// Seals or opens all blocks of a nonempty text in place, one cipher call each.
+pub(crate) fn crypt_all(
+    tables: &[AesTables],
+    opening: bool,
+    suite: u8,
+    s: State,
+    text: &mut [u8],
+) -> State
+    requires { ⌜ TablesFit suite (now tables) × IsSuite suite × (0 < length (now text)) ⌝ }
     ensures text { λ _. ⌜ now (text .exit) ≡ covered (cipherOf suite) opening 0x20 0x40 (twoOf suite s) (blocks (sizeOf suite) (now (text .entry))) ⌝ }
     ensures state { λ r. ⌜ (twoOf suite r ≡ walked (cipherOf suite) opening 0x20 0x40 (twoOf suite s) (blocks (sizeOf suite) (now (text .entry))))
         × (r .calls ≡ add 64 (s .calls) (length (blocks (sizeOf suite) (now (text .entry))))) ⌝ }
 {
     let end = text.len();
     if end < cipher::size_of(suite) {
-        return crypt_short(lent, opening, suite, s, 0x20 ^ 0x40, text);
+        return crypt_short(
+            tables,
+            opening,
+            suite,
+            s,
+            MARK_FIRST_TEXT ^ MARK_SHORT_TEXT,
+            text,
+        );
     }
-    let w = walk::crypt(lent, opening, suite, s, 0x20, text);
-    let t = w.s;
-    let m = w.mark;
-    let i = w.at;
-    if i < end {
-        return crypt_short(lent, opening, suite, t, m ^ 0x40, &mut text[i..end]);
+    let whole = block_walk::crypt(tables, opening, suite, s, MARK_FIRST_TEXT, text);
+    let state = whole.s;
+    let mark = whole.mark;
+    let at = whole.at;
+    if at < end {
+        return crypt_short(
+            tables,
+            opening,
+            suite,
+            state,
+            mark ^ MARK_SHORT_TEXT,
+            &mut text[at..end],
+        );
     }
-    t
+    state
 }

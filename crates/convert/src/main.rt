@@ -2,25 +2,25 @@
 //
 // Prints number and row on one line; the file OUT is made where the number is 0, and else left alone. A file that cannot
 // be read counts as zero bytes. The program takes files up to the format's 1,048,576 bytes (longer: 20).
-use numbers::checked::Answer;
+use status::checked::Answer;
 ghost use Prim.Native.Nat.{_≤_};
 
 // Argument i names the output.
 fn say(a: Answer, out: &[u8], i: usize) {
-    args::answered(a.number, a.row, out, i);
+    program_files::answered(a.number, a.row, out, i);
 }
 
 fn run(back: bool, file: &[u8], i: usize, out: &mut [u8]) {
     if back {
-        say(editions::to_edition1(file, out).answer(), out, i);
+        say(shift_editions::to_edition1(file, out).answer(), out, i);
     } else {
-        say(editions::to_edition2(file, out).answer(), out, i);
+        say(shift_editions::to_edition2(file, out).answer(), out, i);
     }
 }
 
 // An output of the moved file's length; the buffer has room for 512 stations more than the file, so the test always holds.
 fn run_in(back: bool, file: &[u8], i: usize, out: &mut [u8]) {
-    let n = editions::moved_length(file);
+    let n = shift_editions::moved_length(file);
     if n <= out.len() {
         run(back, file, i, &mut out[0..n]);
     }
@@ -36,18 +36,18 @@ fn moved_room() -> [u8; 1050624] {
 fn convert(back: bool, i: usize)
     requires { ⌜ i ≤ 2 ⌝ }
 {
-    let mut f = lines::read::file_room();
+    let mut f = program_text::read::file_room();
     let mut o = moved_room();
-    let file = args::load(i, &mut f);
+    let file = program_files::load(i, &mut f);
     run_in(back, file, i + 1, &mut o);
 }
 
 fn main() {
     if os::arg_count() == 3 {
         convert(false, 1);
-    } else if os::arg_count() == 4 && args::is_word(1, b"back") {
+    } else if os::arg_count() == 4 && program_files::is_word(1, b"back") {
         convert(true, 2);
     } else {
-        args::usage(b"convert FILE OUT\nconvert back FILE OUT\n");
+        program_files::usage(b"convert FILE OUT\nconvert back FILE OUT\n");
     }
 }

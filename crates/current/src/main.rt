@@ -1,25 +1,25 @@
 // Opens the current entry of a job, the amendment's if it has the job, else the day's: current AMENDMENT DAY RING JOB.
 //
 // Prints number, file (1 the amendment, 2 the day's, 0 where neither has the job) and row on one line and, where the
-// number is 0, what the entry holds, a line for each thing (`printed::current`). A file that cannot be read counts as zero
+// number is 0, what the entry holds, a line for each thing (`program_reports::current`). A file that cannot be read counts as zero
 // bytes. The program takes files up to the format's 1,048,576 bytes each (longer: 20).
 fn run<'a>(amendment: &'a [u8], day: &'a [u8], job: u32) {
     let mut r = [0u8; 257];
-    let mut out = printed::page();
-    let ring = args::load(3, &mut r);
-    let n = printed::current(amendment, day, ring, job, &mut out);
-    lines::text::write(&out, n);
+    let mut out = program_reports::page();
+    let ring = program_files::load(3, &mut r);
+    let n = program_reports::current(amendment, day, ring, job, &mut out);
+    program_text::text::write(&out, n);
 }
 
 fn main() {
-    let job = args::job(4);
+    let job = program_files::job(4);
     if os::arg_count() != 5 || 4294967295 < job {
-        args::usage(b"current AMENDMENT DAY RING JOB\n");
+        program_files::usage(b"current AMENDMENT DAY RING JOB\n");
         return;
     }
-    let mut a = lines::read::file_room();
-    let mut d = lines::read::file_room();
-    let amendment = args::load(1, &mut a);
-    let day = args::load(2, &mut d);
+    let mut a = program_text::read::file_room();
+    let mut d = program_text::read::file_room();
+    let amendment = program_files::load(1, &mut a);
+    let day = program_files::load(2, &mut d);
     run(amendment, day, job as u32);
 }

@@ -5,14 +5,14 @@
 // as zero bytes. The program takes files up to 65,280 bytes (longer: 20).
 fn main() {
     if os::arg_count() != 3 {
-        args::usage(b"differ FIRST SECOND\n");
+        program_files::usage(b"differ FIRST SECOND\n");
         return;
     }
     let mut a = [0u8; 65281];
     let mut b = [0u8; 65281];
-    let mut out = printed::page();
-    let first = args::load(1, &mut a);
-    let second = args::load(2, &mut b);
-    let n = printed::differ(first, second, &mut out);
-    lines::text::write(&out, n);
+    let mut out = program_reports::page();
+    let first = program_files::load(1, &mut a);
+    let second = program_files::load(2, &mut b);
+    let n = program_reports::differ(first, second, &mut out);
+    program_text::text::write(&out, n);
 }

@@ -5,14 +5,14 @@
 // bytes. The program takes files up to 65,280 bytes (longer: 20).
 fn main() {
     if os::arg_count() != 3 {
-        args::usage(b"inspect FILE RING\n");
+        program_files::usage(b"inspect FILE RING\n");
         return;
     }
     let mut f = [0u8; 65281];
     let mut r = [0u8; 257];
-    let mut out = printed::page();
-    let file = args::load(1, &mut f);
-    let ring = args::load(2, &mut r);
-    let n = printed::inspect(file, ring, &mut out);
-    lines::text::write(&out, n);
+    let mut out = program_reports::page();
+    let file = program_files::load(1, &mut f);
+    let ring = program_files::load(2, &mut r);
+    let n = program_reports::inspect(file, ring, &mut out);
+    program_text::text::write(&out, n);
 }

@@ -1,18 +1,18 @@
 // Opens one job of a shift file: job FILE RING JOB.
 //
-// Prints number and row on one line and, where the number is 0, what the entry holds, a line for each thing (`printed::job`).
+// Prints number and row on one line and, where the number is 0, what the entry holds, a line for each thing (`program_reports::job`).
 // A file that cannot be read counts as zero bytes. The program takes files up to the format's 1,048,576 bytes (longer: 20).
 fn main() {
-    let job = args::job(3);
+    let job = program_files::job(3);
     if os::arg_count() != 4 || 4294967295 < job {
-        args::usage(b"job FILE RING JOB\n");
+        program_files::usage(b"job FILE RING JOB\n");
         return;
     }
-    let mut f = lines::read::file_room();
+    let mut f = program_text::read::file_room();
     let mut r = [0u8; 257];
-    let mut out = printed::page();
-    let file = args::load(1, &mut f);
-    let ring = args::load(2, &mut r);
-    let n = printed::job(file, ring, job as u32, &mut out);
-    lines::text::write(&out, n);
+    let mut out = program_reports::page();
+    let file = program_files::load(1, &mut f);
+    let ring = program_files::load(2, &mut r);
+    let n = program_reports::job(file, ring, job as u32, &mut out);
+    program_text::text::write(&out, n);
 }

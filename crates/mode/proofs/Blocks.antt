@@ -8,8 +8,8 @@ use native.Mathlib.Decide.{decLe}
 use mathlib.Core.List.{List, [], _∷_, _++_, append-nil}
 use lib.ListN.{length, take, drop, length-drop, length-take, length-append, drop-of-length-le}
 use lib.Seq.{take-all, take-at, take-add, drop-at, drop-drop, length-take-le}
-use Rattle.words.specs.Bytes.{AllBytes}
-use Rattle.words.proofs.Lists.{nil-of, all-take, all-drop}
+use Rattle.block.specs.Bytes.{AllBytes}
+use Rattle.block.proofs.Lists.{nil-of, all-take, all-drop}
 use Rattle.mode.specs.Blocks.{chop, blocks, chopLengths, lengths}
 
 -- a part that ends where the list does
@@ -114,7 +114,7 @@ module _ (n : ℕ) (pos : 0 < n) where
   pub as-many : (s t : List ℕ) → length s ≡ length t → length (blocks n s) ≡ length (blocks n t)
   as-many s t e = count-same s ∙ ap (λ (l : ℕ). length (lengths n l)) e ∙ sym (count-same t)
 
-  -- a block in front: full, or nothing behind it
+  -- a block in front: full, or nothing after it
   pub blocks-cons : (x r : List ℕ) → 0 < length x → length x ≤ n → (length x ≡ n) ⊎ (r ≡ []) → blocks n (x ++ r) ≡ x ∷ blocks n r
   blocks-cons x r p h (inl e) =
       blocks-more (x ++ r) (omega (arith, length-append x r))

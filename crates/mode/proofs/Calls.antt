@@ -6,7 +6,7 @@ use native.Mathlib.Omega.{arith}
 use mathlib.Core.List.{List, [], _∷_, _++_}
 use lib.ListN.{length, take, drop, length-append}
 use lib.Dec.{eqb}
-use Rattle.words.specs.Xors.{xors}
+use Rattle.block.specs.Xors.{xors}
 use Rattle.cipher.specs.Cipher.{Cipher}
 use Rattle.mode.specs.Blocks.{blocks}
 use Rattle.mode.specs.Words.{shuffle, pad}
@@ -47,7 +47,7 @@ calls-same κ pos d d′ key nonce ad text key′ nonce′ ad′ text′ ea et =
     ∙ ap₂ (λ (x y : ℕ). x + y + 2) (as-many n pos ad ad′ ea) (as-many n pos text text′ et)
     ∙ sym (calls-count κ d′ key′ nonce′ ad′ text′)
 
--- ---- and nothing else is asked of the cipher
+-- ---- and nothing else is checked of the cipher
 
 module _ (κ : Cipher) (E′ : List ℕ → List ℕ → List ℕ) where
   abbrev κ′ : Cipher

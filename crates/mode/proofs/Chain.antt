@@ -8,10 +8,10 @@ use native.Mathlib.Omega.{arith}
 use native.Mathlib.Decide.{decLe}
 use mathlib.Core.List.{List, [], _∷_, _++_}
 use lib.ListN.{length, take, drop, length-append, length-drop, length-take, take-append-drop}
-use Rattle.words.specs.Bytes.{AllBytes}
-use Rattle.words.specs.Xors.{xors}
-use Rattle.words.proofs.Lists.{nil-of, all-take, all-drop, all-append}
-use Rattle.words.proofs.Xors.{length-xors, all-xors, xors-cancel}
+use Rattle.block.specs.Bytes.{AllBytes}
+use Rattle.block.specs.Xors.{xors}
+use Rattle.block.proofs.Lists.{nil-of, all-take, all-drop, all-append}
+use Rattle.block.proofs.Xors.{length-xors, all-xors, xors-cancel}
 use Rattle.cipher.specs.Cipher.{Cipher, Lawful, Block}
 use Rattle.mode.specs.Blocks.{blocks}
 use Rattle.mode.specs.Words.{shuffle, pad}
@@ -65,7 +65,7 @@ module _ (κ : Cipher) (L : Lawful κ) where
   unfolding masked
   masked-twice c b h = xors-cancel b (shuffle (κ .size) (image κ c)) (omega (arith, shuffle-block (κ .size) (image κ c) (L .sizes) .long))
 
-  -- what goes out, read in the other direction, is the same message block
+  -- the output, read in the other direction, is the same message block
   message-back : (d : Bool) (c : Chain) (b : List ℕ) → length b ≤ κ .size → message κ (not d) c (masked κ c b) ≡ message κ d c b
   unfolding message
   message-back true c b h = refl

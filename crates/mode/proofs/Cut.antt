@@ -1,4 +1,4 @@
--- Whole blocks and the bytes behind them: what was cut off stays cut off when more bytes come.
+-- Whole blocks and the bytes after them: what was cut off stays cut off when more bytes come.
 use mathlib.Core.Path.{_≡_, sym, ap, ap₂, _∙_, subst}
 use Prim.Native.Nat.{ℕ, zero, suc, _+_, _*_, _/_, _%_, _≤_, _<_}
 use native.Mathlib.Nat.{zero-mul, suc-mul, div-add-mod', mod-lt, mul-add-div-right, add-mul, div-eq-of-lt}
@@ -6,7 +6,7 @@ use native.Mathlib.Omega.{arith}
 use mathlib.Core.List.{List, [], _∷_, _++_, append-assoc, append-nil}
 use lib.ListN.{length, take, drop, length-append, length-drop, take-append-drop}
 use lib.Seq.{take-append-add, drop-append-add, take-append-le, drop-append-le, length-take-le}
-use Rattle.words.proofs.Lists.{nil-of}
+use Rattle.block.proofs.Lists.{nil-of}
 use Rattle.mode.specs.Blocks.{blocks}
 use Rattle.mode.specs.Walk.{whole, rest}
 use Rattle.mode.proofs.Blocks.{blocks-nil, blocks-more}
@@ -55,7 +55,7 @@ module _ (n : ℕ) (pos : 0 < n) where
     pub blocks-whole-rest : blocks n (whole n l) ++ blocks n (rest n l) ≡ blocks n l
     blocks-whole-rest = sym (blocks-append (length l / n) (whole n l) (rest n l) length-whole) ∙ ap (blocks n) whole-rest
 
-  -- whole blocks in front stay whole, and change nothing behind them
+  -- whole blocks in front stay whole, and change nothing after them
   module _ (j : ℕ) (x l : List ℕ) (e : length x ≡ j * n) where
     places : length (x ++ l) / n * n ≡ length x + length l / n * n
     places =
@@ -72,7 +72,7 @@ module _ (n : ℕ) (pos : 0 < n) where
     unfolding rest
     rest-append = ap (λ (k : ℕ). drop k (x ++ l)) places ∙ drop-append-add x l (length l / n * n)
 
-  -- more bytes behind l
+  -- more bytes after l
   pub whole-more : (l p : List ℕ) → whole n (l ++ p) ≡ whole n l ++ whole n (rest n l ++ p)
   whole-more l p =
       ap (λ (x : List ℕ). whole n (x ++ p)) (sym (whole-rest l)) ∙ ap (whole n) (append-assoc (whole n l) (rest n l) p)
@@ -86,7 +86,7 @@ module _ (n : ℕ) (pos : 0 < n) where
   pub blocks-more-bytes : (l p : List ℕ) → blocks n (whole n (l ++ p)) ≡ blocks n (whole n l) ++ blocks n (whole n (rest n l ++ p))
   blocks-more-bytes l p = ap (blocks n) (whole-more l p) ∙ blocks-append (length l / n) (whole n l) (whole n (rest n l ++ p)) (length-whole l)
 
-  -- the cut that a loop finds: whole blocks in front, less than a block behind
+  -- the cut that a loop finds: whole blocks in front, less than a block after
   pub cut-whole : (j : ℕ) (x r : List ℕ) → length x ≡ j * n → length r < n → whole n (x ++ r) ≡ x
   cut-whole j x r e h = whole-append j x r e ∙ ap (λ (y : List ℕ). x ++ y) (whole-short r h) ∙ append-nil x
 

@@ -5,7 +5,7 @@ use Prim.Native.Nat.{ℕ}
 use native.Mathlib.Nat.{le-refl, add-zero}
 use mathlib.Core.List.{List, []}
 use lib.ListN.{length}
-use Rattle.words.specs.Bytes.{AllBytes}
+use Rattle.block.specs.Bytes.{AllBytes}
 use Rattle.cipher.specs.Cipher.{Cipher, Lawful, Block}
 use Rattle.mode.specs.Blocks.{blocks, chop}
 use Rattle.mode.specs.Mode.{nonceSize, image, trail, after, crypted, afterData, textOut, tagOut}

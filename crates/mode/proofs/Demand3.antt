@@ -10,9 +10,9 @@ use borrow.Author.Tests.{eqb-true, eqb-false}
 use mathlib.Core.List.{List, [], _∷_, _++_, append-assoc, append-nil}
 use lib.ListN.{length, getD, take, drop, length-append, length-drop, length-take, take-append-drop}
 use lib.Seq.{drop-drop, take-all, ext-getD, getD-take, getD-drop}
-use Rattle.words.specs.Bytes.{AllBytes}
-use Rattle.words.proofs.Lists.{all-take, all-drop}
-use Rattle.words.proofs.Xors.{xors-comm, xors-inj}
+use Rattle.block.specs.Bytes.{AllBytes}
+use Rattle.block.proofs.Lists.{all-take, all-drop}
+use Rattle.block.proofs.Xors.{xors-comm, xors-inj}
 use Rattle.cipher.specs.Cipher.{Cipher, Lawful, Block}
 use Rattle.mode.specs.Blocks.{blocks}
 use Rattle.mode.specs.Words.{pad}
@@ -72,7 +72,7 @@ module _ (κ : Cipher) (L : Lawful κ) where
   absorb-append c [] bs = refl
   absorb-append c (b ∷ xs) bs = absorb-append (absorbed κ c b) xs bs
 
-  -- one block of another content, before and behind it the same blocks
+  -- one block of another content, before and after it the same blocks
   one-block : (c : Chain) {pre post : List (List ℕ)} (b b′ : List ℕ) → AllBlocks (κ .size) pre → AllBlocks (κ .size) post → AllBytes b → AllBytes b′
       → length b ≡ length b′ → length b ≤ κ .size → Good κ (length pre + suc (length post)) c
       → image κ (absorb κ c (pre ++ (b ∷ post))) ≡ image κ (absorb κ c (pre ++ (b′ ∷ post))) → b ≡ b′
@@ -113,7 +113,7 @@ module _ (n j : ℕ) (x y : List ℕ) (l : length x ≡ length y)
       (length-drop (j * n + n) x ∙ ap (λ (k : ℕ). k - (j * n + n)) l ∙ sym (length-drop (j * n + n) y))
       (λ i h. getD-drop (j * n + n) x i 0 ∙ same-at (j * n + n + i) (λ w. omega (arith, w .1)) ∙ sym (getD-drop (j * n + n) y i 0))
 
--- a list is what stands before, in and behind block j
+-- a list is what stands before, in and after block j
 pub parts : (n j : ℕ) (x : List ℕ) → take (j * n) x ++ (take n (drop (j * n) x) ++ drop (j * n + n) x) ≡ x
 parts n j x =
     ap (λ (y : List ℕ). take (j * n) x ++ (take n (drop (j * n) x) ++ y)) (sym (drop-drop n (j * n) x))

@@ -7,11 +7,11 @@ use mathlib.Core.Bool.{Bool, true, false, cond}
 use mathlib.Core.List.{List, [], _∷_, _++_}
 use lib.ListN.{length, getD, take, drop, length-append, length-drop, length-set}
 use lib.Dec.{ltb}
-use Rattle.words.specs.Words.{xor}
-use Rattle.words.specs.Bytes.{AllBytes, value, bytes}
-use Rattle.words.proofs.Xor.{below}
-use Rattle.words.proofs.Lists.{all-nil, all-tail, all-cons, all-append, all-drop, all-set}
-use Rattle.words.proofs.Bytes.{length-bytes, all-bytes}
+use Rattle.block.specs.Words.{xor}
+use Rattle.block.specs.Bytes.{AllBytes, value, bytes}
+use Rattle.block.proofs.XorLaws.{below}
+use Rattle.block.proofs.Lists.{all-nil, all-tail, all-cons, all-append, all-drop, all-set}
+use Rattle.block.proofs.Bytes.{length-bytes, all-bytes}
 use Rattle.cipher.specs.Cipher.{Block, Version, one, two}
 use Rattle.mode.specs.Blocks.{lengths}
 use Rattle.mode.specs.Words.{double, double120}

@@ -7,8 +7,8 @@ use native.Mathlib.Omega.{arith}
 use mathlib.Core.List.{List, [], _∷_, _++_, append-assoc}
 use lib.ListN.{length, take, drop, drop-of-length-le}
 use lib.Seq.{take-at, length-take-le}
-use Rattle.words.specs.Bytes.{AllBytes}
-use Rattle.words.proofs.Lists.{all-take}
+use Rattle.block.specs.Bytes.{AllBytes}
+use Rattle.block.proofs.Lists.{all-take}
 use Rattle.cipher.specs.Cipher.{Cipher, Lawful, Block}
 use Rattle.mode.specs.Blocks.{blocks}
 use Rattle.mode.specs.Mode.{Chain, nonceSize, absorbed, masked, message, trail, after, crypted, afterData, textOut, tagOut}
@@ -25,7 +25,7 @@ crypted-append κ d c (b ∷ xs) bs =
     ∙ sym (append-assoc (masked κ c b) _ _)
 
 module _ (κ : Cipher) (L : Lawful κ) (j : ℕ) where
-  -- the first j blocks that go out, from the first j blocks that come in
+  -- the first j blocks that are output, from the first j blocks that come in
   front : (d : Bool) (c : Chain) (x : List ℕ) → AllBytes x → j * κ .size < length x
       → take (j * κ .size) (crypted κ d c (blocks (κ .size) x)) ≡ crypted κ d c (blocks (κ .size) (take (j * κ .size) x))
   front d c x hx h =

@@ -8,11 +8,11 @@ use native.Mathlib.Nat.{not-suc-le-zero, le-of-suc-le-suc}
 use native.Mathlib.Omega.{arith}
 use lib.ListN.{length, getD, replicate, length-replicate, getD-replicate}
 use lib.Seq.{ext-getD}
-use Rattle.words.specs.Words.{xor}
-use Rattle.words.specs.Bytes.{AllBytes}
-use Rattle.words.specs.Xors.{xors}
-use Rattle.words.proofs.Xor.{twice, ones}
-use Rattle.words.proofs.Xors.{length-xors, getD-xors, xors-assoc, xors-comm, xors-middle, xors-inj, xors-zero}
+use Rattle.block.specs.Words.{xor}
+use Rattle.block.specs.Bytes.{AllBytes}
+use Rattle.block.specs.Xors.{xors}
+use Rattle.block.proofs.XorLaws.{twice, ones}
+use Rattle.block.proofs.Xors.{length-xors, getD-xors, xors-assoc, xors-comm, xors-middle, xors-inj, xors-zero}
 use Rattle.cipher.specs.Cipher.{Cipher, Lawful, Block}
 use Rattle.mode.specs.Words.{shuffle}
 use Rattle.mode.specs.Mode.{CipherCall, Chain, enciphered, image, absorbed, masked, message, trail, after}
@@ -106,7 +106,7 @@ module _ (κ : Cipher) (L : Lawful κ) where
   abbrev pub Full : List (List ℕ) → Type 0
   Full bs = (i : ℕ) → i < length bs → length (getD bs i []) ≡ κ .size
 
-  -- d stands behind the end of every list of calls
+  -- d stands after the end of every list of calls
   module _ (d : CipherCall) where
     -- the output at block i, by the list of calls
     abbrev pub outputOf : Chain → List (List ℕ) → ℕ → List ℕ

@@ -6,14 +6,14 @@ use Prim.Native.Nat.{ℕ, _+_, _-_, _*_, _/_, _^_, _≤_, _<_}
 use native.Mathlib.Omega.{arith}
 use lib.ListN.{length, take, drop, replicate, replicate-append-replicate}
 use lib.Seq.{take-add, drop-drop}
-use Rattle.words.specs.Words.{xor, rotr}
-use Rattle.words.specs.Bytes.{AllBytes, value, bytes, word}
-use Rattle.words.specs.Xors.{xors}
-use Rattle.words.proofs.Lists.{two-takes, append-inj}
-use Rattle.words.proofs.Bytes.{bytes-zeros, bytes-ones, reach, word-lt, unpack}
-use Rattle.words.proofs.Xors.{xors-append, xors-zero, word-xors}
-use Rattle.words.proofs.Rotate.{rotl-lt, rotl-xor, one-right-keeps}
-use Rattle.words.proofs.Blocks.{length-two, two-xor, two-told}
+use Rattle.block.specs.Words.{xor, rotr}
+use Rattle.block.specs.Bytes.{AllBytes, value, bytes, word}
+use Rattle.block.specs.Xors.{xors}
+use Rattle.block.proofs.Lists.{two-takes, append-inj}
+use Rattle.block.proofs.Bytes.{bytes-zeros, bytes-ones, reach, word-lt, unpack}
+use Rattle.block.proofs.Xors.{xors-append, xors-zero, word-xors}
+use Rattle.block.proofs.Rotate.{rotl-lt, rotl-xor, one-right-keeps}
+use Rattle.block.proofs.Blocks.{length-two, two-xor, two-told}
 use Rattle.cipher.specs.Cipher.{Block}
 use Rattle.mode.specs.Words.{Four, four, fourOf, bytesOf, shuffle}
 use Rattle.mode.specs.Slips.{TwoBlocks}

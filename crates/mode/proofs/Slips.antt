@@ -9,10 +9,10 @@ use native.Mathlib.Omega.{arith}
 use native.Mathlib.Decide.{decLe}
 use lib.ListN.{length, getD, take, drop, length-append, length-drop, length-take, List·getD-append}
 use lib.Seq.{take-all, getD-append-add}
-use Rattle.words.specs.Bytes.{AllBytes}
-use Rattle.words.specs.Xors.{xors}
-use Rattle.words.proofs.Lists.{all-take, all-drop}
-use Rattle.words.proofs.Xors.{xors-comm, xors-inj}
+use Rattle.block.specs.Bytes.{AllBytes}
+use Rattle.block.specs.Xors.{xors}
+use Rattle.block.proofs.Lists.{all-take, all-drop}
+use Rattle.block.proofs.Xors.{xors-comm, xors-inj}
 use Rattle.cipher.specs.Cipher.{Cipher, Lawful, Block}
 use Rattle.mode.specs.Blocks.{blocks}
 use Rattle.mode.specs.Words.{shuffle}
@@ -142,7 +142,7 @@ module _ (κ : Cipher) (L : Lawful κ) where
     abbrev d₀ : CipherCall
     d₀ = startCall κ key nonce
 
-    -- the message's calls stand in the list behind the start's and those of the associated data
+    -- the message's calls stand in the list after the start's and those of the associated data
     output-is : (ad c : List ℕ) (i : ℕ) → i < length (blocks (κ .size) c)
         → outputAt κ key nonce ad c i ≡ outputOf κ L d₀ (afterData κ key nonce ad (length c)) (blocks (κ .size) c) i
     unfolding outputAt calls afterData

@@ -10,10 +10,10 @@ use lib.ListN.{length, take, drop, replicate, length-append, length-drop}
 use lib.Dec.{eqb}
 use lib.Seq.{length-take-le}
 use borrow.Author.Tests.{eq-eqb, ne-eqb}
-use Rattle.words.specs.Bytes.{AllBytes}
-use Rattle.words.specs.Xors.{xors}
-use Rattle.words.proofs.Lists.{all-take, all-drop, all-append, all-replicate}
-use Rattle.words.proofs.Xors.{length-xors, all-xors}
+use Rattle.block.specs.Bytes.{AllBytes}
+use Rattle.block.specs.Xors.{xors}
+use Rattle.block.proofs.Lists.{all-take, all-drop, all-append, all-replicate}
+use Rattle.block.proofs.Xors.{length-xors, all-xors}
 use Rattle.cipher.specs.Cipher.{Cipher, Lawful, Block, cipherOf, sizeOf, nonceOf}
 use Rattle.cipher.proofs.Suites as suites
 use Rattle.mode.specs.Blocks.{blocks, lengths}

@@ -1,8 +1,8 @@
 -- The identity's tags and outputs, by computation.
 use mathlib.Core.Path.{refl}
 use mathlib.Core.Logic.{inr}
-use Rattle.words.specs.Words.{xor}
-use Rattle.words.specs.Bytes.{value, bytes}
+use Rattle.block.specs.Words.{xor}
+use Rattle.block.specs.Bytes.{value, bytes}
 use Rattle.cipher.specs.Cipher.{Lawful}
 use Rattle.mode.specs.Blocks.{chop, blocks, chopLengths, lengths}
 use Rattle.mode.specs.Words.{doubleBy, shuffle, pad}

@@ -5,7 +5,7 @@ use mathlib.Core.Bool.{Bool, true, false, cond}
 use mathlib.Core.List.{List, [], _∷_, _++_}
 use lib.ListN.{take, drop, replicate}
 use lib.Dec.{eqb}
-use Rattle.words.specs.Xors.{xors}
+use Rattle.block.specs.Xors.{xors}
 use Rattle.cipher.specs.Cipher.{Cipher, one}
 use Rattle.mode.specs.Blocks.{blocks}
 use Rattle.mode.specs.Words.{doubleBy}

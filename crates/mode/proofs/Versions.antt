@@ -1,12 +1,12 @@
--- Version 2's held mark may stand in Z: what a call takes from the one before it, and what was put into Z behind that one, are the same mark.
+-- Version 2's held mark may stand in Z: what a call takes from the one before it, and what was inlined into Z after that one, are the same mark.
 use mathlib.Core.Path.{_≡_, refl, sym, ap, _∙_}
 use native.Mathlib.Omega.{arith}
 use Prim.Native.Nat.{ℕ, zero, suc, _<_}
 use mathlib.Core.List.{List, [], _∷_}
 use lib.ListN.{getD, set}
 use lib.Seq.{set-getD}
-use Rattle.words.specs.Words.{xor}
-use Rattle.words.proofs.Xor.{assoc, zero-l, zero-r}
+use Rattle.block.specs.Words.{xor}
+use Rattle.block.proofs.XorLaws.{assoc, zero-l, zero-r}
 use Rattle.cipher.specs.Cipher.{Block, Version, one, two}
 use Rattle.mode.specs.Keys.{late, placed, marked, doubled, nextKey, keys}
 use Rattle.mode.specs.Walk.{blockKey, blockZ}
@@ -46,7 +46,7 @@ unfolding keys late
 tag-step one z = refl
 tag-step two z = ap (λ (m : ℕ). nextKey two m z ∷ []) (zero-l 0x80)
 
--- a block's key is a block, and so is the Z behind it
+-- a block's key is a block, and so is the Z after it
 pub key-block : (v : Version) (m : ℕ) (z : List ℕ) → m < 256 → Block 16 z → Block 16 (blockKey v m z)
 key-block one m z h b = next-block one m z h b
 key-block two m z h b = next-block two 0 z (omega arith) b

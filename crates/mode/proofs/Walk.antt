@@ -9,10 +9,10 @@ use mathlib.Core.List.{List, [], _∷_, _++_, append-assoc, append-nil}
 use lib.ListN.{length, take, drop, drop-of-length-le}
 use lib.Dec.{ltb}
 use borrow.Author.Tests.{lt-ltb, le-ltb}
-use Rattle.words.specs.Bytes.{AllBytes}
-use Rattle.words.proofs.Xor.{below, zero-r}
-use Rattle.words.specs.Words.{xor}
-use Rattle.words.specs.Xors.{xors}
+use Rattle.block.specs.Bytes.{AllBytes}
+use Rattle.block.proofs.XorLaws.{below, zero-r}
+use Rattle.block.specs.Words.{xor}
+use Rattle.block.specs.Xors.{xors}
 use Rattle.cipher.specs.Cipher.{Cipher, Lawful, Block}
 use Rattle.mode.specs.Blocks.{blocks, lengths}
 use Rattle.mode.specs.Words.{shuffle, pad}
@@ -35,7 +35,7 @@ mark-full n first short k e = ap (λ (t : Bool). xor first (cond t short 0)) (le
 pub mark-short : (n first short k : ℕ) → k < n → xor first (shortMark n short k) ≡ xor first short
 mark-short n first short k h = ap (λ (t : Bool). xor first (cond t short 0)) (lt-ltb k n h)
 
--- the first block's mark behind some blocks
+-- the first block's mark after some blocks
 abbrev pub later : ℕ → List (List ℕ) → ℕ
 later first [] = first
 later first (b ∷ bs) = 0
@@ -54,7 +54,7 @@ later-first n m pos l =
 module _ (κ : Cipher) where
   -- ---- the walk is the chain
 
-  -- the chain's next key and the keys behind it
+  -- the chain's next key and the keys after it
   step-left : (m : ℕ) (s : States) (ms : List ℕ) → chainOf (κ .version) s (m ∷ ms) .left ≡ blockKey (κ .version) m (s .Z) ∷ keys (κ .version) (blockZ (κ .version) m (s .Z)) (placed (κ .version) ms)
   step-left m s ms = block-step (κ .version) m (s .Z) ms
 
@@ -166,7 +166,7 @@ module _ (κ : Cipher) where
           ap₂ (λ (y : List ℕ) (w : States). y ++ covered κ d 0 short w (blocks (κ .size) (drop e l))) (ex ∙ ap (λ (m : ℕ). hidden κ m s block) (sym ek)) next
           ∙ sym (ap (covered κ d first short s) (blocks-turn (κ .size) pos l i e h q))
 
-  -- behind the last block nothing is left
+  -- after the last block nothing is left
   module _ (pos : 0 < κ .size) (d : Bool) (first short : ℕ) (s : States) (l : List ℕ) (e : ℕ) (h : length l ≤ e) where
     nil : blocks (κ .size) (drop e l) ≡ []
     nil = ap (blocks (κ .size)) (drop-of-length-le l {i = e} h) ∙ blocks-nil (κ .size) pos

@@ -9,9 +9,9 @@ use mathlib.Core.List.{List, _∷_, _++_}
 use lib.ListN.{length, take, replicate, length-append, length-replicate}
 use lib.Seq.{take-at, take-all}
 use borrow.Author.Tests.{lt-ltb, le-ltb}
-use Rattle.words.specs.Bytes.{AllBytes, bytes}
-use Rattle.words.proofs.Lists.{all-append, all-cons, all-replicate}
-use Rattle.words.proofs.Bytes.{length-bytes, all-bytes}
+use Rattle.block.specs.Bytes.{AllBytes, bytes}
+use Rattle.block.proofs.Lists.{all-append, all-cons, all-replicate}
+use Rattle.block.proofs.Bytes.{length-bytes, all-bytes}
 use Rattle.cipher.specs.Cipher.{Block}
 use Rattle.mode.specs.Words.{Four, bytesOf, fourOf, shuffleWords, shuffle, pad}
 

@@ -10,6 +10,6 @@ pub data Agree (κ κ′ : Cipher) : List CipherCall → Type 0 where
   none : Agree κ κ′ []
   more : {q : CipherCall} {qs : List CipherCall} → enciphered κ q ≡ enciphered κ′ q → Agree κ κ′ qs → Agree κ κ′ (q ∷ qs)
 
--- κ with another map in the place of E
+-- κ with another map instead of E
 abbrev pub other : Cipher → (List ℕ → List ℕ → List ℕ) → Cipher
 other κ E′ = record { size = κ .size; E = E′; version = κ .version }

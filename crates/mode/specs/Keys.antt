@@ -4,8 +4,8 @@ use mathlib.Core.List.{List, [], _∷_, _++_}
 use lib.ListN.{getD, set, take, drop}
 use lib.Dec.{ltb}
 use mathlib.Core.Bool.{cond}
-use Rattle.words.specs.Words.{xor}
-use Rattle.words.specs.Bytes.{value, bytes}
+use Rattle.block.specs.Words.{xor}
+use Rattle.block.specs.Bytes.{value, bytes}
 use Rattle.cipher.specs.Cipher.{Version, one, two}
 use Rattle.mode.specs.Words.{double, double120}
 use Rattle.mode.specs.Blocks.{lengths}
@@ -24,7 +24,7 @@ unfoldable pub late : ℕ → List ℕ → List ℕ
 late held [] = xor held 0x80 ∷ []
 late held (m ∷ ms) = held ∷ late m ms
 
--- the mark before each cipher call after the start, the tag's last, from the marks of the blocks: version 1 marks a block's own call, version 2 the call behind it (source 004, algorithm 7.1)
+-- the mark before each cipher call after the start, the tag's last, from the marks of the blocks: version 1 marks a block's own call, version 2 the next call (source 004, algorithm 7.1)
 abbrev pub placed : Version → List ℕ → List ℕ
 placed one ms = ms ++ (0x80 ∷ [])
 placed two ms = late 0 ms
@@ -50,7 +50,7 @@ doubled two z = onLow 15 double120 z
 unfoldable pub nextKey : Version → ℕ → List ℕ → List ℕ
 nextKey v m z = doubled v (marked m z)
 
--- the block keys: one for each mark, each made from the one before
+-- the block keys: one for each mark, each computed from the one before
 unfoldable pub keys : Version → List ℕ → List ℕ → List (List ℕ)
 keys v z [] = []
 keys v z (m ∷ ms) = nextKey v m z ∷ keys v (nextKey v m z) ms

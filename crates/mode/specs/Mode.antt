@@ -4,7 +4,7 @@ use mathlib.Core.Bool.{Bool, false, cond}
 use mathlib.Core.List.{List, [], _∷_, _++_}
 use lib.ListN.{length, take, drop, replicate}
 use lib.Dec.{eqb}
-use Rattle.words.specs.Xors.{xors}
+use Rattle.block.specs.Xors.{xors}
 use Rattle.cipher.specs.Cipher.{Cipher}
 use Rattle.mode.specs.Blocks.{blocks}
 use Rattle.mode.specs.Words.{shuffle, pad}
@@ -20,7 +20,7 @@ pub record CipherCall : Type 0 where
   pub key : List ℕ
   pub block : List ℕ
 
--- what the blocks of a text leave: the calls that they made, the text that went out, and the chain behind them
+-- the result of processing a text's blocks: the cipher calls, the output text, and the chain after them
 pub record Trail : Type 0 where
   pub made : List CipherCall
   pub out : List ℕ
@@ -39,7 +39,7 @@ module _ (κ : Cipher) where
   unfoldable pub nonceSize : ℕ
   nonceSize = cond (eqb (κ .size) 16) 16 15
 
-  -- what a call gives; the cipher is used nowhere else
+  -- the result of a call; the cipher is used nowhere else
   abbrev pub enciphered : CipherCall → List ℕ
   enciphered q = κ .E (q .key) (q .block)
 
@@ -47,11 +47,11 @@ module _ (κ : Cipher) where
   abbrev pub startCall : List ℕ → List ℕ → CipherCall
   startCall key nonce = record { key = key; block = cond (eqb (κ .size) 16) nonce (replicate 8 0) }
 
-  -- Y at the start: the key where a block has 16 bytes, else what the call gives
+  -- Y at the start: the key where a block has 16 bytes, else the result of the call
   unfoldable pub startY : List ℕ → List ℕ → List ℕ
   startY key nonce = cond (eqb (κ .size) 16) key (enciphered (startCall key nonce))
 
-  -- Z at the start: what the call gives, else the key, XORed with the nonce in bytes 0 to 14
+  -- Z at the start: the result of the call, else the key, XORed with the nonce in bytes 0 to 14
   unfoldable pub startZ : List ℕ → List ℕ → List ℕ
   startZ key nonce = cond (eqb (κ .size) 16) (enciphered (startCall key nonce)) (xors (take 15 key) nonce ++ drop 15 key)
 
@@ -63,7 +63,7 @@ module _ (κ : Cipher) where
   abbrev pub nextCall : Chain → CipherCall
   nextCall c = record { key = firstKey (c .left); block = c .Y }
 
-  -- X, what it gives
+  -- X, its result
   abbrev pub image : Chain → List ℕ
   image c = enciphered (nextCall c)
 
@@ -71,29 +71,29 @@ module _ (κ : Cipher) where
   unfoldable pub absorbed : Chain → List ℕ → Chain
   absorbed c b = record { Y = xors (image c) (pad (κ .size) b); left = laterKeys (c .left) }
 
-  -- what goes out for a block of text: the block XOR as many first bytes of shuffle(X)
+  -- the output for a block of text: the block XOR as many first bytes of shuffle(X)
   unfoldable pub masked : Chain → List ℕ → List ℕ
   masked c b = xors b (shuffle (κ .size) (image c))
 
-  -- the message's block: in sealing the block itself, in opening what goes out
+  -- the message block: when sealing the block itself, when opening the output
   unfoldable pub message : Bool → Chain → List ℕ → List ℕ
   message opening c b = cond opening (masked c b) b
 
-  -- the blocks of a text, a call for each: the message's blocks go in
+  -- the blocks of a text, one call each: the message blocks are absorbed
   unfoldable pub trail : Bool → Chain → List (List ℕ) → Trail
   trail opening c [] = record { made = []; out = []; end = c }
   trail opening c (b ∷ bs) =
       let r : Trail = trail opening (absorbed c (message opening c b)) bs in
       record { made = nextCall c ∷ r .made; out = masked c b ++ r .out; end = r .end }
 
-  -- the chain behind them, and the text that goes out
+  -- the chain after them, and the output text
   abbrev pub after : Bool → Chain → List (List ℕ) → Chain
   after opening c bs = trail opening c bs .end
 
   abbrev pub crypted : Bool → Chain → List (List ℕ) → List ℕ
   crypted opening c bs = trail opening c bs .out
 
-  -- the blocks of the associated data go in as a message's do in sealing, and nothing goes out
+  -- the blocks of the associated data are absorbed as a message's are when sealing, without output
   abbrev pub absorb : Chain → List (List ℕ) → Chain
   absorb c bs = after false c bs
 
@@ -101,7 +101,7 @@ module _ (κ : Cipher) where
   unfoldable pub afterData : List ℕ → List ℕ → List ℕ → ℕ → Chain
   afterData key nonce ad l = absorb (start key nonce (length ad) l) (blocks (κ .size) ad)
 
-  -- the whole text that goes out, and the tag: what the last call gives
+  -- the whole output text, and the tag: the result of the last call
   unfoldable pub textOut : Bool → List ℕ → List ℕ → List ℕ → List ℕ → List ℕ
   textOut opening key nonce ad text = crypted opening (afterData key nonce ad (length text)) (blocks (κ .size) text)
 

@@ -1,18 +1,18 @@
--- When a change slips through (document 02, W13): what shuffle XOR identity, which source 000, section 3.5 wants invertible, takes to zero; and which altered records still have the old tag.
+-- When a change goes undetected (document 02, W13): the kernel of shuffle XOR identity, which source 000, section 3.5, wants invertible; and which altered records still have the old tag.
 use mathlib.Core.Path.{_≡_}
 use mathlib.Core.Bool.{true}
 use mathlib.Core.Logic.{_⊎_, _↔_}
 use mathlib.Core.List.{List, []}
 use Prim.Native.Nat.{ℕ, suc, _+_, _-_, _*_, _≤_, _<_}
 use lib.ListN.{length, getD, replicate}
-use Rattle.words.specs.Bytes.{AllBytes}
-use Rattle.words.specs.Xors.{xors}
+use Rattle.block.specs.Bytes.{AllBytes}
+use Rattle.block.specs.Xors.{xors}
 use Rattle.cipher.specs.Cipher.{Cipher, Lawful, Block}
 use Rattle.mode.specs.Blocks.{blocks}
 use Rattle.mode.specs.Words.{shuffle}
 use Rattle.mode.specs.Mode.{enciphered, startCall, nonceSize, tagOut, calls}
 
--- exactly two blocks go to zero under shuffle XOR identity: all zeros and all ones; n is 16 or 8 bytes
+-- the kernel of shuffle XOR identity has exactly two blocks, all zeros and all ones; n is 16 or 8 bytes
 abbrev pub TwoBlocks : Type 0
 TwoBlocks =
     (n : ℕ) (b : List ℕ) → (n ≡ 16) ⊎ (n ≡ 8) → Block n b

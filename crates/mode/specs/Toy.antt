@@ -1,4 +1,4 @@
--- W13 on a toy: the identity is a lawful cipher, and over it changes that slip through can be written down. It hides nothing and is no suite of ours.
+-- W13 by example: the identity is a lawful cipher, and over it undetected changes can be written down. It hides nothing and is not one of our suites.
 use mathlib.Core.Path.{_≡_}
 use mathlib.Core.Bool.{true}
 use mathlib.Core.List.{List, [], _∷_, _++_}

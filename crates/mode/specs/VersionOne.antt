@@ -5,9 +5,9 @@ use mathlib.Core.Bool.{Bool, cond}
 use mathlib.Core.List.{List, [], _∷_, _++_}
 use lib.ListN.{length, getD, set, take, drop, replicate}
 use lib.Dec.{eqb, ltb, leb}
-use Rattle.words.specs.Words.{xor}
-use Rattle.words.specs.Bytes.{value, bytes}
-use Rattle.words.specs.Xors.{xors}
+use Rattle.block.specs.Words.{xor}
+use Rattle.block.specs.Bytes.{value, bytes}
+use Rattle.block.specs.Xors.{xors}
 use Rattle.cipher.specs.Cipher.{Cipher, one}
 use Rattle.mode.specs.Blocks.{blocks}
 use Rattle.mode.specs.Words.{shuffle, pad}
@@ -55,7 +55,7 @@ module _ (n : ℕ) (E : List ℕ → List ℕ → List ℕ) where
   dataIn first s [] = s
   dataIn first s (I ∷ Is) = dataIn 0 (carried (xors (blockX first 0x10 s I) (pad n I)) (blockZ first 0x10 s I)) Is
 
-  -- what goes out for a block of text: the block XOR as many first bytes of shuffle(X); it is the ciphertext in sealing, the message in opening
+  -- the output for a block of text: the block XOR as many first bytes of shuffle(X); the ciphertext when sealing, the message when opening
   abbrev pub goesOut : ℕ → Carried → List ℕ → List ℕ
   goesOut first s b = xors b (shuffle n (blockX first 0x40 s b))
 
@@ -75,7 +75,7 @@ module _ (n : ℕ) (E : List ℕ → List ℕ → List ℕ) where
   abbrev pub behindData : List ℕ → List ℕ → List ℕ → Carried
   behindData key nonce ad = dataIn 0x08 (begin key nonce) (blocks n ad)
 
-  -- the whole text that goes out
+  -- the whole output text
   abbrev pub textWas : Bool → List ℕ → List ℕ → List ℕ → List ℕ → List ℕ
   textWas opening key nonce ad text = allOut opening 0x20 (behindData key nonce ad) (blocks n text)
 

@@ -1,10 +1,10 @@
--- The chain, walked block by block: the two states Y and Z before and after each block, and what goes out for it. A walk knows nothing of what comes later, so a text may come in parts.
+-- The chain, processed block by block: the two states Y and Z before and after each block, and the output for it. A step does not depend on later blocks, so a text may come in parts.
 use Prim.Native.Nat.{ℕ, _*_, _/_}
 use mathlib.Core.Bool.{Bool, false, cond}
 use mathlib.Core.List.{List, [], _∷_, _++_}
 use lib.ListN.{length, take, drop}
-use Rattle.words.specs.Words.{xor}
-use Rattle.words.specs.Xors.{xors}
+use Rattle.block.specs.Words.{xor}
+use Rattle.block.specs.Xors.{xors}
 use Rattle.cipher.specs.Cipher.{Cipher, Version, one, two}
 use Rattle.mode.specs.Blocks.{blocks}
 use Rattle.mode.specs.Words.{shuffle, pad}
@@ -20,7 +20,7 @@ pub record States : Type 0 where
 abbrev pub chainOf : Version → States → List ℕ → Chain
 chainOf v s ms = record { Y = s .Y; left = keys v (s .Z) (placed v ms) }
 
--- the whole blocks of a text, and the bytes behind them, which are less than a block
+-- the whole blocks of a text, and the bytes after them, fewer than a block
 unfoldable pub whole : ℕ → List ℕ → List ℕ
 whole n l = take (length l / n * n) l
 
@@ -32,12 +32,12 @@ abbrev pub blockKey : Version → ℕ → List ℕ → List ℕ
 blockKey one m z = nextKey one m z
 blockKey two m z = nextKey two 0 z
 
--- behind the block with the key k, version 2 puts the mark in
+-- after the block with the key k, version 2 applies the mark
 abbrev pub keptBehind : Version → ℕ → List ℕ → List ℕ
 keptBehind one m k = k
 keptBehind two m k = marked m k
 
--- the Z that is kept behind a block
+-- the Z that is kept after a block
 abbrev pub blockZ : Version → ℕ → List ℕ → List ℕ
 blockZ v m z = keptBehind v m (blockKey v m z)
 
@@ -50,15 +50,15 @@ module _ (κ : Cipher) where
   abbrev pub imageOf : ℕ → States → List ℕ
   imageOf m s = κ .E (blockKey (κ .version) m (s .Z)) (s .Y)
 
-  -- a block goes in under the mark m: Y = X XOR padded block
+  -- a block is absorbed under the mark m: Y = X XOR padded block
   unfoldable pub turned : ℕ → States → List ℕ → States
   turned m s b = record { Y = xors (imageOf m s) (pad (κ .size) b); Z = blockZ (κ .version) m (s .Z) }
 
-  -- what goes out for a block of text: the block XOR as many first bytes of shuffle(X)
+  -- the output for a block of text: the block XOR as many first bytes of shuffle(X)
   unfoldable pub hidden : ℕ → States → List ℕ → List ℕ
   hidden m s b = xors b (shuffle (κ .size) (imageOf m s))
 
-  -- the message's block, which goes in: in sealing the block itself, in opening what goes out
+  -- the message block, which is absorbed: when sealing the block itself, when opening the output
   abbrev pub messageOf : Bool → ℕ → States → List ℕ → List ℕ
   messageOf opening m s b = cond opening (hidden m s b) b
 
@@ -69,7 +69,7 @@ module _ (κ : Cipher) where
       let m : ℕ = markOf first short b in
       walked opening 0 short (turned m s (messageOf opening m s b)) bs
 
-  -- the text that goes out for them
+  -- the output text for them
   unfoldable pub covered : Bool → ℕ → ℕ → States → List (List ℕ) → List ℕ
   covered opening first short s [] = []
   covered opening first short s (b ∷ bs) =
@@ -81,10 +81,10 @@ module _ (κ : Cipher) where
   tagged s = κ .E (nextKey (κ .version) 0x80 (s .Z)) (s .Y)
 
   module _ (key nonce : List ℕ) where
-    -- the states that key and nonce start
+    -- the initial states for a key and a nonce
     abbrev pub origin : States
     origin = record { Y = startY κ key nonce; Z = startZ κ key nonce }
 
-    -- the states after associated data a: a block of it goes in as a message's does in sealing
+    -- the states after associated data a: its blocks are absorbed as a message's are when sealing
     abbrev pub dataDone : List ℕ → States
     dataDone a = walked false 0x08 0x10 origin (blocks (κ .size) a)

@@ -4,8 +4,8 @@ use mathlib.Core.List.{List, _∷_, _++_}
 use lib.ListN.{length, replicate}
 use lib.Dec.{ltb, leb}
 use mathlib.Core.Bool.{cond}
-use Rattle.words.specs.Words.{xor, rotr}
-use Rattle.words.specs.Bytes.{bytes, word}
+use Rattle.block.specs.Words.{xor, rotr}
+use Rattle.block.specs.Bytes.{bytes, word}
 
 -- a left shift by one of a number of w bits, which drops the top bit
 abbrev pub shifted : ℕ → ℕ → ℕ

@@ -1,5 +1,5 @@
 -- W11 by citation.
-use Rattle.amend.proofs.Promised.{in-order, amendment-wins, missing-exactly, part-of-holder, no-rows}
+use Rattle.shift_amend.proofs.Promised.{in-order, amendment-wins, missing-exactly, part-of-holder, no-rows}
 use Rattle.promises.specs.Amendments.{Amendments}
 
 pub amendments : Amendments

@@ -4,13 +4,13 @@ use mathlib.Core.Bool.{Bool, true, false}
 use Prim.Native.Nat.{ℕ}
 use mathlib.Core.List.{List}
 use lib.ListN.{length, replicate}
-use Rattle.words.specs.Bytes.{sameBytes}
-use Rattle.words.proofs.Same.{same-refl, same-true}
+use Rattle.block.specs.Bytes.{sameBytes}
+use Rattle.block.proofs.SameBytes.{same-refl, same-true}
 use Rattle.cipher.specs.Cipher.{cipherOf, sizeOf}
 use Rattle.mode.specs.Mode.{nonceSize, textOut, tagOut}
 use Rattle.mode.proofs.Start.{suite-nonce}
 use Rattle.comet.specs.Answers.{Opened, openedAs, opening}
-use Rattle.numbers.proofs.Refuse.{Passed, none-bad}
+use Rattle.status.proofs.Refuse.{Passed, none-bad}
 use Rattle.comet.proofs.Left.{tag-right}
 use Rattle.promises.specs.Input.{Texts, Input}
 

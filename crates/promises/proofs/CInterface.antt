@@ -4,16 +4,22 @@ use Prim.Native.Nat.{ℕ, zero, suc, _<_}
 use native.Mathlib.Nat.{suc-ne-zero}
 use mathlib.Core.List.{List, []}
 use lib.ListN.{length, getD, replicate}
+use denote.Ref.{now}
 use Rattle.cipher.specs.Cipher.{cipherOf}
 use Rattle.session.specs.Value.{Value, Given, answered, gave, over, fresh, startNumber, starting, dataNumber, dataIn, dataPart, textNumber, textDone, textPart, endNumber, endDone, ending}
 use Rattle.session.specs.Calls.{Shut}
 use Rattle.session.proofs.Parts.{done-number}
 use Rattle.session.proofs.Whatever.{over-shut}
 use Rattle.session.proofs.AnyValue.{data-shut, text-shut, end-shut}
+use Rattle.shift_format.specs.Format.{firstEdition, newest}
+use Rattle.shift_check.proofs.Passed.{passes}
+use Rattle.shift_reader.specs.declared.contents.HeaderFields.{HeaderFields}
+use Rattle.shift_reader.proofs.ByRow.{header-given, row-given, row-past}
+use Rattle.snoekeldraf.specs.Fields.{InFields, inFields}
 use Rattle.snoekeldraf.specs.Words.{Nine, ofWords, wordsOf, after, inWords}
 use Rattle.snoekeldraf.proofs.Words.{kept, dead, dead-words}
 use Rattle.snoekeldraf.proofs.Outcomes as one
-use Rattle.promises.specs.CInterface.{CInterface, CRoutines, CSessions}
+use Rattle.promises.specs.CInterface.{CInterface, CRoutines, CRows, CSessions}
 
 pub c-interface : CInterface
 c-interface = record {
@@ -46,6 +52,8 @@ c-interface = record {
   shift-to-edition1 = record { asks-nothing = λ κs a. tt; one-outcome = one.shift-to-edition1 };
   shift-compare = record { asks-nothing = λ κs a. tt; one-outcome = one.shift-compare };
   shift-report = record { asks-nothing = λ κs a. tt; one-outcome = one.shift-report };
+  shift-rows = record { asks-nothing = λ κs a. tt; one-outcome = one.shift-rows };
+  shift-row = record { asks-nothing = λ κs a. tt; one-outcome = one.shift-row };
 }
 
 pub c-routines : CRoutines
@@ -79,6 +87,23 @@ c-routines = record {
   shift-to-edition1 = λ κs file out row x. x .ensures;
   shift-compare = λ κs f g first second differ n-first n-second n-differ file row x. x .ensures;
   shift-report = λ κs file ring jobs numbers count row x. x .ensures;
+  shift-rows = λ κs file edition count x. x .ensures;
+  shift-row = λ κs file row fields x. x .ensures;
+}
+
+-- ---- a file's rows
+
+pub c-rows : CRows
+c-rows = record {
+  counted = λ κs file edition count x z.
+      let e = x .ensures ∙ header-given (now file) z in
+      (ap (λ (h : HeaderFields). h .status) e, ap (λ (h : HeaderFields). h .edition) e, ap (λ (h : HeaderFields). h .count) e);
+  given = λ κs file i fields x z l.
+      let e = x .ensures ∙ ap inFields (row-given (now file) i z l) in
+      (ap (λ (w : InFields). w .status) e, ap (λ (w : InFields). w .fields) e);
+  past = λ κs file i fields x z h.
+      let e = x .ensures ∙ ap inFields (row-past (now file) i (passes firstEdition newest (now file) z .zero) h) in
+      (ap (λ (w : InFields). w .status) e, ap (λ (w : InFields). w .fields) e);
 }
 
 -- ---- a session's words

@@ -13,10 +13,10 @@ use Rattle.mode.specs.Blocks.{blocks, chop}
 use Rattle.mode.specs.Mode.{calls}
 use Rattle.mode.proofs.Chain.{some}
 use Rattle.mode.proofs.Calls.{calls-count, calls-same, calls-decide}
-use Rattle.numbers.specs.Verdicts.{refusal}
+use Rattle.status.specs.Verdicts.{refusal}
 use Rattle.comet.specs.Answers.{sealedAs, sealing, openedAs, opening}
 use Rattle.comet.specs.Counted.{countedAs, callsOf}
-use Rattle.numbers.proofs.Refuse.{refusal-most}
+use Rattle.status.proofs.Refuse.{refusal-most}
 use Rattle.comet.proofs.Counts.{calls-all}
 use Rattle.promises.specs.Calls.{SealReports, OpenReports, CallsSum, EmptyTwo, SameReport, Calls}
 

@@ -9,37 +9,38 @@ use lib.ListN.{length}
 use lib.Dec.{eqb, ltb}
 use borrow.Author.Tests.{eqb-true, eqb-false, eq-eqb, ne-eqb, lt-ltb, le-ltb}
 use Rattle.cipher.specs.Cipher.{Seals}
-use Rattle.format.specs.Format.{countOf, firstEdition, newest, rowSizeOf, rowOf, tagOf, stationOf}
-use Rattle.numbers.specs.declared.checked.Answer.{Answer}
-use Rattle.numbers.specs.Answers.{answer}
-use Rattle.table.specs.Check.{nonceSeen, headNumber, andThen, checkAs, checkFile}
-use Rattle.format.specs.Inside.{EntryIn}
-use Rattle.table.proofs.Searches.{first-at, first-none}
-use Rattle.shift.specs.Lookup.{lookupJob}
-use Rattle.shift.specs.Opening.{entryOpening, JobOpened, left, rowOpening, jobOpening}
-use Rattle.shift.proofs.Lookups.{found-in}
-use Rattle.shift.proofs.Finding.{finds}
-use Rattle.search.specs.Halving.{Walk, ends, halving, jobsOf, searching}
-use Rattle.search.proofs.Halves.{halved-number}
-use Rattle.draft.specs.Files.{entryTag}
-use Rattle.draft.specs.Answers.{tagSet, rowRetired, tagRight, setFrom, retiredFrom, wrongFrom, lentAnswer, sealAnswer, openAnswer, unsealAnswer, fileSealing, fileUnsealing}
-use Rattle.draft.specs.Promised.{ZeroTag, RightTag}
-use Rattle.reseal.specs.Files.{retabled}
-use Rattle.reseal.specs.Answers.{seenFrom, wrongAgain, wrongAgainFrom, takeAnswer, resealAnswer, fileResealing}
-use Rattle.reseal.specs.Promised.{HasFour}
-use Rattle.compare.specs.declared.Finding.{Finding}
-use Rattle.compare.specs.Comparing.{onlyFirst, onlySecond, differing, refusedIn, Comparison, stopped, tooLong, listed, comparison}
-use Rattle.editions.specs.Files.{moved}
-use Rattle.editions.specs.Answers.{stationsFrom, lengthAnswer, upAnswer, backAnswer, toEdition2, toEdition1}
-use Rattle.editions.specs.Promised.{done}
-use Rattle.editions.proofs.Promised.{back-short}
-use Rattle.reader.specs.Reporting.{jobOf, tagNumber, front, entries, Report, stopped as unreported, longest, reporting}
-use Rattle.reader.proofs.Tags.{number-is}
+use Rattle.shift_format.specs.Format.{countOf, firstEdition, newest, rowSizeOf, rowOf, tagOf, stationOf}
+use Rattle.status.specs.declared.checked.Answer.{Answer}
+use Rattle.status.specs.Answers.{answer}
+use Rattle.shift_check.specs.Check.{nonceSeen, headNumber, andThen, checkAs, checkFile}
+use Rattle.shift_format.specs.Inside.{EntryIn}
+use Rattle.shift_check.proofs.Searches.{first-at, first-none}
+use Rattle.shift_jobs.specs.Lookup.{lookupJob}
+use Rattle.shift_jobs.specs.Opening.{entryOpening, JobOpened, left, rowOpening, jobOpening}
+use Rattle.shift_jobs.proofs.Lookups.{found-in}
+use Rattle.shift_jobs.proofs.Finding.{finds}
+use Rattle.shift_search.specs.Halving.{Walk, ends, halving, jobsOf, searching}
+use Rattle.shift_search.proofs.Halves.{halved-number}
+use Rattle.shift_draft.specs.Files.{entryTag}
+use Rattle.shift_draft.specs.Answers.{tagSet, rowRetired, tagRight, setFrom, retiredFrom, wrongFrom, lentAnswer, sealAnswer, openAnswer, unsealAnswer, fileSealing, fileUnsealing}
+use Rattle.shift_draft.specs.Promised.{ZeroTag, RightTag}
+use Rattle.shift_reseal.specs.Files.{retabled}
+use Rattle.shift_reseal.specs.Answers.{seenFrom, wrongAgain, wrongAgainFrom, takeAnswer, resealAnswer, fileResealing}
+use Rattle.shift_reseal.specs.Promised.{HasFour}
+use Rattle.shift_compare.specs.declared.Finding.{Finding}
+use Rattle.shift_compare.specs.Comparing.{onlyFirst, onlySecond, differing, refusedIn, Comparison, stopped, tooLong, listed, comparison}
+use Rattle.shift_editions.specs.Files.{moved}
+use Rattle.shift_editions.specs.Answers.{stationsFrom, lengthAnswer, upAnswer, backAnswer, toEdition2, toEdition1}
+use Rattle.shift_editions.specs.Promised.{done}
+use Rattle.shift_editions.proofs.Promised.{back-short}
+use Rattle.shift_report.specs.Reporting.{jobOf, tagNumber, front, entries, Report, stopped as unreported, longest, reporting}
+use Rattle.shift_report.proofs.Tags.{number-is}
 use Rattle.promises.specs.Numbers.{headTable}
 use Rattle.promises.specs.Cases.{HeadNumbers, LookupCases, JobCases, SearchCases, BothPass, CompareCases, unmoved, UpCases, BackCases, ReportCases, SealOrder, UnsealOrder, ResealOrder, Cases}
 use Rattle.promises.proofs.Tables.{Tells, tells-eq, tells-lt, tells-same, tells-not, tells-or, tells-and, tells-true, not-told, ladder, By, lines, table, answers}
 use Rattle.promises.proofs.Checks.{head-rungs, head-is, none-head}
 use Rattle.promises.proofs.Orders.{firstRow, then-none, order}
+use Rattle.promises.proofs.RowCases.{contents-cases}
 
 head-numbers : HeadNumbers
 head-numbers low high f = table _ (headTable low high f) (head-rungs low high f) refl (head-is low high f)
@@ -62,7 +63,7 @@ module _ (f : List ℕ) (job : ℕ) where
   unfolding searching
   search-goes z = simp z
 
-  -- a number that the halving does not give is the head's
+  -- a number that the binary search does not give is the head's
   search-by : (k : ℕ) → (k ≡ 0 → ⊥) → (k ≡ 32 → ⊥) → By (λ j. searching f job ≡ ends (answer j 0)) Unit (ladder Unit (headTable firstEdition newest f) (head-rungs firstEdition newest f)) k
   search-by k n0 n32 = (λ e. (tt, sym (head-is firstEdition newest f) ∙ on (eqb H 0) refl e), λ y. let h : H ≡ k = head-is firstEdition newest f ∙ y .1 in search-stops (λ z. n0 (sym h ∙ z)) ∙ ap (λ (m : ℕ). ends (answer m 0)) h)
     where
@@ -424,6 +425,7 @@ cases = record {
   to-edition2 = up-cases;
   to-edition1 = back-cases;
   report = report-cases;
+  contents = contents-cases;
   seal-file = seal-order;
   unseal-file = unseal-order;
   reseal = reseal-order;

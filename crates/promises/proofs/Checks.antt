@@ -8,17 +8,17 @@ use mathlib.Core.List.{List}
 use lib.ListN.{length}
 use lib.Dec.{eqb, ltb}
 use borrow.Author.Tests.{eqb-true, eqb-false, ne-eqb, not-true, not-false}
-use Rattle.words.specs.Blocks.{filled}
+use Rattle.block.specs.Blocks.{filled}
 use Rattle.cipher.proofs.Suites.{tag-size}
 use Rattle.cipher.specs.Cipher.{limit}
-use Rattle.format.specs.declared.row.Row.{Row}
-use Rattle.numbers.specs.declared.checked.Answer.{Answer}
-use Rattle.table.specs.Search.{anyBelow}
-use Rattle.format.specs.Format.{editionOf, countOf, totalOf, rowSizeOf, rowStart, rowOf, nonceAt, nonceReadAt, bodyEnd, dataJob, unitOf}
-use Rattle.numbers.specs.Answers.{answer}
-use Rattle.table.specs.Check.{notAbove, badSuite, badLength, bodyStart, misplaced, unreadSet, clash, nonceSeen, badData, bodyNumber, rowNumber, endAnswer, rowsFrom, headNumber, checkBetween}
-use Rattle.table.proofs.Searches.{any-some, any-hit, first-at, first-none}
-use Rattle.shift.specs.Nonces.{SameNonce}
+use Rattle.shift_format.specs.declared.row.Row.{Row}
+use Rattle.status.specs.declared.checked.Answer.{Answer}
+use Rattle.shift_check.specs.Search.{anyBelow}
+use Rattle.shift_format.specs.Format.{editionOf, countOf, totalOf, rowSizeOf, rowStart, rowOf, nonceAt, nonceReadAt, bodyEnd, dataJob, unitOf}
+use Rattle.status.specs.Answers.{answer}
+use Rattle.shift_check.specs.Check.{notAbove, badSuite, badLength, bodyStart, misplaced, unreadSet, clash, nonceSeen, badData, bodyNumber, rowNumber, endAnswer, rowsFrom, headNumber, checkBetween}
+use Rattle.shift_check.proofs.Searches.{any-some, any-hit, first-at, first-none}
+use Rattle.shift_jobs.specs.Nonces.{SameNonce}
 use Rattle.promises.specs.Tables.{None}
 use Rattle.promises.specs.Numbers.{tagSize, headTable, rowTable, endTable, SoundTo, CheckNumbers, Numbers}
 use Rattle.promises.proofs.Tables.{Tells, tells-eq, tells-lt, tells-le, tells-same, tells-not, tells-or, tells-and, tells-as, first-of, Rungs, ladder, numbersOf, fresh, fresh-some, not-given, By, lines, nothing}
@@ -40,7 +40,7 @@ tells-above : (f : List ℕ) (i : ℕ) → Tells (notAbove (rowSizeOf f) f i) ((
 unfolding notAbove
 tells-above f i = tells-and (tells-as (tells-not (tells-eq i 0)) (λ n. omega (arith, n), λ l e. omega (arith, l, e))) (tells-le (rowOf f i .job) (rowOf f (i - 1) .job))
 
--- a body ends behind its tag
+-- a body ends after its tag
 tells-end : (f : List ℕ) (r : Row) → Tells (ltb (length f) (bodyEnd r)) (length f < r .«ad_at» + r .«ad_len» + r .«text_len» + tagSize (r .suite))
 unfolding bodyEnd
 tells-end f r =

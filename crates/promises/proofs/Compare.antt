@@ -1,5 +1,5 @@
 -- W8, and the stations of W10, by citation.
-use Rattle.compare.proofs.Promised.{exactly-listed, lists-rise, equal-rows, with-itself, files-exchanged, other-length, other-station, no-station}
+use Rattle.shift_compare.proofs.Promised.{exactly-listed, lists-rise, equal-rows, with-itself, files-exchanged, other-length, other-station, no-station}
 use Rattle.promises.specs.Compare.{Compare}
 
 pub compares : Compare

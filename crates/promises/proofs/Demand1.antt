@@ -9,24 +9,25 @@ use mathlib.Core.List.{List}
 use lib.ListN.{length, replicate}
 use lib.Dec.{ltb, eqb}
 use borrow.Author.Tests.{eq-eqb}
-use Rattle.words.specs.Bytes.{sameBytes}
-use Rattle.words.proofs.Ladder.{rung}
+use Rattle.block.specs.Bytes.{sameBytes}
+use Rattle.block.proofs.Ladder.{rung}
 use Rattle.cipher.specs.Cipher.{isSuite, sizeOf, nonceOf, cipherOf, limit}
 use Rattle.mode.specs.Mode.{ciphertext, tag, textOut, tagOut}
-use Rattle.numbers.specs.Verdicts.{takes, refusal}
+use Rattle.status.specs.Verdicts.{takes, refusal}
 use Rattle.comet.specs.Answers.{Sealed, sealedAs, sealing, Opened, openedAs, opening, verifying}
 use Rattle.comet.proofs.Outcomes as comet
 use Rattle.session.proofs.Outcomes as session
-use Rattle.table.proofs.Outcomes as table
-use Rattle.shift.proofs.Outcomes as shift
-use Rattle.writer.proofs.Outcomes as writer
-use Rattle.reseal.proofs.Outcomes as resealer
-use Rattle.search.proofs.Outcomes as halving
-use Rattle.amend.proofs.Outcomes as amend
-use Rattle.editions.proofs.Outcomes as editions
-use Rattle.compare.proofs.Outcomes as comparing
-use Rattle.reader.proofs.Outcomes as reading
-use Rattle.numbers.proofs.Refuse.{refusal-most}
+use Rattle.shift_check.proofs.Outcomes as table
+use Rattle.shift_jobs.proofs.Outcomes as shift
+use Rattle.shift_writer.proofs.Outcomes as writer
+use Rattle.shift_reseal.proofs.Outcomes as resealer
+use Rattle.shift_search.proofs.Outcomes as halving
+use Rattle.shift_amend.proofs.Outcomes as amend
+use Rattle.shift_editions.proofs.Outcomes as editions
+use Rattle.shift_compare.proofs.Outcomes as comparing
+use Rattle.shift_reader.proofs.Outcomes as reading
+use Rattle.shift_report.proofs.Outcomes as reporting
+use Rattle.status.proofs.Refuse.{refusal-most}
 use Rattle.promises.specs.Demand1.{EntryPoints, SealKeeps, OpenKeeps, SealInPlace, OpenInPlace, VerifyOpens}
 
 pub entry-points : EntryPoints
@@ -59,7 +60,9 @@ entry-points =
       compare = record { asks-nothing = λ κs a. tt; one-outcome = comparing.compare };
       start = record { asks-nothing = λ κs a. tt; one-outcome = reading.start };
       ask = record { asks-nothing = λ κs a. tt; one-outcome = reading.ask };
-      report = record { asks-nothing = λ κs a. tt; one-outcome = reading.report };
+      report = record { asks-nothing = λ κs a. tt; one-outcome = reporting.report };
+      header = record { asks-nothing = λ κs a. tt; one-outcome = reading.header };
+      row = record { asks-nothing = λ κs a. tt; one-outcome = reading.row };
       reseal = record { asks-nothing = λ κs a. tt; one-outcome = resealer.reseal };
       seal-counted = record { asks-nothing = λ κs a. tt; one-outcome = comet.seal-counted };
       unseal-counted = record { asks-nothing = λ κs a. tt; one-outcome = comet.unseal-counted };

@@ -3,7 +3,7 @@ use mathlib.Core.Path.{sym, ap, _∙_}
 use mathlib.Core.Logic.{inl, inr}
 use Prim.Native.Nat.{ℕ}
 use mathlib.Core.List.{List, []}
-use Rattle.words.proofs.Lists.{all-nil}
+use Rattle.block.proofs.Lists.{all-nil}
 use Rattle.cipher.specs.Cipher.{Block, cipherOf, sizeOf}
 use Rattle.cipher.proofs.Lawful.{lawful}
 use Rattle.mode.specs.Mode.{tag}

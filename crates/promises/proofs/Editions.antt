@@ -1,18 +1,18 @@
--- W10 by citation; a file and its moved file have equal rows, which is all that compare asks.
+-- W10 by citation; a file and its moved file have equal rows, which is all that compare requires.
 use mathlib.Core.Path.{_≡_, sym}
 use mathlib.Core.List.{List}
 use Prim.Native.Nat.{ℕ, _<_}
 use lib.ListN.{length}
 use lib.Dec.{lit≤}
-use Rattle.format.specs.Format.{countOf, firstEdition, newest}
-use Rattle.table.specs.Check.{checkFile}
-use Rattle.table.proofs.Kept.{wider}
-use Rattle.compare.proofs.Promised.{equal-rows}
-use Rattle.editions.specs.Answers.{toEdition2, toEdition1}
-use Rattle.editions.specs.Promised.{RowKept}
-use Rattle.editions.proofs.Done.{up-goes, back-goes}
-use Rattle.editions.proofs.Promised.{there-and-back, back-and-there, up-passes, back-passes, back-short, length-told, up-rises, back-falls}
-use Rattle.editions.proofs.Reading.{up-keeps, back-keeps, up-reads, back-reads}
+use Rattle.shift_format.specs.Format.{countOf, firstEdition, newest}
+use Rattle.shift_check.specs.Check.{checkFile}
+use Rattle.shift_check.proofs.Kept.{wider}
+use Rattle.shift_compare.proofs.Promised.{equal-rows}
+use Rattle.shift_editions.specs.Answers.{toEdition2, toEdition1}
+use Rattle.shift_editions.specs.Promised.{RowKept}
+use Rattle.shift_editions.proofs.Done.{up-goes, back-goes}
+use Rattle.shift_editions.proofs.Promised.{there-and-back, back-and-there, up-passes, back-passes, back-short, length-told, up-rises, back-falls}
+use Rattle.shift_editions.proofs.Reading.{up-keeps, back-keeps, up-reads, back-reads}
 use Rattle.promises.specs.Editions.{Equal, UpEqual, BackEqual, Editions}
 
 equal-of : (f g : List ℕ) → checkFile f .number ≡ 0 → checkFile g .number ≡ 0 → countOf f ≡ countOf g → ((i : ℕ) → i < countOf f → RowKept f g i) → Equal f g

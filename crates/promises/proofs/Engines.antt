@@ -1,5 +1,5 @@
 -- W1 by citation.
-use Rattle.columns.proofs.Engines.{same-block}
+use Rattle.aes_tables.proofs.Engines.{same-block}
 use Rattle.promises.specs.Engines.{BothEngines, TablesRule}
 
 pub both-engines : BothEngines

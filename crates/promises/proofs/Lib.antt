@@ -3,6 +3,7 @@ pub mod Tables
 pub mod Orders
 pub mod Numbers
 pub mod Checks
+pub mod RowCases
 pub mod Cases
 pub mod Demand1
 pub mod Demand2
@@ -10,6 +11,7 @@ pub mod Demand3
 pub mod Routines
 pub mod ShiftFile
 pub mod Values
+pub mod Ciphers
 pub mod Engines
 pub mod Sessions
 pub mod Writer
@@ -21,6 +23,7 @@ pub mod Versions
 pub mod Compare
 pub mod Reading
 pub mod Readers
+pub mod Contents
 pub mod Retired
 pub mod Reseal
 pub mod Calls

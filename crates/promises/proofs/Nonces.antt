@@ -1,5 +1,5 @@
 -- W5 by citation.
-use Rattle.shift.proofs.Nonces.{nonces-once, unread-byte}
+use Rattle.shift_jobs.proofs.Nonces.{nonces-once, unread-byte}
 use Rattle.promises.specs.Nonces.{NonceCheck}
 
 pub nonce-check : NonceCheck

@@ -8,11 +8,11 @@ use mathlib.Core.List.{List, []}
 use lib.ListN.{length}
 use lib.Dec.{eqb, ltb, leb}
 use borrow.Author.Tests.{not-true}
-use Rattle.words.specs.Bytes.{sameBytes}
+use Rattle.block.specs.Bytes.{sameBytes}
 use Rattle.cipher.specs.Cipher.{isSuite, retired, seals, cipherOf, sizeOf, nonceOf, limit}
 use Rattle.cipher.proofs.Suites.{tag-size, only-four}
 use Rattle.mode.specs.Mode.{textOut, tagOut}
-use Rattle.numbers.specs.Verdicts.{takes, refusal}
+use Rattle.status.specs.Verdicts.{takes, refusal}
 use Rattle.comet.specs.Answers.{sealedAs, sealing, openedAs, opening}
 use Rattle.session.specs.Value.{Value, Given, sound, answered, startNumber, starting, dataNumber, dataPart, textNumber, textPart, endNumber, ending}
 use Rattle.session.proofs.Parts.{done-number}
@@ -38,7 +38,7 @@ pub tells-suite : (s : ℕ) → Tells (not (isSuite s)) ((s < 1) ⊎ (6 < s))
 unfolding isSuite
 tells-suite s = tells-as (tells-not (tells-and (tells-le 1 s) (tells-le s 6))) (outside 1 6 s)
 
--- of the suites that we have the fourth alone seals no more
+-- of the suites that we have the fourth alone is retired
 four-shut : not (seals 4) ≡ true
 unfolding seals retired isSuite
 four-shut = refl

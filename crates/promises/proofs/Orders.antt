@@ -6,12 +6,12 @@ use Prim.Native.Nat.{ℕ, _-_, _<_}
 use mathlib.Core.List.{List, [], _∷_}
 use lib.Dec.{eqb}
 use borrow.Author.Tests.{ne-eqb}
-use Rattle.words.proofs.Tests.{both-true}
-use Rattle.numbers.specs.declared.checked.Answer.{Answer}
-use Rattle.table.specs.Search.{firstOf}
-use Rattle.numbers.specs.Answers.{answer}
-use Rattle.table.specs.Check.{andThen}
-use Rattle.table.proofs.Searches.{first-at, first-none}
+use Rattle.block.proofs.Tests.{both-true}
+use Rattle.status.specs.declared.checked.Answer.{Answer}
+use Rattle.shift_check.specs.Search.{firstOf}
+use Rattle.status.specs.Answers.{answer}
+use Rattle.shift_check.specs.Check.{andThen}
+use Rattle.shift_check.proofs.Searches.{first-at, first-none}
 use Rattle.promises.specs.Orders.{Stage, whole, rows, Quiet, Stages, Order}
 use Rattle.promises.proofs.Tables.{Tells, not-told, first-of, fresh, distinct, ne-true, fresh-some}
 

@@ -1,7 +1,7 @@
 -- W14 by citation.
-use Rattle.reader.proofs.Asking.{rows-then-ended, ended-at-once, others-ended, others-rows}
-use Rattle.reader.proofs.Tags.{opening-says}
-use Rattle.reader.proofs.Written.{writer-reported}
+use Rattle.shift_reader.proofs.Asking.{rows-then-ended, ended-at-once, others-ended, others-rows}
+use Rattle.shift_report.proofs.Tags.{opening-says}
+use Rattle.shift_report.proofs.Written.{writer-reported}
 use Rattle.promises.specs.Reading.{Reading}
 
 pub reads : Reading

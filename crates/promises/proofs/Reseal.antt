@@ -1,6 +1,6 @@
 -- W7, the reseal pass, by citation.
-use Rattle.reseal.proofs.Answers.{resealing, reseal-numbers}
-use Rattle.reseal.proofs.Promised.{renewing, nothing-retired, resealed-twice, of-check}
+use Rattle.shift_reseal.proofs.Answers.{resealing, reseal-numbers}
+use Rattle.shift_reseal.proofs.Promised.{renewing, nothing-retired, resealed-twice, of-check}
 use Rattle.promises.specs.Reseal.{Reseal}
 
 pub reseals : Reseal

@@ -1,10 +1,10 @@
--- W7, the suite that seals no more: the line of 10 in the tables of sealer, opener and session is suite 4's.
+-- W7, the suite that is retired: the line of 10 in the tables of sealer, opener and session is suite 4's.
 use mathlib.Core.Path.{_≡_, refl, sym, _∙_}
 use mathlib.Core.Bool.{false, true≢false}
-use Rattle.words.proofs.Tests.{is-false}
+use Rattle.block.proofs.Tests.{is-false}
 use Rattle.cipher.specs.Cipher.{isSuite, IsSuite, retired, seals}
 use Rattle.cipher.proofs.Suites.{only-four}
-use Rattle.numbers.specs.Verdicts.{refusal}
+use Rattle.status.specs.Verdicts.{refusal}
 use Rattle.comet.specs.Answers.{sealing}
 use Rattle.session.specs.Value.{startNumber, starting}
 use Rattle.promises.specs.Retired.{OnlyFour, SealerRefuses, StartRefuses, OpenerNever, Retired}

@@ -34,4 +34,6 @@ routines = record {
   start = λ κs file x. x .ensures;
   ask = λ κs c file x. x .ensures;
   report = λ κs file ring jobs numbers x. x .ensures;
+  header = λ κs file x. x .ensures;
+  row = λ κs file i x. x .ensures;
 }

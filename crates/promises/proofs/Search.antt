@@ -1,5 +1,5 @@
 -- W6 by citation.
-use Rattle.search.proofs.Promised.{halves, rows-decide, same-as-lookup, ten-looks, bodies-unread}
+use Rattle.shift_search.proofs.Promised.{halves, rows-decide, same-as-lookup, ten-looks, bodies-unread}
 use Rattle.promises.specs.Search.{Search}
 
 pub searches : Search

@@ -2,20 +2,21 @@
 use mathlib.Core.Path.{_≡_, refl, sym, ap₂, _∙_}
 use mathlib.Core.Bool.{true, not, cond}
 use Prim.Native.Nat.{ℕ, zero, suc, _+_, _-_, _≤_}
-use mathlib.Core.List.{List, []}
-use lib.ListN.{length}
+use mathlib.Core.List.{List, [], _∷_}
+use lib.ListN.{length, drop}
+use lib.Seq.{drop-append-seam}
 use lib.Dec.{eqb, ltb}
 use borrow.Author.Tests.{le-leb}
-use Rattle.words.specs.Bytes.{AllBytes}
+use Rattle.block.specs.Bytes.{AllBytes}
 use Rattle.cipher.specs.Cipher.{Seals, cipherOf, sizeOf, limit}
 use Rattle.cipher.proofs.Suites.{seals-has}
 use Rattle.comet.specs.Answers.{opening}
-use Rattle.session.specs.Value.{Value, Given, sound, answered, gave, starting, dataNumber, dataIn, dataPart, textNumber, textDone, textPart, endNumber, endDone, ending}
+use Rattle.session.specs.Value.{Value, Given, sound, answered, gave, starting, dataNumber, dataIn, dataPart, textNumber, textDone, partOut, textPart, endNumber, endOut, endDone, ending}
 use Rattle.session.specs.Calls.{SessionCall, AllInBytes, Run, runOf, Next}
 use Rattle.session.proofs.Parts.{done-number}
 use Rattle.session.proofs.Whatever.{starts, refused-shut, goes, finished, whatever, facts}
 use Rattle.promises.specs.Input.{Input}
-use Rattle.promises.specs.Sessions.{AsOneCall, OpensWhole, NextNumbers, RunNumbers, Keeps, Sessions}
+use Rattle.promises.specs.Sessions.{AsOneCall, OpensWhole, NextNumbers, RunNumbers, Keeps, EmptyPart, Untouched, Sessions}
 use Rattle.promises.proofs.Tables.{tells-eq, tells-lt, tells-not, table}
 use Rattle.promises.proofs.Numbers.{tells-tag-size, answered-number, tells-over}
 use Rattle.promises.proofs.Demand2.{sealing-is, round-trip}
@@ -145,6 +146,35 @@ keeps v = (
   λ out tag h. kept (endNumber (v .suite) (v .«ad_total») (v .«text_total») (length out) (length tag)) (endDone v out) v out tag refl h,
 )
 
+-- ---- what is not written
+
+empty-answered : (k : ℕ) (v : Value) (out : List ℕ) → let g : Given = answered k (gave 0 0 v out []) v out [] in g ≡ gave (g .number) 0 v out []
+empty-answered zero v out = refl
+empty-answered (suc k) v out = refl
+
+pub empty-part : EmptyPart
+unfolding textPart
+empty-part v out = empty-answered (textNumber (v .suite) (v .«ad_total») (v .«text_total») 0 (length out)) v out
+
+-- where the output's bytes after the count stay on 0, they stay on every number
+past-count : (k : ℕ) (done : Given) (v : Value) (out tag : List ℕ) → drop (done .count) (done .out) ≡ drop (done .count) out →
+    let g : Given = answered k done v out tag in drop (g .count) (g .out) ≡ drop (g .count) out
+past-count zero done v out tag h = h
+past-count (suc k) done v out tag h = refl
+
+text-past : (v : Value) (p out : List ℕ) → drop (textDone v p out .count) (textDone v p out .out) ≡ drop (textDone v p out .count) out
+text-past v [] out = refl
+text-past v (x ∷ p) out = drop-append-seam (partOut (cipherOf (v .suite)) v (x ∷ p)) (drop (length (partOut (cipherOf (v .suite)) v (x ∷ p))) out)
+
+pub untouched : Untouched
+unfolding textPart ending
+untouched v = (
+  λ p out. past-count (textNumber (v .suite) (v .«ad_total») (v .«text_total») (length p) (length out)) (textDone v p out) v out [] (text-past v p out),
+  λ out tag.
+      past-count (endNumber (v .suite) (v .«ad_total») (v .«text_total») (length out) (length tag)) (endDone v out) v out tag
+      (drop-append-seam (endOut (cipherOf (v .suite)) v) (drop (length (endOut (cipherOf (v .suite)) v)) out)),
+)
+
 pub sessions : Sessions
 sessions =
     record {
@@ -156,4 +186,6 @@ sessions =
       as-one-call = as-one-call;
       opens-whole = opens-whole;
       keeps = keeps;
+      empty-part = empty-part;
+      untouched = untouched;
     }

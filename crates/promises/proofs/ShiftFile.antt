@@ -1,9 +1,9 @@
 -- The shift file by citation.
-use Rattle.table.proofs.Bodies.{laid}
-use Rattle.shift.proofs.Finding.{finds}
-use Rattle.shift.proofs.Jobs.{opens, answered}
-use Rattle.shift.proofs.Units.{unit-refused}
-use Rattle.shift.proofs.Tested.{verifies-as-opening, verified-places}
+use Rattle.shift_check.proofs.Bodies.{laid}
+use Rattle.shift_jobs.proofs.Finding.{finds}
+use Rattle.shift_jobs.proofs.Jobs.{opens, answered}
+use Rattle.shift_jobs.proofs.Units.{unit-refused}
+use Rattle.shift_jobs.proofs.Tested.{verifies-as-opening, verified-places}
 use Rattle.promises.specs.ShiftFile.{ShiftFile}
 
 pub shift-file : ShiftFile

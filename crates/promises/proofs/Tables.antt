@@ -8,11 +8,11 @@ use native.Mathlib.Omega.{arith}
 use mathlib.Core.List.{List, [], _∷_}
 use lib.Dec.{eqb, ltb, leb}
 use borrow.Author.Tests.{ltb-true, leb-true, eqb-true, eqb-false, lt-ltb, le-leb, eq-eqb, not-true}
-use Rattle.words.specs.Bytes.{sameBytes}
-use Rattle.words.proofs.Tests.{both-true}
-use Rattle.words.proofs.Same.{same-refl, same-true}
-use Rattle.numbers.specs.declared.checked.Answer.{Answer}
-use Rattle.numbers.specs.Answers.{answer}
+use Rattle.block.specs.Bytes.{sameBytes}
+use Rattle.block.proofs.Tests.{both-true}
+use Rattle.block.proofs.SameBytes.{same-refl, same-true}
+use Rattle.status.specs.declared.checked.Answer.{Answer}
+use Rattle.status.specs.Answers.{answer}
 use Rattle.promises.specs.Tables.{Line, None, Lines, Table}
 
 -- ---- a test tells whether something holds

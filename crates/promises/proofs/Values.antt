@@ -1,16 +1,16 @@
--- The starred values, worked out by computation.
+-- The starred values, computed by computation.
 use mathlib.Core.Path.{refl}
-use Rattle.words.specs.Words.{xor}
-use Rattle.fips197.specs.Field.{xtime, multiples, _•_, find, inverse}
-use Rattle.fips197.specs.Sbox.{affine, subByte}
+use Rattle.block.specs.Words.{xor}
+use Rattle.aes_spec.specs.Field.{xtime, multiples, _•_, find, inverse}
+use Rattle.aes_spec.specs.Sbox.{affine, subByte}
 use Rattle.cipher.specs.Cipher.{factsOf, sizeOf, versionOf}
 use Rattle.mode.specs.Blocks.{chopLengths, lengths}
 use Rattle.mode.specs.Words.{doubleBy, pad}
 use Rattle.mode.specs.Keys.{textMarks, marks}
-use Rattle.words.specs.Bytes.{value}
-use Rattle.format.specs.Format.{rowSize, rowStart}
-use Rattle.table.specs.Search.{firstOf}
-use Rattle.table.specs.Check.{bodyStart, endAnswer, rowsFrom, headNumber, checkBetween}
+use Rattle.block.specs.Bytes.{value}
+use Rattle.shift_format.specs.Format.{rowSize, rowStart}
+use Rattle.shift_check.specs.Search.{firstOf}
+use Rattle.shift_check.specs.Check.{bodyStart, endAnswer, rowsFrom, headNumber, checkBetween}
 use Rattle.promises.specs.Values.{StarredValues}
 
 pub starred-values : StarredValues

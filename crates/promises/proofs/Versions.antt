@@ -1,10 +1,10 @@
 -- W9: version 1 by citation, version 2 by computation.
 use mathlib.Core.Path.{refl}
 use lib.Dec.{lit<}
-use Rattle.words.specs.Words.{xor}
-use Rattle.words.specs.Bytes.{value, bytes}
-use Rattle.fips197.specs.Cipher.{cipher}
-use Rattle.cham.specs.Cham.{cham}
+use Rattle.block.specs.Words.{xor}
+use Rattle.block.specs.Bytes.{value, bytes}
+use Rattle.aes_spec.specs.Cipher.{cipher}
+use Rattle.cham_spec.specs.Cham.{cham}
 use Rattle.speck.specs.Speck.{speck}
 use Rattle.cipher.specs.Cipher.{factsOf, sizeOf, engineOf, versionOf}
 use Rattle.mode.specs.Blocks.{chopLengths, lengths}

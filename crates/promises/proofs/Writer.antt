@@ -1,8 +1,8 @@
 -- W4 by citation.
-use Rattle.draft.proofs.Answers.{sealing, unsealing, seal-number, unseal-number}
-use Rattle.draft.proofs.Takes.{sealer-takes, opener-takes}
-use Rattle.draft.proofs.Back.{sealed-then-unsealed, unsealed-then-sealed}
-use Rattle.draft.proofs.Altered.{text-altered, data-altered}
+use Rattle.shift_draft.proofs.Answers.{sealing, unsealing, seal-number, unseal-number}
+use Rattle.shift_draft.proofs.Takes.{sealer-takes, opener-takes}
+use Rattle.shift_draft.proofs.Back.{sealed-then-unsealed, unsealed-then-sealed}
+use Rattle.shift_draft.proofs.Altered.{text-altered, data-altered}
 use Rattle.promises.specs.Writer.{Writer}
 
 pub writer : Writer

@@ -1,7 +1,7 @@
--- The functions that C links (crate `snoekeldraf`): each asks nothing and leaves one outcome, and what it answers and leaves is the definition's value.
+-- The functions that C links (crate `snoekeldraf`): each has no precondition and one outcome, which is the definition's value.
 use mathlib.Core.Path.{_≡_}
-use Prim.Native.Nat.{ℕ, _<_}
-use mathlib.Core.List.{List, []}
+use Prim.Native.Nat.{ℕ, _+_, _≤_, _<_}
+use mathlib.Core.List.{List, [], _∷_}
 use lib.ListN.{length, getD, replicate}
 use contract.Lifetimes.{Lfts}
 use denote.Ref.{RefT, now}
@@ -9,24 +9,28 @@ use Rattle.comet.specs.Answers.{Sealed, sealing, Opened, opening, verifying}
 use Rattle.comet.specs.Counted.{Counting, sealingCounted, openingCounted}
 use Rattle.session.specs.Value.{starting, dataPart, textPart, ending}
 use Rattle.session.specs.Calls.{Shut}
-use Rattle.numbers.specs.Answers.{answer}
-use Rattle.table.specs.Check.{checkFile}
-use Rattle.shift.specs.declared.answers.Entry.{Entry}
-use Rattle.shift.specs.Lookup.{lookupJob}
-use Rattle.shift.specs.Entry.{entryOf}
-use Rattle.shift.specs.Opening.{left, jobOpening}
-use Rattle.shift.specs.declared.answers.Genuine.{Genuine}
-use Rattle.shift.specs.Genuine.{jobVerifying}
-use Rattle.search.specs.Halving.{searching}
-use Rattle.draft.specs.Answers.{writes, fileSealing, fileUnsealing}
-use Rattle.reseal.specs.Answers.{fileResealing}
-use Rattle.amend.specs.Amending.{AmendedOpening, amendedOpening}
-use Rattle.editions.specs.Answers.{movedLength, FileMoved, toEdition2, toEdition1}
-use Rattle.compare.specs.Comparing.{Comparison, comparison}
-use Rattle.reader.specs.Reporting.{Report, reporting}
+use Rattle.status.specs.Answers.{answer}
+use Rattle.shift_format.specs.Format.{editionOf, countOf, rowSizeOf, nonceStart, rowOf, stationOf}
+use Rattle.shift_check.specs.Check.{checkFile}
+use Rattle.shift_jobs.specs.declared.answers.Entry.{Entry}
+use Rattle.shift_jobs.specs.Lookup.{lookupJob}
+use Rattle.shift_jobs.specs.Entry.{entryOf}
+use Rattle.shift_jobs.specs.Opening.{left, jobOpening}
+use Rattle.shift_jobs.specs.declared.answers.Genuine.{Genuine}
+use Rattle.shift_jobs.specs.Genuine.{jobVerifying}
+use Rattle.shift_search.specs.Halving.{searching}
+use Rattle.shift_draft.specs.Answers.{writes, fileSealing, fileUnsealing}
+use Rattle.shift_reseal.specs.Answers.{fileResealing}
+use Rattle.shift_amend.specs.Amending.{AmendedOpening, amendedOpening}
+use Rattle.shift_editions.specs.Answers.{movedLength, FileMoved, toEdition2, toEdition1}
+use Rattle.shift_compare.specs.Comparing.{Comparison, comparison}
+use Rattle.shift_report.specs.Reporting.{Report, reporting}
+use Rattle.shift_reader.specs.declared.contents.HeaderFields.{HeaderFields}
+use Rattle.shift_reader.specs.Contents.{headerAnswer, rowAnswer}
 use Rattle.snoekeldraf.specs.Words.{Nine, ofWords, wordsOf, after, inWords}
 use Rattle.snoekeldraf.specs.Located.{Located, locating}
 use Rattle.snoekeldraf.specs.Amended.{Placed, placing}
+use Rattle.snoekeldraf.specs.Fields.{InFields, inFields}
 use Rattle.promises.specs.Contracts as the
 use Rattle.promises.specs.Demand1.{Answers, Gave}
 
@@ -60,9 +64,11 @@ pub record CInterface : Type 0 where
   pub shift-to-edition1 : Answers the.shift-to-edition1
   pub shift-compare : Answers the.shift-compare
   pub shift-report : Answers the.shift-report
+  pub shift-rows : Answers the.shift-rows
+  pub shift-row : Answers the.shift-row
 
 pub record CRoutines : Type 0 where
-  -- sealer and opener; in the text's place; the test of a record; with their cipher calls
+  -- sealer and opener; in place; the verifier; with their cipher calls
   pub comet-seal : (κs : Lfts 6) (suite : ℕ) (key nonce ad msg out tag : RefT (List ℕ)) (x : Gave the.comet-seal κs (suite, (key, (nonce, (ad, (msg, (out, (tag, tt)))))))) →
       let (_, (_, (_, (_, (_, (out′, (tag′, _))))))) = x .last in
       _≡_ {A = Sealed} (record { number = x .result; out = out′; tag = tag′ }) (sealing suite (now key) (now nonce) (now ad) (now msg) (now out) (now tag))
@@ -162,6 +168,30 @@ pub record CRoutines : Type 0 where
   pub shift-report : (κs : Lfts 6) (file ring jobs numbers : RefT (List ℕ)) (count row : RefT ℕ) (x : Gave the.shift-report κs (file, (ring, (jobs, (numbers, (count, (row, tt))))))) →
       let (_, (_, (jobs′, (numbers′, (count′, (row′, _)))))) = x .last in
       _≡_ {A = Report} (record { said = record { number = x .result; row = row′; count = count′ }; jobs = jobs′; numbers = numbers′ }) (reporting (now file) (now ring) (now jobs) (now numbers))
+  -- the table of contents by row number
+  pub shift-rows : (κs : Lfts 3) (file : RefT (List ℕ)) (edition count : RefT ℕ) (x : Gave the.shift-rows κs (file, (edition, (count, tt)))) →
+      let (_, (edition′, (count′, _))) = x .last in
+      _≡_ {A = HeaderFields} (record { status = x .result; edition = edition′; count = count′ }) (headerAnswer (now file))
+  pub shift-row : (κs : Lfts 2) (file : RefT (List ℕ)) (row : ℕ) (fields : RefT (List ℕ)) (x : Gave the.shift-row κs (file, (row, (fields, tt)))) →
+      let (_, (_, (fields′, _))) = x .last in
+      _≡_ {A = InFields} (record { status = x .result; fields = fields′ }) (inFields (rowAnswer (now file) row))
+
+-- what C gets of the rows of a file that passes the check
+pub record CRows : Type 0 where
+  -- the edition and the row count
+  pub counted : (κs : Lfts 3) (file : RefT (List ℕ)) (edition count : RefT ℕ) (x : Gave the.shift-rows κs (file, (edition, (count, tt)))) → checkFile (now file) .number ≡ 0 →
+      let (_, (edition′, (count′, _))) = x .last in
+      (x .result ≡ 0) × (edition′ ≡ editionOf (now file)) × (count′ ≡ countOf (now file))
+  -- of each row its nine fields: the text follows the associated data, and its offset does not wrap
+  pub given : (κs : Lfts 2) (file : RefT (List ℕ)) (i : ℕ) (fields : RefT (List ℕ)) (x : Gave the.shift-row κs (file, (i, (fields, tt)))) → checkFile (now file) .number ≡ 0 → i < countOf (now file) →
+      let (_, (_, (fields′, _))) = x .last in
+      let r = rowOf (now file) i in
+      (x .result ≡ 0)
+      × (fields′ ≡ r .job ∷ stationOf (now file) i ∷ r .suite ∷ r .key ∷ nonceStart (rowSizeOf (now file)) i ∷ r .«ad_at» ∷ r .«ad_len» ∷ (r .«ad_at» + r .«ad_len») ∷ r .«text_len» ∷ [])
+  -- past the rows 32, and nine zeros
+  pub past : (κs : Lfts 2) (file : RefT (List ℕ)) (i : ℕ) (fields : RefT (List ℕ)) (x : Gave the.shift-row κs (file, (i, (fields, tt)))) → checkFile (now file) .number ≡ 0 → countOf (now file) ≤ i →
+      let (_, (_, (fields′, _))) = x .last in
+      (x .result ≡ 32) × (fields′ ≡ replicate 9 0)
 
 -- what the definitions leave of a session's nine words, whatever they hold
 pub record CSessions : Type 0 where
@@ -173,7 +203,7 @@ pub record CSessions : Type 0 where
   -- a refused start and an accepted end leave nine zeros
   pub start-refused : (suite : ℕ) (key nonce : List ℕ) → (starting suite key nonce .number ≡ 0 → ⊥) → inWords (starting suite key nonce) .words ≡ replicate 9 0
   pub ended : (w out tag : List ℕ) → ending (ofWords w) out tag .number ≡ 0 → inWords (ending (ofWords w) out tag) .words ≡ replicate 9 0
-  -- any other refused call leaves words, output and tag as they were, count 0
+  -- any other refused call leaves words, output and tag unchanged, count 0
   pub data-refused : (w p : List ℕ) → Nine w → (dataPart (ofWords w) p .number ≡ 0 → ⊥)
       → inWords (dataPart (ofWords w) p) ≡ after (dataPart (ofWords w) p .number) 0 w [] []
   pub part-refused : (w p out : List ℕ) → Nine w → (textPart (ofWords w) p out .number ≡ 0 → ⊥)

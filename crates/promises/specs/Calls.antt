@@ -9,7 +9,7 @@ use Rattle.cipher.specs.Cipher.{Cipher, sizeOf, cipherOf}
 use Rattle.mode.specs.Blocks.{blocks}
 use Rattle.mode.specs.Mode.{textOut, tagOut, calls}
 use Rattle.mode.specs.Calls.{Agree, other}
-use Rattle.numbers.specs.Verdicts.{refusal}
+use Rattle.status.specs.Verdicts.{refusal}
 use Rattle.comet.specs.Answers.{Sealed, Opened}
 use Rattle.comet.specs.Counted.{Counting, callsOf, sealingCounted, openingCounted}
 

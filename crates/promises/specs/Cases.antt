@@ -1,27 +1,29 @@
--- Every outcome of the shift file's other calls, and when it is given. Of writer and reseal pass the numbers in their order; what each leaves stands in `draft/specs/Promised.antt` (`SealCases`, `UnsealCases`) and `reseal/specs/Promised.antt` (`ResealCases`). The amendments' stand in `amend/specs/Promised.antt`.
+-- Every outcome of the shift file's other calls, and when it is given. Of writer and reseal pass the numbers in their order; what each leaves stands in `shift_draft/specs/Promised.antt` (`SealCases`, `UnsealCases`) and `shift_reseal/specs/Promised.antt` (`ResealCases`). The amendments' stand in `shift_amend/specs/Promised.antt`.
 use mathlib.Core.Path.{_≡_}
 use mathlib.Core.Logic.{_⊎_, _↔_}
 use Prim.Native.Nat.{ℕ, _≤_, _<_}
 use mathlib.Core.List.{List, [], _∷_}
 use lib.ListN.{length}
 use Rattle.cipher.specs.Cipher.{Seals}
-use Rattle.format.specs.Format.{countOf, firstEdition, newest, rowSizeOf, rowOf, stationOf}
-use Rattle.numbers.specs.Answers.{answer}
-use Rattle.table.specs.Check.{headNumber, checkAs, checkFile}
-use Rattle.shift.specs.Lookup.{lookupJob}
-use Rattle.shift.specs.Opening.{left, jobOpening}
-use Rattle.shift.specs.Promised.{Finds}
-use Rattle.search.specs.Halving.{ends, halving, jobsOf, searching}
-use Rattle.draft.specs.Files.{draftEdition}
-use Rattle.draft.specs.Answers.{fileSealing, fileUnsealing}
-use Rattle.draft.specs.Promised.{ZeroTag, RightTag}
-use Rattle.reseal.specs.Answers.{fileResealing}
-use Rattle.reseal.specs.Promised.{HasFour, Clashes}
-use Rattle.compare.specs.Comparing.{onlyFirst, onlySecond, differing, refusedIn, stopped, listed, comparison}
-use Rattle.editions.specs.Files.{moved}
-use Rattle.editions.specs.Answers.{FileMoved, toEdition2, toEdition1}
-use Rattle.editions.specs.Promised.{done}
-use Rattle.reader.specs.Reporting.{jobOf, tagNumber, front, entries, stopped as unreported, longest, reporting}
+use Rattle.shift_format.specs.Format.{countOf, firstEdition, newest, rowSizeOf, rowOf, stationOf}
+use Rattle.status.specs.Answers.{answer}
+use Rattle.shift_check.specs.Check.{headNumber, checkAs, checkFile}
+use Rattle.shift_jobs.specs.Lookup.{lookupJob}
+use Rattle.shift_jobs.specs.Opening.{left, jobOpening}
+use Rattle.shift_jobs.specs.Promised.{Finds}
+use Rattle.shift_search.specs.Halving.{ends, halving, jobsOf, searching}
+use Rattle.shift_draft.specs.Files.{draftEdition}
+use Rattle.shift_draft.specs.Answers.{fileSealing, fileUnsealing}
+use Rattle.shift_draft.specs.Promised.{ZeroTag, RightTag}
+use Rattle.shift_reseal.specs.Answers.{fileResealing}
+use Rattle.shift_reseal.specs.Promised.{HasFour, Clashes}
+use Rattle.shift_compare.specs.Comparing.{onlyFirst, onlySecond, differing, refusedIn, stopped, listed, comparison}
+use Rattle.shift_editions.specs.Files.{moved}
+use Rattle.shift_editions.specs.Answers.{FileMoved, toEdition2, toEdition1}
+use Rattle.shift_editions.specs.Promised.{done}
+use Rattle.shift_report.specs.Reporting.{jobOf, tagNumber, front, entries, stopped as unreported, longest, reporting}
+use Rattle.shift_reader.specs.Reading.{listedOf}
+use Rattle.shift_reader.specs.Contents.{noHeader, headerOf, headerAnswer, noFields, fieldsOf, rowAnswer}
 use Rattle.promises.specs.Tables.{Line, _when_, None, Lines, Table}
 use Rattle.promises.specs.Orders.{whole, rows, Order}
 use Rattle.promises.specs.Numbers.{headTable}
@@ -45,12 +47,12 @@ pub record JobCases (f ring : List ℕ) (job : ℕ) (out : List ℕ) : Type 0 wh
       ∷ []
       )
 
--- the search (W6): each of 20 to 24, and no row is looked at; else what the halving rule gives (`Halves`), which is 0 or 32
+-- the search (W6): each of 20 to 24, and no row is looked at; else what the binary search rule gives (`Halves`), which is 0 or 32
 pub record SearchCases (f : List ℕ) (job : ℕ) : Type 0 where
   pub head : Lines (λ k. searching f job ≡ ends (answer k 0)) Unit (headTable firstEdition newest f)
   pub halved : None (headTable firstEdition newest f) → searching f job ≡ halving (jobsOf (rowSizeOf f) f) job 0 (countOf f)
 
--- compare (W8): the first file's refusal, the second's, 36; every refusal leaves the lists as they were
+-- compare (W8): the first file's refusal, the second's, 36; every refusal leaves the lists unchanged
 
 -- both files pass
 abbrev pub BothPass : List ℕ → List ℕ → Type 0
@@ -115,6 +117,14 @@ pub record ReportCases (f ring jobs numbers : List ℕ) : Type 0 where
   pub lines : length f ≤ longest → checkFile f .number ≡ 0 → length ring ≡ 256 → countOf f ≤ length jobs → countOf f ≤ length numbers
       → reporting f ring jobs numbers ≡ record { said = entries (countOf f); jobs = front (jobOf f) (countOf f) jobs; numbers = front (tagNumber f ring) (countOf f) numbers }
 
+-- the table of contents by row number: each of 20 to 24, and 32 past the rows, without a field; else the header's and the row's own fields, whatever they hold
+pub record ContentsCases (f : List ℕ) (i : ℕ) : Type 0 where
+  pub no-header : Lines (λ k. headerAnswer f ≡ noHeader k) Unit (headTable firstEdition newest f)
+  pub header : None (headTable firstEdition newest f) → headerAnswer f ≡ headerOf f
+  pub no-table : Lines (λ k. rowAnswer f i ≡ noFields k) Unit (headTable firstEdition newest f)
+  pub no-row : Lines (λ k. rowAnswer f i ≡ noFields k) (None (headTable firstEdition newest f)) ((32 when (i < countOf f → ⊥)) ∷ [])
+  pub row : None (headTable firstEdition newest f) → i < countOf f → rowAnswer f i ≡ fieldsOf (listedOf f i)
+
 -- sealing a draft that passes its checks (W4; 10 is W7's): 33 with the first row, 10 with the first row, 2, 6
 abbrev pub SealOrder : Type 0
 SealOrder =
@@ -156,6 +166,7 @@ pub record Cases : Type 0 where
   pub to-edition2 : (f out : List ℕ) → UpCases f out
   pub to-edition1 : (f out : List ℕ) → BackCases f out
   pub report : (f ring jobs numbers : List ℕ) → ReportCases f ring jobs numbers
+  pub contents : (f : List ℕ) (i : ℕ) → ContentsCases f i
   pub seal-file : SealOrder
   pub unseal-file : UnsealOrder
   pub reseal : ResealOrder

@@ -24,46 +24,50 @@ use Rattle.session.proofs.Session.message.Kinds as session-part-kinds
 use Rattle.session.proofs.Session.message.Reads as session-part-reads
 use Rattle.session.proofs.Session.finish.Kinds as session-end-kinds
 use Rattle.session.proofs.Session.finish.Reads as session-end-reads
-use Rattle.table.proofs.check.Kinds as check-kinds
-use Rattle.table.proofs.check.Reads as check-reads
-use Rattle.shift.proofs.lookup.Kinds as lookup-kinds
-use Rattle.shift.proofs.lookup.Reads as lookup-reads
-use Rattle.shift.proofs.entry.Kinds as entry-kinds
-use Rattle.shift.proofs.entry.Reads as entry-reads
-use Rattle.shift.proofs.associated.Kinds as associated-kinds
-use Rattle.shift.proofs.associated.Reads as associated-reads
-use Rattle.shift.proofs.open_job.Kinds as open-job-kinds
-use Rattle.shift.proofs.open_job.Reads as open-job-reads
-use Rattle.shift.proofs.verified.Kinds as verified-kinds
-use Rattle.shift.proofs.verified.Reads as verified-reads
-use Rattle.search.proofs.search.Kinds as search-kinds
-use Rattle.search.proofs.search.Reads as search-reads
-use Rattle.writer.proofs.seal_file.Kinds as seal-file-kinds
-use Rattle.writer.proofs.seal_file.Reads as seal-file-reads
-use Rattle.writer.proofs.unseal_file.Kinds as unseal-file-kinds
-use Rattle.writer.proofs.unseal_file.Reads as unseal-file-reads
-use Rattle.reseal.proofs.reseal.Kinds as reseal-kinds
-use Rattle.reseal.proofs.reseal.Reads as reseal-reads
-use Rattle.amend.proofs.locate.Kinds as locate-kinds
-use Rattle.amend.proofs.locate.Reads as locate-reads
-use Rattle.amend.proofs.current.Kinds as current-kinds
-use Rattle.amend.proofs.current.Reads as current-reads
-use Rattle.amend.proofs.open_current.Kinds as open-current-kinds
-use Rattle.amend.proofs.open_current.Reads as open-current-reads
-use Rattle.editions.proofs.moved_length.Kinds as moved-length-kinds
-use Rattle.editions.proofs.moved_length.Reads as moved-length-reads
-use Rattle.editions.proofs.to_edition2.Kinds as to-edition2-kinds
-use Rattle.editions.proofs.to_edition2.Reads as to-edition2-reads
-use Rattle.editions.proofs.to_edition1.Kinds as to-edition1-kinds
-use Rattle.editions.proofs.to_edition1.Reads as to-edition1-reads
-use Rattle.compare.proofs.compare.Kinds as compare-kinds
-use Rattle.compare.proofs.compare.Reads as compare-reads
-use Rattle.reader.proofs.cursor.start.Kinds as start-kinds
-use Rattle.reader.proofs.cursor.start.Reads as start-reads
-use Rattle.reader.proofs.cursor.ask.Kinds as ask-kinds
-use Rattle.reader.proofs.cursor.ask.Reads as ask-reads
-use Rattle.reader.proofs.report.Kinds as report-kinds
-use Rattle.reader.proofs.report.Reads as report-reads
+use Rattle.shift_check.proofs.check.Kinds as check-kinds
+use Rattle.shift_check.proofs.check.Reads as check-reads
+use Rattle.shift_jobs.proofs.lookup.Kinds as lookup-kinds
+use Rattle.shift_jobs.proofs.lookup.Reads as lookup-reads
+use Rattle.shift_jobs.proofs.entry.Kinds as entry-kinds
+use Rattle.shift_jobs.proofs.entry.Reads as entry-reads
+use Rattle.shift_jobs.proofs.associated.Kinds as associated-kinds
+use Rattle.shift_jobs.proofs.associated.Reads as associated-reads
+use Rattle.shift_jobs.proofs.open_job.Kinds as open-job-kinds
+use Rattle.shift_jobs.proofs.open_job.Reads as open-job-reads
+use Rattle.shift_jobs.proofs.verified.Kinds as verified-kinds
+use Rattle.shift_jobs.proofs.verified.Reads as verified-reads
+use Rattle.shift_search.proofs.search.Kinds as search-kinds
+use Rattle.shift_search.proofs.search.Reads as search-reads
+use Rattle.shift_writer.proofs.seal_file.Kinds as seal-file-kinds
+use Rattle.shift_writer.proofs.seal_file.Reads as seal-file-reads
+use Rattle.shift_writer.proofs.unseal_file.Kinds as unseal-file-kinds
+use Rattle.shift_writer.proofs.unseal_file.Reads as unseal-file-reads
+use Rattle.shift_reseal.proofs.reseal.Kinds as reseal-kinds
+use Rattle.shift_reseal.proofs.reseal.Reads as reseal-reads
+use Rattle.shift_amend.proofs.locate.Kinds as locate-kinds
+use Rattle.shift_amend.proofs.locate.Reads as locate-reads
+use Rattle.shift_amend.proofs.current.Kinds as current-kinds
+use Rattle.shift_amend.proofs.current.Reads as current-reads
+use Rattle.shift_amend.proofs.open_current.Kinds as open-current-kinds
+use Rattle.shift_amend.proofs.open_current.Reads as open-current-reads
+use Rattle.shift_editions.proofs.moved_length.Kinds as moved-length-kinds
+use Rattle.shift_editions.proofs.moved_length.Reads as moved-length-reads
+use Rattle.shift_editions.proofs.to_edition2.Kinds as to-edition2-kinds
+use Rattle.shift_editions.proofs.to_edition2.Reads as to-edition2-reads
+use Rattle.shift_editions.proofs.to_edition1.Kinds as to-edition1-kinds
+use Rattle.shift_editions.proofs.to_edition1.Reads as to-edition1-reads
+use Rattle.shift_compare.proofs.compare.Kinds as compare-kinds
+use Rattle.shift_compare.proofs.compare.Reads as compare-reads
+use Rattle.shift_reader.proofs.cursor.start.Kinds as start-kinds
+use Rattle.shift_reader.proofs.cursor.start.Reads as start-reads
+use Rattle.shift_reader.proofs.cursor.ask.Kinds as ask-kinds
+use Rattle.shift_reader.proofs.cursor.ask.Reads as ask-reads
+use Rattle.shift_reader.proofs.contents.header.Kinds as header-kinds
+use Rattle.shift_reader.proofs.contents.header.Reads as header-reads
+use Rattle.shift_reader.proofs.contents.row.Kinds as row-kinds
+use Rattle.shift_reader.proofs.contents.row.Reads as row-reads
+use Rattle.shift_report.proofs.report.Kinds as report-kinds
+use Rattle.shift_report.proofs.report.Reads as report-reads
 use Rattle.snoekeldraf.proofs.record.comet_seal.Kinds as comet-seal-kinds
 use Rattle.snoekeldraf.proofs.record.comet_seal.Reads as comet-seal-reads
 use Rattle.snoekeldraf.proofs.record.comet_open.Kinds as comet-open-kinds
@@ -78,16 +82,16 @@ use Rattle.snoekeldraf.proofs.counting.comet_seal_counted.Kinds as comet-seal-c
 use Rattle.snoekeldraf.proofs.counting.comet_seal_counted.Reads as comet-seal-counted-reads
 use Rattle.snoekeldraf.proofs.counting.comet_open_counted.Kinds as comet-open-counted-kinds
 use Rattle.snoekeldraf.proofs.counting.comet_open_counted.Reads as comet-open-counted-reads
-use Rattle.snoekeldraf.proofs.parts.comet_session_start.Kinds as comet-session-start-kinds
-use Rattle.snoekeldraf.proofs.parts.comet_session_start.Reads as comet-session-start-reads
-use Rattle.snoekeldraf.proofs.parts.comet_session_data.Kinds as comet-session-data-kinds
-use Rattle.snoekeldraf.proofs.parts.comet_session_data.Reads as comet-session-data-reads
-use Rattle.snoekeldraf.proofs.parts.comet_session_part.Kinds as comet-session-part-kinds
-use Rattle.snoekeldraf.proofs.parts.comet_session_part.Reads as comet-session-part-reads
-use Rattle.snoekeldraf.proofs.parts.comet_session_end.Kinds as comet-session-end-kinds
-use Rattle.snoekeldraf.proofs.parts.comet_session_end.Reads as comet-session-end-reads
-use Rattle.snoekeldraf.proofs.parts.comet_session_wipe.Kinds as comet-session-wipe-kinds
-use Rattle.snoekeldraf.proofs.parts.comet_session_wipe.Reads as comet-session-wipe-reads
+use Rattle.snoekeldraf.proofs.sessions.comet_session_start.Kinds as comet-session-start-kinds
+use Rattle.snoekeldraf.proofs.sessions.comet_session_start.Reads as comet-session-start-reads
+use Rattle.snoekeldraf.proofs.sessions.comet_session_data.Kinds as comet-session-data-kinds
+use Rattle.snoekeldraf.proofs.sessions.comet_session_data.Reads as comet-session-data-reads
+use Rattle.snoekeldraf.proofs.sessions.comet_session_part.Kinds as comet-session-part-kinds
+use Rattle.snoekeldraf.proofs.sessions.comet_session_part.Reads as comet-session-part-reads
+use Rattle.snoekeldraf.proofs.sessions.comet_session_end.Kinds as comet-session-end-kinds
+use Rattle.snoekeldraf.proofs.sessions.comet_session_end.Reads as comet-session-end-reads
+use Rattle.snoekeldraf.proofs.sessions.comet_session_wipe.Kinds as comet-session-wipe-kinds
+use Rattle.snoekeldraf.proofs.sessions.comet_session_wipe.Reads as comet-session-wipe-reads
 use Rattle.snoekeldraf.proofs.file.shift_check.Kinds as shift-check-kinds
 use Rattle.snoekeldraf.proofs.file.shift_check.Reads as shift-check-reads
 use Rattle.snoekeldraf.proofs.file.shift_lookup.Kinds as shift-lookup-kinds
@@ -100,30 +104,34 @@ use Rattle.snoekeldraf.proofs.file.shift_open_job.Kinds as shift-open-job-kinds
 use Rattle.snoekeldraf.proofs.file.shift_open_job.Reads as shift-open-job-reads
 use Rattle.snoekeldraf.proofs.file.shift_verified.Kinds as shift-verified-kinds
 use Rattle.snoekeldraf.proofs.file.shift_verified.Reads as shift-verified-reads
-use Rattle.snoekeldraf.proofs.halving.shift_search.Kinds as shift-search-kinds
-use Rattle.snoekeldraf.proofs.halving.shift_search.Reads as shift-search-reads
-use Rattle.snoekeldraf.proofs.drafts.shift_seal_file.Kinds as shift-seal-file-kinds
-use Rattle.snoekeldraf.proofs.drafts.shift_seal_file.Reads as shift-seal-file-reads
-use Rattle.snoekeldraf.proofs.drafts.shift_unseal_file.Kinds as shift-unseal-file-kinds
-use Rattle.snoekeldraf.proofs.drafts.shift_unseal_file.Reads as shift-unseal-file-reads
-use Rattle.snoekeldraf.proofs.renewal.shift_reseal.Kinds as shift-reseal-kinds
-use Rattle.snoekeldraf.proofs.renewal.shift_reseal.Reads as shift-reseal-reads
+use Rattle.snoekeldraf.proofs.search.shift_search.Kinds as shift-search-kinds
+use Rattle.snoekeldraf.proofs.search.shift_search.Reads as shift-search-reads
+use Rattle.snoekeldraf.proofs.writer.shift_seal_file.Kinds as shift-seal-file-kinds
+use Rattle.snoekeldraf.proofs.writer.shift_seal_file.Reads as shift-seal-file-reads
+use Rattle.snoekeldraf.proofs.writer.shift_unseal_file.Kinds as shift-unseal-file-kinds
+use Rattle.snoekeldraf.proofs.writer.shift_unseal_file.Reads as shift-unseal-file-reads
+use Rattle.snoekeldraf.proofs.reseal.shift_reseal.Kinds as shift-reseal-kinds
+use Rattle.snoekeldraf.proofs.reseal.shift_reseal.Reads as shift-reseal-reads
 use Rattle.snoekeldraf.proofs.amending.shift_amended.Kinds as shift-amended-kinds
 use Rattle.snoekeldraf.proofs.amending.shift_amended.Reads as shift-amended-reads
 use Rattle.snoekeldraf.proofs.amending.shift_open_amended.Kinds as shift-open-amended-kinds
 use Rattle.snoekeldraf.proofs.amending.shift_open_amended.Reads as shift-open-amended-reads
-use Rattle.snoekeldraf.proofs.moves.shift_moved_length.Kinds as shift-moved-length-kinds
-use Rattle.snoekeldraf.proofs.moves.shift_moved_length.Reads as shift-moved-length-reads
-use Rattle.snoekeldraf.proofs.moves.shift_to_edition2.Kinds as shift-to-edition2-kinds
-use Rattle.snoekeldraf.proofs.moves.shift_to_edition2.Reads as shift-to-edition2-reads
-use Rattle.snoekeldraf.proofs.moves.shift_to_edition1.Kinds as shift-to-edition1-kinds
-use Rattle.snoekeldraf.proofs.moves.shift_to_edition1.Reads as shift-to-edition1-reads
-use Rattle.snoekeldraf.proofs.listing.shift_compare.Kinds as shift-compare-kinds
-use Rattle.snoekeldraf.proofs.listing.shift_compare.Reads as shift-compare-reads
+use Rattle.snoekeldraf.proofs.editions.shift_moved_length.Kinds as shift-moved-length-kinds
+use Rattle.snoekeldraf.proofs.editions.shift_moved_length.Reads as shift-moved-length-reads
+use Rattle.snoekeldraf.proofs.editions.shift_to_edition2.Kinds as shift-to-edition2-kinds
+use Rattle.snoekeldraf.proofs.editions.shift_to_edition2.Reads as shift-to-edition2-reads
+use Rattle.snoekeldraf.proofs.editions.shift_to_edition1.Kinds as shift-to-edition1-kinds
+use Rattle.snoekeldraf.proofs.editions.shift_to_edition1.Reads as shift-to-edition1-reads
+use Rattle.snoekeldraf.proofs.compare.shift_compare.Kinds as shift-compare-kinds
+use Rattle.snoekeldraf.proofs.compare.shift_compare.Reads as shift-compare-reads
 use Rattle.snoekeldraf.proofs.reporting.shift_report.Kinds as shift-report-kinds
 use Rattle.snoekeldraf.proofs.reporting.shift_report.Reads as shift-report-reads
+use Rattle.snoekeldraf.proofs.contents.shift_rows.Kinds as shift-rows-kinds
+use Rattle.snoekeldraf.proofs.contents.shift_rows.Reads as shift-rows-reads
+use Rattle.snoekeldraf.proofs.contents.shift_row.Kinds as shift-row-kinds
+use Rattle.snoekeldraf.proofs.contents.shift_row.Reads as shift-row-reads
 
--- what a routine takes and gives, what it asks of its arguments, and what it ensures
+-- what a routine takes and gives, what it requires of its arguments, and what it ensures
 pub record Contract : Type 3 where
   pub lifetimes : ℕ
   pub params : List (PK lifetimes)
@@ -221,6 +229,12 @@ start = record { lifetimes = 1; params = start-kinds.ps; result = start-kinds.r;
 abbrev pub ask : Contract
 ask = record { lifetimes = 1; params = ask-kinds.ps; result = ask-kinds.r; Pre = ask-reads.Pre; Post = ask-reads.Post }
 
+abbrev pub header : Contract
+header = record { lifetimes = 1; params = header-kinds.ps; result = header-kinds.r; Pre = header-reads.Pre; Post = header-reads.Post }
+
+abbrev pub row : Contract
+row = record { lifetimes = 1; params = row-kinds.ps; result = row-kinds.r; Pre = row-reads.Pre; Post = row-reads.Post }
+
 abbrev pub report : Contract
 report = record { lifetimes = 4; params = report-kinds.ps; result = report-kinds.r; Pre = report-reads.Pre; Post = report-reads.Post }
 
@@ -312,3 +326,9 @@ shift-compare = record { lifetimes = 10; params = shift-compare-kinds.ps; result
 
 abbrev pub shift-report : Contract
 shift-report = record { lifetimes = 6; params = shift-report-kinds.ps; result = shift-report-kinds.r; Pre = shift-report-reads.Pre; Post = shift-report-reads.Post }
+
+abbrev pub shift-rows : Contract
+shift-rows = record { lifetimes = 3; params = shift-rows-kinds.ps; result = shift-rows-kinds.r; Pre = shift-rows-reads.Pre; Post = shift-rows-reads.Post }
+
+abbrev pub shift-row : Contract
+shift-row = record { lifetimes = 2; params = shift-row-kinds.ps; result = shift-row-kinds.r; Pre = shift-row-reads.Pre; Post = shift-row-reads.Post }

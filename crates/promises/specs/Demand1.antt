@@ -7,7 +7,7 @@ use lib.ListN.{length, replicate}
 use contract.Lifetimes.{Lfts}
 use denote.Ref.{RefT, now}
 use borrow.Fn.Kinds.{Dens, resT}
-use Rattle.words.specs.Outcome.{Outcome, OneOutcome}
+use Rattle.block.specs.Outcome.{Outcome, OneOutcome}
 use Rattle.comet.specs.Answers.{Sealed, sealing, Opened, opening, verifying}
 use Rattle.promises.specs.Contracts.{Contract}
 use Rattle.promises.specs.Contracts as the
@@ -16,12 +16,12 @@ use Rattle.promises.specs.Contracts as the
 abbrev pub Gave : (f : Contract) (κs : Lfts (f .lifetimes)) → Dens κs (f .params) → Type 0
 Gave f κs a = Outcome (f .params) (f .result) (f .Post) κs a
 
--- it asks nothing of its arguments, and they leave one outcome
+-- it has no precondition, and one outcome for each argument
 pub record Answers (f : Contract) : Type 0 where
   pub asks-nothing : (κs : Lfts (f .lifetimes)) (a : Dens κs (f .params)) → f .Pre κs a
   pub one-outcome : OneOutcome (f .params) (f .result) (f .Pre) (f .Post)
 
--- the same of a routine that hands back a part of what it was lent: any two outcomes agree in bytes and place; a reference's ghost name belongs to the proof and is no outcome
+-- the same for a routine that returns a part of a borrowed slice: any two outcomes agree in bytes and offset; a reference's ghost name belongs to the proof and is no outcome
 pub record AnswersPart (f : Contract) (part : (κs : Lfts (f .lifetimes)) → resT (f .result) κs .Denot → RefT (List ℕ)) : Type 0 where
   pub asks-nothing : (κs : Lfts (f .lifetimes)) (a : Dens κs (f .params)) → f .Pre κs a
   pub one-outcome : (κs : Lfts (f .lifetimes)) (a : Dens κs (f .params)) (x y : Gave f κs a)
@@ -59,33 +59,36 @@ pub record EntryPoints : Type 0 where
   pub moved-length : Answers the.moved-length
   pub to-edition2 : Answers the.to-edition2
   pub to-edition1 : Answers the.to-edition1
-  -- W11: the second hands back a part of one of two files
+  -- W11: the second returns a part of one of two files
   pub locate : Answers the.locate
   pub current : AnswersPart the.current (λ κs r. r)
   pub open-current : Answers the.open-current
   -- W12
   pub seal-counted : Answers the.seal-counted
   pub unseal-counted : Answers the.unseal-counted
-  -- W14: the cursor and the report; the reader's own four, which hold a reference, stand in `Readers.antt`
+  -- W14: the cursor and the report; the reader's own three, which hold a reference, stand in `Readers.antt`
   pub start : Answers the.start
   pub ask : Answers the.ask
   pub report : Answers the.report
+  -- the table of contents by row number
+  pub header : Answers the.header
+  pub row : Answers the.row
 
--- the sealer gives 0 to 7 and 10, and on any but 0 both buffers are as they were
+-- the sealer gives 0 to 7 and 10, and on any but 0 both buffers are unchanged
 abbrev pub SealKeeps : Type 0
 SealKeeps =
     (suite : ℕ) (key nonce ad msg out₀ tag₀ : List ℕ) →
     let r : Sealed = sealing suite key nonce ad msg out₀ tag₀ in
     ((r .number ≤ 7) ⊎ (r .number ≡ 10)) × (0 < r .number → (r .out ≡ out₀) × (r .tag ≡ tag₀))
 
--- the opener gives 0 to 8; on 1 to 7 the buffer is as it was, on 8 every byte of it is 0
+-- the opener gives 0 to 8; on 1 to 7 the buffer is unchanged, on 8 every byte of it is 0
 abbrev pub OpenKeeps : Type 0
 OpenKeeps =
     (suite : ℕ) (key nonce ad text tag out₀ : List ℕ) →
     let r : Opened = opening suite key nonce ad text tag out₀ in
     (r .number ≤ 8) × (0 < r .number → r .number < 8 → r .out ≡ out₀) × (r .number ≡ 8 → r .out ≡ replicate (length out₀) 0)
 
--- in place, the sealer gives what it gives with any output of the text's length: number and tag are the same, on 0 the output too, and on any other number the text stays
+-- in place, the sealer gives what it gives with any output of the text's length: number and tag are the same, on 0 the output too, and on any other number the text is unchanged
 abbrev pub SealInPlace : Type 0
 SealInPlace =
     (suite : ℕ) (key nonce ad text tag₀ out₀ : List ℕ) → length out₀ ≡ length text →
@@ -93,7 +96,7 @@ SealInPlace =
     let q : Sealed = sealing suite key nonce ad text out₀ tag₀ in
     (r .number ≡ q .number) × (r .tag ≡ q .tag) × (r .number ≡ 0 → r .out ≡ q .out) × (0 < r .number → r .out ≡ text) × (r .number ≡ 6 → ⊥)
 
--- so does the opener: on 0 the message, on 8 zeros, and on any other number the text stays
+-- so does the opener: on 0 the message, on 8 zeros, and on any other number the text is unchanged
 abbrev pub OpenInPlace : Type 0
 OpenInPlace =
     (suite : ℕ) (key nonce ad text tag out₀ : List ℕ) → length out₀ ≡ length text →

@@ -1,10 +1,10 @@
--- Demand 2: for a suite that seals, sealing gives exactly COMET's ciphertext and tag; for every suite that we have, opening accepts exactly the specification's pairs, those that sealing makes from some message, and returns that message. Of suite 4, which seals no more, it speaks of opening alone (document 02, W7). That the routines give what `sealing` and `opening` say is `Routines.antt`'s.
+-- Demand 2: for a suite that seals, sealing gives exactly COMET's ciphertext and tag; for every suite that we have, opening accepts exactly the specification's pairs, those that sealing makes from some message, and returns that message. Of suite 4, which is retired, it speaks of opening alone (document 02, W7). That the routines give what `sealing` and `opening` say is `Routines.antt`'s.
 use mathlib.Core.Path.{_≡_}
 use mathlib.Core.Logic.{_↔_}
 use Prim.Native.Nat.{ℕ}
 use mathlib.Core.List.{List}
 use lib.ListN.{length}
-use Rattle.words.specs.Bytes.{AllBytes}
+use Rattle.block.specs.Bytes.{AllBytes}
 use Rattle.cipher.specs.Cipher.{Seals, cipherOf, sizeOf}
 use Rattle.mode.specs.Mode.{ciphertext, tag}
 use Rattle.comet.specs.Answers.{sealing, opening}
@@ -22,6 +22,13 @@ Accepting =
     (suite : ℕ) (key nonce ad c t out₀ : List ℕ) → Input suite key nonce ad c → length out₀ ≡ length c → length t ≡ sizeOf suite
     → (opening suite key nonce ad c t out₀ .number ≡ 0)
     ↔ ((m : List ℕ) × AllBytes m × (ciphertext (cipherOf suite) key nonce ad m ≡ c) × (tag (cipherOf suite) key nonce ad m ≡ t))
+
+-- where the suite seals, said of the sealer itself: the pair is accepted exactly if the sealer gives it, with 0, for some message
+abbrev pub AcceptsSealed : Type 0
+AcceptsSealed =
+    (suite : ℕ) (key nonce ad c t out₀ : List ℕ) → Input suite key nonce ad c → Seals suite → length out₀ ≡ length c → length t ≡ sizeOf suite
+    → (opening suite key nonce ad c t out₀ .number ≡ 0)
+    ↔ ((m : List ℕ) × (out₁ : List ℕ) × (tag₁ : List ℕ) × AllBytes m × (sealing suite key nonce ad m out₁ tag₁ ≡ record { number = 0; out = c; tag = t }))
 
 -- and that message is what the opener returns
 abbrev pub Returning : Type 0

@@ -1,13 +1,13 @@
--- Document 02, W10: edition 2 of the shift file. Each statement stands, with the words that it uses, in `editions/specs/Promised.antt`.
+-- Document 02, W10: edition 2 of the shift file. Each statement stands, with the words that it uses, in `shift_editions/specs/Promised.antt`.
 use mathlib.Core.Path.{_≡_}
 use mathlib.Core.List.{List}
 use Prim.Native.Nat.{ℕ}
-use Rattle.numbers.specs.Answers.{answer}
-use Rattle.compare.specs.Comparing.{refusedIn, stopped, comparison}
-use Rattle.editions.specs.Answers.{toEdition2, toEdition1}
-use Rattle.editions.specs.Promised.{ThereAndBack, BackAndThere, UpPasses, BackPasses, BackShort, LengthTold, UpRises, BackFalls, UpKeeps, BackKeeps, UpReads, BackReads}
+use Rattle.status.specs.Answers.{answer}
+use Rattle.shift_compare.specs.Comparing.{refusedIn, stopped, comparison}
+use Rattle.shift_editions.specs.Answers.{toEdition2, toEdition1}
+use Rattle.shift_editions.specs.Promised.{ThereAndBack, BackAndThere, UpPasses, BackPasses, BackShort, LengthTold, UpRises, BackFalls, UpKeeps, BackKeeps, UpReads, BackReads}
 
--- compare (W8) of a file and its moved file: three empty lists, so that any buffers do and stay as they were
+-- compare (W8) of a file and its moved file: three empty lists, so that buffers of any length suffice and stay unchanged
 abbrev pub Equal : List ℕ → List ℕ → Type 0
 Equal f g = (x y z : List ℕ) → comparison f g x y z ≡ stopped (refusedIn 0 (answer 0 0)) x y z
 

@@ -1,9 +1,9 @@
--- What a call works on: what the definition needs, and document 01's limits beside it.
+-- The input of a call: what the definition needs, and document 01's limits.
 use mathlib.Core.Path.{_≡_}
 use Prim.Native.Nat.{ℕ, _≤_}
 use mathlib.Core.List.{List}
 use lib.ListN.{length}
-use Rattle.words.specs.Bytes.{AllBytes}
+use Rattle.block.specs.Bytes.{AllBytes}
 use Rattle.cipher.specs.Cipher.{IsSuite, nonceOf, limit}
 
 -- a suite, a key and a nonce of it, associated data and a text, which is a message or a ciphertext

@@ -10,6 +10,7 @@ pub mod Demand3
 pub mod Routines
 pub mod ShiftFile
 pub mod Values
+pub mod Ciphers
 pub mod Engines
 pub mod Sessions
 pub mod Writer
@@ -21,6 +22,7 @@ pub mod Versions
 pub mod Compare
 pub mod Reading
 pub mod Readers
+pub mod Contents
 pub mod Retired
 pub mod Reseal
 pub mod Calls

@@ -5,15 +5,15 @@ use mathlib.Core.Logic.{_⊎_, _↔_}
 use Prim.Native.Nat.{ℕ, _+_, _-_, _*_, _≤_, _<_}
 use mathlib.Core.List.{List, [], _∷_}
 use lib.ListN.{length}
-use Rattle.words.specs.Blocks.{filled}
+use Rattle.block.specs.Blocks.{filled}
 use Rattle.cipher.specs.Cipher.{factsOf, Seals, cipherOf, sizeOf, nonceOf, limit}
 use Rattle.mode.specs.Mode.{tagOut}
 use Rattle.comet.specs.Answers.{sealing, opening}
 use Rattle.session.specs.Value.{Value, starting, dataPart, textPart, ending}
-use Rattle.format.specs.Format.{editionOf, countOf, totalOf, rowSizeOf, rowOf, nonceAt, nonceReadAt, dataJob, unitOf}
-use Rattle.numbers.specs.Answers.{answer}
-use Rattle.table.specs.Check.{bodyStart, checkBetween}
-use Rattle.shift.specs.Nonces.{SameNonce}
+use Rattle.shift_format.specs.Format.{editionOf, countOf, totalOf, rowSizeOf, rowOf, nonceAt, nonceReadAt, dataJob, unitOf}
+use Rattle.status.specs.Answers.{answer}
+use Rattle.shift_check.specs.Check.{bodyStart, checkBetween}
+use Rattle.shift_jobs.specs.Nonces.{SameNonce}
 use Rattle.promises.specs.Tables.{Line, _when_, None, Lines, Table}
 
 -- ---- document 01, "Numbers given by sealer and opener"; 10 is document 02's (W7), and so are suites 5 and 6 (W9)

@@ -1,14 +1,15 @@
 -- Document 02, W14: check suppliers' files.
-use Rattle.reader.specs.Promised.{RowsThenEnded, EndedAtOnce, OthersEnded, OthersRows, OpeningSays, WriterReported}
+use Rattle.shift_reader.specs.Promised.{RowsThenEnded, EndedAtOnce, OthersEnded, OthersRows}
+use Rattle.shift_report.specs.Promised.{OpeningSays, WriterReported}
 
 pub record Reading : Type 0 where
-  -- on a file that passes the check the reader's list is the table's rows in order, each once, and then that it has ended, as often as it is asked
+  -- on a file that passes the check the reader's list is the table's rows in order, each once, and then that it has ended, as often as it is checked
   pub rows : RowsThenEnded
   -- on any other it has ended at once
   pub other : EndedAtOnce
   -- and so has a reader that was given for no such file, where its place is past the rows that the header lays down or its count is another
   pub forged : OthersEnded
-  -- else it gives the rows of the table from its place on, as they stand there
+  -- else it gives the rows of the table from its index on, as they stand there
   pub foreign : OthersRows
   -- an entry line's 0 or 8 is what opening its job answers
   pub opening : OpeningSays

@@ -1,8 +1,8 @@
--- Document 02, W7: the reseal pass. Each statement stands, with the words that it uses, in `reseal/specs/Promised.antt`.
-use Rattle.reseal.specs.Promised.{Renewing, NothingRetired, ResealedTwice, ClashOfCheck, Resealing, ResealNumbers}
+-- Document 02, W7: the reseal pass. Each statement stands, with the words that it uses, in `shift_reseal/specs/Promised.antt`.
+use Rattle.shift_reseal.specs.Promised.{Renewing, NothingRetired, ResealedTwice, ClashOfCheck, Resealing, ResealNumbers}
 
 pub record Reseal : Type 0 where
-  -- on 0 the output passes the check and has no suite 4 row, each resealed entry opens under suite 3 to what it opened to before, and every other byte is as it was
+  -- on 0 the output passes the check and has no suite 4 row, each resealed entry opens under suite 3 to what it opened to before, and every other byte is unchanged
   pub renewing : Renewing
   -- a file without suite 4 comes back byte for byte; resealing twice is resealing once
   pub nothing-retired : NothingRetired

@@ -1,34 +1,35 @@
--- What the routines do is what the definitions say. Every other promise speaks of the definitions (`sealing`, `opening`, `checkFile`, ..); here, for each entry point, of whatever its own contract allows: what it answers, with what it leaves behind each `&mut` (out′ for out), is the definition's value on the bytes that it was lent.
+-- The routines compute what the definitions say. Every other promise is about the definitions (`sealing`, `opening`, `checkFile`, ..). Here, for each entry point and for every outcome that its contract allows: the status, with the final contents of each `&mut` (out′ for out), is the definition's value on the bytes that it borrowed.
 use mathlib.Core.Path.{_≡_}
 use Prim.Native.Nat.{ℕ}
 use mathlib.Core.List.{List, []}
 use lib.ListN.{length}
 use contract.Lifetimes.{Lfts}
 use denote.Ref.{RefT, now}
-use Rattle.numbers.specs.Verdicts.{numberOf}
+use Rattle.status.specs.Verdicts.{numberOf}
 use Rattle.comet.specs.Answers.{Sealed, sealing, Opened, opening, verifying}
 use Rattle.comet.specs.Counted.{Counting, sealingCounted, openingCounted}
 use Rattle.session.specs.declared.Session.{Session}
 use Rattle.session.specs.Value.{starting, dataPart, textPart, ending}
 use Rattle.session.specs.Structs.{asValue, gives}
-use Rattle.format.specs.Part.{PartOf}
-use Rattle.numbers.specs.Answers.{checkedAnswer}
-use Rattle.table.specs.Check.{checkFile}
-use Rattle.shift.specs.Answers.{foundAnswer, openedAnswer}
-use Rattle.shift.specs.Lookup.{lookupJob}
-use Rattle.shift.specs.Entry.{dataStart, dataLength, entryOf}
-use Rattle.shift.specs.Opening.{left, jobOpening}
-use Rattle.shift.specs.Genuine.{jobVerifying}
-use Rattle.search.specs.Halving.{searching}
-use Rattle.draft.specs.Answers.{writes, fileSealing, fileUnsealing}
-use Rattle.writer.specs.Answers.{writtenAnswer}
-use Rattle.reseal.specs.Answers.{fileResealing}
-use Rattle.amend.specs.Amending.{amendedEntry, CurrentPart, AmendedOpening, amendedOpening}
-use Rattle.editions.specs.Answers.{movedAnswer, movedLength, FileMoved, toEdition2, toEdition1}
-use Rattle.compare.specs.Comparing.{findingOf, Comparison, comparison}
-use Rattle.reader.specs.declared.cursor.Cursor.{Cursor}
-use Rattle.reader.specs.Reading.{startOf, askOf}
-use Rattle.reader.specs.Reporting.{saidOf, Report, reporting}
+use Rattle.shift_format.specs.Part.{PartOf}
+use Rattle.status.specs.Answers.{checkedAnswer}
+use Rattle.shift_check.specs.Check.{checkFile}
+use Rattle.shift_jobs.specs.Answers.{foundAnswer, openedAnswer}
+use Rattle.shift_jobs.specs.Lookup.{lookupJob}
+use Rattle.shift_jobs.specs.Entry.{dataStart, dataLength, entryOf}
+use Rattle.shift_jobs.specs.Opening.{left, jobOpening}
+use Rattle.shift_jobs.specs.Genuine.{jobVerifying}
+use Rattle.shift_search.specs.Halving.{searching}
+use Rattle.shift_draft.specs.Answers.{writes, fileSealing, fileUnsealing}
+use Rattle.shift_writer.specs.Answers.{writtenAnswer}
+use Rattle.shift_reseal.specs.Answers.{fileResealing}
+use Rattle.shift_amend.specs.Amending.{amendedEntry, CurrentPart, AmendedOpening, amendedOpening}
+use Rattle.shift_editions.specs.Answers.{movedAnswer, movedLength, FileMoved, toEdition2, toEdition1}
+use Rattle.shift_compare.specs.Comparing.{findingOf, Comparison, comparison}
+use Rattle.shift_reader.specs.declared.cursor.Cursor.{Cursor}
+use Rattle.shift_reader.specs.Reading.{startOf, askOf}
+use Rattle.shift_report.specs.Reporting.{saidOf, Report, reporting}
+use Rattle.shift_reader.specs.Contents.{headerAnswer, rowAnswer}
 use Rattle.promises.specs.Contracts as the
 use Rattle.promises.specs.Demand1.{Gave}
 
@@ -48,7 +49,7 @@ pub record Routines : Type 0 where
       let (_, (_, (_, (_, (_, (_, (out′, _))))))) = x .last in
       _≡_ {A = Counting Opened} (record { leaves = record { number = numberOf (x .result .verdict); out = out′ }; calls = x .result .calls })
       (openingCounted suite (now key) (now nonce) (now ad) (now text) (now tag) (now out))
-  -- in the text's place; and the test of a record, which leaves nothing
+  -- in place; and the verifier, which writes nothing
   pub seal-in-place : (κs : Lfts 5) (suite : ℕ) (key nonce ad text tag : RefT (List ℕ)) (x : Gave the.seal-in-place κs (suite, (key, (nonce, (ad, (text, (tag, tt))))))) →
       let (_, (_, (_, (_, (text′, (tag′, _)))))) = x .last in
       _≡_ {A = Sealed} (record { number = numberOf (x .result); out = text′; tag = tag′ }) (sealing suite (now key) (now nonce) (now ad) (now text) (now text) (now tag))
@@ -117,7 +118,7 @@ pub record Routines : Type 0 where
       let (_, (_, (first′, (second′, (differ′, _))))) = x .last in
       _≡_ {A = Comparison} (record { finding = findingOf (x .result); first = first′; second = second′; differ = differ′ })
       (comparison (now f) (now g) (now first) (now second) (now differ))
-  -- W14: the cursor and the report; the reader's own four stand in `Readers.antt`
+  -- W14: the cursor and the report; the reader's own three stand in `Readers.antt`
   pub start : (κs : Lfts 1) (file : RefT (List ℕ)) (x : Gave the.start κs (file, tt)) →
       x .result ≡ startOf (now file)
   pub ask : (κs : Lfts 1) (c : Cursor) (file : RefT (List ℕ)) (x : Gave the.ask κs (c, (file, tt))) →
@@ -125,3 +126,8 @@ pub record Routines : Type 0 where
   pub report : (κs : Lfts 4) (file ring jobs numbers : RefT (List ℕ)) (x : Gave the.report κs (file, (ring, (jobs, (numbers, tt))))) →
       let (_, (_, (jobs′, (numbers′, _)))) = x .last in
       _≡_ {A = Report} (record { said = saidOf (x .result); jobs = jobs′; numbers = numbers′ }) (reporting (now file) (now ring) (now jobs) (now numbers))
+  -- the table of contents by row number
+  pub header : (κs : Lfts 1) (file : RefT (List ℕ)) (x : Gave the.header κs (file, tt)) →
+      x .result ≡ headerAnswer (now file)
+  pub row : (κs : Lfts 1) (file : RefT (List ℕ)) (i : ℕ) (x : Gave the.row κs (file, (i, tt))) →
+      x .result ≡ rowAnswer (now file) i

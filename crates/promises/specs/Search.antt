@@ -1,8 +1,8 @@
--- Document 02, W6: find a job without walking the file.
-use Rattle.search.specs.Promised.{Halves, RowsDecide, SameAsLookup, TenLooks, BodiesUnread}
+-- Document 02, W6: binary search for a job.
+use Rattle.shift_search.specs.Promised.{Halves, RowsDecide, SameAsLookup, TenLooks, BodiesUnread}
 
 pub record Search : Type 0 where
-  -- the halving rule, as the request words it: the looks never run out
+  -- the binary search rule, as the request words it: the looks never run out
   pub halves : Halves
   -- the rows that it lists are those that it looks at: files with the same jobs there give the same walk
   pub rows : RowsDecide

@@ -3,11 +3,11 @@ use mathlib.Core.Path.{_≡_}
 use mathlib.Core.Bool.{false}
 use Prim.Native.Nat.{ℕ, _+_, _-_, _<_}
 use mathlib.Core.List.{List, [], _∷_}
-use lib.ListN.{length}
-use Rattle.words.specs.Bytes.{AllBytes}
+use lib.ListN.{length, drop}
+use Rattle.block.specs.Bytes.{AllBytes}
 use Rattle.cipher.specs.Cipher.{sizeOf, limit}
 use Rattle.comet.specs.Answers.{sealing, opening}
-use Rattle.session.specs.Value.{Value, Given, starting, dataPart, textPart, ending}
+use Rattle.session.specs.Value.{Value, Given, gave, starting, dataPart, textPart, ending}
 use Rattle.session.specs.Calls.{SessionCall, AllInBytes, Run, runOf, joined, Starts, RefusedShut, Goes, Whatever}
 use Rattle.promises.specs.Tables.{_when_, Table}
 use Rattle.promises.specs.Numbers.{tagSize}
@@ -52,19 +52,30 @@ pub record NextNumbers (suite : ℕ) (r : Run) : Type 0 where
       ∷ []
       )
 
--- after a start that answered 0 and any calls, until an end is accepted; behind it every call is 9 (`Goes`)
+-- after a start with status 0 and any calls, until an end is accepted; afterwards every call is 9 (`Goes`)
 abbrev pub RunNumbers : Type 0
 RunNumbers =
     (suite : ℕ) (key nonce : List ℕ) (cs : List SessionCall) → AllBytes key → AllBytes nonce → AllInBytes cs
     → starting suite key nonce .number ≡ 0 → runOf suite key nonce cs .ended ≡ false → NextNumbers suite (runOf suite key nonce cs)
 
--- a refused call leaves the session and the buffers as they were, length 0, whatever value arrives
+-- a refused call leaves session and buffers unchanged, length 0, whatever value arrives
 abbrev pub Keeps : Type 0
 Keeps =
     (v : Value)
     → ((p : List ℕ) → (dataPart v p .number ≡ 0 → ⊥) → (dataPart v p .next ≡ v) × (dataPart v p .count ≡ 0))
     × ((p out : List ℕ) → (textPart v p out .number ≡ 0 → ⊥) → (textPart v p out .next ≡ v) × (textPart v p out .count ≡ 0) × (textPart v p out .out ≡ out))
     × ((out tag : List ℕ) → (ending v out tag .number ≡ 0 → ⊥) → (ending v out tag .next ≡ v) × (ending v out tag .count ≡ 0) × (ending v out tag .out ≡ out) × (ending v out tag .tag ≡ tag))
+
+-- an empty message part changes nothing, whatever value arrives: no byte is written, and the session returned is the one that came in, so it does not begin the message
+abbrev pub EmptyPart : Type 0
+EmptyPart = (v : Value) (out : List ℕ) → textPart v [] out ≡ gave (textPart v [] out .number) 0 v out []
+
+-- bytes of the output that are not written stay: all those after the first `count`
+abbrev pub Untouched : Type 0
+Untouched =
+    (v : Value)
+    → ((p out : List ℕ) → drop (textPart v p out .count) (textPart v p out .out) ≡ drop (textPart v p out .count) out)
+    × ((out tag : List ℕ) → drop (ending v out tag .count) (ending v out tag .out) ≡ drop (ending v out tag .count) out)
 
 pub record Sessions : Type 0 where
   pub starts : Starts
@@ -75,3 +86,5 @@ pub record Sessions : Type 0 where
   pub as-one-call : AsOneCall
   pub opens-whole : OpensWhole
   pub keeps : Keeps
+  pub empty-part : EmptyPart
+  pub untouched : Untouched

@@ -1,7 +1,7 @@
 -- The shift file: what holds of every file that passes the check, of every lookup and of every opening of a job.
-use Rattle.table.specs.Laid.{BodiesLaid}
-use Rattle.shift.specs.Promised.{JobFound, OpensEntry, OpeningAnswers, UnitRefused}
-use Rattle.shift.specs.Genuine.{VerifiesAsOpening, VerifiedPlaces}
+use Rattle.shift_check.specs.Laid.{BodiesLaid}
+use Rattle.shift_jobs.specs.Promised.{JobFound, OpensEntry, OpeningAnswers, UnitRefused}
+use Rattle.shift_jobs.specs.Genuine.{VerifiesAsOpening, VerifiedPlaces}
 
 pub record ShiftFile : Type 0 where
   -- the bodies lie one after the other, apart, and end where the file ends
@@ -14,6 +14,6 @@ pub record ShiftFile : Type 0 where
   pub answers : OpeningAnswers
   -- the altered unit of an accepted entry with an empty message is refused
   pub unit : UnitRefused
-  -- testing a job's tag gives number and row of opening it, and hands out where its associated data lies on 0 alone
+  -- verifying a job gives number and row of opening it, and the offset of its associated data on 0 alone
   pub verifies : VerifiesAsOpening
   pub places : VerifiedPlaces

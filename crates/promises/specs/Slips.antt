@@ -1,4 +1,4 @@
--- Document 02, W13: when can a change slip through?
+-- Document 02, W13: when does a change go undetected?
 use mathlib.Core.Path.{_≡_}
 use mathlib.Core.Logic.{_↔_}
 use Prim.Native.Nat.{ℕ}
@@ -12,7 +12,7 @@ use Rattle.promises.specs.Input.{Input}
 
 -- an accepted record (its number is 0); at least one byte is changed, all inside one block of associated data or one of ciphertext; lengths, key, nonce and tag stay, and every message block after the change is full.
 -- It is accepted exactly if at some message block after the change the cipher outputs of the two openings are complements in every bit.
--- The request asks this of version 1, suites 1 to 4; suites 5 and 6 have it too, since equal lengths give equal keys in either version
+-- The request requires this of version 1, suites 1 to 4; suites 5 and 6 have it too, since equal lengths give equal keys in either version
 abbrev pub SlipsPastOpener : Type 0
 SlipsPastOpener =
     (suite : ℕ) (key nonce ad ad′ c c′ t out₀ out₁ : List ℕ) (first : ℕ) → Input suite key nonce ad c → Input suite key nonce ad′ c′
@@ -22,10 +22,10 @@ SlipsPastOpener =
     → (opening suite key nonce ad′ c′ t out₁ .number ≡ 0) ↔ ComplementFrom (cipherOf suite) first key nonce ad c ad′ c′
 
 pub record Slips : Type 0 where
-  -- exactly two blocks go to zero under shuffle XOR identity: all zeros and all ones
+  -- the kernel of shuffle XOR identity has exactly two blocks: all zeros and all ones
   pub two-blocks : TwoBlocks
   -- blocks are complements exactly if each byte of one is 255 minus that of the other
   pub complement-bytes : ComplementBytes
   pub slips-through : SlipsPastOpener
-  -- and over the identity, which is a lawful cipher, there are such records; a short block after the change catches them
+  -- and over the identity, which is a lawful cipher, there are such records; a short block after the change exposes them
   pub toy : Toy

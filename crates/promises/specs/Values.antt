@@ -2,13 +2,13 @@
 use mathlib.Core.List.{List, [], _∷_}
 use mathlib.Core.Path.{_≡_}
 use Prim.Native.Nat.{ℕ}
-use Rattle.fips197.specs.Sbox.{subByte}
-use Rattle.cham.specs.Cham.{secondPlace}
+use Rattle.aes_spec.specs.Sbox.{subByte}
+use Rattle.cham_spec.specs.Cham.{secondPlace}
 use Rattle.cipher.specs.Cipher.{cipherOf}
 use Rattle.mode.specs.Words.{double, Four, four, shuffleWords, pad}
 use Rattle.mode.specs.Keys.{marks}
-use Rattle.numbers.specs.declared.checked.Answer.{Answer}
-use Rattle.table.specs.Check.{checkFile}
+use Rattle.status.specs.declared.checked.Answer.{Answer}
+use Rattle.shift_check.specs.Check.{checkFile}
 
 -- four words as a row, the highest first
 abbrev pub row : Four → List ℕ

@@ -2,8 +2,8 @@
 use mathlib.Core.List.{List, [], _∷_}
 use mathlib.Core.Path.{_≡_}
 use Prim.Native.Nat.{ℕ, _-_, _^_}
-use Rattle.fips197.specs.Cipher.{cipher}
-use Rattle.cham.specs.Cham.{cham}
+use Rattle.aes_spec.specs.Cipher.{cipher}
+use Rattle.cham_spec.specs.Cham.{cham}
 use Rattle.speck.specs.Speck.{speck}
 use Rattle.cipher.specs.Cipher.{two, Facts, facts, factsOf, cipherOf}
 use Rattle.mode.specs.Words.{double120}

@@ -1,5 +1,5 @@
--- W4: a writer for shift files. Each statement stands, with the words that it uses, in `draft/specs/Promised.antt`.
-use Rattle.draft.specs.Promised.{SealedBack, UnsealedBack, Sealing, Unsealing, SealerTakes, OpenerTakes, SealNumbers, UnsealNumbers, TextAltered, DataAltered}
+-- W4: a writer for shift files. Each statement stands, with the words that it uses, in `shift_draft/specs/Promised.antt`.
+use Rattle.shift_draft.specs.Promised.{SealedBack, UnsealedBack, Sealing, Unsealing, SealerTakes, OpenerTakes, SealNumbers, UnsealNumbers, TextAltered, DataAltered}
 
 pub record Writer : Type 0 where
   -- where no entry has suite 4: sealing then unsealing a valid draft gives the draft; unsealing then sealing a genuine file gives the file
@@ -13,6 +13,6 @@ pub record Writer : Type 0 where
   pub opener-takes : OpenerTakes
   pub seal-numbers : SealNumbers
   pub unseal-numbers : UnsealNumbers
-  -- a genuine file, altered inside one block: 8 with that row, and zeros all over
+  -- a genuine file, altered inside one block: 8 with that row, and an output of zeros
   pub text-altered : TextAltered
   pub data-altered : DataAltered

@@ -7,8 +7,8 @@ use native.Mathlib.Omega.{arith}
 use mathlib.Core.List.{List, [], _∷_}
 use lib.ListN.{length, replicate, length-append, length-replicate}
 use borrow.Author.Tests.{le-leb, le-ltb, eq-eqb, ne-eqb}
-use Rattle.words.proofs.Lists.{nil-of}
-use Rattle.words.specs.Blocks.{filled}
+use Rattle.block.proofs.Lists.{nil-of}
+use Rattle.block.specs.Blocks.{filled}
 use Rattle.cipher.specs.Cipher.{Seals, sizeOf, cipherOf, limit}
 use Rattle.cipher.proofs.Lawful.{lawful}
 use Rattle.cipher.proofs.Suites.{size-most}

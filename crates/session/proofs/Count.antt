@@ -8,7 +8,7 @@ use native.Mathlib.Decide.{decLe}
 use mathlib.Core.List.{List, [], _∷_, _++_}
 use lib.ListN.{length, take, drop, length-append, length-take, length-drop}
 use lib.Seq.{length-take-le}
-use Rattle.words.proofs.Lists.{nil-of}
+use Rattle.block.proofs.Lists.{nil-of}
 use Rattle.cipher.specs.Cipher.{Cipher, Lawful, cipherOf}
 use Rattle.cipher.proofs.Lawful.{lawful}
 use Rattle.cipher.proofs.Suites.{size-most}

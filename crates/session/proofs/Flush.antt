@@ -8,12 +8,12 @@ use mathlib.Core.List.{List}
 use lib.ListN.{length, take, drop}
 use lib.Seq.{length-take-le}
 use borrow.Author.Tests.{eq-eqb, ne-eqb}
-use Rattle.words.specs.Words.{xor}
+use Rattle.block.specs.Words.{xor}
 use Rattle.cipher.specs.Cipher.{Cipher}
 use Rattle.mode.specs.Blocks.{blocks}
 use Rattle.mode.specs.Walk.{States, turned, walked}
 use Rattle.session.specs.Value.{Value, states, heldOf, firstMark, begun}
-use Rattle.walk.proofs.Front.{walk-none, walk-short}
+use Rattle.block_walk.proofs.Front.{walk-none, walk-short}
 
 module _ (κ : Cipher) (v : Value) where
   abbrev flushed : States

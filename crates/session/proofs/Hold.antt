@@ -8,18 +8,18 @@ use mathlib.Core.List.{List, [], _++_, append-assoc, append-nil}
 use lib.ListN.{length, take, drop, replicate, length-append, length-drop, take-append-drop, drop-of-length-le}
 use borrow.Rule.Slice.PartMut.{postOf, putMid, post-is}
 use lib.Seq.{take-at, drop-at, take-all, take-length, take-append-add, drop-append-add, length-take-le, paste}
-use Rattle.words.specs.Blocks.{filled}
-use Rattle.words.proofs.Lists.{drop-replicate}
+use Rattle.block.specs.Blocks.{filled}
+use Rattle.block.proofs.Lists.{drop-replicate}
 use Rattle.cipher.specs.Cipher.{Cipher}
 use Rattle.mode.specs.Blocks.{blocks}
 use Rattle.mode.proofs.Cut.{length-whole, cut-whole, cut-rest}
 use Rattle.mode.specs.Walk.{States, whole, rest, walked}
-use Rattle.walk.proofs.Front.{front-rest, front-walk, one-walk}
+use Rattle.block_walk.proofs.Front.{front-rest, front-walk, one-walk}
 use Rattle.session.specs.Value.{written}
 
 -- ---- bytes held
 
--- p copied behind x
+-- p copied after x
 pub joined-is : (x p : List ℕ) (h : ℕ) → length x ≡ h → h + length p ≤ 16 → paste (filled x) h p (length p) ≡ filled (x ++ p)
 joined-is x p h e le =
     let z : List ℕ = replicate (16 - length x) 0 in
@@ -39,7 +39,7 @@ module _ (out c : List ℕ) (k : ℕ) (lc : length c ≡ k) (ho : k ≤ length o
   once-is : once ≡ c ++ drop k out
   once-is = ap (λ (r : List ℕ). c ++ r) (post-is 0 k out (omega arith))
 
-  -- and lent again
+  -- and borrowed again
   pub lent-again : take (k - 0) (drop 0 once) ≡ c
   lent-again =
       let ek : k - 0 ≡ k = omega arith in
@@ -53,7 +53,7 @@ module _ (out c : List ℕ) (k : ℕ) (lc : length c ≡ k) (ho : k ≤ length o
       let lk : k ≡ length new = sym (ap length lent-again ∙ lc) ∙ sym ly ∙ ap length e in
       ap₂ (λ (a b : List ℕ). a ++ b) e (post-is 0 k once (omega arith) ∙ ap (drop k) once-is ∙ drop-at c (drop k out) k lc ∙ ap (λ (j : ℕ). drop j out) lk)
 
-  -- or p behind them, up to the end
+  -- or p after them, up to the end
   pub then-rest : (p : List ℕ) → putMid k (length out - k) once p ≡ c ++ p
   then-rest p =
       let none : postOf k (length out - k) once ≡ [] = post-is k (length out) once ho ∙ drop-of-length-le once {i = length out} (le-of-eq once-long) in
@@ -62,7 +62,7 @@ module _ (out c : List ℕ) (k : ℕ) (lc : length c ≡ k) (ho : k ≤ length o
   pub rest-long : length (take (length out - k) (drop k once)) ≡ length out - k
   rest-long = length-take-le (length out - k) (drop k once) (omega (arith, length-drop k once, once-long))
 
--- ---- the whole blocks of held bytes x and a part p, as the code takes them: w bytes, which end behind x
+-- ---- the whole blocks of held bytes x and a part p, as the code takes them: w bytes, which end after x
 
 module _ (n : ℕ) (pos : 0 < n) (x p : List ℕ) (h w : ℕ) (lx : length x ≡ h) (lw : w ≡ length (x ++ p) / n * n) (hw : h ≤ w) where
   far : w ≡ length x + (w - h)
@@ -92,7 +92,7 @@ module _ (κ : Cipher) (pos : 0 < κ .size) (short : ℕ) where
   abbrev n : ℕ
   n = κ .size
 
-  -- held bytes x and the first bytes of p make a block: k of b's bytes, and j of those behind, as the code lends them
+  -- held bytes x and the first bytes of p make a block: k of b's bytes, and j of those after, as the code lends them
   module _ (x p b : List ℕ) (h need : ℕ) (lx : length x ≡ h) (ln : h + need ≡ n) (lp : need ≤ length p) (most : n ≤ 16) (eb : b ≡ filled (x ++ take (need - 0) (drop 0 p))) where
     lt : length (take need p) ≡ need
     lt = length-take-le need p lp

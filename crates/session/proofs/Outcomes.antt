@@ -3,8 +3,8 @@ use mathlib.Core.Path.{_≡_, refl, sym, ap, _∙_}
 use mathlib.Core.List.{List}
 use Prim.Native.Nat.{ℕ, _^_, _<_}
 use native.Mathlib.Omega.{arith}
-use Rattle.words.specs.Outcome.{OneOutcome}
-use Rattle.words.proofs.Blocks.{wide-told}
+use Rattle.block.specs.Outcome.{OneOutcome}
+use Rattle.block.proofs.Blocks.{wide-told}
 use Rattle.session.specs.declared.Session.{Session}
 use Rattle.session.specs.declared.Step.{Step}
 use Rattle.session.specs.Value.{Value, Given}

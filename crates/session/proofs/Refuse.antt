@@ -5,8 +5,8 @@ use Prim.Native.Nat.{ℕ, zero, suc, _+_, _-_, _≤_, _<_}
 use mathlib.Core.List.{List}
 use lib.Dec.{leb, ltb, eqb, lit<}
 use borrow.Author.Tests.{leb-true, ltb-false, eqb-true, not-false}
-use Rattle.words.proofs.Ladder.{not-taken}
-use Rattle.words.proofs.Tests.{both-true}
+use Rattle.block.proofs.Ladder.{not-taken}
+use Rattle.block.proofs.Tests.{both-true}
 use Rattle.cipher.proofs.Suites.{seals-has}
 use Rattle.cipher.specs.Cipher.{isSuite, seals, Seals, sizeOf, nonceOf, limit}
 use Rattle.session.specs.Value.{Value, Given, sound, Sound, answered, gave, dataNumber, textNumber, endNumber, startNumber}

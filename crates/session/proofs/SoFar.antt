@@ -8,9 +8,9 @@ use mathlib.Core.List.{List, [], _∷_, _++_}
 use lib.ListN.{length, take, replicate, length-append}
 use lib.Seq.{take-at}
 use borrow.Author.Tests.{ne-eqb}
-use Rattle.words.specs.Bytes.{AllBytes}
-use Rattle.words.proofs.Lists.{all-take}
-use Rattle.words.specs.Blocks.{filled}
+use Rattle.block.specs.Bytes.{AllBytes}
+use Rattle.block.proofs.Lists.{all-take}
+use Rattle.block.specs.Blocks.{filled}
 use Rattle.cipher.specs.Cipher.{Cipher, Lawful, Block, cipherOf, nonceOf}
 use Rattle.cipher.proofs.Lawful.{lawful}
 use Rattle.mode.specs.Blocks.{blocks}
@@ -22,10 +22,10 @@ use Rattle.mode.specs.Walk.{States, whole, rest, walked, covered, tagged, origi
 use Rattle.session.specs.Value.{Value, fresh, states, heldOf, firstMark, dataStates, dataIn, begun, textStates, blocksOut, textIn, partOut, endOut, endTag}
 use Rattle.session.proofs.Joined.{dataSoFar, textSoFar, outSoFar, statesSoFar, soFar}
 use Rattle.mode.proofs.Cut.{length-rest, whole-short, rest-short, blocks-whole-rest, blocks-more-bytes, rest-more}
-use Rattle.step.proofs.Turns.{states-path}
+use Rattle.block_step.proofs.Turns.{states-path}
 use Rattle.mode.proofs.Walk.{walked-append, covered-append, Fine, walked-fine, later-first, text-walk, tag-walk}
 
--- ---- a walk over the whole blocks of l goes on with what comes behind l
+-- ---- a walk over the whole blocks of l goes on with what comes after l
 
 module _ (κ : Cipher) (pos : 0 < κ .size) (first short : ℕ) (s : States) (l : List ℕ) where
   abbrev n : ℕ
@@ -151,7 +151,7 @@ module _ (suite : ℕ) (key nonce : List ℕ) (hk : Block 16 key) (hv : AllBytes
   unfolding blocksOut soFar
   text-out a m l ha hm = ap (λ (s : States). covered κ false (firstMark κ 0x20 (length m)) 0x40 s (blocks (κ .size) l)) (begun-is a m ha hm)
 
-  -- what goes out for a part is the next piece of the ciphertext
+  -- the output for a part is the next piece of the ciphertext
   pub part-out : (a m p : List ℕ) → AllBytes a → AllBytes m → outSoFar κ key nonce a m ++ partOut κ (value a m) p ≡ outSoFar κ key nonce a (m ++ p)
   unfolding partOut soFar
   part-out a m p ha hm =

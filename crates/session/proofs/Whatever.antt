@@ -9,8 +9,8 @@ use mathlib.Core.List.{List, [], _∷_, _++_, append-nil}
 use lib.ListN.{length, take, drop, length-append}
 use borrow.Author.Tests.{eq-eqb}
 use lib.Seq.{take-append-seam}
-use Rattle.words.specs.Bytes.{AllBytes}
-use Rattle.words.proofs.Lists.{nil-of, all-append, all-nil}
+use Rattle.block.specs.Bytes.{AllBytes}
+use Rattle.block.proofs.Lists.{nil-of, all-append, all-nil}
 use Rattle.cipher.proofs.Suites.{seals-has}
 use Rattle.cipher.specs.Cipher.{Block, isSuite, seals, Seals, cipherOf, nonceOf, limit}
 use Rattle.mode.specs.Mode.{ciphertext, tag}

@@ -1,15 +1,15 @@
--- A run of a session: any calls in any order, the refused among them, and what they leave joined; and what holds of every run.
+-- A run of a session: any calls in any order, refused ones too, and their joined output; and what holds for every run.
 use Prim.Native.Nat.{ℕ, zero, suc, _+_, _-_, _*_, _/_, _%_, _≤_}
 use mathlib.Core.Path.{_≡_}
 use mathlib.Core.Bool.{Bool, true, false}
 use mathlib.Core.List.{List, [], _∷_, _++_}
 use lib.ListN.{length, take}
-use Rattle.words.specs.Bytes.{AllBytes}
+use Rattle.block.specs.Bytes.{AllBytes}
 use Rattle.cipher.specs.Cipher.{Seals, cipherOf, sizeOf, nonceOf, limit}
 use Rattle.mode.specs.Mode.{ciphertext, tag}
 use Rattle.session.specs.Value.{Value, Given, starting, dataPart, textPart, ending}
 
--- a call, with the part or the buffers that it is lent
+-- a call, with the part or the buffers that it borrows
 pub data SessionCall : Type 0 where
   associated : List ℕ → SessionCall
   message : List ℕ → List ℕ → SessionCall
@@ -25,7 +25,7 @@ abbrev pub AllInBytes : List SessionCall → Type 0
 AllInBytes [] = Unit
 AllInBytes (c ∷ cs) = InBytes c × AllInBytes cs
 
--- the session that stands; the accepted associated data, the accepted message and the ciphertext, each joined; whether an end was accepted
+-- the current session; the accepted associated data, the accepted message and the ciphertext, each joined; whether an end was accepted
 pub record Run : Type 0 where
   pub now : Value
   pub ad : List ℕ
@@ -70,7 +70,7 @@ joined r e = r .out ++ take (e .count) (e .out)
 abbrev pub Starts : Type 0
 Starts = (suite : ℕ) (key nonce : List ℕ) → Seals suite → length key ≡ 16 → length nonce ≡ nonceOf suite → starting suite key nonce .number ≡ 0
 
--- a refused start hands back a session that answers 9 to every call
+-- a refused start returns a session that answers 9 to every call
 abbrev pub Shut : Value → Type 0
 Shut v =
     ((p : List ℕ) → dataPart v p .number ≡ 9)
@@ -89,7 +89,7 @@ pub record Next (suite : ℕ) (r : Run) : Type 0 where
   pub text-total-is : r .now .«text_total» ≡ length (r .msg)
   pub data-most : length (r .ad) ≤ limit
   pub text-most : length (r .msg) ≤ limit
-  -- before the first message byte, associated data within the limit is accepted; behind it, no part is, not even an empty one
+  -- before the first message byte, associated data within the limit is accepted; after it, no part is, not even an empty one
   pub data-taken : (p : List ℕ) → r .msg ≡ [] → length (r .ad) + length p ≤ limit → dataPart (r .now) p .number ≡ 0
   pub data-late : (p : List ℕ) → (r .msg ≡ [] → ⊥) → dataPart (r .now) p .number ≡ 9
   -- a message part within the limit and with room is accepted, and gives the ciphertext of the blocks that it completes
@@ -100,7 +100,7 @@ pub record Next (suite : ℕ) (r : Run) : Type 0 where
   pub end-taken : (out tag₀ : List ℕ) → sizeOf suite ≤ length out → length tag₀ ≡ sizeOf suite → ending (r .now) out tag₀ .number ≡ 0
   pub end-count : (out tag₀ : List ℕ) → ending (r .now) out tag₀ .number ≡ 0 → ending (r .now) out tag₀ .count ≡ length (r .msg) % sizeOf suite
 
--- after a start that answered 0 and any calls: until an end is accepted the next call is answered so, and behind it by 9
+-- after a start with status 0 and any calls: until an end is accepted the next call has this status, and afterwards 9
 abbrev pub Goes : Type 0
 Goes =
     (suite : ℕ) (key nonce : List ℕ) (cs : List SessionCall) → AllBytes key → AllBytes nonce → AllInBytes cs

@@ -1,7 +1,7 @@
 -- What the code's structs stand for.
 use Prim.Native.Nat.{ℕ}
 use mathlib.Core.List.{List}
-use Rattle.words.specs.Blocks.{wide}
+use Rattle.block.specs.Blocks.{wide}
 use Rattle.session.specs.declared.Session.{Session}
 use Rattle.session.specs.declared.Step.{Step}
 use Rattle.session.specs.Value.{Value, Given}
@@ -10,6 +10,6 @@ use Rattle.session.specs.Value.{Value, Given}
 abbrev pub asValue : Session → Value
 asValue s = record { suite = s .suite; Y = wide (s .y); Z = wide (s .z); held = s .held; «ad_total» = s .«ad_total»; «text_total» = s .«text_total» }
 
--- what a call gave, with the buffers that it was lent
+-- the result of a call, with the buffers that it borrowed
 abbrev pub gives : Step → List ℕ → List ℕ → Given
 gives r out tag = record { number = r .number; count = r .count; next = asValue (r .next); out = out; tag = tag }

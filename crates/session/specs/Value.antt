@@ -1,15 +1,16 @@
--- A session: its value, and what each call gives and leaves (document 02, W2).
+-- A session: its value, and the status and output of each call (document 02, W2).
 use Prim.Native.Nat.{ℕ, zero, suc, _+_, _-_, _%_, _≤_}
 use mathlib.Core.Bool.{Bool, false, cond, not, _&&_}
 use mathlib.Core.List.{List, [], _∷_, _++_}
 use lib.ListN.{length, take, drop, replicate}
 use lib.Dec.{leb, ltb, eqb}
-use Rattle.words.specs.Blocks.{filled}
-use Rattle.cipher.specs.Cipher.{Cipher, IsSuite, seals, cipherOf, sizeOf, limit, underKey}
+use Rattle.block.specs.Blocks.{filled}
+use Rattle.cipher.specs.Cipher.{Cipher, IsSuite, seals, cipherOf, sizeOf, limit}
+use Rattle.status.specs.Verdicts.{underKey}
 use Rattle.mode.specs.Blocks.{blocks}
 use Rattle.mode.specs.Walk.{States, whole, rest, walked, covered, tagged, origin}
 
--- Y, Z and the held bytes in sixteen bytes each; how many bytes of associated data and of message have come. The message has begun if one of its bytes has come
+-- Y, Z and the buffered bytes in sixteen bytes each; the bytes of associated data and of message so far. The message has begun once one of its bytes has come
 pub record Value : Type 0 where
   pub suite : ℕ
   pub Y : List ℕ
@@ -26,11 +27,11 @@ valueOf suite s held ad-total text-total = record { suite = suite; Y = filled (s
 abbrev pub over : Value
 over = record { suite = 0; Y = replicate 16 0; Z = replicate 16 0; held = replicate 16 0; «ad_total» = 0; «text_total» = 0 }
 
--- a session that goes on, by its suite and its totals: a suite that seals, and totals within the limit. No other value is one that a run of ours gives
+-- a session in progress, by its suite and its totals: a suite that seals, and totals within the limit. No run of ours gives any other value
 abbrev pub sound : ℕ → ℕ → ℕ → Bool
 sound suite ad-total text-total = seals suite && (leb ad-total limit && leb text-total limit)
 
--- what the work needs of that, as facts
+-- the same, as facts that the proofs use
 pub record Sound (suite ad-total text-total : ℕ) : Type 0 where
   pub known : IsSuite suite
   pub data-most : ad-total ≤ limit
@@ -41,7 +42,7 @@ module _ (κ : Cipher) where
   abbrev pub states : Value → States
   states v = record { Y = take (κ .size) (v .Y); Z = v .Z }
 
-  -- the held bytes of a text of which t bytes have come
+  -- the buffered bytes of a text of which t bytes have come
   abbrev pub heldOf : Value → ℕ → List ℕ
   heldOf v t = take (t % κ .size) (v .held)
 
@@ -49,18 +50,18 @@ module _ (κ : Cipher) where
   abbrev pub firstMark : ℕ → ℕ → ℕ
   firstMark m t = cond (ltb t (κ .size)) m 0
 
-  -- the states once associated data p came: the whole blocks of held bytes and p go in
+  -- the states after associated data p: the whole blocks of the buffered bytes and p are absorbed
   unfoldable pub dataStates : Value → List ℕ → States
   dataStates v p = walked κ false (firstMark 0x08 (v .«ad_total»)) 0x10 (states v) (blocks (κ .size) (whole (κ .size) (heldOf v (v .«ad_total») ++ p)))
 
   unfoldable pub dataIn : Value → List ℕ → Value
   dataIn v p = valueOf (v .suite) (dataStates v p) (filled (rest (κ .size) (heldOf v (v .«ad_total») ++ p))) (v .«ad_total» + length p) (v .«text_total»)
 
-  -- the states as the message goes on: if it has not begun, the associated data's last bytes go in first, a short block if there are any
+  -- the states when the message begins or continues: if it begins, the associated data's last bytes are absorbed first, as a short block if there are any
   unfoldable pub begun : Value → States
   begun v = cond (eqb (v .«text_total») 0) (walked κ false (firstMark 0x08 (v .«ad_total»)) 0x10 (states v) (blocks (κ .size) (heldOf v (v .«ad_total»)))) (states v)
 
-  -- the states once blocks of message went in, and what goes out for them
+  -- the states after message blocks are absorbed, and their ciphertext
   unfoldable pub textStates : Value → List ℕ → States
   textStates v l = walked κ false (firstMark 0x20 (v .«text_total»)) 0x40 (begun v) (blocks (κ .size) l)
 
@@ -71,7 +72,7 @@ module _ (κ : Cipher) where
   unfoldable pub textIn : Value → List ℕ → Value
   textIn v p = valueOf (v .suite) (textStates v (whole (κ .size) (heldOf v (v .«text_total») ++ p))) (filled (rest (κ .size) (heldOf v (v .«text_total») ++ p))) (v .«ad_total») (v .«text_total» + length p)
 
-  -- what goes out for them: the ciphertext of the blocks that they complete
+  -- their output: the ciphertext of the blocks that they complete
   unfoldable pub partOut : Value → List ℕ → List ℕ
   partOut v p = blocksOut v (whole (κ .size) (heldOf v (v .«text_total») ++ p))
 
@@ -82,7 +83,7 @@ module _ (κ : Cipher) where
   unfoldable pub endTag : Value → List ℕ
   endTag v = tagged κ (textStates v (heldOf v (v .«text_total»)))
 
--- what a call gives: the number, how many bytes it wrote at the output's start, the next session, and the buffers after it (none: the empty list)
+-- the result of a call: the number, how many bytes it wrote at the output's start, the next session, and the buffers after it (none: the empty list)
 pub record Given : Type 0 where
   pub number : ℕ
   pub count : ℕ
@@ -93,12 +94,12 @@ pub record Given : Type 0 where
 abbrev pub gave : ℕ → ℕ → Value → List ℕ → List ℕ → Given
 gave k n v out tag = record { number = k; count = n; next = v; out = out; tag = tag }
 
--- on 0 what was worked out; on any other number the session and the buffers as they were, length 0
+-- on 0 the result; on any other number session and buffers unchanged, length 0
 abbrev pub answered : ℕ → Given → Value → List ℕ → List ℕ → Given
 answered zero done v out tag = done
 answered (suc k) done v out tag = gave (suc k) 0 v out tag
 
--- the first bytes of a buffer written over
+-- the first bytes of a buffer overwritten
 abbrev pub written : List ℕ → List ℕ → List ℕ
 written new out = new ++ drop (length new) out
 

@@ -1,23 +1,24 @@
-// Held bytes and a part behind them: the whole blocks go in (crate walk), and the rest is held.
-use cipher::Lent;
-use step::block::crypt_short;
-use step::state::State;
-use walk::Behind;
+// Buffered bytes followed by a part: whole blocks are processed (crate block_walk), and the rest is buffered.
+use block_step::marks::MARK_SHORT_TEXT;
+use block_step::one_block::crypt_short;
+use block_step::state::State;
+use block_walk::Progress;
+use cipher::AesTables;
 ghost use mathlib.Core.Path.{_≡_};
 ghost use mathlib.Core.Bool.{false};
 ghost use mathlib.Core.List.{_++_};
 ghost use Prim.Native.Nat.{ℕ, _+_, _-_, _≤_, _<_};
 ghost use lib.ListN.{length, take};
-ghost use Rattle.words.specs.Blocks.{filled};
-ghost use Rattle.cipher.specs.Cipher.{Ready, IsSuite, sizeOf, cipherOf};
+ghost use Rattle.block.specs.Blocks.{filled};
+ghost use Rattle.cipher.specs.Cipher.{TablesFit, IsSuite, sizeOf, cipherOf};
 ghost use Rattle.mode.specs.Blocks.{blocks};
 ghost use Rattle.mode.specs.Walk.{whole, rest, walked, covered};
-ghost use Rattle.step.specs.Two.{twoOf};
-ghost use Rattle.walk.specs.Behind.{wholes, Passed};
+ghost use Rattle.block_step.specs.Two.{twoOf};
+ghost use Rattle.block_walk.specs.Progress.{wholes, Passed};
 ghost use Rattle.session.specs.Value.{written};
 
-// The two states, and what is held back.
-pub(crate) struct Fed {
+// The two states, and the buffered bytes.
+pub(crate) struct Absorbed {
     pub s: State,
     pub held: [u8; 16],
 }
@@ -27,7 +28,7 @@ fn joined(held: [u8; 16], h: usize, p: &[u8]) -> [u8; 16]
     requires { ⌜ h + length (now p) ≤ 16 ⌝ }
     ensures { λ r. ⌜ r ≡ filled (take h held ++ now (p .entry)) ⌝ }
 {
-    let mut r = runs::filled_bytes(&held[0..h]);
+    let mut r = byte_runs::filled_bytes(&held[0..h]);
     let mut j: usize = 0;
     while j < p.len() {
         r[h + j] = p[j];
@@ -36,60 +37,73 @@ fn joined(held: [u8; 16], h: usize, p: &[u8]) -> [u8; 16]
     r
 }
 
-// The whole blocks of ad go in, none of them the first, and the rest is held.
-fn absorb_blocks(lent: &[Lent], suite: u8, s: State, ad: &[u8]) -> Fed
-    requires { ⌜ Ready suite (now lent) × IsSuite suite ⌝ }
+// Absorbs the whole blocks of ad, none of them the first, and buffers the rest.
+fn absorb_blocks(tables: &[AesTables], suite: u8, s: State, ad: &[u8]) -> Absorbed
+    requires { ⌜ TablesFit suite (now tables) × IsSuite suite ⌝ }
     ensures states { λ r. ⌜ twoOf suite (r .s) ≡ walked (cipherOf suite) false 0 0x10 (twoOf suite s) (blocks (sizeOf suite) (whole (sizeOf suite) (now (ad .entry)))) ⌝ }
     ensures held { λ r. ⌜ r .held ≡ filled (rest (sizeOf suite) (now (ad .entry))) ⌝ }
 {
-    let w = walk::absorb(lent, false, suite, s, 0, ad);
-    let t = w.s;
-    let i = w.at;
-    let h = runs::filled_bytes(&ad[i..ad.len()]);
-    Fed { s: t, held: h }
+    let whole = block_walk::absorb(tables, false, suite, s, 0, ad);
+    let state = whole.s;
+    let at = whole.at;
+    let rest = byte_runs::filled_bytes(&ad[at..ad.len()]);
+    Absorbed {
+        s: state,
+        held: rest,
+    }
 }
 
-// The whole blocks of h held bytes and then ad, which completes one, go in, the first under the mark m, and the rest is held.
+// Absorbs the whole blocks of h buffered bytes followed by ad, which completes one, the first under the mark m, and buffers the rest.
 fn absorb_past(
-    lent: &[Lent],
+    tables: &[AesTables],
     suite: u8,
     s: State,
     m: u8,
     held: [u8; 16],
     h: usize,
     ad: &[u8],
-) -> Fed
-    requires { ⌜ Ready suite (now lent) × IsSuite suite × (h < sizeOf suite) × (sizeOf suite ≤ h + length (now ad)) ⌝ }
+) -> Absorbed
+    requires { ⌜ TablesFit suite (now tables) × IsSuite suite × (h < sizeOf suite) × (sizeOf suite ≤ h + length (now ad)) ⌝ }
     ensures states { λ r. ⌜ twoOf suite (r .s) ≡ walked (cipherOf suite) false m 0x10 (twoOf suite s) (blocks (sizeOf suite) (whole (sizeOf suite) (take h held ++ now (ad .entry)))) ⌝ }
     ensures held { λ r. ⌜ r .held ≡ filled (rest (sizeOf suite) (take h held ++ now (ad .entry))) ⌝ }
 {
     let n = cipher::size_of(suite);
     let need = n - h;
-    let b = joined(held, h, &ad[0..need]);
-    let t = walk::absorb(lent, false, suite, s, m, &b[0..n]);
-    absorb_blocks(lent, suite, t.s, &ad[need..ad.len()])
+    let first = joined(held, h, &ad[0..need]);
+    let whole = block_walk::absorb(tables, false, suite, s, m, &first[0..n]);
+    absorb_blocks(tables, suite, whole.s, &ad[need..ad.len()])
 }
 
-// The whole blocks of h held bytes and then ad go in, the first under the mark m, and the rest is held. Tables are made only where a block is completed.
-pub(crate) fn absorb_part(suite: u8, s: State, m: u8, held: [u8; 16], h: usize, ad: &[u8]) -> Fed
+// Absorbs the whole blocks of h buffered bytes followed by ad, the first under the mark m, and buffers the rest. Tables are constructed only if a block is completed.
+pub(crate) fn absorb_part(
+    suite: u8,
+    s: State,
+    m: u8,
+    held: [u8; 16],
+    h: usize,
+    ad: &[u8],
+) -> Absorbed
     requires { ⌜ IsSuite suite × (h < sizeOf suite) ⌝ }
     ensures states { λ r. ⌜ twoOf suite (r .s) ≡ walked (cipherOf suite) false m 0x10 (twoOf suite s) (blocks (sizeOf suite) (whole (sizeOf suite) (take h held ++ now (ad .entry)))) ⌝ }
     ensures held { λ r. ⌜ r .held ≡ filled (rest (sizeOf suite) (take h held ++ now (ad .entry))) ⌝ }
 {
     let n = cipher::size_of(suite);
     if ad.len() < n - h {
-        let g = joined(held, h, ad);
-        return Fed { s: s, held: g };
+        let buffered = joined(held, h, ad);
+        return Absorbed {
+            s: s,
+            held: buffered,
+        };
     }
-    if cipher::lends(suite) {
-        let lent = cipher::tables(suite);
-        return absorb_past(&lent, suite, s, m, held, h, ad);
+    if cipher::needs_tables(suite) {
+        let tables = cipher::tables(suite);
+        return absorb_past(&tables, suite, s, m, held, h, ad);
     }
     absorb_past(&[], suite, s, m, held, h, ad)
 }
 
-// The two states, what is held back, and how many bytes went out.
-pub(crate) struct Made {
+// The two states, the buffered bytes, and how many bytes were output.
+pub(crate) struct Sealed {
     pub s: State,
     pub held: [u8; 16],
     pub count: usize,
@@ -101,24 +115,24 @@ fn gather(held: [u8; 16], h: usize, p: &[u8], out: &mut [u8])
     ensures { λ _. ⌜ now (out .exit) ≡ take h held ++ now (p .entry) ⌝ }
 {
     let end = out.len();
-    runs::copy(&held[0..h], &mut out[0..h]);
-    runs::copy(p, &mut out[h..end]);
+    byte_runs::copy(&held[0..h], &mut out[0..h]);
+    byte_runs::copy(p, &mut out[h..end]);
 }
 
-// The whole blocks of text are sealed in their place, the first under the mark m: the cipher is lent what it needs.
-fn crypt_blocks(suite: u8, s: State, m: u8, text: &mut [u8]) -> Behind
+// Seals the whole blocks of text in place, the first under the mark m, with the tables that the cipher needs.
+fn crypt_blocks(suite: u8, s: State, m: u8, text: &mut [u8]) -> Progress
     requires { ⌜ IsSuite suite ⌝ }
     ensures text { λ _. ⌜ ((short : ℕ) → now (text .exit) ≡ covered (cipherOf suite) false m short (twoOf suite s) (wholes (sizeOf suite) (now (text .entry))) ++ rest (sizeOf suite) (now (text .entry))) ⌝ }
     ensures state { λ r. ⌜ Passed suite false m s (now (text .entry)) r ⌝ }
 {
-    if cipher::lends(suite) {
-        let lent = cipher::tables(suite);
-        return walk::crypt(&lent, false, suite, s, m, text);
+    if cipher::needs_tables(suite) {
+        let tables = cipher::tables(suite);
+        return block_walk::crypt(&tables, false, suite, s, m, text);
     }
-    walk::crypt(&[], false, suite, s, m, text)
+    block_walk::crypt(&[], false, suite, s, m, text)
 }
 
-// The whole blocks of h held bytes and then part go in, the first under the mark m, and their ciphertext out; the rest is held. Tables are made only where a block is completed.
+// Seals the whole blocks of h buffered bytes followed by part, the first under the mark m, and outputs their ciphertext; the rest is buffered. Tables are constructed only if a block is completed.
 pub(crate) fn crypt_part(
     suite: u8,
     s: State,
@@ -127,7 +141,7 @@ pub(crate) fn crypt_part(
     h: usize,
     part: &[u8],
     out: &mut [u8],
-) -> Made
+) -> Sealed
     requires { ⌜ IsSuite suite × (h < sizeOf suite) × (length (now part) + (sizeOf suite - 1) ≤ length (now out)) ⌝ }
     ensures text { λ _. ⌜ now (out .exit) ≡ written (covered (cipherOf suite) false m 0x40 (twoOf suite s) (blocks (sizeOf suite) (whole (sizeOf suite) (take h held ++ now (part .entry))))) (now (out .entry)) ⌝ }
     ensures count { λ r. ⌜ r .count ≡ length (covered (cipherOf suite) false m 0x40 (twoOf suite s) (blocks (sizeOf suite) (whole (sizeOf suite) (take h held ++ now (part .entry))))) ⌝ }
@@ -137,29 +151,29 @@ pub(crate) fn crypt_part(
     let n = cipher::size_of(suite);
     let all = h + part.len();
     if all < n {
-        let g = joined(held, h, part);
-        return Made {
+        let buffered = joined(held, h, part);
+        return Sealed {
             s: s,
-            held: g,
+            held: buffered,
             count: 0,
         };
     }
-    let w = all - all % n;
-    let e = w - h;
-    gather(held, h, &part[0..e], &mut out[0..w]);
-    let t = crypt_blocks(suite, s, m, &mut out[0..w]);
-    let u = t.s;
-    let g = runs::filled_bytes(&part[e..part.len()]);
-    Made {
-        s: u,
-        held: g,
-        count: w,
+    let whole = all - all % n;
+    let taken = whole - h;
+    gather(held, h, &part[0..taken], &mut out[0..whole]);
+    let done = crypt_blocks(suite, s, m, &mut out[0..whole]);
+    let state = done.s;
+    let buffered = byte_runs::filled_bytes(&part[taken..part.len()]);
+    Sealed {
+        s: state,
+        held: buffered,
+        count: whole,
     }
 }
 
-// The h held bytes of message go in as a short block, if there are any, and their ciphertext out.
+// Seals the h buffered bytes of message as a short block, if there are any, and outputs their ciphertext.
 pub(crate) fn last_in(
-    lent: &[Lent],
+    tables: &[AesTables],
     suite: u8,
     s: State,
     m: u8,
@@ -167,7 +181,7 @@ pub(crate) fn last_in(
     h: usize,
     out: &mut [u8],
 ) -> State
-    requires { ⌜ Ready suite (now lent) × IsSuite suite × (h < sizeOf suite) × (sizeOf suite ≤ length (now out)) ⌝ }
+    requires { ⌜ TablesFit suite (now tables) × IsSuite suite × (h < sizeOf suite) × (sizeOf suite ≤ length (now out)) ⌝ }
     ensures text { λ _. ⌜ now (out .exit) ≡ written (covered (cipherOf suite) false m 0x40 (twoOf suite s) (blocks (sizeOf suite) (take h held))) (now (out .entry)) ⌝ }
     ensures count { λ _. ⌜ h ≡ length (covered (cipherOf suite) false m 0x40 (twoOf suite s) (blocks (sizeOf suite) (take h held))) ⌝ }
     ensures state { λ r. ⌜ twoOf suite r ≡ walked (cipherOf suite) false m 0x40 (twoOf suite s) (blocks (sizeOf suite) (take h held)) ⌝ }
@@ -175,6 +189,6 @@ pub(crate) fn last_in(
     if h == 0 {
         return s;
     }
-    runs::copy(&held[0..h], &mut out[0..h]);
-    crypt_short(lent, false, suite, s, m ^ 0x40, &mut out[0..h])
+    byte_runs::copy(&held[0..h], &mut out[0..h]);
+    crypt_short(tables, false, suite, s, m ^ MARK_SHORT_TEXT, &mut out[0..h])
 }

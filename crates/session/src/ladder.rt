@@ -3,19 +3,19 @@ use cipher::LIMIT;
 ghost use mathlib.Core.Path.{_≡_};
 ghost use Rattle.session.specs.Value.{sound, startNumber, dataNumber, textNumber, endNumber};
 
-// The number of a start, from the lengths of key and nonce: what a call under a key has of the sealer's ladder.
+// The number of a start, from the lengths of key and nonce: the sealer's checks of suite, key and nonce.
 pub(crate) fn start_number(suite: u8, key: usize, nonce: usize) -> u8
     ensures { λ r. ⌜ r ≡ startNumber suite key nonce ⌝ }
 {
-    numbers::verdict::under_key(false, suite, key, nonce).number()
+    status::verdict::under_key(false, suite, key, nonce).number()
 }
 
-// Whether a session is one that goes on.
+// Whether a session is in progress.
 fn goes_on(suite: u8, ad_total: usize, text_total: usize) -> bool
     ensures { λ r. ⌜ r ≡ sound suite «ad_total» «text_total» ⌝ }
 {
-    let b = cipher::seals(suite);
-    if !b {
+    let seals = cipher::seals(suite);
+    if !seals {
         return false;
     }
     if LIMIT < ad_total {
@@ -28,8 +28,8 @@ fn goes_on(suite: u8, ad_total: usize, text_total: usize) -> bool
 pub(crate) fn data_number(suite: u8, ad_total: usize, text_total: usize, part: usize) -> u8
     ensures { λ r. ⌜ r ≡ dataNumber suite «ad_total» «text_total» part ⌝ }
 {
-    let b = goes_on(suite, ad_total, text_total);
-    if !b {
+    let sound = goes_on(suite, ad_total, text_total);
+    if !sound {
         return 9;
     }
     if text_total != 0 {
@@ -51,8 +51,8 @@ pub(crate) fn text_number(
 ) -> u8
     ensures { λ r. ⌜ r ≡ textNumber suite «ad_total» «text_total» part out ⌝ }
 {
-    let b = goes_on(suite, ad_total, text_total);
-    if !b {
+    let sound = goes_on(suite, ad_total, text_total);
+    if !sound {
         return 9;
     }
     if LIMIT - text_total < part {
@@ -75,8 +75,8 @@ pub(crate) fn end_number(
 ) -> u8
     ensures { λ r. ⌜ r ≡ endNumber suite «ad_total» «text_total» out tag ⌝ }
 {
-    let b = goes_on(suite, ad_total, text_total);
-    if !b {
+    let sound = goes_on(suite, ad_total, text_total);
+    if !sound {
         return 9;
     }
     let n = cipher::size_of(suite);

@@ -1,5 +1,5 @@
-// Sealing in parts: a session by value, handed back by every call.
-use words::block::Block;
+// Sealing in parts: a session by value, which every call returns.
+use block::Block;
 
 mod blocks;
 mod ladder;
@@ -10,7 +10,7 @@ ghost use mathlib.Core.List.{[]};
 ghost use Rattle.session.specs.Value.{dataPart, textPart, ending, starting};
 ghost use Rattle.session.specs.Structs.{asValue, gives};
 
-// Y and Z, the bytes held back (the first of the sixteen, as many as a total leaves over whole blocks), and how many bytes of associated data and of message have come. Any value may arrive: the methods ask nothing of it.
+// Y and Z, the buffered bytes (the first of the sixteen, as many as a total leaves over whole blocks), and the bytes of associated data and of message so far. Any value may arrive: the methods have no precondition.
 pub struct Session {
     pub suite: u8,
     pub y: Block,
@@ -20,7 +20,7 @@ pub struct Session {
     pub text_total: usize,
 }
 
-// What a call gives: the next session, the number, and how many bytes it wrote at the output's start.
+// The result of a call: the next session, the status, and how many bytes it wrote at the output's start.
 pub struct Step {
     pub next: Session,
     pub number: u8,
@@ -28,17 +28,17 @@ pub struct Step {
 }
 
 impl Session {
-    // A session's start. Only a suite whose engine is lent tables pays for them, here and below, and a part only where a block goes in.
+    // Starts a session. Only suites whose engine needs tables construct them, here and below, and a part only if it completes a block.
     pub fn start(suite: u8, key: &[u8], nonce: &[u8]) -> Step
         ensures { λ r. ⌜ gives r [] [] ≡ starting suite (now (key .entry)) (now (nonce .entry)) ⌝ }
     {
-        let k = ladder::start_number(suite, key.len(), nonce.len());
-        if k != 0 {
-            return work::refused(k);
+        let number = ladder::start_number(suite, key.len(), nonce.len());
+        if number != 0 {
+            return work::refused(number);
         }
-        if cipher::lends(suite) {
-            let lent = cipher::tables(suite);
-            return work::started(&lent, suite, key, nonce);
+        if cipher::needs_tables(suite) {
+            let tables = cipher::tables(suite);
+            return work::started(&tables, suite, key, nonce);
         }
         work::started(&[], suite, key, nonce)
     }
@@ -50,11 +50,11 @@ impl Session {
         let suite = self.suite;
         let ad_total = self.ad_total;
         let text_total = self.text_total;
-        let k = ladder::data_number(suite, ad_total, text_total, part.len());
-        if k != 0 {
+        let number = ladder::data_number(suite, ad_total, text_total, part.len());
+        if number != 0 {
             return Step {
                 next: self,
-                number: k,
+                number: number,
                 count: 0,
             };
         }
@@ -68,11 +68,11 @@ impl Session {
         let suite = self.suite;
         let ad_total = self.ad_total;
         let text_total = self.text_total;
-        let k = ladder::text_number(suite, ad_total, text_total, part.len(), out.len());
-        if k != 0 {
+        let number = ladder::text_number(suite, ad_total, text_total, part.len(), out.len());
+        if number != 0 {
             return Step {
                 next: self,
-                number: k,
+                number: number,
                 count: 0,
             };
         }
@@ -93,17 +93,17 @@ impl Session {
         let suite = self.suite;
         let ad_total = self.ad_total;
         let text_total = self.text_total;
-        let k = ladder::end_number(suite, ad_total, text_total, out.len(), tag.len());
-        if k != 0 {
+        let number = ladder::end_number(suite, ad_total, text_total, out.len(), tag.len());
+        if number != 0 {
             return Step {
                 next: self,
-                number: k,
+                number: number,
                 count: 0,
             };
         }
-        if cipher::lends(suite) {
-            let lent = cipher::tables(suite);
-            return work::close(&lent, self, out, tag);
+        if cipher::needs_tables(suite) {
+            let tables = cipher::tables(suite);
+            return work::close(&tables, self, out, tag);
         }
         work::close(&[], self, out, tag)
     }

@@ -1,20 +1,23 @@
-// What the calls do once nothing is refused: the cipher is lent what it needs.
+// The work of the calls once nothing is refused.
 use crate::Session;
 use crate::Step;
-use crate::blocks::Fed;
-use cipher::Lent;
-use step::block::absorb_short;
-use step::state::State;
-use words::block::Block;
+use crate::blocks::Absorbed;
+use block::Block;
+use block_step::marks::MARK_FIRST_DATA;
+use block_step::marks::MARK_FIRST_TEXT;
+use block_step::marks::MARK_SHORT_DATA;
+use block_step::one_block::absorb_short;
+use block_step::state::State;
+use cipher::AesTables;
 ghost use mathlib.Core.Path.{_≡_};
 ghost use mathlib.Core.Bool.{false};
 ghost use mathlib.Core.List.{[]};
 ghost use Prim.Native.Nat.{_<_};
 ghost use lib.ListN.{length, take};
-ghost use Rattle.words.specs.Blocks.{wide, filled};
-ghost use Rattle.cipher.specs.Cipher.{Ready, IsSuite, sizeOf, cipherOf};
+ghost use Rattle.block.specs.Blocks.{wide, filled};
+ghost use Rattle.cipher.specs.Cipher.{TablesFit, IsSuite, sizeOf, cipherOf};
 ghost use Rattle.mode.specs.Walk.{turned, messageOf};
-ghost use Rattle.step.specs.Two.{twoOf, Holds, oneMore};
+ghost use Rattle.block_step.specs.Two.{twoOf, Holds, oneMore};
 ghost use Rattle.session.specs.Value.{valueOf, over, gave, firstMark, begun, startNumber, starting, dataNumber, dataPart, textNumber, textPart, endNumber, ending};
 ghost use Rattle.session.specs.Structs.{asValue, gives};
 
@@ -29,7 +32,7 @@ fn clean(suite: u8, y: Block) -> Block
 }
 
 // A session of these states, held bytes and totals.
-fn packed(suite: u8, f: Fed, ad_total: usize, text_total: usize) -> Session
+fn packed(suite: u8, f: Absorbed, ad_total: usize, text_total: usize) -> Session
     ensures { λ r. ⌜ asValue r ≡ valueOf suite (twoOf suite (f .s)) (f .held) «ad_total» «text_total» ⌝ }
 {
     let s = f.s;
@@ -74,14 +77,14 @@ pub(crate) fn refused(k: u8) -> Step
     }
 }
 
-// A session that key and nonce start.
-pub(crate) fn started(lent: &[Lent], suite: u8, key: &[u8], nonce: &[u8]) -> Step
-    requires { ⌜ Ready suite (now lent) × (startNumber suite (length (now key)) (length (now nonce)) ≡ 0) ⌝ }
+// The session after a start with this key and nonce.
+pub(crate) fn started(tables: &[AesTables], suite: u8, key: &[u8], nonce: &[u8]) -> Step
+    requires { ⌜ TablesFit suite (now tables) × (startNumber suite (length (now key)) (length (now nonce)) ≡ 0) ⌝ }
     ensures { λ r. ⌜ gives r [] [] ≡ starting suite (now (key .entry)) (now (nonce .entry)) ⌝ }
 {
-    let s = step::state::start(lent, suite, key, nonce);
-    let z = [0u8; 16];
-    let next = packed(suite, Fed { s: s, held: z }, 0, 0);
+    let s = block_step::state::start(tables, suite, key, nonce);
+    let zeros = [0u8; 16];
+    let next = packed(suite, Absorbed { s: s, held: zeros }, 0, 0);
     Step {
         next: next,
         number: 0,
@@ -89,7 +92,7 @@ pub(crate) fn started(lent: &[Lent], suite: u8, key: &[u8], nonce: &[u8]) -> Ste
     }
 }
 
-// The mark of the next whole block: m if none has gone in.
+// The mark of the next whole block: m if none was absorbed yet.
 fn first_mark(suite: u8, m: u8, total: usize) -> u8
     ensures { λ r. ⌜ r ≡ firstMark (cipherOf suite) m total ⌝ }
 {
@@ -97,7 +100,7 @@ fn first_mark(suite: u8, m: u8, total: usize) -> u8
     if total < n { m } else { 0 }
 }
 
-// Associated data goes in.
+// Absorbs a part of the associated data.
 pub(crate) fn take_in(s: Session, part: &[u8]) -> Step
     requires { ⌜ dataNumber (s .suite) (s .«ad_total») (s .«text_total») (length (now part)) ≡ 0 ⌝ }
     ensures { λ r. ⌜ gives r [] [] ≡ dataPart (asValue s) (now (part .entry)) ⌝ }
@@ -109,15 +112,15 @@ pub(crate) fn take_in(s: Session, part: &[u8]) -> Step
     let ad_total = s.ad_total;
     let text_total = s.text_total;
     let n = cipher::size_of(suite);
-    let m = first_mark(suite, 0x08, ad_total);
+    let m = first_mark(suite, MARK_FIRST_DATA, ad_total);
     let h = ad_total % n;
     let two = State {
         y: y,
         z: z,
         calls: 0,
     };
-    let f = crate::blocks::absorb_part(suite, two, m, held, h, part);
-    let next = packed(suite, f, ad_total + part.len(), text_total);
+    let absorbed = crate::blocks::absorb_part(suite, two, m, held, h, part);
+    let next = packed(suite, absorbed, ad_total + part.len(), text_total);
     Step {
         next: next,
         number: 0,
@@ -125,19 +128,19 @@ pub(crate) fn take_in(s: Session, part: &[u8]) -> Step
     }
 }
 
-// Associated data's last bytes go in as a short block: the cipher is lent what it needs.
+// Absorbs the associated data's last bytes as a short block, with the tables that the cipher needs.
 fn absorb_last(suite: u8, s: State, m: u8, b: &[u8]) -> State
     requires { ⌜ IsSuite suite × (length (now b) < sizeOf suite) ⌝ }
     ensures { λ r. ⌜ Holds suite r (turned (cipherOf suite) m (twoOf suite s) (messageOf (cipherOf suite) false m (twoOf suite s) (now (b .entry)))) (oneMore (s .calls)) ⌝ }
 {
-    if cipher::lends(suite) {
-        let lent = cipher::tables(suite);
-        return absorb_short(&lent, false, suite, s, m, b);
+    if cipher::needs_tables(suite) {
+        let tables = cipher::tables(suite);
+        return absorb_short(&tables, false, suite, s, m, b);
     }
     absorb_short(&[], false, suite, s, m, b)
 }
 
-// The states as the message goes on: where it has not begun, the associated data's last bytes go in first.
+// The states when the message begins or continues: if it begins, the associated data's last bytes are absorbed first.
 fn begin(s: Session) -> State
     requires { ⌜ IsSuite (s .suite) ⌝ }
     ensures { λ r. ⌜ twoOf (s .suite) r ≡ begun (cipherOf (s .suite)) (asValue s) ⌝ }
@@ -161,8 +164,8 @@ fn begin(s: Session) -> State
     if h == 0 {
         return two;
     }
-    let m = first_mark(suite, 0x08, ad_total);
-    absorb_last(suite, two, m ^ 0x10, &held[0..h])
+    let m = first_mark(suite, MARK_FIRST_DATA, ad_total);
+    absorb_last(suite, two, m ^ MARK_SHORT_DATA, &held[0..h])
 }
 
 // The same, with no call where the message has begun.
@@ -183,7 +186,7 @@ fn going(s: Session) -> State
     begin(s)
 }
 
-// Message goes in, at least one byte of it, and the ciphertext of the blocks that it completes out.
+// Seals a part of the message, at least one byte, and outputs the ciphertext of the blocks that it completes.
 pub(crate) fn seal_in(s: Session, part: &[u8], out: &mut [u8]) -> Step
     requires { ⌜ (textNumber (s .suite) (s .«ad_total») (s .«text_total») (length (now part)) (length (now out)) ≡ 0) × (0 < length (now part)) ⌝ }
     ensures { λ r. ⌜ gives r (now (out .exit)) [] ≡ textPart (asValue s) (now (part .entry)) (now (out .entry)) ⌝ }
@@ -194,27 +197,30 @@ pub(crate) fn seal_in(s: Session, part: &[u8], out: &mut [u8]) -> Step
     let held = s.held;
     let two = going(s);
     let n = cipher::size_of(suite);
-    let m = first_mark(suite, 0x20, text_total);
+    let m = first_mark(suite, MARK_FIRST_TEXT, text_total);
     let h = text_total % n;
-    let f = crate::blocks::crypt_part(suite, two, m, held, h, part, out);
-    let u = f.s;
-    let g = f.held;
+    let sealed = crate::blocks::crypt_part(suite, two, m, held, h, part, out);
+    let state = sealed.s;
+    let buffered = sealed.held;
     let next = packed(
         suite,
-        Fed { s: u, held: g },
+        Absorbed {
+            s: state,
+            held: buffered,
+        },
         ad_total,
         text_total + part.len(),
     );
     Step {
         next: next,
         number: 0,
-        count: f.count,
+        count: sealed.count,
     }
 }
 
 // The end's work: the rest of the ciphertext, and the tag.
-pub(crate) fn close(lent: &[Lent], s: Session, out: &mut [u8], tag: &mut [u8]) -> Step
-    requires { ⌜ Ready (s .suite) (now lent) × (endNumber (s .suite) (s .«ad_total») (s .«text_total») (length (now out)) (length (now tag)) ≡ 0) ⌝ }
+pub(crate) fn close(tables: &[AesTables], s: Session, out: &mut [u8], tag: &mut [u8]) -> Step
+    requires { ⌜ TablesFit (s .suite) (now tables) × (endNumber (s .suite) (s .«ad_total») (s .«text_total») (length (now out)) (length (now tag)) ≡ 0) ⌝ }
     ensures { λ r. ⌜ gives r (now (out .exit)) (now (tag .exit)) ≡ ending (asValue s) (now (out .entry)) (now (tag .entry)) ⌝ }
 {
     let suite = s.suite;
@@ -222,12 +228,12 @@ pub(crate) fn close(lent: &[Lent], s: Session, out: &mut [u8], tag: &mut [u8]) -
     let held = s.held;
     let two = begin(s);
     let n = cipher::size_of(suite);
-    let m = first_mark(suite, 0x20, text_total);
+    let m = first_mark(suite, MARK_FIRST_TEXT, text_total);
     let h = text_total % n;
-    let t = crate::blocks::last_in(lent, suite, two, m, held, h, out);
-    let l = step::tag::tag_of(lent, suite, t);
-    let g = l.tag;
-    runs::put(g, tag);
+    let state = crate::blocks::last_in(tables, suite, two, m, held, h, out);
+    let last = block_step::tag::tag_of(tables, suite, state);
+    let computed = last.tag;
+    byte_runs::put(computed, tag);
     let next = ended();
     Step {
         next: next,

@@ -5,12 +5,12 @@ use mathlib.Core.Path.{subst}
 use mathlib.Core.Bool.{Bool, true, false, cond}
 use mathlib.Core.List.{List}
 use lib.Dec.{eqb}
-use Rattle.numbers.specs.declared.checked.Answer.{Answer}
-use Rattle.numbers.specs.Answers.{answer}
-use Rattle.shift.specs.Opening.{left, jobOpening}
-use Rattle.amend.specs.declared.Amended.{Amended}
-use Rattle.amend.specs.Amending.{amendedEntry, holder, amendedOpening}
-use Rattle.amend.proofs.Holding.{stands, five}
+use Rattle.status.specs.declared.checked.Answer.{Answer}
+use Rattle.status.specs.Answers.{answer}
+use Rattle.shift_jobs.specs.Opening.{left, jobOpening}
+use Rattle.shift_amend.specs.declared.Amended.{Amended}
+use Rattle.shift_amend.specs.Amending.{amendedEntry, holder, amendedOpening}
+use Rattle.shift_amend.proofs.Holding.{stands, five}
 use Rattle.snoekeldraf.proofs.Rows.{lookup-row, job-row}
 
 pub amended-row : (a d : List ℕ) (job : ℕ) → amendedEntry a d job .entry .row ≤ 512

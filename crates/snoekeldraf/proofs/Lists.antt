@@ -5,12 +5,12 @@ use mathlib.Core.Bool.{Bool, true, false, cond}
 use mathlib.Core.List.{List}
 use lib.Dec.{lit≤}
 use borrow.Author.Tests.{eqb-true, not-false}
-use Rattle.format.specs.Format.{firstEdition, newest}
-use Rattle.numbers.specs.Answers.{answer}
-use Rattle.table.specs.Check.{checkFile, refused}
-use Rattle.compare.specs.declared.Finding.{Finding}
-use Rattle.compare.specs.Comparing.{refusedIn, Comparison, stopped, tooLong, listed, comparison}
-use Rattle.compare.proofs.Passing.{only-few, differ-few}
+use Rattle.shift_format.specs.Format.{firstEdition, newest}
+use Rattle.status.specs.Answers.{answer}
+use Rattle.shift_check.specs.Check.{checkFile, refused}
+use Rattle.shift_compare.specs.declared.Finding.{Finding}
+use Rattle.shift_compare.specs.Comparing.{refusedIn, Comparison, stopped, tooLong, listed, comparison}
+use Rattle.shift_compare.proofs.Passing.{only-few, differ-few}
 use Rattle.snoekeldraf.proofs.Rows.{check-row}
 
 pub record Low (t : Finding) : Type 0 where

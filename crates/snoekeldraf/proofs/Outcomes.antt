@@ -1,14 +1,14 @@
--- One outcome for each input: a contract says what the number and every lent output equal, so any two outcomes that it allows are equal.
+-- One outcome for each input: a contract fixes the status and every borrowed output, so any two outcomes that it allows are equal.
 use mathlib.Core.Path.{_≡_, refl, sym, ap, ap₂, _∙_}
 use Prim.Native.Nat.{ℕ}
 use mathlib.Core.List.{List}
-use Rattle.words.specs.Outcome.{OneOutcome}
+use Rattle.block.specs.Outcome.{OneOutcome}
 use Rattle.comet.specs.Answers.{Sealed, Opened}
 use Rattle.comet.specs.Counted.{Counting}
-use Rattle.numbers.specs.declared.checked.Answer.{Answer}
-use Rattle.shift.specs.declared.answers.Entry.{Entry}
-use Rattle.shift.specs.declared.answers.Genuine.{Genuine}
-use Rattle.shift.specs.Opening.{JobOpened}
+use Rattle.status.specs.declared.checked.Answer.{Answer}
+use Rattle.shift_jobs.specs.declared.answers.Entry.{Entry}
+use Rattle.shift_jobs.specs.declared.answers.Genuine.{Genuine}
+use Rattle.shift_jobs.specs.Opening.{JobOpened}
 use Rattle.snoekeldraf.specs.Located.{Located}
 use Rattle.snoekeldraf.specs.Words.{InWords}
 use Rattle.snoekeldraf.proofs.record.comet_seal.Kinds as seal-kinds
@@ -25,16 +25,16 @@ use Rattle.snoekeldraf.proofs.counting.comet_seal_counted.Kinds as seal
 use Rattle.snoekeldraf.proofs.counting.comet_seal_counted.Reads as seal-counted-reads
 use Rattle.snoekeldraf.proofs.counting.comet_open_counted.Kinds as open-counted-kinds
 use Rattle.snoekeldraf.proofs.counting.comet_open_counted.Reads as open-counted-reads
-use Rattle.snoekeldraf.proofs.parts.comet_session_start.Kinds as session-start-kinds
-use Rattle.snoekeldraf.proofs.parts.comet_session_start.Reads as session-start-reads
-use Rattle.snoekeldraf.proofs.parts.comet_session_data.Kinds as session-data-kinds
-use Rattle.snoekeldraf.proofs.parts.comet_session_data.Reads as session-data-reads
-use Rattle.snoekeldraf.proofs.parts.comet_session_part.Kinds as session-part-kinds
-use Rattle.snoekeldraf.proofs.parts.comet_session_part.Reads as session-part-reads
-use Rattle.snoekeldraf.proofs.parts.comet_session_end.Kinds as session-end-kinds
-use Rattle.snoekeldraf.proofs.parts.comet_session_end.Reads as session-end-reads
-use Rattle.snoekeldraf.proofs.parts.comet_session_wipe.Kinds as session-wipe-kinds
-use Rattle.snoekeldraf.proofs.parts.comet_session_wipe.Reads as session-wipe-reads
+use Rattle.snoekeldraf.proofs.sessions.comet_session_start.Kinds as session-start-kinds
+use Rattle.snoekeldraf.proofs.sessions.comet_session_start.Reads as session-start-reads
+use Rattle.snoekeldraf.proofs.sessions.comet_session_data.Kinds as session-data-kinds
+use Rattle.snoekeldraf.proofs.sessions.comet_session_data.Reads as session-data-reads
+use Rattle.snoekeldraf.proofs.sessions.comet_session_part.Kinds as session-part-kinds
+use Rattle.snoekeldraf.proofs.sessions.comet_session_part.Reads as session-part-reads
+use Rattle.snoekeldraf.proofs.sessions.comet_session_end.Kinds as session-end-kinds
+use Rattle.snoekeldraf.proofs.sessions.comet_session_end.Reads as session-end-reads
+use Rattle.snoekeldraf.proofs.sessions.comet_session_wipe.Kinds as session-wipe-kinds
+use Rattle.snoekeldraf.proofs.sessions.comet_session_wipe.Reads as session-wipe-reads
 use Rattle.snoekeldraf.proofs.file.shift_check.Kinds as check-kinds
 use Rattle.snoekeldraf.proofs.file.shift_check.Reads as check-reads
 use Rattle.snoekeldraf.proofs.file.shift_lookup.Kinds as lookup-kinds
@@ -47,34 +47,40 @@ use Rattle.snoekeldraf.proofs.file.shift_open_job.Kinds as open-job-kin
 use Rattle.snoekeldraf.proofs.file.shift_open_job.Reads as open-job-reads
 use Rattle.snoekeldraf.proofs.file.shift_verified.Kinds as verified-kinds
 use Rattle.snoekeldraf.proofs.file.shift_verified.Reads as verified-reads
-use Rattle.editions.specs.Answers.{FileMoved}
-use Rattle.draft.specs.Answers.{FileWritten}
-use Rattle.snoekeldraf.proofs.drafts.shift_seal_file.Kinds as seal-file-kinds
-use Rattle.snoekeldraf.proofs.drafts.shift_seal_file.Reads as seal-file-reads
-use Rattle.snoekeldraf.proofs.drafts.shift_unseal_file.Kinds as unseal-file-kinds
-use Rattle.snoekeldraf.proofs.drafts.shift_unseal_file.Reads as unseal-file-reads
-use Rattle.snoekeldraf.proofs.moves.shift_moved_length.Kinds as moved-length-kinds
-use Rattle.snoekeldraf.proofs.moves.shift_moved_length.Reads as moved-length-reads
-use Rattle.snoekeldraf.proofs.moves.shift_to_edition2.Kinds as to-edition2-kinds
-use Rattle.snoekeldraf.proofs.moves.shift_to_edition2.Reads as to-edition2-reads
-use Rattle.snoekeldraf.proofs.moves.shift_to_edition1.Kinds as to-edition1-kinds
-use Rattle.snoekeldraf.proofs.moves.shift_to_edition1.Reads as to-edition1-reads
-use Rattle.snoekeldraf.proofs.renewal.shift_reseal.Kinds as reseal-kinds
-use Rattle.snoekeldraf.proofs.renewal.shift_reseal.Reads as reseal-reads
-use Rattle.snoekeldraf.proofs.halving.shift_search.Kinds as search-kinds
-use Rattle.snoekeldraf.proofs.halving.shift_search.Reads as search-reads
-use Rattle.amend.specs.Amending.{AmendedOpening}
+use Rattle.shift_editions.specs.Answers.{FileMoved}
+use Rattle.shift_draft.specs.Answers.{FileWritten}
+use Rattle.snoekeldraf.proofs.writer.shift_seal_file.Kinds as seal-file-kinds
+use Rattle.snoekeldraf.proofs.writer.shift_seal_file.Reads as seal-file-reads
+use Rattle.snoekeldraf.proofs.writer.shift_unseal_file.Kinds as unseal-file-kinds
+use Rattle.snoekeldraf.proofs.writer.shift_unseal_file.Reads as unseal-file-reads
+use Rattle.snoekeldraf.proofs.editions.shift_moved_length.Kinds as moved-length-kinds
+use Rattle.snoekeldraf.proofs.editions.shift_moved_length.Reads as moved-length-reads
+use Rattle.snoekeldraf.proofs.editions.shift_to_edition2.Kinds as to-edition2-kinds
+use Rattle.snoekeldraf.proofs.editions.shift_to_edition2.Reads as to-edition2-reads
+use Rattle.snoekeldraf.proofs.editions.shift_to_edition1.Kinds as to-edition1-kinds
+use Rattle.snoekeldraf.proofs.editions.shift_to_edition1.Reads as to-edition1-reads
+use Rattle.snoekeldraf.proofs.reseal.shift_reseal.Kinds as reseal-kinds
+use Rattle.snoekeldraf.proofs.reseal.shift_reseal.Reads as reseal-reads
+use Rattle.snoekeldraf.proofs.search.shift_search.Kinds as search-kinds
+use Rattle.snoekeldraf.proofs.search.shift_search.Reads as search-reads
+use Rattle.shift_amend.specs.Amending.{AmendedOpening}
 use Rattle.snoekeldraf.specs.Amended.{Placed}
 use Rattle.snoekeldraf.proofs.amending.shift_amended.Kinds as amended-kinds
 use Rattle.snoekeldraf.proofs.amending.shift_amended.Reads as amended-reads
 use Rattle.snoekeldraf.proofs.amending.shift_open_amended.Kinds as open-amended-kinds
 use Rattle.snoekeldraf.proofs.amending.shift_open_amended.Reads as open-amended-reads
-use Rattle.compare.specs.Comparing.{Comparison}
-use Rattle.snoekeldraf.proofs.listing.shift_compare.Kinds as compare-kinds
-use Rattle.snoekeldraf.proofs.listing.shift_compare.Reads as compare-reads
-use Rattle.reader.specs.Reporting.{Report}
+use Rattle.shift_compare.specs.Comparing.{Comparison}
+use Rattle.snoekeldraf.proofs.compare.shift_compare.Kinds as compare-kinds
+use Rattle.snoekeldraf.proofs.compare.shift_compare.Reads as compare-reads
+use Rattle.shift_report.specs.Reporting.{Report}
 use Rattle.snoekeldraf.proofs.reporting.shift_report.Kinds as report-kinds
 use Rattle.snoekeldraf.proofs.reporting.shift_report.Reads as report-reads
+use Rattle.shift_reader.specs.declared.contents.HeaderFields.{HeaderFields}
+use Rattle.snoekeldraf.specs.Fields.{InFields}
+use Rattle.snoekeldraf.proofs.contents.shift_rows.Kinds as rows-kinds
+use Rattle.snoekeldraf.proofs.contents.shift_rows.Reads as rows-reads
+use Rattle.snoekeldraf.proofs.contents.shift_row.Kinds as row-kinds
+use Rattle.snoekeldraf.proofs.contents.shift_row.Reads as row-reads
 
 pub comet-seal : OneOutcome seal-kinds.ps seal-kinds.r seal-reads.Pre seal-reads.Post
 comet-seal κs a h x y =
@@ -217,3 +223,13 @@ pub shift-report : OneOutcome report-kinds.ps report-kinds.r report-reads.Pre re
 shift-report κs a h x y =
     let e = x .ensures ∙ sym (y .ensures) in
     (ap (λ (w : Report). w .said .number) e, ap (λ (w : Report). (tt, (tt, (w .jobs, (w .numbers, (w .said .count, (w .said .row, tt))))))) e)
+
+pub shift-rows : OneOutcome rows-kinds.ps rows-kinds.r rows-reads.Pre rows-reads.Post
+shift-rows κs a h x y =
+    let e = x .ensures ∙ sym (y .ensures) in
+    (ap (λ (w : HeaderFields). w .status) e, ap (λ (w : HeaderFields). (tt, (w .edition, (w .count, tt)))) e)
+
+pub shift-row : OneOutcome row-kinds.ps row-kinds.r row-reads.Pre row-reads.Post
+shift-row κs a h x y =
+    let e = x .ensures ∙ sym (y .ensures) in
+    (ap (λ (w : InFields). w .status) e, ap (λ (w : InFields). (tt, (tt, (w .fields, tt)))) e)

@@ -6,15 +6,15 @@ use mathlib.Core.List.{List}
 use lib.ListN.{length}
 use lib.Dec.{ltb, eqb, lit≤}
 use borrow.Author.Tests.{eqb-true, not-false}
-use Rattle.format.specs.Format.{countOf, firstEdition, newest}
-use Rattle.numbers.specs.Answers.{answer}
-use Rattle.table.specs.Check.{checkFile}
-use Rattle.table.proofs.Passed.{passes}
-use Rattle.reader.specs.declared.answers.Said.{Said}
-use Rattle.reader.specs.Reporting.{jobOf, tagNumber, front, entries, Report, stopped, longest, reporting}
+use Rattle.shift_format.specs.Format.{countOf, firstEdition, newest}
+use Rattle.status.specs.Answers.{answer}
+use Rattle.shift_check.specs.Check.{checkFile}
+use Rattle.shift_check.proofs.Passed.{passes}
+use Rattle.shift_report.specs.declared.answers.ReportSummary.{ReportSummary}
+use Rattle.shift_report.specs.Reporting.{jobOf, tagNumber, front, entries, Report, stopped, longest, reporting}
 use Rattle.snoekeldraf.proofs.Rows.{check-row}
 
-pub record Small (s : Said) : Type 0 where
+pub record Small (s : ReportSummary) : Type 0 where
   pub row : s .row ≤ 512
   pub count : s .count ≤ 512
 
@@ -32,5 +32,5 @@ said-small f ring jobs numbers = on (ltb longest (length f)) (not (eqb (checkFil
     on false false false false p = record { row = lit≤ tt; count = passes firstEdition newest f (eqb-true _ _ (not-false _ p)) .head .few }
 
 -- what is said of a report
-pub small : (s : Said) (r : Report) (f ring jobs numbers : List ℕ) → s ≡ r .said → r ≡ reporting f ring jobs numbers → Small s
+pub small : (s : ReportSummary) (r : Report) (f ring jobs numbers : List ℕ) → s ≡ r .said → r ≡ reporting f ring jobs numbers → Small s
 small s r f ring jobs numbers p q = subst Small (sym (p ∙ ap (λ (w : Report). w .said) q)) (said-small f ring jobs numbers)

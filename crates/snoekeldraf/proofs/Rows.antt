@@ -8,24 +8,24 @@ use mathlib.Core.Logic.{⊎-elim}
 use lib.ListN.{length}
 use lib.Dec.{eqb, ltb}
 use borrow.Author.Tests.{eqb-true}
-use Rattle.numbers.specs.declared.checked.Answer.{Answer}
-use Rattle.table.specs.Search.{firstOf}
-use Rattle.format.specs.Format.{countOf, firstEdition, newest, rowSizeOf, rowOf, stationOf}
-use Rattle.numbers.specs.Answers.{answer}
-use Rattle.table.specs.Check.{bodyStart, endAnswer, rowsFrom, headNumber, andThen, checkBetween, checkAs, checkFile}
-use Rattle.table.proofs.Searches.{first-says}
-use Rattle.table.proofs.Sound.{headed}
-use Rattle.table.proofs.Passed.{passes, both-zero}
-use Rattle.shift.specs.Lookup.{findFrom, lookupJob}
-use Rattle.shift.specs.Opening.{entryOpening, left, rowOpening, jobOpening, entryVerifying}
-use Rattle.shift.specs.Genuine.{withheld, rowVerifying, jobVerifying}
-use Rattle.draft.specs.Files.{draftEdition}
-use Rattle.editions.specs.Files.{moved}
-use Rattle.editions.specs.Answers.{stationsFrom, lengthAnswer, upAnswer, backAnswer, toEdition2, toEdition1}
-use Rattle.draft.specs.Answers.{tagSet, tagRight, setFrom, wrongFrom, lentAnswer, sealAnswer, openAnswer, unsealAnswer, fileSealing, fileUnsealing, rowRetired, retiredFrom}
-use Rattle.reseal.specs.Files.{retabled}
-use Rattle.reseal.specs.Answers.{seenFrom, wrongAgain, wrongAgainFrom, takeAnswer, resealAnswer, fileResealing}
-use Rattle.table.specs.Check.{nonceSeen}
+use Rattle.status.specs.declared.checked.Answer.{Answer}
+use Rattle.shift_check.specs.Search.{firstOf}
+use Rattle.shift_format.specs.Format.{countOf, firstEdition, newest, rowSizeOf, rowOf, stationOf}
+use Rattle.status.specs.Answers.{answer}
+use Rattle.shift_check.specs.Check.{bodyStart, endAnswer, rowsFrom, headNumber, andThen, checkBetween, checkAs, checkFile}
+use Rattle.shift_check.proofs.Searches.{first-says}
+use Rattle.shift_check.proofs.Sound.{headed}
+use Rattle.shift_check.proofs.Passed.{passes, both-zero}
+use Rattle.shift_jobs.specs.Lookup.{findFrom, lookupJob}
+use Rattle.shift_jobs.specs.Opening.{entryOpening, left, rowOpening, jobOpening, entryVerifying}
+use Rattle.shift_jobs.specs.Genuine.{withheld, rowVerifying, jobVerifying}
+use Rattle.shift_draft.specs.Files.{draftEdition}
+use Rattle.shift_editions.specs.Files.{moved}
+use Rattle.shift_editions.specs.Answers.{stationsFrom, lengthAnswer, upAnswer, backAnswer, toEdition2, toEdition1}
+use Rattle.shift_draft.specs.Answers.{tagSet, tagRight, setFrom, wrongFrom, lentAnswer, sealAnswer, openAnswer, unsealAnswer, fileSealing, fileUnsealing, rowRetired, retiredFrom}
+use Rattle.shift_reseal.specs.Files.{retabled}
+use Rattle.shift_reseal.specs.Answers.{seenFrom, wrongAgain, wrongAgainFrom, takeAnswer, resealAnswer, fileResealing}
+use Rattle.shift_check.specs.Check.{nonceSeen}
 
 -- the first of n rows, or what no row gives
 first-row : (hit : ℕ → Bool) (num : ℕ → ℕ) (rest : Answer) (n : ℕ) → rest .row ≤ n → firstOf hit (λ j. answer (num j) j) rest 0 (n - 0) .row ≤ n

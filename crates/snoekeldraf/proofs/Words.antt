@@ -5,12 +5,12 @@ use native.Mathlib.Omega.{arith}
 use mathlib.Core.List.{List, [], _∷_, _++_}
 use lib.ListN.{length, getD, take, drop, replicate}
 use lib.Seq.{take-all}
-use Rattle.words.specs.Bytes.{value, bytes, part}
-use Rattle.words.specs.Blocks.{wide}
-use Rattle.words.specs.declared.block.Block.{Block}
-use Rattle.words.proofs.Bytes.{value-bytes}
-use Rattle.words.proofs.Lists.{part-take}
-use Rattle.words.proofs.Blocks.{first-eight, last-eight}
+use Rattle.block.specs.Bytes.{value, bytes, part}
+use Rattle.block.specs.Blocks.{wide}
+use Rattle.block.specs.declared.Block.{Block}
+use Rattle.block.proofs.Bytes.{value-bytes}
+use Rattle.block.proofs.Lists.{part-take}
+use Rattle.block.proofs.Blocks.{first-eight, last-eight}
 use Rattle.session.specs.declared.Session.{Session}
 use Rattle.session.specs.declared.Step.{Step}
 use Rattle.session.specs.Value.{Given, over, gave}

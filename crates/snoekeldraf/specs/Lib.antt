@@ -1,3 +1,4 @@
 pub mod Words
 pub mod Located
 pub mod Amended
+pub mod Fields

@@ -1,8 +1,8 @@
--- What `shift_associated` gives: the associated data as a place in the file, since C has no parts of a buffer (document 01, "The shift file").
+-- What `shift_associated` returns: the associated data as an offset into the file, since C has no slices (document 01, "The shift file").
 use Prim.Native.Nat.{ℕ}
 use mathlib.Core.List.{List}
-use Rattle.shift.specs.Lookup.{lookupJob}
-use Rattle.shift.specs.Entry.{dataStart, dataLength}
+use Rattle.shift_jobs.specs.Lookup.{lookupJob}
+use Rattle.shift_jobs.specs.Entry.{dataStart, dataLength}
 
 -- the lookup's number, and where the associated data starts and how long it is
 pub record Located : Type 0 where
@@ -10,7 +10,7 @@ pub record Located : Type 0 where
   pub at : ℕ
   pub len : ℕ
 
--- the part that `associated` hands back, the file's first zero bytes where the lookup refuses
+-- the part that `associated` returns, the file's first zero bytes if the lookup refuses
 abbrev pub locating : List ℕ → ℕ → Located
 locating f job = record {
   number = lookupJob f job .number;

@@ -3,7 +3,7 @@ use mathlib.Core.Path.{_≡_}
 use Prim.Native.Nat.{ℕ, _^_, _<_}
 use mathlib.Core.List.{List, [], _∷_, _++_}
 use lib.ListN.{length, getD, take, drop}
-use Rattle.words.specs.Bytes.{value, bytes}
+use Rattle.block.specs.Bytes.{value, bytes}
 use Rattle.session.specs.Value.{Value, Given, gave}
 
 -- the value that nine words stand for

@@ -1,8 +1,8 @@
 // Amendments.
 use crate::file::say;
 ghost use mathlib.Core.Path.{_≡_};
-ghost use Rattle.numbers.specs.Answers.{answer};
-ghost use Rattle.amend.specs.Amending.{AmendedOpening, amendedOpening};
+ghost use Rattle.status.specs.Answers.{answer};
+ghost use Rattle.shift_amend.specs.Amending.{AmendedOpening, amendedOpening};
 ghost use Rattle.snoekeldraf.specs.Amended.{Placed, placing};
 
 // The checks, or 32; then the file that holds the current entry (1 the amendment, 2 the day's), its row, and where in
@@ -20,7 +20,7 @@ pub extern "C" fn shift_amended(
     ensures { λ r. ⌜ _≡_ {A = Placed} (record { number = r; file = now (file .exit); row = now (row .exit); at = now (at .exit); len = now (len .exit) })
         (placing (now (amendment .entry)) (now (day .entry)) job) ⌝ }
 {
-    let x = amend::locate(amendment, day, job);
+    let x = shift_amend::locate(amendment, day, job);
     *file = x.file as u32;
     *row = x.entry.row as u32;
     *at = x.entry.ad_at;
@@ -42,7 +42,7 @@ pub extern "C" fn shift_open_amended(
     ensures { λ r. ⌜ _≡_ {A = AmendedOpening} (record { file = now (file .exit); answer = answer r (now (row .exit)); out = now (out .exit) })
         (amendedOpening (now (amendment .entry)) (now (day .entry)) (now (ring .entry)) job (now (out .entry))) ⌝ }
 {
-    let x = amend::open_current(amendment, day, ring, job, out);
+    let x = shift_amend::open_current(amendment, day, ring, job, out);
     *file = x.file as u32;
     let opened = x.opened;
     say(opened.answer(), row)

@@ -18,9 +18,9 @@ pub extern "C" fn comet_seal_counted(
     ensures { λ r. ⌜ _≡_ {A = Counting Sealed} (record { leaves = record { number = r; out = now (out .exit); tag = now (tag .exit) }; calls = now (calls .exit) })
         (sealingCounted suite (now (key .entry)) (now (nonce .entry)) (now (ad .entry)) (now (msg .entry)) (now (out .entry)) (now (tag .entry))) ⌝ }
 {
-    let a = comet::seal_counted(suite, key, nonce, ad, msg, out, tag);
-    *calls = a.calls;
-    let v = a.verdict;
+    let sealed = comet::seal_counted(suite, key, nonce, ad, msg, out, tag);
+    *calls = sealed.calls;
+    let v = sealed.verdict;
     v.number() as u32
 }
 
@@ -39,8 +39,8 @@ pub extern "C" fn comet_open_counted(
     ensures { λ r. ⌜ _≡_ {A = Counting Opened} (record { leaves = record { number = r; out = now (out .exit) }; calls = now (calls .exit) })
         (openingCounted suite (now (key .entry)) (now (nonce .entry)) (now (ad .entry)) (now (text .entry)) (now (tag .entry)) (now (out .entry))) ⌝ }
 {
-    let a = comet::unseal_counted(suite, key, nonce, ad, text, tag, out);
-    *calls = a.calls;
-    let v = a.verdict;
+    let opened = comet::unseal_counted(suite, key, nonce, ad, text, tag, out);
+    *calls = opened.calls;
+    let v = opened.verdict;
     v.number() as u32
 }

@@ -1,18 +1,18 @@
 // The shift file.
-use numbers::checked::Answer;
+use status::checked::Answer;
 ghost use mathlib.Core.Path.{_≡_};
 ghost use Prim.Native.Nat.{_≤_};
-ghost use Rattle.numbers.specs.Answers.{answer};
-ghost use Rattle.table.specs.Check.{checkFile};
-ghost use Rattle.shift.specs.declared.answers.Entry.{Entry};
-ghost use Rattle.shift.specs.declared.answers.Genuine.{Genuine};
-ghost use Rattle.shift.specs.Lookup.{lookupJob};
-ghost use Rattle.shift.specs.Entry.{entryOf};
-ghost use Rattle.shift.specs.Opening.{JobOpened, jobOpening};
-ghost use Rattle.shift.specs.Genuine.{jobVerifying};
+ghost use Rattle.status.specs.Answers.{answer};
+ghost use Rattle.shift_check.specs.Check.{checkFile};
+ghost use Rattle.shift_jobs.specs.declared.answers.Entry.{Entry};
+ghost use Rattle.shift_jobs.specs.declared.answers.Genuine.{Genuine};
+ghost use Rattle.shift_jobs.specs.Lookup.{lookupJob};
+ghost use Rattle.shift_jobs.specs.Entry.{entryOf};
+ghost use Rattle.shift_jobs.specs.Opening.{JobOpened, jobOpening};
+ghost use Rattle.shift_jobs.specs.Genuine.{jobVerifying};
 ghost use Rattle.snoekeldraf.specs.Located.{Located, locating};
 
-// Writes the row that an answer carries, and gives its number.
+// Writes the row that an answer carries, and returns its number.
 pub(crate) fn say(a: Answer, row: &mut u32) -> u32
     requires { ⌜ a .row ≤ 512 ⌝ }
     ensures { λ r. ⌜ answer r (now (row .exit)) ≡ a ⌝ }
@@ -26,7 +26,7 @@ pub(crate) fn say(a: Answer, row: &mut u32) -> u32
 pub extern "C" fn shift_check(file: &[u8], row: &mut u32) -> u32
     ensures { λ r. ⌜ answer r (now (row .exit)) ≡ checkFile (now (file .entry)) ⌝ }
 {
-    say(table::check(file).answer(), row)
+    say(shift_check::check(file).answer(), row)
 }
 
 // The full check, and then the row that has the job, or 32.
@@ -34,7 +34,7 @@ pub extern "C" fn shift_check(file: &[u8], row: &mut u32) -> u32
 pub extern "C" fn shift_lookup(file: &[u8], job: u32, row: &mut u32) -> u32
     ensures { λ r. ⌜ answer r (now (row .exit)) ≡ lookupJob (now (file .entry)) job ⌝ }
 {
-    say(shift::lookup(file, job).answer(), row)
+    say(shift_jobs::lookup(file, job).answer(), row)
 }
 
 // The lookup's number, and where in the file the job's associated data lies; 0 and 0 where the lookup refuses.
@@ -42,7 +42,7 @@ pub extern "C" fn shift_lookup(file: &[u8], job: u32, row: &mut u32) -> u32
 pub extern "C" fn shift_associated(file: &[u8], job: u32, at: &mut u32, len: &mut u32) -> u32
     ensures { λ r. ⌜ _≡_ {A = Located} (record { number = r; at = now (at .exit); len = now (len .exit) }) (locating (now (file .entry)) job) ⌝ }
 {
-    let e = shift::entry(file, job);
+    let e = shift_jobs::entry(file, job);
     *at = e.ad_at;
     *len = e.ad_len;
     e.number as u32
@@ -69,7 +69,7 @@ pub extern "C" fn shift_entry(
     })
         (entryOf (now (file .entry)) job) ⌝ }
 {
-    let e = shift::entry(file, job);
+    let e = shift_jobs::entry(file, job);
     *row = e.row as u32;
     *ad_at = e.ad_at;
     *ad_len = e.ad_len;
@@ -90,10 +90,10 @@ pub extern "C" fn shift_open_job(
     ensures { λ r. ⌜ _≡_ {A = JobOpened} (record { answer = answer r (now (row .exit)); out = now (out .exit) })
         (jobOpening (now (file .entry)) (now (ring .entry)) job (now (out .entry))) ⌝ }
 {
-    say(shift::open_job(file, ring, job, out).answer(), row)
+    say(shift_jobs::open_job(file, ring, job, out).answer(), row)
 }
 
-// Where the job's associated data lies, once its tag is compared: the full check, 32, then 2, 8; 0 and 0 after every number but 0.
+// The offset of the job's associated data, after its tag was compared: the full check, 32, then 2, 8; 0 and 0 after every number but 0.
 #[no_mangle]
 pub extern "C" fn shift_verified(
     file: &[u8],
@@ -106,7 +106,7 @@ pub extern "C" fn shift_verified(
     ensures { λ r. ⌜ _≡_ {A = Genuine} (record { number = r; row = now (row .exit); «ad_at» = now (at .exit); «ad_len» = now (len .exit) })
         (jobVerifying (now (file .entry)) (now (ring .entry)) job) ⌝ }
 {
-    let g = shift::verified(file, ring, job);
+    let g = shift_jobs::verified(file, ring, job);
     *row = g.row as u32;
     *at = g.ad_at;
     *len = g.ad_len;

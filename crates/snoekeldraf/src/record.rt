@@ -1,8 +1,8 @@
-// The sealer and the opener, from buffer to buffer and in place, and the test of a record.
+// The sealer and the opener, from buffer to buffer and in place, and the verifier.
 ghost use mathlib.Core.Path.{_≡_};
 ghost use Rattle.comet.specs.Answers.{Sealed, sealing, Opened, opening, verifying};
 
-// Seals msg into out, and its tag into tag.
+// Seals msg into out and writes its tag to tag.
 #[no_mangle]
 pub extern "C" fn comet_seal(
     suite: u8,
@@ -20,7 +20,7 @@ pub extern "C" fn comet_seal(
     a.number() as u32
 }
 
-// Opens text into out, if its tag is right; else every byte of out is 0.
+// Opens text into out if its tag is right; else every byte of out is 0.
 #[no_mangle]
 pub extern "C" fn comet_open(
     suite: u8,
@@ -38,7 +38,7 @@ pub extern "C" fn comet_open(
     a.number() as u32
 }
 
-// Seals text in its place, and its tag into tag.
+// Seals text in place and writes its tag to tag.
 #[no_mangle]
 pub extern "C" fn comet_seal_in_place(
     suite: u8,
@@ -55,7 +55,7 @@ pub extern "C" fn comet_seal_in_place(
     a.number() as u32
 }
 
-// Opens text in its place, if its tag is right; else every byte of it is 0.
+// Opens text in place if its tag is right; else every byte of it is 0.
 #[no_mangle]
 pub extern "C" fn comet_open_in_place(
     suite: u8,
@@ -72,7 +72,7 @@ pub extern "C" fn comet_open_in_place(
     a.number() as u32
 }
 
-// Whether a record is genuine: the opener's number, and no text is written anywhere.
+// Whether a record is genuine: the opener's status, without writing a text anywhere.
 #[no_mangle]
 pub extern "C" fn comet_verify(
     suite: u8,

@@ -1,6 +1,6 @@
 // The report on a supplier's file.
 ghost use mathlib.Core.Path.{_≡_};
-ghost use Rattle.reader.specs.Reporting.{Report, reporting};
+ghost use Rattle.shift_report.specs.Reporting.{Report, reporting};
 
 // A file over 65,280 bytes is 20; the file's checks; 2; 6 where a list has fewer places than there are entries; else the jobs, and
 // 0 or 8 for each.
@@ -16,7 +16,7 @@ pub extern "C" fn shift_report(
     ensures { λ r. ⌜ _≡_ {A = Report} (record { said = record { number = r; row = now (row .exit); count = now (count .exit) }; jobs = now (jobs .exit); numbers = now (numbers .exit) })
         (reporting (now (file .entry)) (now (ring .entry)) (now (jobs .entry)) (now (numbers .entry))) ⌝ }
 {
-    let s = reader::report(file, ring, jobs, numbers).said();
+    let s = shift_report::report(file, ring, jobs, numbers).said();
     *count = s.count as u32;
     *row = s.row as u32;
     s.number as u32

@@ -4,13 +4,13 @@ use mathlib.Core.List.{List, _++_}
 use Prim.Native.Nat.{ℕ, zero, suc, _^_, _≤_, _<_}
 use native.Mathlib.Omega.{arith}
 use lib.ListN.{length, length-append}
-use Rattle.words.specs.Words.{rotl, rotr, add, xor}
-use Rattle.words.specs.Bytes.{AllBytes, bytes}
-use Rattle.words.proofs.Xor.{below, cancel-r}
-use Rattle.words.proofs.Rotate.{rotl-lt, rotl-inj}
-use Rattle.words.proofs.Add.{add-lt, add-cancel-r}
-use Rattle.words.proofs.Lists.{all-append, two-takes, append-inj}
-use Rattle.words.proofs.Bytes.{length-bytes, all-bytes, bytes-inj, word-lt, unpack}
+use Rattle.block.specs.Words.{rotl, rotr, add, xor}
+use Rattle.block.specs.Bytes.{AllBytes, bytes}
+use Rattle.block.proofs.XorLaws.{below, cancel-r}
+use Rattle.block.proofs.Rotate.{rotl-lt, rotl-inj}
+use Rattle.block.proofs.Add.{add-lt, add-cancel-r}
+use Rattle.block.proofs.Lists.{all-append, two-takes, append-inj}
+use Rattle.block.proofs.Bytes.{length-bytes, all-bytes, bytes-inj, word-lt, unpack}
 use Rattle.speck.specs.Speck.{State, upper, lower, round, start, schedule, rounds, stateOf, bytesOf, speck}
 use Rattle.speck.proofs.Parts.{same-state}
 

@@ -1,6 +1,6 @@
 -- `speck::encrypt` leaves one outcome: its contract gives the result.
 use mathlib.Core.Path.{refl, sym, _∙_}
-use Rattle.words.specs.Outcome.{OneOutcome}
+use Rattle.block.specs.Outcome.{OneOutcome}
 use Rattle.speck.proofs.encrypt.Kinds as encrypt-kinds
 use Rattle.speck.proofs.encrypt.Reads as encrypt-reads
 

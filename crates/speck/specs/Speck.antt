@@ -1,15 +1,15 @@
 -- Speck-64/128 of the Speck paper, in the words of document 01, "The four ciphers": words of 32 bits, 27 rounds.
 use mathlib.Core.List.{List, _++_}
 use Prim.Native.Nat.{ℕ, zero, suc}
-use Rattle.words.specs.Words.{rotl, rotr, add, xor}
-use Rattle.words.specs.Bytes.{bytes, word}
+use Rattle.block.specs.Words.{rotl, rotr, add, xor}
+use Rattle.block.specs.Bytes.{bytes, word}
 
 -- the state (X1, X0)
 pub record State : Type 0 where
   pub x1 : ℕ
   pub x0 : ℕ
 
--- what the key schedule holds at round i: R(i), L(i), L(i + 1), L(i + 2)
+-- the state of the key schedule at round i: R(i), L(i), L(i + 1), L(i + 2)
 pub record Schedule : Type 0 where
   pub r : ℕ
   pub l0 : ℕ
@@ -40,7 +40,7 @@ nextL r l i = xor (add 32 r (rotr 32 8 l)) i
 abbrev pub nextR : ℕ → ℕ → ℕ → ℕ
 nextR r l i = xor (rotl 32 3 r) (nextL r l i)
 
--- the schedule one round on
+-- the next state of the schedule
 abbrev pub next : Schedule → ℕ → Schedule
 next k i = record { r = nextR (k .r) (k .l0) i; l0 = k .l1; l1 = k .l2; l2 = nextL (k .r) (k .l0) i }
 
@@ -62,6 +62,6 @@ stateOf block = record { x1 = word 4 block 4; x0 = word 4 block 0 }
 abbrev pub bytesOf : State → List ℕ
 bytesOf x = bytes 4 (x .x0) ++ bytes 4 (x .x1)
 
--- the image of a block of 8 bytes under a key of 16
+-- the encryption of a block of 8 bytes under a key of 16
 unfoldable pub speck : List ℕ → List ℕ → List ℕ
 speck key block = bytesOf (rounds (start key) (stateOf block) 27)

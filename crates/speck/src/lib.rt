@@ -1,6 +1,6 @@
-// Speck-64/128: a round and the step of the key schedule are the same work on two words.
+// Speck-64/128: a round and a step of the key schedule are the same function of two words.
 ghost use mathlib.Core.Path.{_≡_};
-ghost use Rattle.words.specs.Bytes.{word};
+ghost use Rattle.block.specs.Bytes.{word};
 ghost use Rattle.speck.specs.Speck.{upper, lower, nextL, nextR, speck};
 
 // The state (X1, X0).
@@ -20,10 +20,10 @@ struct Keys {
 fn round(x: Pair, r: u32) -> Pair
     ensures { λ q. ⌜ (q .x1 ≡ upper (x .x1) (x .x0) r) × (q .x0 ≡ lower (x .x1) (x .x0) r) ⌝ }
 {
-    let s = arx::add32(arx::rotl32(x.x1, 24), x.x0) ^ r;
+    let s = word::add32(word::rotl32(x.x1, 24), x.x0) ^ r;
     Pair {
         x1: s,
-        x0: arx::rotl32(x.x0, 3) ^ s,
+        x0: word::rotl32(x.x0, 3) ^ s,
     }
 }
 
@@ -43,10 +43,10 @@ fn keys_of(key: [u8; 16]) -> Keys
     ensures { λ q. ⌜ (q .r ≡ word 4 key 0) × (q .l0 ≡ word 4 key 4) × (q .l1 ≡ word 4 key 8) × (q .l2 ≡ word 4 key 12) ⌝ }
 {
     Keys {
-        r: arx::le32(key[0], key[1], key[2], key[3]),
-        l0: arx::le32(key[4], key[5], key[6], key[7]),
-        l1: arx::le32(key[8], key[9], key[10], key[11]),
-        l2: arx::le32(key[12], key[13], key[14], key[15]),
+        r: word::le32(key[0], key[1], key[2], key[3]),
+        l0: word::le32(key[4], key[5], key[6], key[7]),
+        l1: word::le32(key[8], key[9], key[10], key[11]),
+        l2: word::le32(key[12], key[13], key[14], key[15]),
     }
 }
 
@@ -54,12 +54,12 @@ fn pair_of(block: [u8; 8]) -> Pair
     ensures { λ q. ⌜ (q .x1 ≡ word 4 block 4) × (q .x0 ≡ word 4 block 0) ⌝ }
 {
     Pair {
-        x1: arx::le32(block[4], block[5], block[6], block[7]),
-        x0: arx::le32(block[0], block[1], block[2], block[3]),
+        x1: word::le32(block[4], block[5], block[6], block[7]),
+        x0: word::le32(block[0], block[1], block[2], block[3]),
     }
 }
 
-// The image of the block under the key. The next key stands before the round, which does not wait for it: the compiler keeps the order, and the block takes a twentieth less time.
+// The encryption of the block under the key. The next round key is computed before the round, which does not depend on it: the compiler keeps this order, and a block takes a twentieth less time.
 pub fn encrypt(key: [u8; 16], block: [u8; 8]) -> [u8; 8]
     ensures { λ r. ⌜ r ≡ speck key block ⌝ }
 {
@@ -72,5 +72,5 @@ pub fn encrypt(key: [u8; 16], block: [u8; 8]) -> [u8; 8]
         x = round(x, r);
         i += 1;
     }
-    arx::store2_32(x.x0, x.x1)
+    word::store2_32(x.x0, x.x1)
 }

@@ -1,4 +1,4 @@
-// Prints the image of each block on its input in hexadecimal, one to a line: under suite 1 by both engines of AES.
+// Prints the encryption of each input block in hexadecimal, one to a line; suite 1 by both AES engines.
 // A record is a suite (1 byte), a key (16) and a block (16 bytes for suites 1 and 2, 8 for 3 and 4).
 use libc::STDIN_FILENO;
 
@@ -16,16 +16,16 @@ fn read16() -> [u8; 16] {
 
 fn print_line(b: &[u8]) {
     let mut out = [0u8; 33];
-    let n = lines::text::hex(&mut out, 0, b);
-    let n = lines::text::end(&mut out, n);
-    lines::text::write(&out, n);
+    let n = program_text::text::hex(&mut out, 0, b);
+    let n = program_text::text::end(&mut out, n);
+    program_text::text::write(&out, n);
 }
 
 fn answer(suite: u8, key: [u8; 16]) {
     if suite == 1 {
         let block = read16();
-        print_line(&aes::encrypt(key, block));
-        print_line(&columns::encrypt(key, block));
+        print_line(&aes_plain::encrypt(key, block));
+        print_line(&aes_tables::encrypt(key, block));
     }
     if suite == 2 {
         print_line(&cham128::encrypt(key, read16()));
@@ -49,7 +49,7 @@ fn record() -> bool {
     true
 }
 
-// Nothing says that an input ends, so the records are counted down from a number that no input reaches.
+// The end of an input is not provable, so the loop counts down from a number that no input reaches.
 fn main() {
     let mut left = u64::MAX;
     while left > 0 && record() {

@@ -3,15 +3,15 @@
 // A call's numbers are the lengths of key, nonce, associated data, text, output and tag; the bytes of key, nonce,
 // associated data and text follow and, to open or verify, those of the tag. Op 0 seals and 1 opens; 2 and 3 are the same,
 // counted; 4 seals and 5 opens in place, and 6 verifies, without an output. A line is the number, for 2 and 3 the count of
-// the cipher calls, the output (for 4 and 5 the text) and, to seal, the tag; for 6 the number alone. What is lent for
+// the cipher calls, the output (for 4 and 5 the text) and, to seal, the tag; for 6 the number alone. What borrows for
 // writing alone holds 0xa5 before the call.
 use comet::Counted;
 use libc::STDIN_FILENO;
-use lines::call::Call;
-use lines::text::and_number;
-use lines::text::and_shown;
-use lines::text::end;
-use lines::text::number;
+use program_text::call::Call;
+use program_text::text::and_number;
+use program_text::text::and_shown;
+use program_text::text::end;
+use program_text::text::number;
 
 // Number and count.
 fn counted(a: Counted, line: &mut [u8]) -> usize {
@@ -93,7 +93,7 @@ fn unseal(
     end(line, at)
 }
 
-// Runs a call on what was read; no line where a lent buffer has no room or the tag ends early.
+// Runs a call on what was read; no line if a buffer is too small or the tag ends early.
 fn answer(c: Call, key: &[u8], nonce: &[u8], ad: &[u8], text: &[u8], line: &mut [u8]) -> usize {
     let mut out = [0xa5u8; 65540];
     let mut tag = [0xa5u8; 40];
@@ -126,7 +126,7 @@ fn answer(c: Call, key: &[u8], nonce: &[u8], ad: &[u8], text: &[u8], line: &mut 
     )
 }
 
-// Reads the text and seals it in its place.
+// Reads the text and seals it in place.
 fn seal_in_place(
     c: Call,
     key: &[u8],
@@ -146,7 +146,7 @@ fn seal_in_place(
     end(line, at)
 }
 
-// Opens text in its place, or verifies it.
+// Opens text in place, or verifies it.
 fn unsealed_in_place(
     c: Call,
     key: &[u8],
@@ -185,7 +185,7 @@ fn unseal_in_place(
     unsealed_in_place(c, key, nonce, ad, text, tag, line)
 }
 
-// Runs a call on a text where it lies; no line where text or tag have no room or end early.
+// Runs a call in place; no line if text or tag do not fit or end early.
 fn in_place(c: Call, key: &[u8], nonce: &[u8], ad: &[u8], line: &mut [u8]) -> usize {
     let mut text = [0u8; 65537];
     let mut tag = [0xa5u8; 40];
@@ -206,16 +206,16 @@ fn run(c: Call, line: &mut [u8]) -> usize {
     let mut v = [0u8; 40];
     let mut a = [0u8; 65537];
     let mut t = [0u8; 65537];
-    let key = lines::read::field(&mut k, c.first);
-    let nonce = lines::read::field(&mut v, c.second);
-    let ad = lines::read::field(&mut a, c.third);
+    let key = program_text::read::field(&mut k, c.first);
+    let nonce = program_text::read::field(&mut v, c.second);
+    let ad = program_text::read::field(&mut a, c.third);
     if key.len() != c.first || nonce.len() != c.second || ad.len() != c.third {
         return 0;
     }
     if 3 < c.op {
         return in_place(c, key, nonce, ad, line);
     }
-    let text = lines::read::field(&mut t, c.fourth);
+    let text = program_text::read::field(&mut t, c.fourth);
     if text.len() != c.fourth {
         return 0;
     }
@@ -226,14 +226,14 @@ fn run(c: Call, line: &mut [u8]) -> usize {
 fn turn() -> bool {
     let mut head = [0u8; 30];
     let mut line = [0u8; 512];
-    if !lines::call::next(&mut head) {
+    if !program_text::call::next(&mut head) {
         return false;
     }
-    let n = run(lines::call::call_of(&head), &mut line);
-    lines::call::done(&line, n)
+    let n = run(program_text::call::call_of(&head), &mut line);
+    program_text::call::done(&line, n)
 }
 
-// Nothing says that an input ends, so the calls are counted down from a number that no input reaches.
+// The end of an input is not provable, so the loop counts down from a number that no input reaches.
 fn main() {
     let mut left = u64::MAX;
     while left > 0 && turn() {

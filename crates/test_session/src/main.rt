@@ -3,13 +3,13 @@
 // Op 0 starts (lengths of key and nonce; both follow), 1 brings associated data (its length; it follows), 2 a part of the
 // message (its length and the output's; it follows), 3 ends (0, lengths of output and tag). Op 4 is no call: the session
 // gets this suite and, in the place of the second and third number, these totals, and no line is written. A line is the
-// number, the count and, where the call has them, output and tag. The lent buffers hold 0xa5 before the call.
-use lines::call::Call;
-use lines::text::and_shown;
-use lines::text::answer;
-use lines::text::end;
+// number, the count and, where the call has them, output and tag. The borrowed buffers hold 0xa5 before the call.
+use block::Block;
+use program_text::call::Call;
+use program_text::text::and_shown;
+use program_text::text::answer;
+use program_text::text::end;
 use session::Session;
-use words::block::Block;
 
 // The session that stands, and whether the input goes on.
 struct After {
@@ -41,7 +41,7 @@ fn bad() -> After {
 // Ends the line of a call, and writes it.
 fn done(next: Session, line: &mut [u8], at: usize) -> After {
     let n = end(line, at);
-    let good = lines::call::done(line, n);
+    let good = program_text::call::done(line, n);
     After {
         next: next,
         good: good,
@@ -51,8 +51,8 @@ fn done(next: Session, line: &mut [u8], at: usize) -> After {
 fn start(c: Call, line: &mut [u8]) -> After {
     let mut k = [0u8; 40];
     let mut v = [0u8; 40];
-    let key = lines::read::field(&mut k, c.first);
-    let nonce = lines::read::field(&mut v, c.second);
+    let key = program_text::read::field(&mut k, c.first);
+    let nonce = program_text::read::field(&mut v, c.second);
     if key.len() != c.first || nonce.len() != c.second {
         return bad();
     }
@@ -64,7 +64,7 @@ fn start(c: Call, line: &mut [u8]) -> After {
 
 fn associated(s: Session, c: Call, line: &mut [u8]) -> After {
     let mut a = [0u8; 65537];
-    let ad = lines::read::field(&mut a, c.first);
+    let ad = program_text::read::field(&mut a, c.first);
     if ad.len() != c.first {
         return bad();
     }
@@ -87,7 +87,7 @@ fn message(s: Session, c: Call, line: &mut [u8]) -> After {
     let mut t = [0u8; 65537];
     let mut out = [0xa5u8; 65600];
     let o = c.second;
-    let msg = lines::read::field(&mut t, c.first);
+    let msg = program_text::read::field(&mut t, c.first);
     if msg.len() != c.first {
         return bad();
     }
@@ -156,13 +156,13 @@ fn put(s: Session, c: Call, line: &mut [u8]) -> After {
 fn turn(s: Session) -> After {
     let mut head = [0u8; 30];
     let mut line = [0u8; 512];
-    if !lines::call::next(&mut head) {
+    if !program_text::call::next(&mut head) {
         return bad();
     }
-    put(s, lines::call::call_of(&head), &mut line)
+    put(s, program_text::call::call_of(&head), &mut line)
 }
 
-// Nothing says that an input ends, so the calls are counted down from a number that no input reaches.
+// The end of an input is not provable, so the loop counts down from a number that no input reaches.
 fn main() {
     let mut s = over();
     let mut left = u64::MAX;

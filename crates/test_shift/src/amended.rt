@@ -1,12 +1,12 @@
 // The current entry of a job. Numbers: the lengths of amendment, day's file, ring and output; the three files follow.
 //
-// A line: number, file and row; place, length and bytes of the associated data that is handed back; number, file and row of
+// A line: number, file and row; offset, length and bytes of the associated data that is returned; number, file and row of
 // opening the current entry, and its output.
-use lines::call::Call;
-use lines::text::and_number;
-use lines::text::and_shown;
-use lines::text::end;
-use lines::text::number;
+use program_text::call::Call;
+use program_text::text::and_number;
+use program_text::text::and_shown;
+use program_text::text::end;
+use program_text::text::number;
 
 // Number, file and row.
 fn answer(line: &mut [u8], at: usize, answer: u8, file: u8, row: usize) -> usize {
@@ -17,13 +17,13 @@ fn answer(line: &mut [u8], at: usize, answer: u8, file: u8, row: usize) -> usize
 
 // The call beside; place, length and bytes of the part.
 fn located<'a>(amendment: &'a [u8], day: &'a [u8], job: u32, line: &mut [u8]) -> usize {
-    let x = amend::locate(amendment, day, job);
-    let part = amend::current(amendment, day, job);
+    let x = shift_amend::locate(amendment, day, job);
+    let part = shift_amend::current(amendment, day, job);
     let at = answer(line, 0, x.entry.number, x.file, x.entry.row);
     let at = and_number(line, at, x.entry.ad_at as u64);
     let at = and_number(line, at, part.len() as u64);
     let at = and_shown(line, at, part);
-    lines::text::space(line, at)
+    program_text::text::space(line, at)
 }
 
 fn opening(
@@ -35,7 +35,7 @@ fn opening(
     line: &mut [u8],
     at: usize,
 ) -> usize {
-    let x = amend::open_current(amendment, day, ring, job, out);
+    let x = shift_amend::open_current(amendment, day, ring, job, out);
     let o = x.opened;
     let a = o.answer();
     let at = answer(line, at, a.number, x.file, a.row);
@@ -49,7 +49,7 @@ fn one<'a>(amendment: &'a [u8], day: &'a [u8], c: Call, line: &mut [u8]) -> usiz
     let mut out = [0xa5u8; 65540];
     let n = c.third;
     let o = c.fourth;
-    let ring = lines::read::field(&mut r, n);
+    let ring = program_text::read::field(&mut r, n);
     if ring.len() != n {
         return 0;
     }
@@ -66,11 +66,11 @@ pub(crate) fn run(c: Call, line: &mut [u8]) -> usize {
     let mut g = [0u8; 65540];
     let n = c.first;
     let m = c.second;
-    let amendment = lines::read::field(&mut f, n);
+    let amendment = program_text::read::field(&mut f, n);
     if amendment.len() != n {
         return 0;
     }
-    let day = lines::read::field(&mut g, m);
+    let day = program_text::read::field(&mut g, m);
     if day.len() != m {
         return 0;
     }

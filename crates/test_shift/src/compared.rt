@@ -1,12 +1,12 @@
 // The comparison of two files. Numbers: the lengths of the files and how many places the three lists have; the files follow.
 //
 // A line: number, file, row, the three counts, and every place of the three lists.
-use compare::Finding;
-use lines::call::Call;
-use lines::text::and_list;
-use lines::text::and_number;
-use lines::text::end;
-use lines::text::number;
+use program_text::call::Call;
+use program_text::text::and_list;
+use program_text::text::and_number;
+use program_text::text::end;
+use program_text::text::number;
+use shift_compare::Finding;
 
 fn found(t: Finding, line: &mut [u8]) -> usize {
     let at = number(line, 0, t.number as u64);
@@ -25,7 +25,7 @@ fn one(
     differ: &mut [u32],
     line: &mut [u8],
 ) -> usize {
-    let t = compare::compare(first, second, only_first, only_second, differ).finding();
+    let t = shift_compare::compare(first, second, only_first, only_second, differ).finding();
     let at = found(t, line);
     let at = and_list(line, at, only_first);
     let at = and_list(line, at, only_second);
@@ -60,11 +60,11 @@ pub(crate) fn run(c: Call, line: &mut [u8]) -> usize {
     let mut b = [0u8; 65540];
     let n = c.first;
     let m = c.second;
-    let first = lines::read::field(&mut a, n);
+    let first = program_text::read::field(&mut a, n);
     if first.len() != n {
         return 0;
     }
-    let second = lines::read::field(&mut b, m);
+    let second = program_text::read::field(&mut b, m);
     if second.len() != m {
         return 0;
     }

@@ -1,15 +1,17 @@
 // Runs the calls that read shift files, and writes the lines of each.
 //
-// The call's op says which: 0 and 1 `opening`, 2 `halving`, 3 `amended`, 4 `compared`, 5 `report`, 6 to 9 `printing`. What a call's
-// numbers are, what follows them and what its lines say stands in the module of that name. Lent buffers hold 0xa5 before the call.
+// The call's op says which: 0 and 1 `opening`, 2 `binary search`, 3 `amended`, 4 `compared`, 5 `report`, 6 to 9 `printing`, 10
+// `contents`. What a call's numbers are, what follows them and what its lines say stands in the module of that name. Lent
+// buffers hold 0xa5 before the call.
 mod amended;
 mod compared;
-mod halving;
+mod contents;
 mod opening;
 mod printing;
 mod report;
+mod search;
 
-use lines::call::Call;
+use program_text::call::Call;
 
 // No line where a buffer has no room, the input ends, or there is no such op.
 fn run(c: Call, line: &mut [u8]) -> usize {
@@ -17,7 +19,7 @@ fn run(c: Call, line: &mut [u8]) -> usize {
     match op {
         0 => opening::run(c, line),
         1 => opening::run(c, line),
-        2 => halving::run(c, line),
+        2 => search::run(c, line),
         3 => amended::run(c, line),
         4 => compared::run(c, line),
         5 => report::run(c, line),
@@ -25,6 +27,7 @@ fn run(c: Call, line: &mut [u8]) -> usize {
         7 => printing::run_current(c, line),
         8 => printing::run(c, line),
         9 => printing::run(c, line),
+        10 => contents::run(c, line),
         _ => 0,
     }
 }
@@ -32,15 +35,15 @@ fn run(c: Call, line: &mut [u8]) -> usize {
 // Reads a call and runs it; false at the end of the input.
 fn turn() -> bool {
     let mut head = [0u8; 30];
-    let mut line = printed::page();
-    if !lines::call::next(&mut head) {
+    let mut line = program_reports::page();
+    if !program_text::call::next(&mut head) {
         return false;
     }
-    let n = run(lines::call::call_of(&head), &mut line);
-    lines::call::done(&line, n)
+    let n = run(program_text::call::call_of(&head), &mut line);
+    program_text::call::done(&line, n)
 }
 
-// Nothing says that an input ends, so the calls are counted down from a number that no input reaches.
+// The end of an input is not provable, so the loop counts down from a number that no input reaches.
 fn main() {
     let mut left = u64::MAX;
     while left > 0 && turn() {

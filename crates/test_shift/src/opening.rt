@@ -4,13 +4,13 @@
 // row of the opening, and its output. Op 1: a line for each byte of the file, the fold of the answers to its 255 damages,
 // outputs too.
 use libc::STDIN_FILENO;
-use lines::call::Call;
-use lines::text::and_number;
-use lines::text::and_shown;
-use lines::text::answer;
-use lines::text::end;
-use lines::text::space;
-use numbers::checked::Answer;
+use program_text::call::Call;
+use program_text::text::and_number;
+use program_text::text::and_shown;
+use program_text::text::answer;
+use program_text::text::end;
+use program_text::text::space;
+use status::checked::Answer;
 ghost use Prim.Native.Nat.{_≤_, _<_};
 ghost use lib.ListN.{length};
 
@@ -22,15 +22,15 @@ fn and_answer(line: &mut [u8], at: usize, a: Answer) -> usize {
 
 // Number and row of the check and of the lookup.
 fn found(file: &[u8], job: u32, line: &mut [u8]) -> usize {
-    let a = table::check(file).answer();
+    let a = shift_check::check(file).answer();
     let at = answer(line, 0, a.number, a.row);
-    and_answer(line, at, shift::lookup(file, job).answer())
+    and_answer(line, at, shift_jobs::lookup(file, job).answer())
 }
 
 // Place, length and bytes of the associated data.
 fn place(file: &[u8], job: u32, line: &mut [u8], at: usize) -> usize {
-    let entry = shift::entry(file, job);
-    let ad = shift::associated(file, job);
+    let entry = shift_jobs::entry(file, job);
+    let ad = shift_jobs::associated(file, job);
     let at = and_number(line, at, entry.ad_at as u64);
     let at = and_number(line, at, ad.len() as u64);
     and_shown(line, at, ad)
@@ -44,7 +44,11 @@ fn opening(
     line: &mut [u8],
     at: usize,
 ) -> usize {
-    let at = and_answer(line, at, shift::open_job(file, ring, job, out).answer());
+    let at = and_answer(
+        line,
+        at,
+        shift_jobs::open_job(file, ring, job, out).answer(),
+    );
     let at = and_shown(line, at, out);
     end(line, at)
 }
@@ -71,8 +75,8 @@ fn opened_into(s: u64, file: &[u8], ring: &[u8], job: u32, out: &mut [u8]) -> u6
     requires { ⌜ s < 4294967291 ⌝ }
     ensures { λ r. ⌜ r < 4294967291 ⌝ }
 {
-    let a = shift::open_job(file, ring, job, out).answer();
-    lines::fold::fold_from(lines::fold::folded(s, a.number), out)
+    let a = shift_jobs::open_job(file, ring, job, out).answer();
+    program_text::fold::fold_from(program_text::fold::folded(s, a.number), out)
 }
 
 // The same with a fresh output of o bytes.
@@ -89,12 +93,12 @@ fn answers(s: u64, file: &[u8], ring: &[u8], job: u32, o: usize) -> u64
     requires { ⌜ (s < 4294967291) × (o ≤ 300) ⌝ }
     ensures { λ r. ⌜ r < 4294967291 ⌝ }
 {
-    let a = table::check(file).answer();
-    let b = shift::lookup(file, job).answer();
-    let s1 = lines::fold::folded(s, a.number);
-    let s2 = lines::fold::folded(s1, low(a.row));
-    let s3 = lines::fold::folded(s2, b.number);
-    let s4 = lines::fold::folded(s3, low(b.row));
+    let a = shift_check::check(file).answer();
+    let b = shift_jobs::lookup(file, job).answer();
+    let s1 = program_text::fold::folded(s, a.number);
+    let s2 = program_text::fold::folded(s1, low(a.row));
+    let s3 = program_text::fold::folded(s2, b.number);
+    let s4 = program_text::fold::folded(s3, low(b.row));
     opened(s4, file, ring, job, o)
 }
 
@@ -116,7 +120,7 @@ fn damages(file: &mut [u8], p: usize, ring: &[u8], job: u32, o: usize) -> u64
 
 // A fold on a line of its own.
 fn fold_line(line: &mut [u8], at: usize, s: u64) -> usize {
-    let to = lines::text::hex_number(line, at, s, 8);
+    let to = program_text::text::hex_number(line, at, s, 8);
     end(line, to)
 }
 
@@ -138,7 +142,7 @@ fn damage(file: &mut [u8], ring: &[u8], job: u32, o: usize, line: &mut [u8]) -> 
 fn run_on(file: &mut [u8], c: Call, line: &mut [u8]) -> usize {
     let mut r = [0u8; 300];
     let n = c.second;
-    let ring = lines::read::field(&mut r, n);
+    let ring = program_text::read::field(&mut r, n);
     if ring.len() != n {
         return 0;
     }
@@ -161,6 +165,6 @@ fn run_in(f: &mut [u8], c: Call, line: &mut [u8]) -> usize {
 }
 
 pub(crate) fn run(c: Call, line: &mut [u8]) -> usize {
-    let mut f = lines::read::file_room();
+    let mut f = program_text::read::file_room();
     run_in(&mut f, c, line)
 }

@@ -2,8 +2,8 @@
 //
 // Op 6: `job`, of file and ring. Op 7: `current`, of amendment, day's file and ring. Op 8: `differ`, of the first file and the
 // second. Op 9: `inspect`, of file and ring.
-use lines::call::Call;
-use lines::read::field;
+use program_text::call::Call;
+use program_text::read::field;
 
 // Ops 6, 8 and 9, once the first file is read.
 fn two_on(first: &[u8], c: Call, line: &mut [u8]) -> usize {
@@ -15,9 +15,9 @@ fn two_on(first: &[u8], c: Call, line: &mut [u8]) -> usize {
         return 0;
     }
     match op {
-        6 => printed::job(first, second, c.job, line),
-        8 => printed::differ(first, second, line),
-        _ => printed::inspect(first, second, line),
+        6 => program_reports::job(first, second, c.job, line),
+        8 => program_reports::differ(first, second, line),
+        _ => program_reports::inspect(first, second, line),
     }
 }
 
@@ -31,7 +31,7 @@ fn two_in(f: &mut [u8], c: Call, line: &mut [u8]) -> usize {
 }
 
 pub(crate) fn run(c: Call, line: &mut [u8]) -> usize {
-    let mut f = lines::read::file_room();
+    let mut f = program_text::read::file_room();
     two_in(&mut f, c, line)
 }
 
@@ -43,7 +43,7 @@ fn current<'a>(amendment: &'a [u8], day: &'a [u8], c: Call, line: &mut [u8]) -> 
     if ring.len() != n {
         return 0;
     }
-    printed::current(amendment, day, ring, c.job, line)
+    program_reports::current(amendment, day, ring, c.job, line)
 }
 
 pub(crate) fn run_current(c: Call, line: &mut [u8]) -> usize {

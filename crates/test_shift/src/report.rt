@@ -1,22 +1,22 @@
 // The report on a file, and the reader. Numbers: the lengths of file and ring, how many places the list of jobs and the list
-// of numbers have, and how often the reader is asked; the file and the ring follow.
+// of numbers have, and how often the reader is checked; the file and the ring follow.
 //
 // Two lines: number, row and count of the report, every place of the list of jobs, and the list of numbers as bytes; and
 // "reader" and, for each ask, row, job and station of the entry and where its nonce starts, or "-" where it has ended.
-use lines::call::Call;
-use lines::text::and_list;
-use lines::text::and_number;
-use lines::text::and_shown;
-use lines::text::answer;
-use lines::text::end;
-use lines::text::put;
-use reader::answers::Said;
-use reader::cursor::Given;
-use reader::cursor::Listed;
-use reader::cursor::start;
-use reader::step_at;
+use program_text::call::Call;
+use program_text::text::and_list;
+use program_text::text::and_number;
+use program_text::text::and_shown;
+use program_text::text::answer;
+use program_text::text::end;
+use program_text::text::put;
+use shift_reader::cursor::Listed;
+use shift_reader::cursor::NextRow;
+use shift_reader::cursor::start;
+use shift_reader::step_at;
+use shift_report::answers::ReportSummary;
 
-fn said(s: Said, line: &mut [u8]) -> usize {
+fn said(s: ReportSummary, line: &mut [u8]) -> usize {
     let at = answer(line, 0, s.number, s.row);
     and_number(line, at, s.count as u64)
 }
@@ -28,7 +28,7 @@ fn report(
     numbers: &mut [u8],
     line: &mut [u8],
 ) -> usize {
-    let s = reader::report(file, ring, jobs, numbers).said();
+    let s = shift_report::report(file, ring, jobs, numbers).said();
     let at = said(s, line);
     let at = and_list(line, at, jobs);
     let at = and_shown(line, at, numbers);
@@ -42,14 +42,14 @@ fn row(x: Listed, line: &mut [u8], at: usize) -> usize {
     and_number(line, at, x.nonce as u64)
 }
 
-fn entry(e: Given, line: &mut [u8], at: usize) -> usize {
+fn entry(e: NextRow, line: &mut [u8], at: usize) -> usize {
     match e {
-        Given::Row(x) => row(x, line, at),
-        Given::Ended => put(line, at, b" -"),
+        NextRow::Row(x) => row(x, line, at),
+        NextRow::Ended => put(line, at, b" -"),
     }
 }
 
-// The reader's answers to so many asks.
+// The reader's answers to so many requires.
 fn answers(file: &[u8], asks: usize, line: &mut [u8], at: usize) -> usize {
     let mut to = put(line, at, b"reader");
     let mut c = start(file);
@@ -72,7 +72,7 @@ fn run_on(file: &[u8], c: Call, line: &mut [u8]) -> usize {
     let n = c.second;
     let j = c.third;
     let m = c.fourth;
-    let ring = lines::read::field(&mut r, n);
+    let ring = program_text::read::field(&mut r, n);
     if ring.len() != n {
         return 0;
     }
@@ -87,7 +87,7 @@ fn run_on(file: &[u8], c: Call, line: &mut [u8]) -> usize {
 pub(crate) fn run(c: Call, line: &mut [u8]) -> usize {
     let mut f = [0u8; 65540];
     let n = c.first;
-    let file = lines::read::field(&mut f, n);
+    let file = program_text::read::field(&mut f, n);
     if file.len() != n {
         return 0;
     }

@@ -3,11 +3,11 @@
 // A call's numbers are the lengths of file, ring and output; the file and the ring follow. Op 0 seals a draft, 1 gives the
 // draft of a file back, 2 seals suite 4 entries again as suite 3, 3 moves a file to edition 2 and 4 back to edition 1 (both
 // without a ring). A line is number, row and output, which holds 0xa5 before the call.
-use lines::call::Call;
-use lines::text::and_shown;
-use lines::text::answer;
-use lines::text::end;
-use numbers::checked::Answer;
+use program_text::call::Call;
+use program_text::text::and_shown;
+use program_text::text::answer;
+use program_text::text::end;
+use status::checked::Answer;
 
 fn said(a: Answer, out: &[u8], line: &mut [u8]) -> usize {
     let at = answer(line, 0, a.number, a.row);
@@ -18,11 +18,15 @@ fn said(a: Answer, out: &[u8], line: &mut [u8]) -> usize {
 // Runs a call into an output; no line where there is no such op.
 fn write(op: u8, file: &[u8], ring: &[u8], out: &mut [u8], line: &mut [u8]) -> usize {
     match op {
-        0 => said(writer::seal_file(file, ring, out).answer(), out, line),
-        1 => said(writer::unseal_file(file, ring, out).answer(), out, line),
-        2 => said(reseal::reseal(file, ring, out).answer(), out, line),
-        3 => said(editions::to_edition2(file, out).answer(), out, line),
-        4 => said(editions::to_edition1(file, out).answer(), out, line),
+        0 => said(shift_writer::seal_file(file, ring, out).answer(), out, line),
+        1 => said(
+            shift_writer::unseal_file(file, ring, out).answer(),
+            out,
+            line,
+        ),
+        2 => said(shift_reseal::reseal(file, ring, out).answer(), out, line),
+        3 => said(shift_editions::to_edition2(file, out).answer(), out, line),
+        4 => said(shift_editions::to_edition1(file, out).answer(), out, line),
         _ => 0,
     }
 }
@@ -33,7 +37,7 @@ fn run_on(file: &[u8], c: Call, line: &mut [u8]) -> usize {
     let mut out = [0xa5u8; 65540];
     let n = c.second;
     let o = c.third;
-    let ring = lines::read::field(&mut r, n);
+    let ring = program_text::read::field(&mut r, n);
     if ring.len() != n {
         return 0;
     }
@@ -46,7 +50,7 @@ fn run_on(file: &[u8], c: Call, line: &mut [u8]) -> usize {
 // Reads the file of a call into f and runs it; no line where f has no room or the input ends.
 fn run_in(f: &mut [u8], c: Call, line: &mut [u8]) -> usize {
     let n = c.first;
-    let file = lines::read::field(f, n);
+    let file = program_text::read::field(f, n);
     if file.len() != n {
         return 0;
     }
@@ -54,7 +58,7 @@ fn run_in(f: &mut [u8], c: Call, line: &mut [u8]) -> usize {
 }
 
 fn run(c: Call, line: &mut [u8]) -> usize {
-    let mut f = lines::read::file_room();
+    let mut f = program_text::read::file_room();
     run_in(&mut f, c, line)
 }
 
@@ -62,14 +66,14 @@ fn run(c: Call, line: &mut [u8]) -> usize {
 fn turn() -> bool {
     let mut head = [0u8; 30];
     let mut line = [0u8; 512];
-    if !lines::call::next(&mut head) {
+    if !program_text::call::next(&mut head) {
         return false;
     }
-    let n = run(lines::call::call_of(&head), &mut line);
-    lines::call::done(&line, n)
+    let n = run(program_text::call::call_of(&head), &mut line);
+    program_text::call::done(&line, n)
 }
 
-// Nothing says that an input ends, so the calls are counted down from a number that no input reaches.
+// The end of an input is not provable, so the loop counts down from a number that no input reaches.
 fn main() {
     let mut left = u64::MAX;
     while left > 0 && turn() {

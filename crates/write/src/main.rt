@@ -3,10 +3,10 @@
 //
 // Prints number and row on one line; the file OUT is made where the number is 0, and else left alone. A file that cannot
 // be read counts as zero bytes. The program takes files up to the format's 1,048,576 bytes (longer: 20).
-use numbers::checked::Answer;
+use status::checked::Answer;
 ghost use Prim.Native.Nat.{_≤_};
 
-// What is asked for.
+// What the program is to do.
 enum Way {
     Seal,
     Back,
@@ -15,7 +15,7 @@ enum Way {
 
 // Argument i names the output.
 fn say(a: Answer, out: &[u8], i: usize) {
-    args::answered(a.number, a.row, out, i);
+    program_files::answered(a.number, a.row, out, i);
 }
 
 // Argument i names the ring, the next one the output.
@@ -23,11 +23,19 @@ fn run(way: Way, file: &[u8], i: usize, out: &mut [u8])
     requires { ⌜ i ≤ 3 ⌝ }
 {
     let mut r = [0u8; 257];
-    let ring = args::load(i, &mut r);
+    let ring = program_files::load(i, &mut r);
     match way {
-        Way::Seal => say(writer::seal_file(file, ring, out).answer(), out, i + 1),
-        Way::Back => say(writer::unseal_file(file, ring, out).answer(), out, i + 1),
-        Way::Reseal => say(reseal::reseal(file, ring, out).answer(), out, i + 1),
+        Way::Seal => say(
+            shift_writer::seal_file(file, ring, out).answer(),
+            out,
+            i + 1,
+        ),
+        Way::Back => say(
+            shift_writer::unseal_file(file, ring, out).answer(),
+            out,
+            i + 1,
+        ),
+        Way::Reseal => say(shift_reseal::reseal(file, ring, out).answer(), out, i + 1),
     }
 }
 
@@ -45,21 +53,21 @@ fn run_in(way: Way, file: &[u8], i: usize, out: &mut [u8])
 fn write(way: Way, i: usize)
     requires { ⌜ i ≤ 2 ⌝ }
 {
-    let mut f = lines::read::file_room();
-    let mut o = lines::read::file_room();
-    let file = args::load(i, &mut f);
+    let mut f = program_text::read::file_room();
+    let mut o = program_text::read::file_room();
+    let file = program_files::load(i, &mut f);
     run_in(way, file, i + 1, &mut o);
 }
 
 fn main() {
     if os::arg_count() == 4 {
         write(Way::Seal, 1);
-    } else if os::arg_count() == 5 && args::is_word(1, b"back") {
+    } else if os::arg_count() == 5 && program_files::is_word(1, b"back") {
         write(Way::Back, 2);
-    } else if os::arg_count() == 5 && args::is_word(1, b"reseal") {
+    } else if os::arg_count() == 5 && program_files::is_word(1, b"reseal") {
         write(Way::Reseal, 2);
     } else {
-        args::usage(
+        program_files::usage(
             b"write DRAFT RING OUT\nwrite back FILE RING OUT\nwrite reseal FILE RING OUT\n",
         );
     }

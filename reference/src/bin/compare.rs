@@ -10,7 +10,8 @@
 use reference::bridge;
 use reference::calls::{Call, Case, CountedCall, InPlaceCall, Library, REFERENCE};
 use reference::data::{
-    amending, cases, comparing, counted, files, in_place, moving, reading, resealing, searching, sessions, writing,
+    amending, cases, comparing, contents, counted, files, in_place, moving, reading, resealing, searching, sessions,
+    writing,
 };
 use reference::linked;
 use reference::random::Random;
@@ -194,6 +195,15 @@ fn compare_reports(tally: &mut Tally, random: &mut Random) {
     tally.report("reports of long files");
 }
 
+fn compare_contents(tally: &mut Tally, random: &mut Random) {
+    contents::calls().iter().for_each(|call| tally.proved(call));
+    tally.report("the calls of test_shift: table of contents");
+    contents::trials(random, 10_000, |call| tally.proved(call));
+    tally.report("rows of random files, good and edited");
+    contents::longest(|call| tally.proved(call));
+    tally.report("rows of the longest file, and of one too long");
+}
+
 fn main() {
     let seed = std::env::args().nth(1).map_or(2026, |seed| seed.parse().expect("SEED is a number"));
     PROVED.iter().for_each(|(name, _)| println!("compared: {name}"));
@@ -211,6 +221,7 @@ fn main() {
     compare_counts(&mut tally, &mut random);
     compare_reports(&mut tally, &mut random);
     compare_in_place(&mut tally, &mut random);
+    compare_contents(&mut tally, &mut random);
     println!("{} cases, {} differences", tally.cases, tally.differences);
     #[cfg(bridged)]
     assert!(bridge::finish(), "the C program did not end well");

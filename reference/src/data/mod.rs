@@ -3,6 +3,7 @@
 pub mod amending;
 pub mod cases;
 pub mod comparing;
+pub mod contents;
 pub mod counted;
 pub mod files;
 pub mod in_place;
@@ -66,6 +67,7 @@ pub fn parts(folder: &str) -> Vec<Part> {
             parts_of(&comparing::calls()),
             parts_of(&reading::calls()),
             printing::parts(),
+            parts_of(&contents::calls()),
         ]),
         "crates/test_writer" => {
             joined([parts_of(&writing::calls()), parts_of(&resealing::calls()), parts_of(&moving::calls())])

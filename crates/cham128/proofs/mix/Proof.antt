@@ -1,6 +1,6 @@
 -- `cham128::mix` meets its contract: the definition, step by step.
 use borrow.Author.Needs.{needs}
-use Rattle.words.specs.Words.{xor}
+use Rattle.block.specs.Words.{xor}
 use Rattle.cham128.proofs.mix.Statement.{statement}
 use Rattle.cham128.proofs.mix.Tie as tie
 

@@ -1,8 +1,8 @@
 -- `cham128::second_place` meets its contract: the definition, and its bound.
 use borrow.Author.Needs.{needs}
 use mathlib.Core.Path.{refl}
-use Rattle.words.specs.Words.{xor}
-use Rattle.cham.proofs.Keys.{place-lt}
+use Rattle.block.specs.Words.{xor}
+use Rattle.cham_spec.proofs.Keys.{place-lt}
 use Rattle.cham128.proofs.second_place.Statement.{statement}
 use Rattle.cham128.proofs.second_place.Tie as tie
 

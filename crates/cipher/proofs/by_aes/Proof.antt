@@ -1,5 +1,5 @@
--- `cipher::by_aes` meets its contract: the engine on the bytes of both blocks, lent the one element of the slice.
-use Rattle.fips197.specs.Cipher.{cipher}
+-- `cipher::by_aes` meets its contract: the engine on the bytes of both blocks, with the one element of the borrowed slice.
+use Rattle.aes_spec.specs.Cipher.{cipher}
 use Rattle.cipher.proofs.Paths.{through-whole}
 use borrow.Author.Needs.{needs}
 use Rattle.cipher.proofs.by_aes.Statement.{statement}

@@ -1,6 +1,6 @@
 -- `cipher::by_cham128` meets its contract: the engine on the bytes of both blocks.
 use borrow.Author.Needs.{needs}
-use Rattle.cham.specs.Cham.{cham}
+use Rattle.cham_spec.specs.Cham.{cham}
 use Rattle.cipher.proofs.Paths.{through-whole}
 use Rattle.cipher.proofs.by_cham128.Statement.{statement}
 use Rattle.cipher.proofs.by_cham128.Tie as tie

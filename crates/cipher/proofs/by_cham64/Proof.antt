@@ -1,6 +1,6 @@
 -- `cipher::by_cham64` meets its contract: the engine on the bytes of the numbers.
 use borrow.Author.Needs.{needs}
-use Rattle.cham.specs.Cham.{cham}
+use Rattle.cham_spec.specs.Cham.{cham}
 use Rattle.cipher.proofs.Paths.{through-whole}
 use Rattle.cipher.proofs.by_cham64.Statement.{statement}
 use Rattle.cipher.proofs.by_cham64.Tie as tie

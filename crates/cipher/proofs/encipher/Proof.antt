@@ -5,9 +5,9 @@ use mathlib.Core.List.{List, _++_}
 use Prim.Native.Nat.{ℕ, _-_}
 use native.Mathlib.Omega.{arith}
 use lib.ListN.{take, drop, replicate}
-use Rattle.words.specs.Bytes.{bytes}
-use Rattle.words.specs.Blocks.{wide}
-use Rattle.words.proofs.Blocks.{length-wide, first-eight}
+use Rattle.block.specs.Bytes.{bytes}
+use Rattle.block.specs.Blocks.{wide}
+use Rattle.block.proofs.Blocks.{length-wide, first-eight}
 use Rattle.cipher.specs.Cipher.{sizeOf, engineOf}
 use Rattle.cipher.proofs.Suites.{size-other, Engine, engine-4}
 use Rattle.cipher.proofs.Paths.{whole, half}

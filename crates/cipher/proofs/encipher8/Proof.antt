@@ -3,7 +3,7 @@ use borrow.Author.Needs.{needs}
 use native.Mathlib.Omega.{arith}
 use mathlib.Core.Path.{sym, ap, _∙_}
 use mathlib.Core.List.{_++_}
-use Rattle.words.specs.Bytes.{bytes}
+use Rattle.block.specs.Bytes.{bytes}
 use Rattle.cipher.proofs.Suites.{Engine, engine-3, engine-4}
 use Rattle.cipher.proofs.encipher8.Statement.{statement}
 use Rattle.cipher.proofs.encipher8.Tie as tie

@@ -6,9 +6,9 @@ use mathlib.Core.Bool.{false}
 use mathlib.Core.List.{List}
 use mathlib.Core.Path.{_≡_, sym, ap, _∙_, subst}
 use Prim.Native.Nat.{ℕ}
-use Rattle.numbers.specs.Verdicts.{numberOf, refusal}
+use Rattle.status.specs.Verdicts.{numberOf, refusal}
 use Rattle.comet.specs.Counted.{sealingCounted}
-use Rattle.numbers.proofs.Refuse.{passed, done-zero, other-some}
+use Rattle.status.proofs.Refuse.{passed, done-zero, other-some}
 use Rattle.comet.proofs.Left.{sealing-kept}
 use Rattle.comet.proofs.Counts.{counting, calls-none, sealing-same}
 use Rattle.comet.proofs.seal_counted.Statement.{statement}
@@ -21,13 +21,13 @@ module _ (m : tie.At-match-keys1) where
   -- nothing was refused
   zero : refusal false (x .args .suite) (length (now (x .args .key))) (length (now (x .args .nonce))) (length (now (x .args .ad)))
       (length (now (x .args .msg))) (length (now (x .args .out))) (length (now (x .args .tag))) ≡ 0
-  zero = sym (m .before .refused .ensures) ∙ done-zero (m .before .refused .result) (m .match .keys1)
+  zero = sym (m .before .refused-for .ensures) ∙ done-zero (m .before .refused-for .result) (m .match .keys1)
 
   room : length (now (x .args .out)) ≡ length (now (x .args .msg))
   room = passed _ _ _ _ _ _ _ _ zero .room
 
-refused-requires : tie.Need-refused-requires
-refused-requires c κs = search needs
+refused-for-requires : tie.Need-refused-for-requires
+refused-for-requires c κs = search needs
 
 enum-told : tie.Need-enum-told
 enum-told c = search needs
@@ -35,17 +35,17 @@ enum-told c = search needs
 returns : tie.Need-returns
 returns c =
     let x = c .before .before .before .before .before .before .before .before .args in
-    let a = c .before .refused .result in
+    let a = c .before .refused-for .result in
     counting
-    (sealing-kept (x .suite) (now (x .key)) (now (x .nonce)) (now (x .ad)) (now (x .msg)) (now (x .out)) (now (x .tag)) (numberOf a) (c .before .refused .ensures)
+    (sealing-kept (x .suite) (now (x .key)) (now (x .nonce)) (now (x .ad)) (now (x .msg)) (now (x .out)) (now (x .tag)) (numberOf a) (c .before .refused-for .ensures)
     (other-some a (c .match .keys2)))
-    (calls-none false (x .suite) (now (x .key)) (now (x .nonce)) (now (x .ad)) (now (x .msg)) _ _ (numberOf a) (c .before .refused .ensures) (other-some a (c .match .keys2)))
+    (calls-none false (x .suite) (now (x .key)) (now (x .nonce)) (now (x .ad)) (now (x .msg)) _ _ (numberOf a) (c .before .refused-for .ensures) (other-some a (c .match .keys2)))
 
 copy-requires : tie.Need-copy-requires
 copy-requires c κs = room (c .before .before)
 
-seal-taken-requires : tie.Need-seal-taken-requires
-seal-taken-requires c κs =
+seal-checked-requires : tie.Need-seal-checked-requires
+seal-checked-requires c κs =
     let m = c .before .before .before .before .before .before .before in
     let a = x m .args in
     let copied : length (c .before .before .before .before .copy .last .1 .0) ≡ length (now (a .msg)) = ap length (c .before .before .before .before .copy .ensures) in
@@ -62,11 +62,11 @@ returns-2 : tie.Need-returns-2
 returns-2 c =
     let m = c .before .before .before .before .before .before .before .before .before .before .before .before in
     let a = x m .args in
-    c .before .before .before .before .seal-taken .ensures
+    c .before .before .before .before .seal-checked .ensures
     ∙ ap (λ (l : List ℕ). sealingCounted (a .suite) (now (a .key)) (now (a .nonce)) (now (a .ad)) l l (now (a .tag))) (c .before .before .before .before .before .before .before .before .before .copy .ensures)
     ∙ sealing-same (a .suite) (now (a .key)) (now (a .nonce)) (now (a .ad)) (now (a .msg)) (now (a .out)) (now (a .tag)) (zero m)
 
 pub seal-counted-spec : {M : Type 1} → statement M
 seal-counted-spec =
     tie.close
-    (tie.spec refused-requires enum-told returns copy-requires seal-taken-requires same-length same-length-2 returns-2)
+    (tie.spec refused-for-requires enum-told returns copy-requires seal-checked-requires same-length same-length-2 returns-2)

@@ -1,63 +1,48 @@
--- `comet::tag_under` meets its contract: the states are walked from the start to the tag as in opening, and the walk is the chain.
+-- `comet::tag_under` meets its contract: `tag_core` gets the tables that the suite needs, or none.
 use borrow.Author.Needs.{needs}
-use denote.Ref.{now}
-use mathlib.Core.Bool.{true, false}
-use mathlib.Core.Logic.{⊎-elim}
-use mathlib.Core.Path.{_≡_, sym, ap, _∙_}
-use Rattle.cipher.specs.Cipher.{sizeOf, cipherOf}
-use Rattle.cipher.proofs.Lawful.{lawful}
-use Rattle.mode.specs.Blocks.{blocks}
-use Rattle.mode.specs.Walk.{States, walked, tagged, dataDone}
-use Rattle.mode.proofs.Chain.{some}
-use Rattle.mode.proofs.Walk.{tag-walk}
-use Rattle.walk.proofs.Front.{walk-none}
-use Rattle.step.specs.Two.{twoOf}
+use mathlib.Core.Path.{sym, _∙_}
+use Rattle.cipher.proofs.Suites.{none-ready}
 use Rattle.comet.proofs.tag_under.Statement.{statement}
 use Rattle.comet.proofs.tag_under.Tie as tie
 
-start-requires : tie.Need-start-requires
-start-requires c κs = search needs
+needs-tables-requires : tie.Need-needs-tables-requires
+needs-tables-requires c κs = search needs
 
-absorb-all-requires : tie.Need-absorb-all-requires
-absorb-all-requires c κs = search needs
+tables-requires : tie.Need-tables-requires
+tables-requires c κs = sym (c .before .needs-tables .ensures) ∙ c .if1 .taken
 
-absorb-all-requires-2 : tie.Need-absorb-all-requires-2
-absorb-all-requires-2 c κs = search needs
+slice-aggregate-tag-core : tie.Need-slice-aggregate-tag-core
+slice-aggregate-tag-core c = search needs
 
-tag-of-requires : tie.Need-tag-of-requires
-tag-of-requires c κs = search needs
+tag-core-requires : tie.Need-tag-core-requires
+tag-core-requires c κs =
+    let p = c .before .before .before .before .before .before .before .before .pre in
+    (c .before .tables .ensures, p .0, p .1, p .2)
 
 returns : tie.Need-returns
-returns c =
-    let k = c .before .before in
-    let j = k .before in
-    let st = j .before .before .before .before .before .before in
-    let suite = st .args .suite in
-    let κ = cipherOf suite in
-    let pos = some κ (lawful suite) in
-    let key = now (st .args .key) in
-    let nonce = now (st .args .nonce) in
-    let ad = now (st .args .ad) in
-    let text = now (st .args .text) in
-    let begun = j .before .start in
-    let read : twoOf suite (j .if1 .s) ≡ walked κ false 0x08 0x10 (twoOf suite (begun .result)) (blocks (sizeOf suite) ad) =
-    ⊎-elim
-    (λ w. ap (twoOf suite) (w .2) ∙ w .1 .ensures .0)
-    (λ w. ap (twoOf suite) (w .1) ∙ sym (walk-none κ pos false 0x10 0x08 (twoOf suite (begun .result)) ad (w .0 .left)))
-    (j .if1 .came) in
-    let done : twoOf suite (k .if2 .s) ≡ walked κ true 0x20 0x40 (twoOf suite (j .if1 .s)) (blocks (sizeOf suite) text) =
-    ⊎-elim
-    (λ w. ap (twoOf suite) (w .2) ∙ w .1 .ensures .0)
-    (λ w. ap (twoOf suite) (w .1) ∙ sym (walk-none κ pos true 0x40 0x20 (twoOf suite (j .if1 .s)) text (w .0 .left)))
-    (k .if2 .came) in
-    let e : twoOf suite (j .if1 .s) ≡ dataDone κ key nonce ad = read ∙ ap (λ (s : States). walked κ false 0x08 0x10 s (blocks (sizeOf suite) ad)) (begun .ensures .two) in (
-      c .before .tag-of .ensures .0
-          ∙ ap (tagged κ) (done ∙ ap (λ (s : States). walked κ true 0x20 0x40 s (blocks (sizeOf suite) text)) e)
-          ∙ sym (tag-walk κ pos key nonce ad text true),
-      c .before .tag-of .ensures .1 .0,
-    )
+returns c = search needs
+
+slice-aggregate-tag-core-2 : tie.Need-slice-aggregate-tag-core-2
+slice-aggregate-tag-core-2 c = search needs
+
+tag-core-requires-2 : tie.Need-tag-core-requires-2
+tag-core-requires-2 c κs =
+    let st = c .before .before .before .before .before .before .before in
+    let p = st .pre in
+    (none-ready (st .args .suite) (sym (c .before .before .needs-tables .ensures) ∙ c .before .if1 .left), p .0, p .1, p .2)
+
+returns-2 : tie.Need-returns-2
+returns-2 c = search needs
 
 pub tag-under-spec : {M : Type 1} → statement M
 tag-under-spec =
     tie.close
-    (tie.spec start-requires absorb-all-requires absorb-all-requires-2 tag-of-requires returns)
+    (tie.spec
+    needs-tables-requires
+    tables-requires
+    slice-aggregate-tag-core
+    tag-core-requires
+    returns
+    slice-aggregate-tag-core-2
+    tag-core-requires-2
+    returns-2)

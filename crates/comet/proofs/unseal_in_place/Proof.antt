@@ -2,16 +2,16 @@
 use borrow.Author.Needs.{needs}
 use denote.Ref.{now}
 use mathlib.Core.Path.{sym, ap, _∙_}
-use Rattle.numbers.specs.Verdicts.{numberOf}
+use Rattle.status.specs.Verdicts.{numberOf}
 use Rattle.comet.specs.Answers.{Opened}
 use Rattle.comet.specs.Counted.{Counting}
-use Rattle.numbers.proofs.Refuse.{done-zero, other-some}
+use Rattle.status.proofs.Refuse.{done-zero, other-some}
 use Rattle.comet.proofs.Left.{opening-kept}
 use Rattle.comet.proofs.unseal_in_place.Statement.{statement}
 use Rattle.comet.proofs.unseal_in_place.Tie as tie
 
-refused-requires : tie.Need-refused-requires
-refused-requires c κs = search needs
+refused-for-requires : tie.Need-refused-for-requires
+refused-for-requires c κs = search needs
 
 enum-told : tie.Need-enum-told
 enum-told c = search needs
@@ -19,20 +19,20 @@ enum-told c = search needs
 returns : tie.Need-returns
 returns c =
     let x = c .before .before .before .before .before .before .before .args in
-    let a = c .before .refused .result in
-    opening-kept (x .suite) (now (x .key)) (now (x .nonce)) (now (x .ad)) (now (x .text)) (now (x .tag)) (now (x .text)) (numberOf a) (c .before .refused .ensures) (other-some a (c .match .keys2))
+    let a = c .before .refused-for .result in
+    opening-kept (x .suite) (now (x .key)) (now (x .nonce)) (now (x .ad)) (now (x .text)) (now (x .tag)) (now (x .text)) (numberOf a) (c .before .refused-for .ensures) (other-some a (c .match .keys2))
 
-unseal-taken-requires : tie.Need-unseal-taken-requires
-unseal-taken-requires c κs =
+unseal-checked-requires : tie.Need-unseal-checked-requires
+unseal-checked-requires c κs =
     let m = c .before .before in
-    sym (m .before .refused .ensures) ∙ done-zero (m .before .refused .result) (m .match .keys1)
+    sym (m .before .refused-for .ensures) ∙ done-zero (m .before .refused-for .result) (m .match .keys1)
 
 same-length : tie.Need-same-length
 same-length c = search needs
 
 returns-2 : tie.Need-returns-2
-returns-2 c = ap (λ (w : Counting Opened). w .leaves) (c .before .before .unseal-taken .ensures)
+returns-2 c = ap (λ (w : Counting Opened). w .leaves) (c .before .before .unseal-checked .ensures)
 
 pub unseal-in-place-spec : {M : Type 1} → statement M
 unseal-in-place-spec =
-    tie.close (tie.spec refused-requires enum-told returns unseal-taken-requires same-length returns-2)
+    tie.close (tie.spec refused-for-requires enum-told returns unseal-checked-requires same-length returns-2)

@@ -3,7 +3,7 @@ use borrow.Author.Needs.{needs}
 use mathlib.Core.Path.{_≡_, refl, ap, _∙_}
 use Prim.Native.Nat.{ℕ, _%_, _^_}
 use native.Mathlib.Nat.{add-comm}
-use Rattle.words.specs.Words.{rotl, xor}
+use Rattle.block.specs.Words.{rotl, xor}
 use Rattle.speck.specs.Speck.{upper, nextL}
 use Rattle.speck.proofs.next.Statement.{statement}
 use Rattle.speck.proofs.next.Tie as tie

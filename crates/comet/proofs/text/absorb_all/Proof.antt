@@ -1,17 +1,17 @@
--- `comet::text::absorb_all` meets its contract: behind the whole blocks the short one goes in, if there is one.
+-- `comet::text::absorb_all` meets its contract: after the whole blocks the short one is absorbed, if there is one.
 use borrow.Author.Needs.{needs}
 use denote.Ref.{now}
 use lib.ListN.{length}
 use mathlib.Core.Path.{_≡_}
 use native.Mathlib.Omega.{arith}
 use Prim.Native.Nat.{_<_}
-use Rattle.words.specs.Words.{xor}
+use Rattle.block.specs.Words.{xor}
 use Rattle.cipher.specs.Cipher.{sizeOf, cipherOf}
 use Rattle.cipher.proofs.Lawful.{lawful}
 use Rattle.mode.specs.Walk.{rest}
 use Rattle.mode.proofs.Chain.{some}
-use Rattle.step.specs.Two.{twoOf}
-use Rattle.walk.proofs.Front.{left, left-long, left-short}
+use Rattle.block_step.specs.Two.{twoOf}
+use Rattle.block_walk.proofs.Front.{left, left-long, left-short}
 use Rattle.comet.proofs.Turns.{last-walk, none-walk, last-count, none-count}
 use Rattle.comet.proofs.text.absorb_all.Statement.{statement}
 use Rattle.comet.proofs.text.absorb_all.Tie as tie

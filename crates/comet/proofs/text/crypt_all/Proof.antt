@@ -1,4 +1,4 @@
--- `comet::text::crypt_all` meets its contract: behind the whole blocks the short one goes in, if there is one, and what goes out takes its place.
+-- `comet::text::crypt_all` meets its contract: after the whole blocks the short one is absorbed, if there is one, and the output takes its place.
 use borrow.Author.Needs.{needs}
 use denote.Ref.{now}
 use lib.ListN.{length, take, drop}
@@ -6,14 +6,14 @@ use mathlib.Core.List.{List}
 use mathlib.Core.Path.{_≡_, sym, ap, _∙_}
 use native.Mathlib.Omega.{arith}
 use Prim.Native.Nat.{ℕ, _-_, _<_}
-use Rattle.words.specs.Words.{xor}
+use Rattle.block.specs.Words.{xor}
 use Rattle.cipher.specs.Cipher.{Cipher, sizeOf, cipherOf}
 use Rattle.cipher.proofs.Lawful.{lawful}
 use Rattle.mode.specs.Walk.{States, rest}
 use Rattle.mode.proofs.Chain.{some}
 use Rattle.mode.proofs.Cut.{rest-less}
-use Rattle.step.specs.Two.{twoOf}
-use Rattle.walk.proofs.Front.{left-long, walk-short, cover-short}
+use Rattle.block_step.specs.Two.{twoOf}
+use Rattle.block_walk.proofs.Front.{left-long, walk-short, cover-short}
 use Rattle.comet.proofs.Turns.{lent, last-walk, last-out, none-walk, none-out, last-count, none-count, short-count}
 use Rattle.comet.proofs.text.crypt_all.Statement.{statement}
 use Rattle.comet.proofs.text.crypt_all.Tie as tie
@@ -40,7 +40,7 @@ module _ (g : tie.After-crypt) where
   abbrev l : List ℕ
   l = now (st .args .text)
 
-  -- the text behind the walk
+  -- the text after the walk
   abbrev o : List ℕ
   o = g .crypt .last .1 .1 .1 .1 .1 .0
 

@@ -1,4 +1,4 @@
--- `session::Session::associated` meets its contract: a refusal hands the session back; else the part goes in.
+-- `session::Session::associated` meets its contract: a refusal hands the session back; else the part is absorbed.
 use borrow.Author.Needs.{needs}
 use denote.Ref.{now}
 use lib.ListN.{length}

@@ -1,4 +1,4 @@
--- `session::Session::finish` meets its contract: a refusal hands the session back; else the rest and the tag are made, and the suite's cipher is lent what it asks for, or nothing.
+-- `session::Session::finish` meets its contract: a refusal returns the session unchanged; else the rest and the tag are computed, with the tables that the suite's cipher needs, or none.
 use borrow.Author.Needs.{needs}
 use denote.Ref.{now}
 use lib.ListN.{length}
@@ -22,12 +22,12 @@ returns c =
     let t = now (x .tag) in
     answer-kept (c .before .end-number .result) (endNumber (v .suite) (v .«ad_total») (v .«text_total») (length o) (length t)) (endDone v o) v o t (c .if1 .taken) (c .before .end-number .ensures)
 
-lends-requires : tie.Need-lends-requires
-lends-requires c κs = search needs
+needs-tables-requires : tie.Need-needs-tables-requires
+needs-tables-requires c κs = search needs
 
 tables-requires : tie.Need-tables-requires
 tables-requires c κs =
-    sym (c .before .lends .ensures) ∙ c .if2 .taken
+    sym (c .before .needs-tables .ensures) ∙ c .if2 .taken
 
 slice-aggregate-close : tie.Need-slice-aggregate-close
 slice-aggregate-close c = search needs
@@ -50,7 +50,7 @@ slice-aggregate-close-2 c = search needs
 
 close-requires-2 : tie.Need-close-requires-2
 close-requires-2 c κs =
-    (none-ready (c .before .before .before .before .before .before .before .before .before .args .self .suite) (sym (c .before .before .before .before .lends .ensures) ∙ c .before .before .before .if2 .left), sym (c .before .before .before .before .before .before .end-number .ensures) ∙ c .before .before .before .before .before .if1 .left)
+    (none-ready (c .before .before .before .before .before .before .before .before .before .args .self .suite) (sym (c .before .before .before .before .needs-tables .ensures) ∙ c .before .before .before .if2 .left), sym (c .before .before .before .before .before .before .end-number .ensures) ∙ c .before .before .before .before .before .if1 .left)
 
 same-length-3 : tie.Need-same-length-3
 same-length-3 c = search needs
@@ -62,4 +62,4 @@ returns-3 : tie.Need-returns-3
 returns-3 c = search needs
 
 pub finish-spec : {M : Type 1} → statement M
-finish-spec = tie.close (tie.spec end-number-requires returns lends-requires tables-requires slice-aggregate-close close-requires same-length same-length-2 returns-2 slice-aggregate-close-2 close-requires-2 same-length-3 same-length-4 returns-3)
+finish-spec = tie.close (tie.spec end-number-requires returns needs-tables-requires tables-requires slice-aggregate-close close-requires same-length same-length-2 returns-2 slice-aggregate-close-2 close-requires-2 same-length-3 same-length-4 returns-3)

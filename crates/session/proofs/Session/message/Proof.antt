@@ -1,4 +1,4 @@
--- `session::Session::message` meets its contract: a refusal and an empty part hand the session back; else the part goes in.
+-- `session::Session::message` meets its contract: a refusal and an empty part hand the session back; else the part is absorbed.
 use borrow.Author.Needs.{needs}
 use denote.Ref.{now}
 use lib.ListN.{length}

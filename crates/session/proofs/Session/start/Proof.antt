@@ -1,4 +1,4 @@
--- `session::Session::start` meets its contract: a refusal hands back a session that is over; else the suite's cipher is lent what it asks for, or nothing.
+-- `session::Session::start` meets its contract: a refusal returns a session that is over; else the cipher borrows the tables that the suite needs, or none.
 use borrow.Author.Needs.{needs}
 use denote.Ref.{now}
 use lib.ListN.{length}
@@ -24,12 +24,12 @@ returns c =
     c .refused .ensures
     ∙ answer-kept (k .result) (startNumber (x .suite) (length (now (x .key))) (length (now (x .nonce)))) (gave 0 0 (fresh (x .suite) (now (x .key)) (now (x .nonce))) [] []) over [] [] (c .before .if1 .taken) (k .ensures)
 
-lends-requires : tie.Need-lends-requires
-lends-requires c κs = search needs
+needs-tables-requires : tie.Need-needs-tables-requires
+needs-tables-requires c κs = search needs
 
 tables-requires : tie.Need-tables-requires
 tables-requires c κs =
-    sym (c .before .lends .ensures) ∙ c .if2 .taken
+    sym (c .before .needs-tables .ensures) ∙ c .if2 .taken
 
 slice-aggregate-started : tie.Need-slice-aggregate-started
 slice-aggregate-started c = search needs
@@ -46,10 +46,10 @@ slice-aggregate-started-2 c = search needs
 
 started-requires-2 : tie.Need-started-requires-2
 started-requires-2 c κs =
-    (none-ready (c .before .before .before .before .before .before .before .args .suite) (sym (c .before .before .lends .ensures) ∙ c .before .if2 .left), sym (c .before .before .before .before .start-number .ensures) ∙ c .before .before .before .if1 .left)
+    (none-ready (c .before .before .before .before .before .before .before .args .suite) (sym (c .before .before .needs-tables .ensures) ∙ c .before .if2 .left), sym (c .before .before .before .before .start-number .ensures) ∙ c .before .before .before .if1 .left)
 
 returns-3 : tie.Need-returns-3
 returns-3 c = search needs
 
 pub start-spec : {M : Type 1} → statement M
-start-spec = tie.close (tie.spec start-number-requires refused-requires returns lends-requires tables-requires slice-aggregate-started started-requires returns-2 slice-aggregate-started-2 started-requires-2 returns-3)
+start-spec = tie.close (tie.spec start-number-requires refused-requires returns needs-tables-requires tables-requires slice-aggregate-started started-requires returns-2 slice-aggregate-started-2 started-requires-2 returns-3)

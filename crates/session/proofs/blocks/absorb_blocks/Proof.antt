@@ -1,14 +1,14 @@
--- `session::blocks::absorb_blocks` meets its contract: what is left behind the whole blocks is held.
+-- `session::blocks::absorb_blocks` meets its contract: what is left after the whole blocks is held.
 use borrow.Author.Needs.{needs}
 use denote.Ref.{now}
 use mathlib.Core.Path.{ap, _∙_}
 use native.Mathlib.Omega.{arith}
-use Rattle.words.specs.Blocks.{filled}
+use Rattle.block.specs.Blocks.{filled}
 use Rattle.cipher.specs.Cipher.{sizeOf, cipherOf}
 use Rattle.cipher.proofs.Lawful.{lawful}
 use Rattle.cipher.proofs.Suites.{size-most}
 use Rattle.mode.proofs.Chain.{some}
-use Rattle.walk.proofs.Front.{left-within, left, left-short}
+use Rattle.block_walk.proofs.Front.{left-within, left, left-short}
 use Rattle.session.proofs.blocks.absorb_blocks.Statement.{statement}
 use Rattle.session.proofs.blocks.absorb_blocks.Tie as tie
 

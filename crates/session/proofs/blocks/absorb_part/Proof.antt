@@ -1,4 +1,4 @@
--- `session::blocks::absorb_part` meets its contract: less than a block is held; else the suite's cipher is lent what it asks for, or nothing.
+-- `session::blocks::absorb_part` meets its contract: less than a block is buffered; else the cipher borrows the tables that the suite needs, or none.
 use borrow.Author.Needs.{needs}
 use denote.Ref.{now}
 use lib.ListN.{length, take, length-append}
@@ -8,12 +8,12 @@ use mathlib.Core.List.{List, _++_}
 use mathlib.Core.Path.{_≡_, sym, ap, _∙_}
 use native.Mathlib.Omega.{arith}
 use Prim.Native.Nat.{ℕ, _<_}
-use Rattle.words.specs.Blocks.{filled}
+use Rattle.block.specs.Blocks.{filled}
 use Rattle.cipher.specs.Cipher.{sizeOf, cipherOf}
 use Rattle.cipher.proofs.Suites.{none-ready}
-use Rattle.step.specs.Two.{twoOf}
+use Rattle.block_step.specs.Two.{twoOf}
 use Rattle.mode.proofs.Cut.{rest-short}
-use Rattle.walk.proofs.Front.{short-walk}
+use Rattle.block_walk.proofs.Front.{short-walk}
 use Rattle.session.proofs.blocks.absorb_part.Statement.{statement}
 use Rattle.session.proofs.blocks.absorb_part.Tie as tie
 
@@ -40,11 +40,11 @@ returns c =
     let l : length (x ++ part) < sizeOf suite = omega (arith, length-append x part, c .before .if1 .taken) in
     (sym (short-walk (cipherOf suite) pos false 0x10 (st .args .m) (twoOf suite (st .args .s)) (x ++ part) l), c .joined .ensures ∙ ap filled (sym (rest-short (sizeOf suite) pos (x ++ part) l)))
 
-lends-requires : tie.Need-lends-requires
-lends-requires c κs = search needs
+needs-tables-requires : tie.Need-needs-tables-requires
+needs-tables-requires c κs = search needs
 
 tables-requires : tie.Need-tables-requires
-tables-requires c κs = sym (c .before .lends .ensures) ∙ c .if2 .taken
+tables-requires c κs = sym (c .before .needs-tables .ensures) ∙ c .if2 .taken
 
 slice-aggregate-absorb-past : tie.Need-slice-aggregate-absorb-past
 slice-aggregate-absorb-past c = search needs
@@ -63,7 +63,7 @@ slice-aggregate-absorb-past-2 c = search needs
 absorb-past-requires-2 : tie.Need-absorb-past-requires-2
 absorb-past-requires-2 c κs =
     let st = c .before .before .before .before .before .before in
-    (none-ready (st .args .suite) (sym (c .before .before .lends .ensures) ∙ c .before .if2 .left), st .pre .0, st .pre .1, omega (arith, c .before .before .before .if1 .left))
+    (none-ready (st .args .suite) (sym (c .before .before .needs-tables .ensures) ∙ c .before .if2 .left), st .pre .0, st .pre .1, omega (arith, c .before .before .before .if1 .left))
 
 returns-3 : tie.Need-returns-3
 returns-3 c = search needs
@@ -76,7 +76,7 @@ absorb-part-spec =
     sub-if1
     joined-requires
     returns
-    lends-requires
+    needs-tables-requires
     tables-requires
     slice-aggregate-absorb-past
     absorb-past-requires

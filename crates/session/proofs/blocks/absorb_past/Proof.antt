@@ -8,7 +8,7 @@ use mathlib.Core.Path.{_≡_}
 use native.Mathlib.Omega.{arith}
 use Prim.Native.Nat.{ℕ, _+_, _-_, _≤_, _<_}
 use Rattle.cipher.specs.Cipher.{sizeOf, cipherOf}
-use Rattle.step.specs.Two.{twoOf}
+use Rattle.block_step.specs.Two.{twoOf}
 use Rattle.session.proofs.Hold.{more-walk, more-rest}
 use Rattle.session.proofs.blocks.absorb_past.Statement.{statement}
 use Rattle.session.proofs.blocks.absorb_past.Tie as tie

@@ -10,13 +10,13 @@ use mathlib.Core.Path.{_≡_, sym, ap, ap₂, _∙_}
 use native.Mathlib.Nat.{div-add-mod', mod-lt, le-div-iff-mul-le, mul-le-mul-right}
 use native.Mathlib.Omega.{arith}
 use Prim.Native.Nat.{ℕ, _+_, _-_, _*_, _/_, _%_, _≤_, _<_}
-use Rattle.words.specs.Blocks.{filled}
+use Rattle.block.specs.Blocks.{filled}
 use Rattle.cipher.specs.Cipher.{sizeOf, cipherOf}
 use Rattle.mode.specs.Blocks.{blocks}
 use Rattle.mode.specs.Walk.{whole, rest, walked, covered}
 use Rattle.mode.proofs.Cut.{length-whole, rest-less, rest-short}
-use Rattle.step.specs.Two.{twoOf}
-use Rattle.walk.proofs.Front.{short-walk, short-cover}
+use Rattle.block_step.specs.Two.{twoOf}
+use Rattle.block_walk.proofs.Front.{short-walk, short-cover}
 use Rattle.session.specs.Value.{written}
 use Rattle.session.proofs.Hold.{lent-again, twice-written, whole-is, rest-is, whole-alone}
 use Rattle.session.proofs.blocks.crypt_part.Statement.{statement}
@@ -118,14 +118,14 @@ returns c =
       ),
     )
 
-rem-w : tie.Need-rem-w
-rem-w c = search needs
+rem-whole : tie.Need-rem-whole
+rem-whole c = search needs
 
-sub-w : tie.Need-sub-w
-sub-w c = omega (arith, div-add-mod' (c .before .before .before .before .args .h + length (now (c .before .before .before .before .args .part))) (c .before .size-of .result))
+sub-whole : tie.Need-sub-whole
+sub-whole c = omega (arith, div-add-mod' (c .before .before .before .before .args .h + length (now (c .before .before .before .before .args .part))) (c .before .size-of .result))
 
-sub-e : tie.Need-sub-e
-sub-e c = h-within c
+sub-taken : tie.Need-sub-taken
+sub-taken c = h-within c
 
 sub-gather : tie.Need-sub-gather
 sub-gather c = search needs
@@ -222,9 +222,9 @@ crypt-part-spec =
     add-all
     joined-requires
     returns
-    rem-w
-    sub-w
-    sub-e
+    rem-whole
+    sub-whole
+    sub-taken
     sub-gather
     part-gather-start
     part-gather-end

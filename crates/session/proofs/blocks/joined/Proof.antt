@@ -1,4 +1,4 @@
--- `session::blocks::joined` meets its contract: each turn copies one more byte behind the held ones.
+-- `session::blocks::joined` meets its contract: each turn copies one more byte after the held ones.
 use Prim.Native.Nat.{ℕ, _≤_, _-_, _+_}
 use mathlib.Core.Path.{_≡_, sym, ap, ap₂, _∙_}
 use native.Mathlib.Nat.{sub-zero}
@@ -9,7 +9,7 @@ use lib.ListN.{length, take, drop, set, getD, length-take}
 use lib.Seq.{paste, paste-zero, paste-suc, length-take-le}
 use borrow.Author.Needs.{needs}
 use denote.Ref.{now}
-use Rattle.words.specs.Blocks.{filled}
+use Rattle.block.specs.Blocks.{filled}
 use Rattle.session.proofs.Hold.{joined-is}
 use Rattle.session.proofs.blocks.joined.Statement.{statement}
 use Rattle.session.proofs.blocks.joined.Tie as tie

@@ -8,13 +8,13 @@ use mathlib.Core.Path.{_≡_, sym, ap, _∙_}
 use native.Mathlib.Nat.{sub-zero}
 use native.Mathlib.Omega.{arith}
 use Prim.Native.Nat.{ℕ, _-_, _≤_, _<_}
-use Rattle.words.specs.Words.{xor}
+use Rattle.block.specs.Words.{xor}
 use Rattle.cipher.specs.Cipher.{sizeOf, cipherOf}
 use Rattle.cipher.proofs.Suites.{size-most}
 use Rattle.mode.specs.Blocks.{blocks}
 use Rattle.mode.specs.Walk.{hidden, turned, covered}
-use Rattle.step.specs.Two.{twoOf}
-use Rattle.walk.proofs.Front.{walk-none, cover-none, walk-short, cover-short}
+use Rattle.block_step.specs.Two.{twoOf}
+use Rattle.block_walk.proofs.Front.{walk-none, cover-none, walk-short, cover-short}
 use Rattle.session.specs.Value.{written}
 use Rattle.session.proofs.Hold.{lent-again, twice-written}
 use borrow.Author.Needs.{needs}

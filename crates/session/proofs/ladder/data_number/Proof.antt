@@ -1,4 +1,4 @@
--- `session::ladder::data_number` meets its contract.
+-- `session::ladder::data_number` meets its contract: each return is one line of the table of `dataNumber`; the tests before it decide the lines above.
 use borrow.Author.Needs.{needs}
 use borrow.Author.Tests.{lt-ltb, le-ltb, eq-eqb, ne-eqb, not-true, not-false}
 use mathlib.Core.Path.{sym, _∙_}

@@ -1,4 +1,4 @@
--- `session::ladder::end_number` meets its contract.
+-- `session::ladder::end_number` meets its contract: each return is one line of the table of `endNumber`; the tests before it decide the lines above.
 use borrow.Author.Tests.{lt-ltb, le-ltb, eq-eqb, ne-eqb, not-true, not-false}
 use mathlib.Core.Path.{refl, sym, _∙_}
 use mathlib.Core.Bool.{true, false}

@@ -1,4 +1,4 @@
--- `session::ladder::goes_on` meets its contract.
+-- `session::ladder::goes_on` meets its contract: each return decides one conjunct of `sound`: the suite seals, and both totals are within the limit.
 use borrow.Author.Needs.{needs}
 use borrow.Author.Tests.{le-leb, lt-leb, not-true, not-false}
 use mathlib.Core.Path.{_≡_, sym, _∙_}

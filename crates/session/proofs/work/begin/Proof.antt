@@ -4,7 +4,7 @@ use mathlib.Core.Path.{_≡_, sym, _∙_}
 use native.Mathlib.Nat.{mod-lt}
 use native.Mathlib.Omega.{arith}
 use Prim.Native.Nat.{_-_, _%_, _<_}
-use Rattle.words.specs.Words.{xor}
+use Rattle.block.specs.Words.{xor}
 use Rattle.cipher.specs.Cipher.{cipherOf}
 use Rattle.session.specs.Structs.{asValue}
 use Rattle.session.proofs.Flush.{begun-on, begun-none, begun-short}

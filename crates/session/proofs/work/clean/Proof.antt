@@ -3,8 +3,8 @@ use borrow.Author.Needs.{needs}
 use mathlib.Core.Path.{_≡_, sym, ap, _∙_}
 use Prim.Native.Nat.{ℕ}
 use lib.ListN.{take}
-use Rattle.words.specs.Bytes.{bytes}
-use Rattle.words.specs.Blocks.{wide, filled}
+use Rattle.block.specs.Bytes.{bytes}
+use Rattle.block.specs.Blocks.{wide, filled}
 use Rattle.cipher.specs.Cipher.{sizeOf}
 use Rattle.cipher.proofs.Suites.{size-other}
 use Rattle.session.proofs.work.clean.Statement.{statement}

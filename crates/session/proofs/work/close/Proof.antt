@@ -1,4 +1,4 @@
--- `session::work::close` meets its contract: the held bytes go in as the last block, and the tag is made.
+-- `session::work::close` meets its contract: the held bytes are absorbed as the last block, and the tag is made.
 use borrow.Author.Needs.{needs}
 use denote.Ref.{now}
 use lib.ListN.{length, take}
@@ -6,9 +6,9 @@ use mathlib.Core.Path.{refl, sym, ap, _∙_, subst}
 use native.Mathlib.Nat.{mod-lt}
 use native.Mathlib.Omega.{arith}
 use Prim.Native.Nat.{ℕ, _%_, _<_}
-use Rattle.words.specs.Blocks.{wide}
+use Rattle.block.specs.Blocks.{wide}
 use Rattle.cipher.proofs.Suites.{size-most}
-use Rattle.step.specs.Two.{twoOf}
+use Rattle.block_step.specs.Two.{twoOf}
 use Rattle.session.specs.Value.{endNumber, endDone, ending}
 use Rattle.session.specs.Structs.{asValue}
 use Rattle.session.proofs.Refuse.{end-passed, answer-done}

@@ -1,6 +1,6 @@
--- `session::work::ended` meets its contract.
+-- `session::work::ended` meets its contract: the struct of zeros stands for the dead session, field by field.
 use mathlib.Core.Path.{refl}
-use Rattle.words.specs.Bytes.{bytes}
+use Rattle.block.specs.Bytes.{bytes}
 use Rattle.session.proofs.work.ended.Statement.{statement}
 use Rattle.session.proofs.work.ended.Tie as tie
 

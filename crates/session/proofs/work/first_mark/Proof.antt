@@ -1,4 +1,4 @@
--- `session::work::first_mark` meets its contract.
+-- `session::work::first_mark` meets its contract: a total below one block means that no block was absorbed, which is when the definition gives the mark.
 use borrow.Author.Needs.{needs}
 use borrow.Author.Tests.{lt-ltb, le-ltb}
 use mathlib.Core.Path.{sym, ap}

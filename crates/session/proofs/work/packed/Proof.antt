@@ -1,9 +1,9 @@
--- `session::work::packed` meets its contract.
+-- `session::work::packed` meets its contract: the fields are the states' own words, and what the suite does not use is zero.
 use borrow.Author.Needs.{needs}
 use mathlib.Core.Path.{ap}
 use mathlib.Core.List.{List}
 use Prim.Native.Nat.{ℕ}
-use Rattle.words.specs.Blocks.{wide}
+use Rattle.block.specs.Blocks.{wide}
 use Rattle.session.proofs.work.packed.Statement.{statement}
 use Rattle.session.proofs.work.packed.Tie as tie
 

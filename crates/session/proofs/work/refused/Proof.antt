@@ -1,4 +1,4 @@
--- `session::work::refused` meets its contract.
+-- `session::work::refused` meets its contract: the struct of zeros stands for the dead session, and the status is the one given.
 use borrow.Author.Needs.{needs}
 use mathlib.Core.Path.{ap}
 use mathlib.Core.List.{[]}

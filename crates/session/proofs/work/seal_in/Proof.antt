@@ -1,4 +1,4 @@
--- `session::work::seal_in` meets its contract: the held bytes and the part go in, and what they complete goes out.
+-- `session::work::seal_in` meets its contract: the held bytes and the part are absorbed, and what they complete is output.
 use borrow.Author.Needs.{needs}
 use denote.Ref.{now}
 use lib.ListN.{length}
@@ -7,7 +7,7 @@ use mathlib.Core.Path.{refl, sym, _∙_, subst}
 use native.Mathlib.Nat.{mod-lt}
 use native.Mathlib.Omega.{arith}
 use Prim.Native.Nat.{ℕ, _%_, _<_}
-use Rattle.step.specs.Two.{twoOf}
+use Rattle.block_step.specs.Two.{twoOf}
 use Rattle.session.specs.Value.{textNumber, textDone, textPart}
 use Rattle.session.specs.Structs.{asValue}
 use Rattle.session.proofs.Refuse.{text-passed, answer-done}

@@ -1,4 +1,4 @@
--- `session::work::started` meets its contract.
+-- `session::work::started` meets its contract: the start of the block step gives Y and Z; nothing is buffered and both totals are 0.
 use borrow.Author.Needs.{needs}
 use denote.Ref.{now}
 use lib.ListN.{length, replicate}

@@ -1,4 +1,4 @@
--- `session::work::take_in` meets its contract: the held bytes and the part go in.
+-- `session::work::take_in` meets its contract: the held bytes and the part are absorbed.
 use borrow.Author.Needs.{needs}
 use denote.Ref.{now}
 use lib.ListN.{length, take}
@@ -8,7 +8,7 @@ use mathlib.Core.Path.{refl, sym, ap, ap₂, _∙_, subst}
 use native.Mathlib.Nat.{mod-lt}
 use native.Mathlib.Omega.{arith}
 use Prim.Native.Nat.{ℕ, _+_, _%_, _<_}
-use Rattle.words.specs.Blocks.{filled}
+use Rattle.block.specs.Blocks.{filled}
 use Rattle.cipher.specs.Cipher.{sizeOf, cipherOf}
 use Rattle.mode.specs.Blocks.{blocks}
 use Rattle.mode.specs.Walk.{States, whole, rest, walked}

@@ -3,7 +3,7 @@ use Prim.Native.Nat.{_≤_}
 use native.Mathlib.Omega.{arith}
 use mathlib.Core.Path.{sym, ap, subst}
 use borrow.Author.Needs.{needs}
-use Rattle.amend.specs.declared.Amended.{Amended}
+use Rattle.shift_amend.specs.declared.Amended.{Amended}
 use Rattle.snoekeldraf.specs.Amended.{Placed}
 use Rattle.snoekeldraf.proofs.AmendedRows.{amended-row}
 use Rattle.snoekeldraf.proofs.amending.shift_amended.Statement.{statement}

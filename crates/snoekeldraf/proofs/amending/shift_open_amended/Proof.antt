@@ -1,8 +1,8 @@
 -- Opening answers with a row of one file, which fits, so what it says passes whole beside the file and the output.
 use mathlib.Core.Path.{ap, _∙_}
 use borrow.Author.Needs.{needs}
-use Rattle.amend.specs.Amending.{AmendedOpening}
-use Rattle.numbers.proofs.Outcomes.{same-answer}
+use Rattle.shift_amend.specs.Amending.{AmendedOpening}
+use Rattle.status.proofs.Outcomes.{same-answer}
 use Rattle.snoekeldraf.proofs.AmendedRows.{open-amended-row}
 use Rattle.snoekeldraf.proofs.amending.shift_open_amended.Statement.{statement}
 use Rattle.snoekeldraf.proofs.amending.shift_open_amended.Tie as tie

@@ -1,6 +1,6 @@
 -- The check answers with a row of the file, which fits, so what it says passes whole.
 use mathlib.Core.Path.{_∙_}
-use Rattle.numbers.proofs.Outcomes.{same-answer}
+use Rattle.status.proofs.Outcomes.{same-answer}
 use Rattle.snoekeldraf.proofs.Rows.{check-row}
 use borrow.Author.Needs.{needs}
 use Rattle.snoekeldraf.proofs.file.shift_check.Statement.{statement}

@@ -1,8 +1,8 @@
 -- Opening answers with a row of the file, which fits, so what it says passes whole beside the output.
 use mathlib.Core.Path.{ap, _∙_}
 use borrow.Author.Needs.{needs}
-use Rattle.shift.specs.Opening.{JobOpened}
-use Rattle.numbers.proofs.Outcomes.{same-answer}
+use Rattle.shift_jobs.specs.Opening.{JobOpened}
+use Rattle.status.proofs.Outcomes.{same-answer}
 use Rattle.snoekeldraf.proofs.Rows.{job-row}
 use Rattle.snoekeldraf.proofs.file.shift_open_job.Statement.{statement}
 use Rattle.snoekeldraf.proofs.file.shift_open_job.Tie as tie

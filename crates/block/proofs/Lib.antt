@@ -1,0 +1,13 @@
+pub mod XorLaws
+pub mod Rotate
+pub mod Add
+pub mod Lists
+pub mod Bytes
+pub mod Xors
+pub mod Fill
+pub mod Table
+pub mod Blocks
+pub mod Outcomes
+pub mod Tests
+pub mod SameBytes
+pub mod Ladder

@@ -1,0 +1,90 @@
+// The next block key: a mark into byte 15 of Z, and the doubling of its low bits, 64 in version 1 and 120 in version 2.
+use block::Block;
+ghost use mathlib.Core.Path.{_≡_};
+ghost use Rattle.block.specs.Blocks.{wide};
+ghost use Rattle.cipher.specs.Cipher.{one, two, versionOf};
+ghost use Rattle.mode.specs.Words.{double};
+ghost use Rattle.mode.specs.Keys.{marked, doubled, nextKey};
+ghost use Rattle.mode.specs.Walk.{blockKey, keptBehind};
+
+// Doubling of a 64-bit number: the dropped bit is 1 or 0.
+fn doubling(x: u64) -> u64
+    ensures { λ r. ⌜ r ≡ double x ⌝ }
+{
+    (x << 1) ^ ((x >> 63) * 0x1b)
+}
+
+// Doubling of the low 120 bits across the two halves: the low 56 bits of the high half are doubled and take in the carry of the low half; the top byte is kept.
+fn doubling120(z: Block) -> Block
+    ensures { λ r. ⌜ wide r ≡ doubled two (wide z) ⌝ }
+{
+    let below = z.b % 0x80_0000_0000_0000;
+    let above = z.b / 0x80_0000_0000_0000;
+    let bit = above % 2;
+    let top = (above - bit) * 0x80_0000_0000_0000;
+    let once = below + (z.a >> 63);
+    let b = once + (below + top);
+    Block {
+        a: (z.a << 1) ^ (bit * 0x245),
+        b: b,
+    }
+}
+
+// The mark, XORed into byte 15, the highest of the high half.
+fn mark(z: Block, m: u8) -> Block
+    ensures { λ r. ⌜ wide r ≡ marked m (wide z) ⌝ }
+{
+    Block {
+        a: z.a,
+        b: z.b ^ ((m as u64) * 0x100_0000_0000_0000),
+    }
+}
+
+// The mark, then the doubling of version 1.
+fn next_key_one(z: Block, m: u8) -> Block
+    ensures { λ r. ⌜ wide r ≡ nextKey one m (wide z) ⌝ }
+{
+    let r = mark(z, m);
+    Block {
+        a: doubling(r.a),
+        b: r.b,
+    }
+}
+
+// The mark, then the doubling of version 2.
+fn next_key_two(z: Block, m: u8) -> Block
+    ensures { λ r. ⌜ wide r ≡ nextKey two m (wide z) ⌝ }
+{
+    let r = mark(z, m);
+    doubling120(r)
+}
+
+// The mark, then the doubling of the suite's version.
+pub fn next_key(suite: u8, z: Block, m: u8) -> Block
+    ensures { λ r. ⌜ wide r ≡ nextKey (versionOf suite) m (wide z) ⌝ }
+{
+    if cipher::is_second(suite) {
+        return next_key_two(z, m);
+    }
+    next_key_one(z, m)
+}
+
+// A block's key, and the Z that is kept after the block.
+pub struct Keyed {
+    pub key: Block,
+    pub z: Block,
+}
+
+// The key of a block with the mark m, and the Z that is kept after it: version 2 applies the mark only then. The version is tested once.
+pub fn block_key(suite: u8, z: Block, m: u8) -> Keyed
+    ensures key { λ r. ⌜ wide (r .key) ≡ blockKey (versionOf suite) m (wide z) ⌝ }
+    ensures z { λ r. ⌜ wide (r .z) ≡ keptBehind (versionOf suite) m (wide (r .key)) ⌝ }
+{
+    if cipher::is_second(suite) {
+        let k = next_key_two(z, 0);
+        let behind = mark(k, m);
+        return Keyed { key: k, z: behind };
+    }
+    let k = next_key_one(z, m);
+    Keyed { key: k, z: k }
+}

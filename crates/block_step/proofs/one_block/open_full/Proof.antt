@@ -1,0 +1,51 @@
+-- `block_step::one_block::open_full` meets its contract: the mask is of X, and the output is absorbed.
+use borrow.Author.Needs.{needs}
+use denote.Ref.{now}
+use mathlib.Core.Path.{_∙_}
+use native.Mathlib.Nat.{le-of-eq}
+use Rattle.cipher.proofs.Suites.{full-two}
+use Rattle.block_step.proofs.Turns.{goes-out, out-goes, put-in}
+use Rattle.block_step.proofs.one_block.open_full.Statement.{statement}
+use Rattle.block_step.proofs.one_block.open_full.Tie as tie
+
+turn-requires : tie.Need-turn-requires
+turn-requires c κs = search needs
+
+whole-requires : tie.Need-whole-requires
+whole-requires c κs =
+    let st = c .before .before .before .before in
+    full-two _ (st .args .suite) (st .pre .2)
+
+shuffled-requires : tie.Need-shuffled-requires
+shuffled-requires c κs = search needs
+
+xor-requires : tie.Need-xor-requires
+xor-requires c κs = search needs
+
+put-whole-requires : tie.Need-put-whole-requires
+put-whole-requires c κs =
+    let st = c .before .before .before .before .before .before .before .before in
+    full-two _ (st .args .suite) (st .pre .2)
+
+mix-requires : tie.Need-mix-requires
+mix-requires c κs = search needs
+
+same-length : tie.Need-same-length
+same-length c = search needs
+
+returns : tie.Need-returns
+returns c =
+    let st = c .before .before .before .before .before .before .before .before .before .before .before .before in
+    let a = st .args in
+    let b = now (a .block) in
+    let t = c .before .before .before .before .before .before .before .before .before .before .turn in
+    let p = c .before .before .before .before .before .before .before .whole in
+    let x = c .before .before .before .before .before .before .shuffled in
+    let w = c .before .before .before .before .before .xor in (
+      c .before .before .before .put-whole .ensures ∙ goes-out (a .suite) (a .mark) (a .state) (t .result) (t .ensures) b (p .result) (x .result) (w .result) (p .ensures) (x .ensures) (w .ensures) (le-of-eq (st .pre .2)),
+      put-in (a .suite) (a .mark) (a .state) (t .result) (t .ensures) _ (w .result) (c .mix .result)
+          (out-goes (a .suite) (a .mark) (a .state) (t .result) (t .ensures) b (p .result) (x .result) (w .result) (p .ensures) (x .ensures) (w .ensures) (st .pre .2)) (c .mix .ensures .0) (c .mix .ensures .1),
+    )
+
+pub open-full-spec : {M : Type 1} → statement M
+open-full-spec = tie.close (tie.spec turn-requires whole-requires shuffled-requires xor-requires put-whole-requires mix-requires same-length returns)

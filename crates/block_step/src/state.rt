@@ -1,0 +1,99 @@
+// The two states Y and Z: their start, the cipher's call, and absorbing a block.
+use block::Block;
+use cipher::AesTables;
+ghost use mathlib.Core.Path.{_≡_};
+ghost use lib.ListN.{length, take};
+ghost use Rattle.block.specs.Xors.{xors};
+ghost use Rattle.block.specs.Blocks.{wide};
+ghost use Rattle.cipher.specs.Cipher.{TablesFit, IsSuite, sizeOf, nonceOf, cipherOf};
+ghost use Rattle.mode.specs.Walk.{origin};
+ghost use Rattle.block_step.specs.Two.{twoOf, Clean, Holds, oneMore, imaged};
+
+// Y in the first bytes of y, as many as the suite's block has, Z, and the number of cipher calls so far. The count wraps modulo 2^64, so that it adds no precondition for callers who do not read it.
+pub struct State {
+    pub y: Block,
+    pub z: Block,
+    pub calls: u64,
+}
+
+// The initial state for a key and a nonce, by one cipher call.
+pub fn start(tables: &[AesTables], suite: u8, key: &[u8], nonce: &[u8]) -> State
+    requires { ⌜ TablesFit suite (now tables) × IsSuite suite × (length (now key) ≡ 16) × (length (now nonce) ≡ nonceOf suite) ⌝ }
+    ensures { λ r. ⌜ Holds suite r (origin (cipherOf suite) (now (key .entry)) (now (nonce .entry))) 1 ⌝ }
+{
+    let k = block::sixteen(key);
+    if cipher::size_of(suite) == 16 {
+        let v = block::sixteen(nonce);
+        // Constructed where it is borrowed: a borrowed value is spilled to the stack where it is defined, and an 8-byte block needs no spill.
+        let key = Block { a: k.a, b: k.b };
+        let z = cipher::encipher16(tables, suite, key, v);
+        return State {
+            y: k,
+            z: z,
+            calls: 1,
+        };
+    }
+    let v = block::fifteen(nonce);
+    let zero = Block { a: 0, b: 0 };
+    let y = cipher::encipher(tables, suite, k, zero);
+    let z = block::xor(k, v);
+    State {
+        y: y,
+        z: z,
+        calls: 1,
+    }
+}
+
+// The encryption of a block, chosen by its size n: a loop over blocks then tests only that number.
+pub(crate) fn image(tables: &[AesTables], suite: u8, n: usize, key: Block, block: Block) -> Block
+    requires { ⌜ TablesFit suite (now tables) × IsSuite suite × (n ≡ sizeOf suite) ⌝ }
+    ensures image { λ r. ⌜ take (sizeOf suite) (wide r) ≡ cipherOf suite .E (wide key) (take (sizeOf suite) (wide block)) ⌝ }
+    ensures rest { λ r. ⌜ Clean suite r ⌝ }
+{
+    if n == 16 {
+        // As in `start`.
+        let k = Block { a: key.a, b: key.b };
+        let b = Block {
+            a: block.a,
+            b: block.b,
+        };
+        return cipher::encipher16(tables, suite, k, b);
+    }
+    Block {
+        a: cipher::encipher8(suite, key.a, key.b, block.a),
+        b: 0,
+    }
+}
+
+// The key of a block of n bytes with the mark m; X, the encryption of Y under it, by one call; and the Z that is kept after the block.
+pub(crate) fn turn(tables: &[AesTables], suite: u8, s: State, m: u8, n: usize) -> State
+    requires { ⌜ TablesFit suite (now tables) × IsSuite suite × (n ≡ sizeOf suite) ⌝ }
+    ensures { λ r. ⌜ Holds suite r (imaged suite m (twoOf suite s)) (oneMore (s .calls)) ⌝ }
+{
+    let y = s.y;
+    let z0 = s.z;
+    let b = block_key::block_key(suite, z0, m);
+    let k = b.key;
+    let z = b.z;
+    let x = image(tables, suite, n, k, y);
+    State {
+        y: x,
+        z: z,
+        calls: std::num::wrapping_add_u64(s.calls, 1),
+    }
+}
+
+// Y = X XOR the block.
+pub(crate) fn mix(s: State, p: Block) -> State
+    ensures y { λ r. ⌜ wide (r .y) ≡ xors (wide (s .y)) (wide p) ⌝ }
+    ensures rest { λ r. ⌜ (wide (r .z) ≡ wide (s .z)) × (r .calls ≡ s .calls) ⌝ }
+{
+    let y = s.y;
+    let z = s.z;
+    let w = block::xor(y, p);
+    State {
+        y: w,
+        z: z,
+        calls: s.calls,
+    }
+}

@@ -1,0 +1,181 @@
+// The loops over the whole blocks of a text, shared by the one-call sealer, the opener and the sessions. Each loop has its direction as a literal and is the only caller of its step, so that the compiler inlines the step.
+use block_step::one_block::absorb_full;
+use block_step::one_block::open_full;
+use block_step::one_block::seal_full;
+use block_step::one_block::verify_full;
+use block_step::state::State;
+use cipher::AesTables;
+ghost use mathlib.Core.Path.{_≡_};
+ghost use mathlib.Core.Bool.{true, false};
+ghost use mathlib.Core.List.{_++_};
+ghost use Prim.Native.Nat.{ℕ};
+ghost use Rattle.cipher.specs.Cipher.{TablesFit, IsSuite, sizeOf, cipherOf};
+ghost use Rattle.mode.specs.Walk.{rest, covered};
+ghost use Rattle.block_step.specs.Two.{twoOf};
+ghost use Rattle.block_walk.specs.Progress.{wholes, Passed};
+
+// The result after the whole blocks: the state, the mark that is still due for the next block, and how many bytes were processed.
+pub struct Progress {
+    pub s: State,
+    pub mark: u8,
+    pub at: usize,
+}
+
+// Whole blocks of associated data.
+fn absorb_blocks(tables: &[AesTables], suite: u8, s: State, m: u8, b: &[u8]) -> Progress
+    requires { ⌜ TablesFit suite (now tables) × IsSuite suite ⌝ }
+    ensures { λ r. ⌜ Passed suite false m s (now (b .entry)) r ⌝ }
+{
+    let n = cipher::size_of(suite);
+    if b.len() < n {
+        return Progress {
+            s: s,
+            mark: m,
+            at: 0,
+        };
+    }
+    let last = b.len() - n;
+    let mut t = s;
+    let mut k = m;
+    let mut i: usize = 0;
+    while i <= last {
+        let e = i + n;
+        t = absorb_full(tables, suite, t, k, &b[i..e]);
+        k = 0;
+        i = e;
+    }
+    Progress {
+        s: t,
+        mark: k,
+        at: i,
+    }
+}
+
+// Whole blocks of ciphertext, whose message is absorbed.
+fn verify_blocks(tables: &[AesTables], suite: u8, s: State, m: u8, b: &[u8]) -> Progress
+    requires { ⌜ TablesFit suite (now tables) × IsSuite suite ⌝ }
+    ensures { λ r. ⌜ Passed suite true m s (now (b .entry)) r ⌝ }
+{
+    let n = cipher::size_of(suite);
+    if b.len() < n {
+        return Progress {
+            s: s,
+            mark: m,
+            at: 0,
+        };
+    }
+    let last = b.len() - n;
+    let mut t = s;
+    let mut k = m;
+    let mut i: usize = 0;
+    while i <= last {
+        let e = i + n;
+        t = verify_full(tables, suite, t, k, &b[i..e]);
+        k = 0;
+        i = e;
+    }
+    Progress {
+        s: t,
+        mark: k,
+        at: i,
+    }
+}
+
+// Absorbs the whole blocks, the first under the mark, and writes nothing: associated data as it is, of ciphertext the message.
+pub fn absorb(
+    tables: &[AesTables],
+    opening: bool,
+    suite: u8,
+    state: State,
+    mark: u8,
+    bytes: &[u8],
+) -> Progress
+    requires { ⌜ TablesFit suite (now tables) × IsSuite suite ⌝ }
+    ensures { λ r. ⌜ Passed suite opening mark state (now (bytes .entry)) r ⌝ }
+{
+    if opening {
+        return verify_blocks(tables, suite, state, mark, bytes);
+    }
+    absorb_blocks(tables, suite, state, mark, bytes)
+}
+
+// Whole blocks of a message, sealed.
+fn seal_blocks(tables: &[AesTables], suite: u8, s: State, m: u8, text: &mut [u8]) -> Progress
+    requires { ⌜ TablesFit suite (now tables) × IsSuite suite ⌝ }
+    ensures text { λ _. ⌜ ((short : ℕ) → now (text .exit) ≡ covered (cipherOf suite) false m short (twoOf suite s) (wholes (sizeOf suite) (now (text .entry))) ++ rest (sizeOf suite) (now (text .entry))) ⌝ }
+    ensures state { λ r. ⌜ Passed suite false m s (now (text .entry)) r ⌝ }
+{
+    let n = cipher::size_of(suite);
+    if text.len() < n {
+        return Progress {
+            s: s,
+            mark: m,
+            at: 0,
+        };
+    }
+    let last = text.len() - n;
+    let mut t = s;
+    let mut k = m;
+    let mut i: usize = 0;
+    while i <= last {
+        let e = i + n;
+        t = seal_full(tables, suite, t, k, &mut text[i..e]);
+        k = 0;
+        i = e;
+    }
+    Progress {
+        s: t,
+        mark: k,
+        at: i,
+    }
+}
+
+// Whole blocks of ciphertext, opened.
+fn open_blocks(tables: &[AesTables], suite: u8, s: State, m: u8, text: &mut [u8]) -> Progress
+    requires { ⌜ TablesFit suite (now tables) × IsSuite suite ⌝ }
+    ensures text { λ _. ⌜ ((short : ℕ) → now (text .exit) ≡ covered (cipherOf suite) true m short (twoOf suite s) (wholes (sizeOf suite) (now (text .entry))) ++ rest (sizeOf suite) (now (text .entry))) ⌝ }
+    ensures state { λ r. ⌜ Passed suite true m s (now (text .entry)) r ⌝ }
+{
+    let n = cipher::size_of(suite);
+    if text.len() < n {
+        return Progress {
+            s: s,
+            mark: m,
+            at: 0,
+        };
+    }
+    let last = text.len() - n;
+    let mut t = s;
+    let mut k = m;
+    let mut i: usize = 0;
+    while i <= last {
+        let e = i + n;
+        t = open_full(tables, suite, t, k, &mut text[i..e]);
+        k = 0;
+        i = e;
+    }
+    Progress {
+        s: t,
+        mark: k,
+        at: i,
+    }
+}
+
+// Seals or opens the whole blocks of a text in place, the first under the mark; the bytes after them are unchanged.
+pub fn crypt(
+    tables: &[AesTables],
+    opening: bool,
+    suite: u8,
+    state: State,
+    mark: u8,
+    text: &mut [u8],
+) -> Progress
+    requires { ⌜ TablesFit suite (now tables) × IsSuite suite ⌝ }
+    ensures text { λ _. ⌜ ((short : ℕ) → now (text .exit) ≡ covered (cipherOf suite) opening mark short (twoOf suite state) (wholes (sizeOf suite) (now (text .entry))) ++ rest (sizeOf suite) (now (text .entry))) ⌝ }
+    ensures state { λ r. ⌜ Passed suite opening mark state (now (text .entry)) r ⌝ }
+{
+    if opening {
+        return open_blocks(tables, suite, state, mark, text);
+    }
+    seal_blocks(tables, suite, state, mark, text)
+}

@@ -1,7 +1,0 @@
--- Both engines give the same block, since both contracts cite FIPS 197's.
-use mathlib.Core.Path.{sym, _∙_}
-use Rattle.columns.specs.Engines.{SameBlock}
-use Rattle.columns.proofs.encrypt.Reads as columns-reads
-
-pub same-block : SameBlock columns-reads.Post
-same-block κs a x y = x .ensures ∙ sym (y .ensures)

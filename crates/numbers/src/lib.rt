@@ -1,3 +1,0 @@
-// What a call answers, by the numbers of documents 01 and 02: of sealer and opener, and of the check of a shift file.
-pub mod checked;
-pub mod verdict;

@@ -1,0 +1,102 @@
+// What the plant's programs share: their arguments, the files that these name, and the answer of those that write a file.
+mod save;
+
+use libc::STDERR_FILENO;
+use libc::STDOUT_FILENO;
+use program_text::text::answer;
+use program_text::text::end;
+ghost use Prim.Native.Nat.{_≤_};
+
+// Says how a program is used.
+pub fn usage(text: &[u8]) {
+    io::write_all(STDERR_FILENO, text);
+}
+
+// The number that the digits spell; 4,294,967,296 where they spell none of 32 bits.
+fn digit(n: u64, b: u8) -> u64
+    requires { ⌜ n ≤ 4294967296 ⌝ }
+    ensures { λ r. ⌜ r ≤ 4294967296 ⌝ }
+{
+    if b < 48 || 57 < b {
+        return 4294967296;
+    }
+    let m = n * 10 + (b - 48) as u64;
+    if 4294967296 < m { 4294967296 } else { m }
+}
+
+fn spelled(digits: &[u8]) -> u64
+    ensures { λ r. ⌜ r ≤ 4294967296 ⌝ }
+{
+    let mut n: u64 = 0;
+    let mut i: usize = 0;
+    while i < digits.len() {
+        n = digit(n, digits[i]);
+        i += 1;
+    }
+    if digits.len() == 0 { 4294967296 } else { n }
+}
+
+// The job that an argument spells; 4,294,967,296 where it spells none of 32 bits.
+pub fn job(argument: usize) -> u64 {
+    let mut digits = [0u8; 16];
+    let n = os::arg(argument, &mut digits);
+    spelled(&digits[..n])
+}
+
+fn same(x: &[u8], y: &[u8]) -> bool {
+    if x.len() != y.len() {
+        return false;
+    }
+    let mut i: usize = 0;
+    while i < x.len() {
+        if x[i] != y[i] {
+            return false;
+        }
+        i += 1;
+    }
+    true
+}
+
+// Whether an argument is this word.
+pub fn is_word(argument: usize, word: &[u8]) -> bool {
+    let mut given = [0u8; 16];
+    let n = os::arg(argument, &mut given);
+    same(&given[..n], word)
+}
+
+// How many bytes stand in buf once fd is read to its end; 0 where they fill it, or a read fails.
+fn read_whole(fd: i32, buf: &mut [u8]) -> usize {
+    let got = io::read_full(fd, buf);
+    let mut more = [0u8; 1];
+    if got == buf.len() || libc::read(fd, &mut more) != 0 {
+        return 0;
+    }
+    got
+}
+
+// The file that an argument names, read into buf, which has one byte more than the program takes. A file that is longer, or
+// cannot be read to its end, counts as zero bytes.
+pub fn load(argument: usize, buf: &mut [u8]) -> &[u8] {
+    let mut path = io::buffer();
+    let n = os::arg(argument, &mut path);
+    let fd = os::open_read(&path[..n]);
+    let mut got: usize = 0;
+    if 0 <= fd {
+        got = read_whole(fd, buf);
+        libc::close(fd);
+    }
+    program_text::read::front(&buf[..], got)
+}
+
+// The output of a program that writes a file: number and row, once the file is written under the name of an argument if the number
+// is 0; or that it cannot be written.
+pub fn answered(number: u8, row: usize, file: &[u8], argument: usize) {
+    if number == 0 && !save::save(argument, file) {
+        io::write_all(STDOUT_FILENO, b"OUT cannot be written\n");
+        return;
+    }
+    let mut line = [0u8; 64];
+    let n = answer(&mut line, 0, number, row);
+    let n = end(&mut line, n);
+    program_text::text::write(&line, n);
+}

@@ -1,6 +1,0 @@
-pub mod Asking
-pub mod Fronts
-pub mod Tags
-pub mod Written
-pub mod Outcomes
-pub mod Held

@@ -1,5 +1,0 @@
-pub mod Reading
-pub mod Reporting
-pub mod Promised
-pub mod Inside
-pub mod Held

@@ -1,0 +1,139 @@
+// The comparison of two shift files: three lists of job numbers.
+mod entry;
+mod merge;
+
+use merge::Counts;
+use merge::most;
+use merge::pass;
+use shift_check::check;
+use status::checked::Checked;
+use status::checked::Refusal;
+ghost use mathlib.Core.Path.{_≡_};
+ghost use Rattle.status.specs.Answers.{refusalAnswer};
+ghost use Rattle.shift_compare.specs.Comparing.{refusedIn, findingOf, tooLong, Comparison, comparison};
+ghost use Rattle.shift_compare.specs.Inside.{Sound, longer};
+
+// The result of a comparison: a status, the file and row that it concerns, and the length of each list.
+pub struct Finding {
+    pub number: u8,
+    pub file: u8,
+    pub row: usize,
+    pub first: usize,
+    pub second: usize,
+    pub differ: usize,
+}
+
+// The lists' lengths, or why there is none: the first file is refused, or the second, or a list is longer than its buffer.
+pub enum Compared {
+    Done(usize, usize, usize),
+    First(Refusal),
+    Second(Refusal),
+    Room,
+}
+
+// A refusal of file k.
+fn refused_in(k: u8, x: Refusal) -> Finding
+    ensures { λ r. ⌜ r ≡ refusedIn k (refusalAnswer x) ⌝ }
+{
+    let a = x.answer();
+    Finding {
+        number: a.number,
+        file: k,
+        row: a.row,
+        first: 0,
+        second: 0,
+        differ: 0,
+    }
+}
+
+impl Compared {
+    pub fn finding(self) -> Finding
+        ensures { λ r. ⌜ r ≡ findingOf self ⌝ }
+    {
+        match self {
+            Compared::Done(a, b, c) => Finding {
+                number: 0,
+                file: 0,
+                row: 0,
+                first: a,
+                second: b,
+                differ: c,
+            },
+            Compared::First(x) => refused_in(1, x),
+            Compared::Second(x) => refused_in(2, x),
+            Compared::Room => Finding {
+                number: 36,
+                file: 0,
+                row: 0,
+                first: 0,
+                second: 0,
+                differ: 0,
+            },
+        }
+    }
+}
+
+// A list is longer than its buffer.
+fn too_long(n: Counts, first: usize, second: usize, differ: usize) -> bool
+    ensures { λ r. ⌜ r ≡ longer n first second differ ⌝ }
+{
+    if first < n.first {
+        return true;
+    }
+    if second < n.second {
+        return true;
+    }
+    differ < n.differ
+}
+
+// Whether a list of two files that pass is longer than its buffer. None is if each buffer has room for every row; else the lists are counted.
+fn no_room(f: &[u8], g: &[u8], first: &mut [u32], second: &mut [u32], differ: &mut [u32]) -> bool
+    requires { ⌜ Sound (now f) (now g) ⌝ }
+    ensures { λ r. ⌜ (r ≡ tooLong (now (f .entry)) (now (g .entry)) (now (first .entry)) (now (second .entry)) (now (differ .entry)))
+        × (now (first .exit) ≡ now (first .entry)) × (now (second .exit) ≡ now (second .entry)) × (now (differ .exit) ≡ now (differ .entry)) ⌝ }
+{
+    if !too_long(most(f, g), first.len(), second.len(), differ.len()) {
+        return false;
+    }
+    let n = pass(f, g, false, first, second, differ);
+    too_long(n, first.len(), second.len(), differ.len())
+}
+
+// The three lists of two files that pass, or 36, which is known before any of them is written.
+fn lists(f: &[u8], g: &[u8], first: &mut [u32], second: &mut [u32], differ: &mut [u32]) -> Compared
+    requires { ⌜ Sound (now f) (now g) ⌝ }
+    ensures { λ r. ⌜ _≡_ {A = Comparison} (record { finding = findingOf r; first = now (first .exit); second = now (second .exit); differ = now (differ .exit) })
+        (comparison (now (f .entry)) (now (g .entry)) (now (first .entry)) (now (second .entry)) (now (differ .entry))) ⌝ }
+{
+    if no_room(f, g, first, second, differ) {
+        return Compared::Room;
+    }
+    let m = pass(f, g, true, first, second, differ);
+    Compared::Done(m.first, m.second, m.differ)
+}
+
+// Compares two files: the first's refusal, the second's, 36 where a list is longer than its buffer, else the three lists.
+pub fn compare(
+    first: &[u8],
+    second: &[u8],
+    only_first: &mut [u32],
+    only_second: &mut [u32],
+    differ: &mut [u32],
+) -> Compared
+    ensures { λ r. ⌜ _≡_ {A = Comparison} (record { finding = findingOf r; first = now («only_first» .exit); second = now («only_second» .exit); differ = now (differ .exit) })
+        (comparison (now (first .entry)) (now (second .entry)) (now («only_first» .entry)) (now («only_second» .entry)) (now (differ .entry))) ⌝ }
+{
+    match check(first) {
+        Checked::Refused(x) => {
+            return Compared::First(x);
+        }
+        Checked::Passed => {}
+    }
+    match check(second) {
+        Checked::Refused(x) => {
+            return Compared::Second(x);
+        }
+        Checked::Passed => {}
+    }
+    lists(first, second, only_first, only_second, differ)
+}

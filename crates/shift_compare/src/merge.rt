@@ -1,0 +1,176 @@
+// One pass over the tables of two files that pass the check, as a merge.
+use crate::entry::same_entry;
+use shift_format::row::count;
+use shift_format::row::row_at;
+use shift_format::row::row_size_of;
+ghost use mathlib.Core.Path.{_≡_};
+ghost use mathlib.Core.Bool.{true, cond, _&&_};
+ghost use Prim.Native.Nat.{_+_, _<_, _≤_};
+ghost use lib.ListN.{length, set};
+ghost use Rattle.shift_format.specs.Format.{countOf};
+ghost use Rattle.shift_check.specs.Check.{checkFile};
+ghost use Rattle.shift_compare.specs.Comparing.{jobAt};
+ghost use Rattle.shift_compare.specs.Inside.{Sound, At, firstTurn, secondTurn, Turned, Passable, Passed};
+
+// One iteration: which job is appended to which list, and the two indices after it.
+struct Turn {
+    job: u32,
+    first: bool,
+    second: bool,
+    differ: bool,
+    i: usize,
+    j: usize,
+}
+
+// How long the three lists are.
+pub(crate) struct Counts {
+    pub(crate) first: usize,
+    pub(crate) second: usize,
+    pub(crate) differ: usize,
+}
+
+// How many rows a file that passes has.
+fn rows(f: &[u8]) -> usize
+    requires { ⌜ checkFile (now f) .number ≡ 0 ⌝ }
+    ensures { λ r. ⌜ (r ≡ countOf (now (f .entry))) × (r ≤ 512) ⌝ }
+{
+    count(f)
+}
+
+// How long the three lists can be: a job for each row of their file.
+pub(crate) fn most(f: &[u8], g: &[u8]) -> Counts
+    requires { ⌜ Sound (now f) (now g) ⌝ }
+    ensures { λ r. ⌜ (r .first ≡ countOf (now (f .entry))) × (r .second ≡ countOf (now (g .entry))) × (r .differ ≡ countOf (now (f .entry))) ⌝ }
+{
+    let n = rows(f);
+    Counts {
+        first: n,
+        second: rows(g),
+        differ: n,
+    }
+}
+
+// The job of its row i.
+fn job_of(f: &[u8], i: usize) -> u32
+    requires { ⌜ (checkFile (now f) .number ≡ 0) × (i < countOf (now f)) ⌝ }
+    ensures { λ r. ⌜ r ≡ jobAt (now (f .entry)) i ⌝ }
+{
+    let row = row_at(row_size_of(f), f, i);
+    row.job
+}
+
+// The first file's next job is in that file alone.
+fn first_turn(job: u32, i: usize, j: usize) -> Turn
+    requires { ⌜ i < 512 ⌝ }
+    ensures { λ t. ⌜ t ≡ firstTurn job i j ⌝ }
+{
+    Turn {
+        job: job,
+        first: true,
+        second: false,
+        differ: false,
+        i: i + 1,
+        j: j,
+    }
+}
+
+// The second file's next job is in that file alone.
+fn second_turn(job: u32, i: usize, j: usize) -> Turn
+    requires { ⌜ j < 512 ⌝ }
+    ensures { λ t. ⌜ t ≡ secondTurn job i j ⌝ }
+{
+    Turn {
+        job: job,
+        first: false,
+        second: true,
+        differ: false,
+        i: i,
+        j: j + 1,
+    }
+}
+
+// The iteration where both files have a row left.
+fn both_turn(f: &[u8], g: &[u8], i: usize, j: usize) -> Turn
+    requires { ⌜ At (now f) (now g) i j × (i < countOf (now f)) × (j < countOf (now g)) ⌝ }
+    ensures { λ t. ⌜ Turned (now (f .entry)) (now (g .entry)) i j t ⌝ }
+{
+    let first_job = job_of(f, i);
+    let second_job = job_of(g, j);
+    if first_job < second_job {
+        return first_turn(first_job, i, j);
+    }
+    if second_job < first_job {
+        return second_turn(second_job, i, j);
+    }
+    let same = same_entry(f, g, i, j);
+    Turn {
+        job: first_job,
+        first: false,
+        second: false,
+        differ: !same,
+        i: i + 1,
+        j: j + 1,
+    }
+}
+
+// The next iteration, where a row is left.
+fn take_turn(f: &[u8], g: &[u8], i: usize, j: usize) -> Turn
+    requires { ⌜ At (now f) (now g) i j × (i + j < countOf (now f) + countOf (now g)) ⌝ }
+    ensures { λ t. ⌜ Turned (now (f .entry)) (now (g .entry)) i j t ⌝ }
+{
+    if rows(g) <= j {
+        return first_turn(job_of(f, i), i, j);
+    }
+    if rows(f) <= i {
+        return second_turn(job_of(g, j), i, j);
+    }
+    both_turn(f, g, i, j)
+}
+
+// The length of a list of `at` jobs after this one: one more where `yes`, and then the job is written where `write` says so.
+fn put(out: &mut [u32], at: usize, yes: bool, write: bool, job: u32) -> usize
+    requires { ⌜ (yes ≡ true → write ≡ true → at < length (now out)) × (yes ≡ true → at < 512) ⌝ }
+    ensures { λ r. ⌜ (r ≡ cond yes (at + 1) at) × (now (out .exit) ≡ cond (yes && write) (set (now (out .entry)) at job) (now (out .entry))) ⌝ }
+{
+    if yes {
+        if write {
+            out[at] = job;
+            return at + 1;
+        }
+        return at + 1;
+    }
+    at
+}
+
+// The pass over both tables: counts the three lists, and writes them where `write` says so.
+pub(crate) fn pass(
+    f: &[u8],
+    g: &[u8],
+    write: bool,
+    first: &mut [u32],
+    second: &mut [u32],
+    differ: &mut [u32],
+) -> Counts
+    requires { ⌜ Passable (now f) (now g) write (now first) (now second) (now differ) ⌝ }
+    ensures { λ r. ⌜ Passed (now (f .entry)) (now (g .entry)) write (now (first .entry)) (now (second .entry)) (now (differ .entry)) r (now (first .exit)) (now (second .exit)) (now (differ .exit)) ⌝ }
+{
+    let total = rows(f) + rows(g);
+    let mut i: usize = 0;
+    let mut j: usize = 0;
+    let mut in_first: usize = 0;
+    let mut in_second: usize = 0;
+    let mut in_both: usize = 0;
+    while i + j < total {
+        let t = take_turn(f, g, i, j);
+        in_first = put(first, in_first, t.first, write, t.job);
+        in_second = put(second, in_second, t.second, write, t.job);
+        in_both = put(differ, in_both, t.differ, write, t.job);
+        i = t.i;
+        j = t.j;
+    }
+    Counts {
+        first: in_first,
+        second: in_second,
+        differ: in_both,
+    }
+}

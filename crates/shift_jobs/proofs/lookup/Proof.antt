@@ -1,0 +1,62 @@
+-- A refused check stands; after one that passed comes the search.
+use mathlib.Core.Path.{sym}
+use native.Mathlib.Omega.{arith}
+use denote.Ref.{now}
+use Rattle.shift_jobs.specs.Lookup.{lookupJob}
+use Rattle.shift_format.specs.Format.{firstEdition, newest}
+use Rattle.shift_check.proofs.Passed.{passes, passed-zero, refused-stands}
+use borrow.Author.Needs.{needs}
+use Rattle.shift_jobs.proofs.lookup.Statement.{statement}
+use Rattle.shift_jobs.proofs.lookup.Tie as tie
+
+check-requires : tie.Need-check-requires
+check-requires c κs = search needs
+
+enum-known-x : tie.Need-enum-known-x
+enum-known-x c = search needs
+
+returns : tie.Need-returns
+unfolding lookupJob
+returns c = sym (refused-stands _ _ _ _ (c .before .x .given .1) (c .before .before .before .check .ensures))
+
+enum-told : tie.Need-enum-told
+enum-told c = search needs
+
+row-size-of-requires : tie.Need-row-size-of-requires
+row-size-of-requires c κs =
+    let h = c .before .before in
+    let f = now (h .before .before .args .file) in
+    passes firstEdition newest f (passed-zero _ _ (c .enum-told .given .1) (h .check .ensures)) .head .long
+
+count-requires : tie.Need-count-requires
+count-requires c κs =
+    let h = c .before .before .before in
+    let f = now (h .before .before .args .file) in
+    let k = passes firstEdition newest f (passed-zero _ _ (c .before .enum-told .given .1) (h .check .ensures)) .head .long in
+    omega arith
+
+find-job-requires : tie.Need-find-job-requires
+find-job-requires c κs =
+    let h = c .before .before .before .before in
+    let f = now (h .before .before .args .file) in
+    let k = passes firstEdition newest f (passed-zero _ _ (c .before .before .enum-told .given .1) (h .check .ensures)) in
+    rw (c .count .ensures, c .before .row-size-of .ensures) (k .head .table)
+
+returns-2 : tie.Need-returns-2
+unfolding lookupJob
+returns-2 c =
+    let z = passed-zero _ _ (c .before .before .before .enum-told .given .1) (c .before .before .before .before .before .check .ensures) in
+    simp (z, ← c .before .count .ensures, ← c .before .before .row-size-of .ensures, c .find-job .ensures)
+
+pub lookup-spec : {M : Type 1} → statement M
+lookup-spec =
+    tie.close
+    (tie.spec
+    check-requires
+    enum-known-x
+    returns
+    enum-told
+    row-size-of-requires
+    count-requires
+    find-job-requires
+    returns-2)

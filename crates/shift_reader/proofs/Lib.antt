@@ -1,0 +1,4 @@
+pub mod Asking
+pub mod ByRow
+pub mod Outcomes
+pub mod Held

@@ -1,0 +1,60 @@
+// The entries of a shift file: a cursor by value, a reader that holds the file and its position, and rows by number.
+pub mod contents;
+pub mod cursor;
+
+use cursor::Cursor;
+use cursor::NextRow;
+use cursor::Stepped;
+use cursor::ask;
+use cursor::start;
+ghost use mathlib.Core.Path.{_≡_};
+ghost use Rattle.shift_reader.specs.Reading.{askOf, readerOf, nextOf};
+
+// The reader: the file, and the place in it.
+pub struct Reader<'a> {
+    src: &'a [u8],
+    place: Cursor,
+}
+
+// The result of a call, and the reader after it.
+pub struct Asked<'a> {
+    pub reader: Reader<'a>,
+    pub entry: NextRow,
+}
+
+// The reader of a file, at its first entry.
+pub fn read<'a>(src: &'a [u8]) -> Reader<'a>
+    ensures { λ r. ⌜ r ≡ readerOf (src .entry) ⌝ }
+{
+    Reader {
+        src,
+        place: start(src),
+    }
+}
+
+impl<'a> Reader<'a> {
+    // The next entry, and the reader past it.
+    pub fn next(self) -> Asked<'a>
+        ensures { λ s. ⌜ s ≡ nextOf (self .entry) ⌝ }
+    {
+        let s = ask(self.place, self.src);
+        Asked {
+            reader: Reader {
+                src: self.src,
+                place: s.next,
+            },
+            entry: s.entry,
+        }
+    }
+}
+
+// The entry of a file at a place, and the place past it, by the reader: for callers that hold no reader.
+pub fn step_at(file: &[u8], place: Cursor) -> Stepped
+    ensures { λ r. ⌜ r ≡ askOf place (now (file .entry)) ⌝ }
+{
+    let a = Reader { src: file, place }.next();
+    Stepped {
+        next: a.reader.place,
+        entry: a.entry,
+    }
+}

@@ -1,0 +1,4 @@
+pub mod Fronts
+pub mod Tags
+pub mod Written
+pub mod Outcomes

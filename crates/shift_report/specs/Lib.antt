@@ -1,0 +1,3 @@
+pub mod Reporting
+pub mod Promised
+pub mod Inside

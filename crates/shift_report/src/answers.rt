@@ -1,0 +1,58 @@
+// The result of a report, and its numbers in documents 01 and 02.
+use status::checked::Refusal;
+ghost use mathlib.Core.Path.{_≡_};
+ghost use Rattle.status.specs.Answers.{refusalAnswer};
+ghost use Rattle.shift_report.specs.Reporting.{refuses, saidOf};
+
+// A number and the row that it carries, and how many entries there are.
+pub struct ReportSummary {
+    pub number: u8,
+    pub row: usize,
+    pub count: usize,
+}
+
+// How many entries a file has, or why there is no report: the file is refused, the ring is not of 256 bytes, or a list has
+// fewer places than there are entries.
+pub enum Reported {
+    Entries(usize),
+    Refused(Refusal),
+    Ring,
+    Room,
+}
+
+// A refusal of the file.
+fn refused(x: Refusal) -> ReportSummary
+    ensures { λ r. ⌜ r ≡ refuses (refusalAnswer x) ⌝ }
+{
+    let a = x.answer();
+    ReportSummary {
+        number: a.number,
+        row: a.row,
+        count: 0,
+    }
+}
+
+impl Reported {
+    pub fn said(self) -> ReportSummary
+        ensures { λ r. ⌜ r ≡ saidOf self ⌝ }
+    {
+        match self {
+            Reported::Entries(n) => ReportSummary {
+                number: 0,
+                row: 0,
+                count: n,
+            },
+            Reported::Refused(x) => refused(x),
+            Reported::Ring => ReportSummary {
+                number: 2,
+                row: 0,
+                count: 0,
+            },
+            Reported::Room => ReportSummary {
+                number: 6,
+                row: 0,
+                count: 0,
+            },
+        }
+    }
+}

@@ -1,0 +1,138 @@
+// Sealing in parts: the caller owns the session as nine words, and every call borrows them. Any nine words may arrive.
+use block::Block;
+use session::Session;
+ghost use mathlib.Core.Path.{_≡_};
+ghost use mathlib.Core.List.{[]};
+ghost use Prim.Native.Nat.{_<_};
+ghost use lib.ListN.{getD, replicate};
+ghost use Rattle.session.specs.Value.{starting, dataPart, textPart, ending};
+ghost use Rattle.session.specs.Structs.{asValue};
+ghost use Rattle.snoekeldraf.specs.Words.{ofWords, wordsOf, after, inWords};
+
+// The nine words by value: nine of them, and each of 64 bits.
+fn copied(state: &[u64; 9]) -> [u64; 9]
+    ensures { λ r. ⌜ r ≡ now (state .entry) ⌝ }
+{
+    *state
+}
+
+// The session that nine words stand for.
+fn session_of(w: [u64; 9]) -> Session
+    requires { ⌜ getD w 0 0 < 256 ⌝ }
+    ensures { λ r. ⌜ asValue r ≡ ofWords w ⌝ }
+{
+    let held = block::bytes_of(Block { a: w[5], b: w[6] });
+    Session {
+        suite: w[0] as u8,
+        y: Block { a: w[1], b: w[2] },
+        z: Block { a: w[3], b: w[4] },
+        held: held,
+        ad_total: w[7] as usize,
+        text_total: w[8] as usize,
+    }
+}
+
+// The nine words of a session.
+fn words_of(s: Session) -> [u64; 9]
+    ensures words { λ r. ⌜ r ≡ wordsOf (asValue s) ⌝ }
+    ensures session { λ r. ⌜ ofWords r ≡ asValue s ⌝ }
+{
+    let y = s.y;
+    let z = s.z;
+    let held = s.held;
+    let h = block::block_of(held);
+    [
+        s.suite as u64,
+        y.a,
+        y.b,
+        z.a,
+        z.b,
+        h.a,
+        h.b,
+        s.ad_total as u64,
+        s.text_total as u64,
+    ]
+}
+
+// Starts a session; a refused start leaves nine zeros, which every later call answers by 9.
+#[no_mangle]
+pub extern "C" fn comet_session_start(
+    state: &mut [u64; 9],
+    suite: u8,
+    key: &[u8],
+    nonce: &[u8],
+) -> u32
+    ensures { λ r. ⌜ after r 0 (now (state .exit)) [] [] ≡ inWords (starting suite (now (key .entry)) (now (nonce .entry))) ⌝ }
+{
+    let r = Session::start(suite, key, nonce);
+    let next = r.next;
+    *state = words_of(next);
+    r.number as u32
+}
+
+// A part of the associated data.
+#[no_mangle]
+pub extern "C" fn comet_session_data(state: &mut [u64; 9], ad: &[u8]) -> u32
+    ensures { λ r. ⌜ after r 0 (now (state .exit)) [] [] ≡ inWords (dataPart (ofWords (now (state .entry))) (now (ad .entry))) ⌝ }
+{
+    let w = copied(state);
+    if w[0] > 255 {
+        return 9;
+    }
+    let r = session_of(w).associated(ad);
+    let next = r.next;
+    *state = words_of(next);
+    r.number as u32
+}
+
+// A part of the message.
+#[no_mangle]
+pub extern "C" fn comet_session_part(
+    state: &mut [u64; 9],
+    msg: &[u8],
+    out: &mut [u8],
+    count: &mut u32,
+) -> u32
+    ensures { λ r. ⌜ after r (now (count .exit)) (now (state .exit)) (now (out .exit)) [] ≡ inWords (textPart (ofWords (now (state .entry))) (now (msg .entry)) (now (out .entry))) ⌝ }
+{
+    let w = copied(state);
+    if w[0] > 255 {
+        *count = 0;
+        return 9;
+    }
+    let r = session_of(w).message(msg, out);
+    let next = r.next;
+    *state = words_of(next);
+    *count = r.count as u32;
+    r.number as u32
+}
+
+// The end: the rest of the ciphertext into out, and the tag; the session is over.
+#[no_mangle]
+pub extern "C" fn comet_session_end(
+    state: &mut [u64; 9],
+    out: &mut [u8],
+    tag: &mut [u8],
+    count: &mut u32,
+) -> u32
+    ensures { λ r. ⌜ after r (now (count .exit)) (now (state .exit)) (now (out .exit)) (now (tag .exit)) ≡ inWords (ending (ofWords (now (state .entry))) (now (out .entry)) (now (tag .entry))) ⌝ }
+{
+    let w = copied(state);
+    if w[0] > 255 {
+        *count = 0;
+        return 9;
+    }
+    let r = session_of(w).finish(out, tag);
+    let next = r.next;
+    *state = words_of(next);
+    *count = r.count as u32;
+    r.number as u32
+}
+
+// Wipes a session: nine zeros, which every later call answers by 9.
+#[no_mangle]
+pub extern "C" fn comet_session_wipe(state: &mut [u64; 9])
+    ensures { λ _. ⌜ now (state .exit) ≡ replicate 9 0 ⌝ }
+{
+    *state = [0u64; 9];
+}

@@ -1,6 +1,0 @@
-// The block step of COMET: the two states Y and Z, a block put in, what goes out for it, and the tag.
-pub mod block;
-mod pad;
-mod shuffle;
-pub mod state;
-pub mod tag;

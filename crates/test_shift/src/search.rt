@@ -1,0 +1,47 @@
+// The binary search. Job: the first one; numbers: the length of the file and how many jobs; the file follows.
+//
+// A line for each job from the first on: number, row, how many rows were looked at.
+use program_text::call::Call;
+use program_text::text::and_number;
+use program_text::text::answer;
+use program_text::text::end;
+
+fn one(file: &[u8], job: u32, line: &mut [u8], at: usize) -> usize {
+    let s = shift_search::search(file, job);
+    let found = s.found;
+    let a = found.answer();
+    let at = answer(line, at, a.number, a.row);
+    let at = and_number(line, at, s.looked as u64);
+    end(line, at)
+}
+
+// A line for each of so many jobs, as far as there are numbers.
+fn searches(file: &[u8], first: u32, count: usize, line: &mut [u8]) -> usize {
+    let mut at: usize = 0;
+    let mut job = first;
+    let mut left = count;
+    while 0 < left {
+        at = one(file, job, line, at);
+        if u32::MAX <= job {
+            return at;
+        }
+        job += 1;
+        left -= 1;
+    }
+    at
+}
+
+// Reads the file of a call into f and runs it; no line where f has no room or the input ends.
+fn run_in(f: &mut [u8], c: Call, line: &mut [u8]) -> usize {
+    let n = c.first;
+    let file = program_text::read::field(f, n);
+    if file.len() != n {
+        return 0;
+    }
+    searches(file, c.job, c.second, line)
+}
+
+pub(crate) fn run(c: Call, line: &mut [u8]) -> usize {
+    let mut f = program_text::read::file_room();
+    run_in(&mut f, c, line)
+}

@@ -1,2 +1,0 @@
-// Bytes and words: what every crate above reads, turns, adds and writes by.
-pub mod block;

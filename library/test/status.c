@@ -1,0 +1,13 @@
+/* Prints the library's version, and the words of the statuses 0 to 40 and of the largest number. */
+#include <stdio.h>
+
+#include "snoekeldraf.h"
+
+int main(void)
+{
+    uint32_t version = snoekeldraf_version();
+    printf("%u.%u.%u\n", (unsigned)(version >> 16), (unsigned)(version >> 8 & 255), (unsigned)(version & 255));
+    for (uint32_t status = 0; status <= 40; status++) printf("%u %s\n", (unsigned)status, snoekeldraf_words(status));
+    printf("%u %s\n", 4294967295u, snoekeldraf_words(4294967295u));
+    return 0;
+}
