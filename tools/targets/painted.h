@@ -1,0 +1,35 @@
+/* The stack that a call takes: the stack below the caller is filled with a pattern, and after the call the deepest word that
+ * was overwritten is looked for. What the call's arguments take on the stack is included.
+ *
+ * PAINTED(f, ..) is the call f(..), measured under the name f; print_stacks() prints the most that each name took.
+ */
+#ifndef PAINTED_H
+#define PAINTED_H
+
+#include <stdint.h>
+
+enum { PAINTED_WORDS = 4096 };
+#define PAINT 0xa5a5a5a5u
+
+static inline __attribute__((always_inline)) volatile uint32_t *stack_pointer(void) {
+    volatile uint32_t *at;
+#if defined __x86_64__
+    __asm__ volatile("mov %%rsp, %0" : "=r"(at));
+#else
+    __asm__ volatile("mov %0, sp" : "=r"(at));
+#endif
+    return at;
+}
+
+/* Inlined, so that it has no frame of its own below the caller's. */
+static inline __attribute__((always_inline)) void paint(void) {
+    volatile uint32_t *top = stack_pointer();
+    for (volatile uint32_t *p = top - PAINTED_WORDS; p != top; p++) *p = PAINT;
+}
+
+uint32_t painted(const char *name, volatile uint32_t *top, uint32_t result);
+void print_stacks(void);
+
+#define PAINTED(f, ...) (paint(), painted(#f, stack_pointer(), (f)(__VA_ARGS__)))
+
+#endif
