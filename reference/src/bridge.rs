@@ -322,13 +322,13 @@ fn report(file: &[u8], ring: &[u8], jobs: &mut [u32], numbers: &mut [u8]) -> Rep
 }
 
 fn contents_header(file: &[u8]) -> Header {
-    let (status, [edition, count]) = ask(27, vec![Given(file)]);
+    let (status, [edition, count]) = ask(29, vec![Given(file)]);
     (status, edition, count)
 }
 
 fn contents_row(file: &[u8], row: u32) -> (u32, Fields) {
     let mut fields = [0xa5; 36];
-    let (status, []) = ask(28, vec![Given(file), Number(row.into()), Lent(&mut fields)]);
+    let (status, []) = ask(30, vec![Given(file), Number(row.into()), Lent(&mut fields)]);
     (status, numbers_of(&fields).try_into().unwrap())
 }
 

@@ -24,6 +24,18 @@ pub type OpenCounted = fn(u8, &[u8], &[u8], &[u8], &[u8], &[u8], &mut [u8]) -> (
 /// Works on a record where it lies: text and tag come back as they are afterwards, also where they are only read.
 pub type OnRecord = fn(u8, &[u8], &[u8], &[u8], &mut [u8], &mut [u8]) -> u32;
 
+/// Where the associated data of a verified job is: number and row, offset and length.
+pub type Verified = fn(&[u8], &[u8], u32) -> (shift::Answer, usize, usize);
+
+/// Compares two files into three lists.
+pub type Compare = fn(&[u8], &[u8], [&mut [u32]; 3]) -> Compared;
+
+/// Opens a job's current entry: number, file and row.
+pub type OpenCurrent = fn(&[u8], &[u8], &[u8], u32, &mut [u8]) -> (u32, u32, u32);
+
+/// Reports on a file into two lists.
+pub type MakeReport = fn(&[u8], &[u8], &mut [u32], &mut [u8]) -> Report;
+
 /// Takes a file and a ring, and writes a file.
 pub type Rewrite = fn(&[u8], &[u8], &mut [u8]) -> shift::Answer;
 
@@ -41,7 +53,7 @@ pub struct Library {
     pub associated: fn(&[u8], u32) -> (u32, usize, usize),
     pub entry: fn(&[u8], u32) -> (shift::Answer, shift::Places),
     pub open_job: fn(&[u8], &[u8], u32, &mut [u8]) -> shift::Answer,
-    pub verified: fn(&[u8], &[u8], u32) -> (shift::Answer, usize, usize),
+    pub verified: Verified,
     pub session_start: fn(u8, &[u8], &[u8]) -> Step,
     pub session_data: fn(Session, &[u8]) -> Step,
     pub session_part: fn(Session, &[u8], &mut [u8]) -> Step,
@@ -51,15 +63,15 @@ pub struct Library {
     pub unseal_file: Rewrite,
     pub search: fn(&[u8], u32) -> (shift::Answer, u32),
     pub reseal: Rewrite,
-    pub compare: fn(&[u8], &[u8], [&mut [u32]; 3]) -> Compared,
+    pub compare: Compare,
     pub moved_length: fn(&[u8]) -> usize,
     pub to_edition2: fn(&[u8], &mut [u8]) -> shift::Answer,
     pub to_edition1: fn(&[u8], &mut [u8]) -> shift::Answer,
     pub amended: fn(&[u8], &[u8], u32) -> Amended,
-    pub open_current: fn(&[u8], &[u8], &[u8], u32, &mut [u8]) -> (u32, u32, u32),
+    pub open_current: OpenCurrent,
     pub seal_counted: SealCounted,
     pub open_counted: OpenCounted,
-    pub report: fn(&[u8], &[u8], &mut [u32], &mut [u8]) -> Report,
+    pub report: MakeReport,
     pub contents_header: fn(&[u8]) -> contents::Header,
     pub contents_row: fn(&[u8], u32) -> (u32, contents::Fields),
 }

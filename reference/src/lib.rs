@@ -1,27 +1,16 @@
-//! The reference implementation of the four block ciphers, COMET versions 1 and 2, the plant's shift file and its tools.
+//! The reference implementation of the four block ciphers, COMET versions 1 and 2, the plant's shift file and its tools; the
+//! cases that are made with it; and the comparison of the proved library with it. The README has a map of the modules.
 //!
-//! It is written separately, from the papers and documents 01 and 02 alone, and shares nothing with the proved crates.
-//!
-//! The first list of modules below is the implementation. The rest makes inputs of it: `random`, `plan` and `calls` say what a
-//! call is, `data` holds the calls that the test programs run and compare with, and `trials` and `data` those of the comparison
-//! with the proved library.
+//! The implementation is in `oracle`. It is written separately, from the papers and documents 01 and 02 alone, and shares
+//! nothing with the proved crates.
 
-pub mod aes;
-pub mod amendment;
-pub mod cham;
-pub mod comet;
-pub mod contents;
-pub mod difference;
-pub mod editions;
-pub mod printed;
-pub mod report;
-pub mod reseal;
-pub mod search;
-pub mod session;
-pub mod shift;
-pub mod speck;
-pub mod writer;
+pub mod oracle;
+pub use oracle::{
+    aes, amendment, cham, comet, contents, difference, editions, printed, report, reseal, search, session, shift,
+    speck, writer,
+};
 
+// The cases: what is put to an implementation, and the data of the test programs.
 pub mod calls;
 pub mod data;
 pub mod plan;
@@ -29,6 +18,7 @@ pub mod random;
 pub mod show;
 pub mod trials;
 
+// The comparison with the proved library.
 #[cfg(bridged)]
 pub mod bridge;
 #[cfg(feature = "linked")]

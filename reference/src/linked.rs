@@ -150,6 +150,14 @@ mod proved {
             let ((number, row), count) = raw::report(file, ring, jobs, numbers);
             Report { number, row, count }
         },
+        contents_header: |file| {
+            let (status, [edition, count]) = raw::rows(file);
+            (status, edition, count)
+        },
+        contents_row: |file, row| {
+            let (status, f) = raw::row(file, row);
+            (status, [f.job, f.station, f.suite, f.key_number, f.nonce_at, f.ad_at, f.ad_len, f.text_at, f.text_len])
+        },
     };
 }
 #[cfg(all(bridged, not(native)))]

@@ -1,6 +1,6 @@
 //! The plant's programs on real files, by `./run` and by themselves: what they print, the files that they write, how `./run`
-//! ends, and what is left where a file cannot be read or written. Each test is skipped, and says so, where the programs are
-//! not built (`rt check`).
+//! ends, and what is left where a file cannot be read or written. The tests take the programs as they are built and never start
+//! the prover; where a program is not built they are skipped, and one line says so.
 
 use reference::data::printing::{self, PrintCall};
 use reference::data::{files, samples};
@@ -8,11 +8,11 @@ use reference::plan::{Entry, Plan};
 use reference::printed::ROOM;
 use reference::shift::{self, rows};
 use reference::{difference, editions, printed, report, reseal, writer};
+use std::io::Write;
+use std::os::unix::fs::PermissionsExt;
 use std::path::{Path, PathBuf};
 use std::process::{Command, Output};
-use std::sync::Mutex;
-
-static ALONE: Mutex<()> = Mutex::new(());
+use std::sync::Once;
 
 const PROGRAMS: [&str; 6] = ["job", "current", "write", "convert", "differ", "inspect"];
 
@@ -20,16 +20,35 @@ fn root() -> PathBuf {
     Path::new(env!("CARGO_MANIFEST_DIR")).join("..").canonicalize().unwrap()
 }
 
-fn is_built() -> bool {
-    let kit = Command::new("rt").arg("doc").output().is_ok_and(|output| output.status.success());
-    let missing = PROGRAMS.into_iter().find(|name| !root().join("target/bin").join(name).exists());
-    if !kit {
-        eprintln!("skipped: the Rattle kit is not there");
-    } else if let Some(name) = missing {
-        eprintln!("skipped: target/bin/{name} is not built (rt check {name})");
-    }
-    kit && missing.is_none()
+/// Where the command `rt` is.
+fn kit() -> Option<PathBuf> {
+    std::env::split_paths(&std::env::var_os("PATH")?).map(|folder| folder.join("rt")).find(|path| path.is_file())
 }
+
+/// What keeps the programs from being run.
+fn lacking() -> Option<String> {
+    let not_built = |name: &&str| !root().join("target/bin").join(name).exists();
+    match (kit(), PROGRAMS.into_iter().find(not_built)) {
+        (None, _) => Some("the Rattle kit is not there".to_string()),
+        (_, Some(name)) => Some(format!("target/bin/{name} is not built (rt check {name})")),
+        _ => None,
+    }
+}
+
+/// Whether the programs can be run. If not, one line for all tests says so: the harness shows what goes to the standard error
+/// itself, and hides what a test prints.
+fn is_built() -> bool {
+    static SAID: Once = Once::new();
+    let lacking = lacking();
+    if let Some(what) = &lacking {
+        let line = format!("skipped: every test that runs a program: {what}\n");
+        SAID.call_once(|| std::io::stderr().write_all(line.as_bytes()).unwrap());
+    }
+    lacking.is_none()
+}
+
+/// Stands in for `rt` while `./run` is tested: the programs are as they are built, and nothing is proved.
+const STAND_IN: &str = "#!/bin/sh\ncase $1 in check) exit 0 ;; *) exec \"$RT_OF_KIT\" \"$@\" ;; esac\n";
 
 /// A folder of a test's own, gone at its end.
 struct Folder(PathBuf);
@@ -66,10 +85,25 @@ impl Folder {
         String::from_utf8(self.program(name, arguments).stdout).unwrap()
     }
 
-    /// `./run NAME`: how it ends, what it prints, and what it says beside. One at a time: it asks `rt` for the program.
+    /// A folder beside this one with the stand-in for `rt`.
+    fn stand_in(&self) -> PathBuf {
+        let folder = self.0.with_extension("rt");
+        let rt = folder.join("rt");
+        if !rt.exists() {
+            std::fs::create_dir_all(&folder).unwrap();
+            std::fs::write(&rt, STAND_IN).unwrap();
+            std::fs::set_permissions(&rt, std::fs::Permissions::from_mode(0o755)).unwrap();
+        }
+        folder
+    }
+
+    /// `./run NAME`: exit status, standard output, standard error.
     fn run(&self, arguments: &[&str]) -> (i32, String, String) {
-        let _alone = ALONE.lock().unwrap_or_else(|broken| broken.into_inner());
-        let output = Command::new(root().join("run")).args(arguments).current_dir(&self.0).output().unwrap();
+        let old = std::env::var_os("PATH").unwrap();
+        let path = std::env::join_paths([self.stand_in()].into_iter().chain(std::env::split_paths(&old))).unwrap();
+        let mut command = Command::new(root().join("run"));
+        command.args(arguments).current_dir(&self.0).env("PATH", path).env("RT_OF_KIT", kit().unwrap());
+        let output = command.output().unwrap();
         let text = |bytes: Vec<u8>| String::from_utf8(bytes).unwrap();
         (output.status.code().unwrap(), text(output.stdout), text(output.stderr))
     }
@@ -78,6 +112,7 @@ impl Folder {
 impl Drop for Folder {
     fn drop(&mut self) {
         let _ = std::fs::remove_dir_all(&self.0);
+        let _ = std::fs::remove_dir_all(self.0.with_extension("rt"));
     }
 }
 

@@ -8,11 +8,12 @@ fn main() -> Result<(), Box<dyn Error>> {
     let [file, ring] = &words[..] else { return Err("day FILE RING".into()) };
     let ring = Ring::try_from(&std::fs::read(ring)?[..])?;
     let bytes = std::fs::read(file)?;
-    let file = ShiftFile::check(&bytes)?;
-    for entry in file.entries() {
+    for entry in ShiftFile::check(&bytes)?.entries() {
         let mut message = vec![0; entry.text.len()];
-        match file.open_job(&ring, entry.job, &mut message) {
-            Ok(()) => println!("{} {}", entry.job, String::from_utf8_lossy(&message)),
+        match entry.open(&ring, &mut message) {
+            Ok(verified) => {
+                println!("{} in {}: {}", verified.job(), verified.unit(), String::from_utf8_lossy(&message))
+            }
             Err(refused) => println!("{} {refused}", entry.job),
         }
     }

@@ -4,11 +4,21 @@ use crate::refused::of_two;
 use crate::{raw, Refused};
 #[cfg(feature = "alloc")]
 use {
-    crate::MOST_ROWS,
+    crate::ROWS_MAX,
     alloc::{vec, vec::Vec},
 };
 
-/// The jobs in which two files differ, in rising order: the parts of the lent lists that were written.
+/// The jobs in which two files differ, in rising order: the parts of the caller's lists that were written.
+///
+/// ```
+/// use snoekeldraf::{compare, Difference};
+///
+/// let day = std::fs::read("../../samples/day.shift")?;
+/// let (mut a, mut b, mut c) = ([0; 512], [0; 512], [0; 512]);
+/// let Difference { only_first, only_second, differ } = compare(&day, &day, &mut a, &mut b, &mut c)?;
+/// assert!(only_first.is_empty() && only_second.is_empty() && differ.is_empty());
+/// # Ok::<(), Box<dyn std::error::Error>>(())
+/// ```
 #[derive(Clone, Copy, PartialEq, Eq, Debug)]
 pub struct Difference<'l> {
     /// The jobs only in the first file.
@@ -19,16 +29,16 @@ pub struct Difference<'l> {
     pub differ: &'l [u32],
 }
 
-/// Compares two files, each of edition 1, where every station is 0, or 2. Job numbers are written in rising order from
-/// the front of three lists; lists of [`MOST_ROWS`](crate::MOST_ROWS) places are always long enough. Offsets do not
-/// count, and nothing is opened.
+/// Compares two files, each of edition 1, where every station is 0, or 2. Job numbers are written in rising order to the
+/// front of three lists; lists of [`ROWS_MAX`](crate::ROWS_MAX) elements are always long enough. Offsets do not
+/// count, and no entry is opened.
 ///
 /// Numbers, in this order: those of [`ShiftFile::check`](crate::ShiftFile::check) for the first file (file 1), then for
-/// the second (file 2); 36 where a list is longer than its buffer. A refusal leaves the lists as they were; success
-/// leaves the places behind what is written.
+/// the second (file 2); 36 if a list is longer than its buffer. A refusal leaves the lists unchanged; success leaves the
+/// elements after those that are written.
 ///
 /// ```
-/// use snoekeldraf::{compare, Refused};
+/// use snoekeldraf::{compare, Reason};
 ///
 /// let day = std::fs::read("../../samples/day.shift")?;
 /// let amendment = std::fs::read("../../samples/amendment.shift")?;
@@ -39,7 +49,7 @@ pub struct Difference<'l> {
 /// assert_eq!(difference.differ, [4102, 4110]);
 ///
 /// let refused = compare(&day, &day[..7], &mut [], &mut [], &mut []).unwrap_err();
-/// assert_eq!(refused, Refused { number: 20, row: None, file: Some(2) });
+/// assert_eq!((refused.reason, refused.file), (Reason::FileLength, Some(2)));
 /// # Ok::<(), Box<dyn std::error::Error>>(())
 /// ```
 pub fn compare<'l>(
@@ -56,6 +66,15 @@ pub fn compare<'l>(
 }
 
 /// As [`Difference`], with lists of its own.
+///
+/// ```
+/// use snoekeldraf::{compare_vec, Differences};
+///
+/// let day = std::fs::read("../../samples/day.shift")?;
+/// let Differences { only_first, only_second, differ } = compare_vec(&day, &day)?;
+/// assert!(only_first.is_empty() && only_second.is_empty() && differ.is_empty());
+/// # Ok::<(), Box<dyn std::error::Error>>(())
+/// ```
 #[cfg(feature = "alloc")]
 #[derive(Clone, PartialEq, Eq, Debug)]
 pub struct Differences {
@@ -67,7 +86,7 @@ pub struct Differences {
     pub differ: Vec<u32>,
 }
 
-/// As [`compare`]; gives the three lists. Number 36 cannot come.
+/// As [`compare`]; returns the three lists. Number 36 cannot come.
 ///
 /// ```
 /// use snoekeldraf::compare_vec;
@@ -80,7 +99,7 @@ pub struct Differences {
 /// ```
 #[cfg(feature = "alloc")]
 pub fn compare_vec(first: &[u8], second: &[u8]) -> Result<Differences, Refused> {
-    let [mut a, mut b, mut c] = [0; 3].map(|unwritten| vec![unwritten; MOST_ROWS]);
+    let [mut a, mut b, mut c] = [0; 3].map(|unwritten| vec![unwritten; ROWS_MAX]);
     let Difference { only_first, only_second, differ } = compare(first, second, &mut a, &mut b, &mut c)?;
     let [one, two, both] = [only_first.len(), only_second.len(), differ.len()];
     a.truncate(one);

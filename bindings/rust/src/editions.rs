@@ -5,8 +5,8 @@ use crate::{raw, Refused};
 #[cfg(feature = "alloc")]
 use alloc::{vec, vec::Vec};
 
-/// How long a file is once it is moved, from edition 1 to 2 or from 2 to 1: four bytes more or less for each row. 0 where one
-/// of 20 to 24 applies to it: its move is refused then, whatever `out` is. The rows are not looked at.
+/// The length of a file after its move, from edition 1 to 2 or from 2 to 1: four bytes more or less for each row. 0 if one of
+/// 20 to 24 applies: the move is then refused, whatever `out` is. No row is read.
 ///
 /// ```
 /// let file = std::fs::read("../../samples/stations.shift").unwrap();
@@ -16,12 +16,12 @@ pub fn moved_len(file: &[u8]) -> usize {
     raw::moved_length(file) as usize
 }
 
-/// Moves a file of edition 1 to edition 2, where every row has a station number, 0 everywhere. The total length and every
-/// offset rise by four bytes a row, and the bodies are kept byte for byte. `out` is [`moved_len`] bytes long.
+/// Moves a file of edition 1 to edition 2, in which every row has a station number: 0 in all of them. The total length and
+/// every offset rise by four bytes a row; the bodies are unchanged. `out` is [`moved_len`] bytes long.
 ///
-/// Numbers, in this order: 20 to 31 and 34 as [`ShiftFile::check`](crate::ShiftFile::check), but that 21 says that the
-/// edition is not 1; 20 where the moved file would be over 1,048,576 bytes long; 6 where `out` has another length. A
-/// refusal leaves `out` as it was.
+/// Numbers, in this order: 20 to 31 and 34 as [`ShiftFile::check`](crate::ShiftFile::check), except that 21 means that
+/// the edition is not 1; 20 if the moved file would be over 1,048,576 bytes long; 6 if `out` has another length. A refusal
+/// leaves `out` unchanged.
 ///
 /// ```
 /// use snoekeldraf::{moved_len, to_edition1, to_edition2, ShiftFile};
@@ -42,22 +42,23 @@ pub fn to_edition2(file: &[u8], out: &mut [u8]) -> Result<(), Refused> {
 
 /// Moves a file of edition 2 to edition 1, which has no stations. `out` is [`moved_len`] bytes long.
 ///
-/// Numbers, in this order: 20 to 31 and 34 as [`ShiftFile::check`](crate::ShiftFile::check), but that 21 says that the
-/// edition is not 2; 35 with the first row whose station is not 0; 6 where `out` has another length. A refusal leaves
-/// `out` as it was.
+/// Numbers, in this order: 20 to 31 and 34 as [`ShiftFile::check`](crate::ShiftFile::check), except that 21 means that
+/// the edition is not 2; 35 with the first row whose station is not 0; 6 if `out` has another length. A refusal leaves `out`
+/// unchanged.
 ///
 /// ```
-/// use snoekeldraf::{moved_len, to_edition1, Refused};
+/// use snoekeldraf::{moved_len, to_edition1, Reason};
 ///
 /// let file = std::fs::read("../../samples/stations.shift").unwrap();
 /// let mut moved = vec![0; moved_len(&file)];
-/// assert_eq!(to_edition1(&file, &mut moved), Err(Refused { number: 35, row: Some(0), file: None }));
+/// let refused = to_edition1(&file, &mut moved).unwrap_err();
+/// assert_eq!((refused.reason, refused.row), (Reason::RowStation, Some(0)));
 /// ```
 pub fn to_edition1(file: &[u8], out: &mut [u8]) -> Result<(), Refused> {
     checked(raw::to_edition1(file, out))
 }
 
-/// As [`to_edition2`]; gives the moved file.
+/// As [`to_edition2`]; returns the moved file.
 ///
 /// ```
 /// use snoekeldraf::{to_edition1_vec, to_edition2_vec};
@@ -73,7 +74,7 @@ pub fn to_edition2_vec(file: &[u8]) -> Result<Vec<u8>, Refused> {
     Ok(out)
 }
 
-/// As [`to_edition1`]; gives the moved file.
+/// As [`to_edition1`]; returns the moved file.
 ///
 /// ```
 /// assert_eq!(snoekeldraf::to_edition1_vec(&[2, 0, 0, 0, 8, 0, 0, 0])?, [1, 0, 0, 0, 8, 0, 0, 0]);

@@ -1,24 +1,25 @@
 //! The shift file.
 
 use crate::refused::{checked, done};
-use crate::{raw, rows, Entry, Refused, Ring};
+use crate::secret::forgetting;
+use crate::{raw, Entry, Refused, Ring, Suite, Unit, Verified};
 #[cfg(feature = "alloc")]
 use alloc::{vec, vec::Vec};
 use core::iter::FusedIterator;
 
-/// A shift file that has passed the full check, of edition 1 or 2: a table of contents and the sealed records of a day.
-/// It is lent the caller's bytes, and made by [`check`](ShiftFile::check) alone.
+/// A shift file that has passed the full check, of edition 1 or 2: a table of contents and the sealed records of a day. It
+/// borrows the caller's bytes; [`check`](ShiftFile::check) alone makes one.
 ///
-/// The proved library keeps nothing from one call to the next: `lookup`, `entry`, `associated` and `open_job` check the
-/// file again, which takes as long as its table is. `entries` and `search` do not.
+/// The library keeps no state between calls: `lookup`, `verified`, `open_job` and the `unverified_` functions check the file
+/// again. `entries`, [`Entry::open`], [`Entry::verify`] and `search` do not: to open many jobs, use these.
 ///
 /// ```
-/// use snoekeldraf::ShiftFile;
+/// use snoekeldraf::{Ring, ShiftFile, Unit};
 ///
+/// let ring = Ring::try_from(&std::fs::read("../../samples/ring.keys")?[..])?;
 /// let bytes = std::fs::read("../../samples/day.shift")?;
 /// let file = ShiftFile::check(&bytes)?;
-/// let entry = file.entry(4103)?;
-/// assert_eq!((entry.row, entry.associated[4]), (2, 2)); // row 2, inch-pounds
+/// assert_eq!(file.verified(&ring, 4103)?.unit(), Unit::InchPounds);
 /// # Ok::<(), Box<dyn std::error::Error>>(())
 /// ```
 ///
@@ -39,25 +40,20 @@ pub struct ShiftFile<'a> {
 impl<'a> ShiftFile<'a> {
     /// The full check.
     ///
-    /// Numbers, in this order: 20 where there are fewer than 8 bytes or more than 1,048,576; 21 where the edition is not 1
-    /// or 2; 22 where there are more than 512 rows; 23 where the total length is another; 24 where the table runs past
-    /// the end. Then for each row, which the number carries: 25 where its job number is not above the row before's; 26
-    /// where its suite is not 1 to 6 or its key number over 15; 27 where its associated data is not 5 to 1,024 bytes long
-    /// or its message over 65,536; 28 where its body does not start where the one before ends, or runs past the end; 34
-    /// where the 16th byte of a 15-byte nonce is not 0; 29 where an earlier row has its suite, key number and nonce; 30
-    /// where its associated data has another job number, or a unit that is not 1 or 2. At last 31 where the last body
-    /// does not end where the file ends.
+    /// Numbers, in this order: 20 if there are fewer than 8 bytes or more than 1,048,576; 21 if the edition is not 1 or 2; 22
+    /// if there are more than 512 rows; 23 if the total length is another; 24 if the table runs past the end. Then for each
+    /// row, which the number carries: 25 if its job number is not above the row before's; 26 if its suite is not 1 to 6 or its
+    /// key number is over 15; 27 if its associated data is not 5 to 1,024 bytes long or its message is over 65,536; 28 if its
+    /// body does not start where the one before ends, or runs past the end; 34 if the 16th byte of a 15-byte nonce is not 0;
+    /// 29 if an earlier row has its suite, key number and nonce; 30 if its associated data has another job number, or a unit
+    /// that is not 1 or 2. At last 31 if the last body does not end where the file ends.
     ///
     /// ```
-    /// use snoekeldraf::{Refused, ShiftFile};
+    /// use snoekeldraf::{Reason, ShiftFile};
     ///
     /// // the empty file, whole
     /// assert!(ShiftFile::check(&[1, 0, 0, 0, 8, 0, 0, 0]).is_ok());
-    ///
-    /// let mut bytes = std::fs::read("../../samples/day.shift").unwrap();
-    /// bytes[8 + 32] = 0; // the job number of row 1 is low
-    /// bytes[8 + 33] = 0;
-    /// assert_eq!(ShiftFile::check(&bytes), Err(Refused { number: 25, row: Some(1), file: None }));
+    /// assert_eq!(ShiftFile::check(&[3, 0, 0, 0, 8, 0, 0, 0]).unwrap_err().reason, Reason::FileEdition);
     /// ```
     pub fn check(bytes: &'a [u8]) -> Result<ShiftFile<'a>, Refused> {
         checked(raw::check(bytes))?;
@@ -86,11 +82,76 @@ impl<'a> ShiftFile<'a> {
     /// assert_eq!(ShiftFile::check(&bytes)?.edition(), 2);
     /// # Ok::<(), Box<dyn std::error::Error>>(())
     /// ```
-    pub fn edition(self) -> u16 {
-        rows::edition(self.bytes)
+    pub fn edition(self) -> u32 {
+        let (_, [edition, _]) = raw::rows(self.bytes);
+        edition
     }
 
-    /// The row that has the job; number 32 where none has. [`search`](ShiftFile::search) gives the same row, sooner.
+    /// The job, unit and data of a job, after its tag was compared under the ring's key. No message is written anywhere.
+    ///
+    /// Numbers, in this order: 32 if no row has the job; 8 if the tag differs.
+    ///
+    /// ```
+    /// use snoekeldraf::{Reason, Ring, ShiftFile, Unit};
+    ///
+    /// let ring = Ring::try_from(&std::fs::read("../../samples/ring.keys")?[..])?;
+    /// let mut bytes = std::fs::read("../../samples/day.shift")?;
+    /// let verified = ShiftFile::check(&bytes)?.verified(&ring, 4101)?;
+    /// assert_eq!((verified.job(), verified.unit()), (4101, Unit::NewtonMetres));
+    ///
+    /// let unit_of_row_0 = 8 + 32 * 8 + 4;
+    /// bytes[unit_of_row_0] = 2; // the file still passes the check, and says inch-pounds
+    /// let file = ShiftFile::check(&bytes)?;
+    /// assert_eq!(file.unverified_entry(4101)?.unverified_unit, Unit::InchPounds);
+    /// assert_eq!(file.verified(&ring, 4101).unwrap_err().reason, Reason::TagDiffers);
+    /// # Ok::<(), Box<dyn std::error::Error>>(())
+    /// ```
+    pub fn verified(self, ring: &Ring, job: u32) -> Result<Verified<'a>, Refused> {
+        let (answer, [at, len]) = forgetting(|| raw::verified(self.bytes, ring.bytes(), job));
+        checked(answer)?;
+        Verified::compared(part(self.bytes, at, len))
+    }
+
+    /// Opens one job: its message is written to `out`, which is as long as the entry's text, and what the associated data says
+    /// is returned.
+    ///
+    /// Numbers, in this order: 32 if no row has the job, and no key is used then; 6 if `out` has another length; 8 if the tag
+    /// differs. On 8 every byte of `out` is 0; every other refusal leaves it unchanged.
+    ///
+    /// ```
+    /// use snoekeldraf::{Ring, ShiftFile, Unit};
+    ///
+    /// let ring = Ring::try_from(&std::fs::read("../../samples/ring.keys")?[..])?;
+    /// let bytes = std::fs::read("../../samples/day.shift")?;
+    /// let file = ShiftFile::check(&bytes)?;
+    /// let mut message = vec![0; file.unverified_entry(4103)?.text.len()];
+    /// assert_eq!(file.open_job(&ring, 4103, &mut message)?.unit(), Unit::InchPounds);
+    /// assert!(message.starts_with(b"gearbox 4103 bolt 1/4-28"));
+    /// # Ok::<(), Box<dyn std::error::Error>>(())
+    /// ```
+    pub fn open_job(self, ring: &Ring, job: u32, out: &mut [u8]) -> Result<Verified<'a>, Refused> {
+        checked(forgetting(|| raw::open_job(self.bytes, ring.bytes(), job, out)))?;
+        let row = self.search(job).found?;
+        Ok(self.row(row)?.compared())
+    }
+
+    /// The entries, in the table's order.
+    ///
+    /// ```
+    /// use snoekeldraf::ShiftFile;
+    ///
+    /// let bytes = std::fs::read("../../samples/day.shift")?;
+    /// let file = ShiftFile::check(&bytes)?;
+    /// let jobs: Vec<u32> = file.entries().map(|entry| entry.job).collect();
+    /// assert_eq!(jobs, [4101, 4102, 4103, 4105, 4110, 4200, 4210, 4211]);
+    /// # Ok::<(), Box<dyn std::error::Error>>(())
+    /// ```
+    pub fn entries(self) -> Entries<'a> {
+        let (_, [_, count]) = raw::rows(self.bytes);
+        Entries { file: self, next: 0, count }
+    }
+
+    /// The row of a job; number 32 if no row has it. [`search`](ShiftFile::search) returns the same row, sooner.
     ///
     /// ```
     /// use snoekeldraf::ShiftFile;
@@ -98,7 +159,7 @@ impl<'a> ShiftFile<'a> {
     /// let bytes = std::fs::read("../../samples/day.shift")?;
     /// let file = ShiftFile::check(&bytes)?;
     /// assert_eq!(file.lookup(4103), Ok(2));
-    /// assert_eq!(file.lookup(4104).unwrap_err().number, 32);
+    /// assert_eq!(file.lookup(4104).unwrap_err().number(), 32);
     /// # Ok::<(), Box<dyn std::error::Error>>(())
     /// ```
     pub fn lookup(self, job: u32) -> Result<u32, Refused> {
@@ -107,44 +168,7 @@ impl<'a> ShiftFile<'a> {
         Ok(answer.1)
     }
 
-    /// The job's entry; number 32 where no row has the job. Its text is as long as the message.
-    ///
-    /// ```
-    /// use snoekeldraf::{ShiftFile, Suite};
-    ///
-    /// let bytes = std::fs::read("../../samples/stations.shift")?;
-    /// let entry = ShiftFile::check(&bytes)?.entry(4200)?;
-    /// assert_eq!((entry.row, entry.station, entry.suite), (5, 311, Suite::Aes128));
-    /// # Ok::<(), Box<dyn std::error::Error>>(())
-    /// ```
-    pub fn entry(self, job: u32) -> Result<Entry<'a>, Refused> {
-        let (answer, [ad_at, ad_len, text_at, text_len]) = raw::entry(self.bytes, job);
-        checked(answer)?;
-        let (associated, text) = (part(self.bytes, ad_at, ad_len), part(self.bytes, text_at, text_len));
-        Ok(Entry { associated, text, ..rows::entry(self.bytes, answer.1) })
-    }
-
-    /// The job's associated data, a part of the caller's bytes; number 32 where no row has the job.
-    ///
-    /// It is not yet shown to be genuine: [`open_job`](ShiftFile::open_job) compares the tag.
-    ///
-    /// ```
-    /// use snoekeldraf::ShiftFile;
-    ///
-    /// let bytes = std::fs::read("../../samples/day.shift")?;
-    /// let associated = ShiftFile::check(&bytes)?.associated(4110)?;
-    /// assert_eq!(associated, [0x0e, 0x10, 0, 0, 1]); // job 4110, newton-metres
-    /// assert!(bytes.as_ptr_range().contains(&associated.as_ptr()));
-    /// # Ok::<(), Box<dyn std::error::Error>>(())
-    /// ```
-    pub fn associated(self, job: u32) -> Result<&'a [u8], Refused> {
-        let (number, [at, len]) = raw::associated(self.bytes, job);
-        done(number)?;
-        Ok(part(self.bytes, at, len))
-    }
-
-    /// Finds a job by halving the table; it looks at no more than 10 rows and gives the row of
-    /// [`lookup`](ShiftFile::lookup).
+    /// The row of a job by binary search. It looks at no more than 10 rows.
     ///
     /// ```
     /// use snoekeldraf::ShiftFile;
@@ -158,42 +182,41 @@ impl<'a> ShiftFile<'a> {
         search(self.bytes, job)
     }
 
-    /// Opens one job: its message goes into `out`, which is as long as the entry's text.
-    ///
-    /// Numbers, in this order: 32 where no row has the job, and no key is touched then; 6 where `out` has another length;
-    /// 8 where the tag differs. On 8 every byte of `out` is 0; every other refusal leaves it as it was.
+    /// The entry of a job, not verified; number 32 if no row has the job.
     ///
     /// ```
-    /// use snoekeldraf::{Ring, ShiftFile};
+    /// use snoekeldraf::{ShiftFile, Suite};
     ///
-    /// let ring = Ring::try_from(&std::fs::read("../../samples/ring.keys")?[..])?;
-    /// let bytes = std::fs::read("../../samples/day.shift")?;
-    /// let file = ShiftFile::check(&bytes)?;
-    /// let mut message = vec![0; file.entry(4103)?.text.len()];
-    /// file.open_job(&ring, 4103, &mut message)?;
-    /// assert!(message.starts_with(b"gearbox 4103 bolt 1/4-28"));
+    /// let bytes = std::fs::read("../../samples/stations.shift")?;
+    /// let entry = ShiftFile::check(&bytes)?.unverified_entry(4200)?;
+    /// assert_eq!((entry.row, entry.station, entry.suite), (5, 311, Suite::Aes128));
     /// # Ok::<(), Box<dyn std::error::Error>>(())
     /// ```
-    pub fn open_job(self, ring: &Ring, job: u32, out: &mut [u8]) -> Result<(), Refused> {
-        checked(raw::open_job(self.bytes, ring.bytes(), job, out))
+    pub fn unverified_entry(self, job: u32) -> Result<Entry<'a>, Refused> {
+        let (answer, [ad_at, ad_len, text_at, text_len]) = raw::entry(self.bytes, job);
+        checked(answer)?;
+        let (unverified_ad, text) = (part(self.bytes, ad_at, ad_len), part(self.bytes, text_at, text_len));
+        Ok(Entry { unverified_ad, text, ..self.row(answer.1)? })
     }
 
-    /// The entries, in the table's order, each once.
+    /// The associated data of a job, not verified, a part of the caller's bytes; number 32 if no row has the job.
     ///
     /// ```
     /// use snoekeldraf::ShiftFile;
     ///
     /// let bytes = std::fs::read("../../samples/day.shift")?;
-    /// let file = ShiftFile::check(&bytes)?;
-    /// let jobs: Vec<u32> = file.entries().map(|entry| entry.job).collect();
-    /// assert_eq!(jobs, [4101, 4102, 4103, 4105, 4110, 4200, 4210, 4211]);
+    /// let ad = ShiftFile::check(&bytes)?.unverified_ad(4110)?;
+    /// assert_eq!(ad, [0x0e, 0x10, 0, 0, 1]); // job 4110, newton-metres
+    /// assert!(bytes.as_ptr_range().contains(&ad.as_ptr()));
     /// # Ok::<(), Box<dyn std::error::Error>>(())
     /// ```
-    pub fn entries(self) -> Entries<'a> {
-        Entries { file: self, next: 0 }
+    pub fn unverified_ad(self, job: u32) -> Result<&'a [u8], Refused> {
+        let (number, [at, len]) = raw::associated(self.bytes, job);
+        done(number)?;
+        Ok(part(self.bytes, at, len))
     }
 
-    /// As [`open_job`](ShiftFile::open_job); gives the message.
+    /// As [`open_job`](ShiftFile::open_job); returns the message too.
     ///
     /// ```
     /// use snoekeldraf::{Ring, ShiftFile};
@@ -201,25 +224,48 @@ impl<'a> ShiftFile<'a> {
     /// let ring = Ring::try_from(&std::fs::read("../../samples/ring.keys")?[..])?;
     /// let bytes = std::fs::read("../../samples/day.shift")?;
     /// let file = ShiftFile::check(&bytes)?;
-    /// assert!(file.open_job_vec(&ring, 4105)?.starts_with(b"gearbox 4105")); // suite 4 is opened
-    /// assert_eq!(file.open_job_vec(&ring, 4106).unwrap_err().number, 32);
+    /// let (verified, message) = file.open_job_vec(&ring, 4105)?; // suite 4 is opened
+    /// assert!(message.starts_with(b"gearbox 4105"));
+    /// assert_eq!(file.open_job_vec(&ring, 4106).unwrap_err().number(), 32);
+    /// # assert_eq!(verified.job(), 4105);
     /// # Ok::<(), Box<dyn std::error::Error>>(())
     /// ```
     #[cfg(feature = "alloc")]
-    pub fn open_job_vec(self, ring: &Ring, job: u32) -> Result<Vec<u8>, Refused> {
-        let mut out = vec![0; self.entry(job)?.text.len()];
-        self.open_job(ring, job, &mut out)?;
-        Ok(out)
+    pub fn open_job_vec(self, ring: &Ring, job: u32) -> Result<(Verified<'a>, Vec<u8>), Refused> {
+        let mut out = vec![0; self.unverified_entry(job)?.text.len()];
+        let verified = self.open_job(ring, job, &mut out)?;
+        Ok((verified, out))
+    }
+
+    /// The entry of a row of a checked file; number 32 if there is no such row.
+    fn row(self, row: u32) -> Result<Entry<'a>, Refused> {
+        let (number, fields) = raw::row(self.bytes, row);
+        done(number)?;
+        // In a checked file a suite is 1 to 6, a key number at most 15, and a unit 1 or 2: none of these is refused.
+        let suite = Suite::try_from(fields.suite as u8)?;
+        let unverified_ad = part(self.bytes, fields.ad_at, fields.ad_len);
+        let after_text = fields.text_at + fields.text_len;
+        Ok(Entry {
+            row,
+            job: fields.job,
+            station: fields.station,
+            suite,
+            key_number: fields.key_number as u8,
+            nonce: part(self.bytes, fields.nonce_at, suite.nonce_size() as u32),
+            unverified_ad,
+            unverified_unit: Unit::try_from(unverified_ad[4])?,
+            text: part(self.bytes, fields.text_at, fields.text_len),
+            tag: part(self.bytes, after_text, suite.tag_size() as u32),
+        })
     }
 }
 
-/// So many bytes from a place.
+/// `len` bytes from an offset.
 pub(crate) fn part(bytes: &[u8], at: u32, len: u32) -> &[u8] {
     &bytes[at as usize..][..len as usize]
 }
 
-/// The entries of a shift file, in order; [`ShiftFile::entries`] gives it. It holds the file and its place in it, and
-/// once it has ended it says so as often as it is asked.
+/// The entries of a shift file, in the table's order: what [`ShiftFile::entries`] returns.
 ///
 /// ```
 /// use snoekeldraf::ShiftFile;
@@ -232,22 +278,23 @@ pub(crate) fn part(bytes: &[u8], at: u32, len: u32) -> &[u8] {
 pub struct Entries<'a> {
     file: ShiftFile<'a>,
     next: u32,
+    count: u32,
 }
 
 impl<'a> Iterator for Entries<'a> {
     type Item = Entry<'a>;
 
     fn next(&mut self) -> Option<Entry<'a>> {
-        if self.len() == 0 {
+        if self.next == self.count {
             return None;
         }
-        let row = self.next;
+        let entry = self.file.row(self.next).ok();
         self.next += 1;
-        Some(rows::entry(self.file.bytes, row))
+        entry
     }
 
     fn size_hint(&self) -> (usize, Option<usize>) {
-        let left = (rows::count(self.file.bytes) - self.next) as usize;
+        let left = (self.count - self.next) as usize;
         (left, Some(left))
     }
 }
@@ -265,21 +312,28 @@ impl<'a> IntoIterator for ShiftFile<'a> {
     }
 }
 
-/// What the search gives.
+/// The result of a search.
+///
+/// ```
+/// use snoekeldraf::{search, Searched};
+///
+/// let Searched { found, looked } = search(&[1, 0, 0, 0, 8, 0, 0, 0], 7);
+/// assert_eq!((found.unwrap_err().number(), looked), (32, 0));
+/// ```
 #[derive(Clone, Copy, PartialEq, Eq, Debug)]
 pub struct Searched {
-    /// The row, or number 32 where none has the job, or 20 to 24.
+    /// The row, or number 32 if none has the job, or 20 to 24.
     pub found: Result<u32, Refused>,
     /// How many rows were looked at: at most 10, and 0 on 20 to 24.
     pub looked: u32,
 }
 
-/// Finds a job in bytes that need not have passed the check: 20 to 24 of [`ShiftFile::check`] alone, and then the table
-/// is halved.
+/// Finds a job by binary search in bytes that need not have passed the check: only 20 to 24 of [`ShiftFile::check`] are
+/// checked.
 ///
-/// From c rows at row s it looks at row s + c/2, rounded down; it stops if that has the job, keeps the rows after it if
-/// its job is lower, else those before; 32 when no row is left. No body is read. On a file that passes the check the
-/// answer is the lookup's, on others what the halving gives.
+/// From c rows at row s it looks at row s + c/2, rounded down; it stops if that has the job, and continues with the rows after
+/// it if its job is lower, else with those before; 32 when no row is left. No body is read. On a file that passes the check
+/// the result is that of [`ShiftFile::lookup`]; on another it is whatever the search reaches.
 ///
 /// ```
 /// use snoekeldraf::search;
@@ -288,8 +342,8 @@ pub struct Searched {
 /// let last = bytes.len() - 1;
 /// bytes[last] ^= 1;
 /// assert_eq!(search(&bytes, 4101).found, Ok(0));
-/// assert_eq!(search(&bytes, 4104).found.unwrap_err().number, 32);
-/// assert_eq!(search(&bytes[..7], 4101).found.unwrap_err().number, 20);
+/// assert_eq!(search(&bytes, 4104).found.unwrap_err().number(), 32);
+/// assert_eq!(search(&bytes[..7], 4101).found.unwrap_err().number(), 20);
 /// ```
 pub fn search(file: &[u8], job: u32) -> Searched {
     let (answer, looked) = raw::search(file, job);

@@ -1,116 +1,160 @@
-//! The sealer and the opener.
+//! Sealing and opening records.
 
 use crate::refused::done;
-use crate::{raw, Key, Refused, Suite, Tag};
+use crate::secret::forgetting;
+use crate::{raw, Key, Nonce, Refused, Suite, Tag};
 #[cfg(feature = "alloc")]
 use alloc::{vec, vec::Vec};
 
-/// Seals a message together with its associated data: the ciphertext goes into `out`, and the tag comes back.
+/// A record to be sealed: associated data, which is authenticated and stays readable, and the message.
 ///
-/// Numbers, in this order: 10 where the suite is 4; 3 where the nonce does not have the suite's length; 4 where the
-/// associated data, 5 where the message is over 65,536 bytes long; 6 where `out` is not as long as the message. A
-/// refusal leaves `out` as it was; otherwise all of it is written.
-///
-/// Never seal two records with one key and one nonce.
+/// The names keep the two apart: exchanged, they would be sealed all the same, with the message readable by anyone.
 ///
 /// ```
-/// use snoekeldraf::{open, seal, Key, Suite};
+/// use snoekeldraf::Record;
+///
+/// let record = Record { ad: &[7, 0, 0, 0, 1], text: b"torque 48.5" }; // job 7, newton-metres
+/// # assert_eq!(record.text.len(), 11);
+/// ```
+///
+/// Two slices in a row do not compile:
+///
+/// ```compile_fail,E0308
+/// # use snoekeldraf::{seal, Key, Nonce, Suite};
+/// # let (key, nonce) = (Key::from([7; 16]), Nonce::assume_fresh(&[1; 15]).unwrap());
+/// seal(Suite::Speck64, &key, nonce, (b"torque 48.5", &[7, 0, 0, 0, 1]), &mut [0; 5]);
+/// ```
+#[derive(Clone, Copy, PartialEq, Eq, Debug)]
+pub struct Record<'a> {
+    /// The associated data.
+    pub ad: &'a [u8],
+    /// The message.
+    pub text: &'a [u8],
+}
+
+/// A sealed record, as it arrives.
+///
+/// ```
+/// use snoekeldraf::{open, Key, Reason, Sealed, Suite};
+///
+/// let sealed = Sealed { nonce: &[1; 16], ad: b"data", text: b"", tag: &[0; 16] };
+/// assert_eq!(open(Suite::Aes128, &Key::from([7; 16]), sealed, &mut []).unwrap_err().reason, Reason::TagDiffers);
+/// ```
+#[derive(Clone, Copy, PartialEq, Eq, Debug)]
+pub struct Sealed<'a> {
+    /// The nonce that it was sealed with.
+    pub nonce: &'a [u8],
+    /// The associated data.
+    pub ad: &'a [u8],
+    /// The ciphertext.
+    pub text: &'a [u8],
+    /// The tag.
+    pub tag: &'a [u8],
+}
+
+/// Seals a record: the ciphertext is written to `out`, and the tag is returned.
+///
+/// Numbers, in this order: 10 if the suite is 4; 3 if the nonce does not have the suite's length; 4 if the associated data, 5
+/// if the message is over 65,536 bytes long; 6 if `out` is not as long as the message. A refusal leaves `out` unchanged, and
+/// the nonce is lost.
+///
+/// ```
+/// use snoekeldraf::{open, seal, Key, Nonce, Record, Sealed, Suite};
 ///
 /// let (key, nonce) = (Key::from([7; 16]), [1; 15]);
-/// let ad = [7, 0, 0, 0, 1]; // job 7, newton-metres
+/// let record = Record { ad: &[7, 0, 0, 0, 1], text: b"torque 48.5" }; // job 7, newton-metres
 /// let mut text = [0; 11];
-/// let tag = seal(Suite::Speck64, &key, &nonce, &ad, b"torque 48.5", &mut text)?;
+/// let tag = seal(Suite::Speck64, &key, Nonce::assume_fresh(&nonce)?, record, &mut text)?;
 ///
 /// let mut message = [0; 11];
-/// open(Suite::Speck64, &key, &nonce, &ad, &text, &tag, &mut message)?;
+/// let sealed = Sealed { nonce: &nonce, ad: record.ad, text: &text, tag: tag.as_bytes() };
+/// open(Suite::Speck64, &key, sealed, &mut message)?;
 /// assert_eq!(&message, b"torque 48.5");
-/// assert_eq!(seal(Suite::Cham64, &key, &nonce, &ad, b"", &mut []).unwrap_err().number, 10);
+///
+/// let refused = seal(Suite::Cham64, &key, Nonce::assume_fresh(&[2; 15])?, record, &mut text).unwrap_err();
+/// assert_eq!(refused.number(), 10);
 /// # Ok::<(), snoekeldraf::Refused>(())
 /// ```
 ///
 /// What is written overlaps nothing that is read:
 ///
 /// ```compile_fail,E0502
-/// # use snoekeldraf::{seal, Key, Suite};
+/// # use snoekeldraf::{seal, Key, Nonce, Record, Suite};
+/// # let (key, nonce) = (Key::from([7; 16]), Nonce::assume_fresh(&[1; 15]).unwrap());
 /// let mut text = *b"torque 48.5";
-/// seal(Suite::Speck64, &Key::from([7; 16]), &[1; 15], b"", &text, &mut text);
+/// seal(Suite::Speck64, &key, nonce, Record { ad: b"", text: &text }, &mut text);
 /// ```
-pub fn seal(suite: Suite, key: &Key, nonce: &[u8], ad: &[u8], msg: &[u8], out: &mut [u8]) -> Result<Tag, Refused> {
+pub fn seal(suite: Suite, key: &Key, nonce: Nonce, record: Record, out: &mut [u8]) -> Result<Tag, Refused> {
     let mut tag = Tag::unwritten(suite);
-    done(raw::seal(suite.number(), key.bytes(), nonce, ad, msg, out, tag.lent()))?;
+    let (nonce, to) = (nonce.as_bytes(), tag.as_mut_bytes());
+    done(forgetting(|| raw::seal(suite.number(), key.bytes(), nonce, record.ad, record.text, out, to)))?;
     Ok(tag)
 }
 
-/// Opens a ciphertext with its associated data, if `tag` is its tag: the message goes into `out`.
+/// Opens a sealed record if its tag is right: the message is written to `out`.
 ///
-/// Numbers, in this order: 3 where the nonce does not have the suite's length; 4 where the associated data, 5 where the
-/// ciphertext is over 65,536 bytes long; 6 where `out` is not as long as the ciphertext; 7 where the tag does not have
-/// the suite's length; 8 where the tag differs. On 8 every byte of `out` is 0; every other refusal leaves it as it was.
-/// Suite 4 is opened as every other.
+/// Numbers, in this order: 3 if the nonce does not have the suite's length; 4 if the associated data, 5 if the ciphertext is
+/// over 65,536 bytes long; 6 if `out` is not as long as the ciphertext; 7 if the tag does not have the suite's length; 8 if
+/// the tag differs. On 8 every byte of `out` is 0; every other refusal leaves it unchanged. Suite 4 is opened as every other.
 ///
 /// ```
-/// use snoekeldraf::{open, seal, Key, Suite};
+/// use snoekeldraf::{open, seal, Key, Nonce, Reason, Record, Sealed, Suite};
 ///
 /// let (key, nonce) = (Key::from([7; 16]), [1; 16]);
+/// let record = Record { ad: &[7, 0, 0, 0, 1], text: b"48.5" };
 /// let mut text = [0; 4];
-/// let tag = seal(Suite::Aes128, &key, &nonce, &[7, 0, 0, 0, 1], b"48.5", &mut text)?;
+/// let tag = seal(Suite::Aes128, &key, Nonce::assume_fresh(&nonce)?, record, &mut text)?;
 ///
 /// let mut message = [0xaa; 4];
-/// let inch_pounds = [7, 0, 0, 0, 2];
-/// let refused = open(Suite::Aes128, &key, &nonce, &inch_pounds, &text, &tag, &mut message).unwrap_err();
-/// assert_eq!((refused.number, message), (8, [0; 4]));
+/// let inch_pounds = Sealed { nonce: &nonce, ad: &[7, 0, 0, 0, 2], text: &text, tag: tag.as_bytes() };
+/// let refused = open(Suite::Aes128, &key, inch_pounds, &mut message).unwrap_err();
+/// assert_eq!((refused.reason, message), (Reason::TagDiffers, [0; 4]));
 /// # Ok::<(), snoekeldraf::Refused>(())
 /// ```
-pub fn open(
-    suite: Suite,
-    key: &Key,
-    nonce: &[u8],
-    ad: &[u8],
-    text: &[u8],
-    tag: &[u8],
-    out: &mut [u8],
-) -> Result<(), Refused> {
-    done(raw::open(suite.number(), key.bytes(), nonce, ad, text, tag, out))
+pub fn open(suite: Suite, key: &Key, sealed: Sealed, out: &mut [u8]) -> Result<(), Refused> {
+    let Sealed { nonce, ad, text, tag } = sealed;
+    done(forgetting(|| raw::open(suite.number(), key.bytes(), nonce, ad, text, tag, out)))
 }
 
-/// Seals a message in its place: `text` is the message before and the ciphertext after, and the tag comes back. It gives
-/// what [`seal`] gives of that message.
+/// Seals a message in place: `text` is the message before and the ciphertext after, and the tag is returned. The result is that
+/// of [`seal`].
 ///
-/// Numbers, in this order: 10 where the suite is 4; 3 where the nonce does not have the suite's length; 4 where the
-/// associated data, 5 where the message is over 65,536 bytes long. A refusal leaves `text` as it was.
-///
-/// Never seal two records with one key and one nonce.
+/// Numbers, in this order: 10 if the suite is 4; 3 if the nonce does not have the suite's length; 4 if the associated data, 5
+/// if the message is over 65,536 bytes long. **A refusal leaves `text` unchanged: it is still plaintext.** Send it only after
+/// `Ok`.
 ///
 /// ```
-/// use snoekeldraf::{open_in_place, seal_in_place, Key, Suite};
+/// use snoekeldraf::{open_in_place, seal_in_place, Key, Nonce, Suite};
 ///
 /// let (key, nonce, ad) = (Key::from([7; 16]), [1; 15], [7, 0, 0, 0, 1]);
-/// let mut record = *b"torque 48.5";
-/// let tag = seal_in_place(Suite::Speck64, &key, &nonce, &ad, &mut record)?;
-/// assert_ne!(&record, b"torque 48.5");
-/// open_in_place(Suite::Speck64, &key, &nonce, &ad, &mut record, &tag)?;
-/// assert_eq!(&record, b"torque 48.5");
+/// let mut text = *b"torque 48.5";
+/// let tag = seal_in_place(Suite::Speck64, &key, Nonce::assume_fresh(&nonce)?, &ad, &mut text)?;
+/// assert_ne!(&text, b"torque 48.5");
+/// open_in_place(Suite::Speck64, &key, &nonce, &ad, &mut text, tag)?;
+/// assert_eq!(&text, b"torque 48.5");
 /// # Ok::<(), snoekeldraf::Refused>(())
 /// ```
-pub fn seal_in_place(suite: Suite, key: &Key, nonce: &[u8], ad: &[u8], text: &mut [u8]) -> Result<Tag, Refused> {
+pub fn seal_in_place(suite: Suite, key: &Key, nonce: Nonce, ad: &[u8], text: &mut [u8]) -> Result<Tag, Refused> {
     let mut tag = Tag::unwritten(suite);
-    done(raw::seal_in_place(suite.number(), key.bytes(), nonce, ad, text, tag.lent()))?;
+    let (nonce, to) = (nonce.as_bytes(), tag.as_mut_bytes());
+    done(forgetting(|| raw::seal_in_place(suite.number(), key.bytes(), nonce, ad, text, to)))?;
     Ok(tag)
 }
 
-/// Opens a ciphertext in its place, if `tag` is its tag: `text` is the ciphertext before and the message after. It gives
-/// what [`open`] gives of that ciphertext.
+/// Opens a ciphertext in place if `tag` is its tag: `text` is the ciphertext before and the message after. The result is that
+/// of [`open`].
 ///
-/// Numbers, in this order: 3 where the nonce does not have the suite's length; 4 where the associated data, 5 where the
-/// ciphertext is over 65,536 bytes long; 7 where the tag does not have the suite's length; 8 where the tag differs. On 8
-/// every byte of `text` is 0: the ciphertext is gone too. Every other refusal leaves it as it was.
+/// Numbers, in this order: 3 if the nonce does not have the suite's length; 4 if the associated data, 5 if the ciphertext is
+/// over 65,536 bytes long; 7 if the tag does not have the suite's length; 8 if the tag differs. On 8 every byte of `text` is
+/// 0: the ciphertext is gone too. Every other refusal leaves it unchanged.
 ///
 /// ```
-/// use snoekeldraf::{open_in_place, Key, Suite};
+/// use snoekeldraf::{open_in_place, Key, Suite, Tag};
 ///
-/// let mut record = [0xaa; 4];
-/// let refused = open_in_place(Suite::Aes128, &Key::from([7; 16]), &[1; 16], b"", &mut record, &[0; 16]).unwrap_err();
-/// assert_eq!((refused.number, record), (8, [0; 4]));
+/// let (mut text, tag) = ([0xaa; 4], Tag::try_from(&[0; 16][..])?);
+/// let refused = open_in_place(Suite::Aes128, &Key::from([7; 16]), &[1; 16], b"", &mut text, tag).unwrap_err();
+/// assert_eq!((refused.number(), text), (8, [0; 4]));
+/// # Ok::<(), snoekeldraf::Refused>(())
 /// ```
 pub fn open_in_place(
     suite: Suite,
@@ -118,35 +162,47 @@ pub fn open_in_place(
     nonce: &[u8],
     ad: &[u8],
     text: &mut [u8],
-    tag: &[u8],
+    tag: Tag,
 ) -> Result<(), Refused> {
-    done(raw::open_in_place(suite.number(), key.bytes(), nonce, ad, text, tag))
+    let tag = tag.as_bytes();
+    done(forgetting(|| raw::open_in_place(suite.number(), key.bytes(), nonce, ad, text, tag)))
 }
 
-/// Says whether a record is genuine, and writes no text anywhere: `Ok` exactly where [`open`], given an output of the
-/// text's length, opens it.
+/// Checks that a sealed record is genuine and writes no message anywhere: `Ok` exactly if [`open`] with an output of the
+/// text's length opens it.
 ///
-/// Numbers, in this order: 3 where the nonce does not have the suite's length; 4 where the associated data, 5 where the
-/// ciphertext is over 65,536 bytes long; 7 where the tag does not have the suite's length; 8 where the tag differs.
+/// Numbers, in this order: 3 if the nonce does not have the suite's length; 4 if the associated data, 5 if the ciphertext is
+/// over 65,536 bytes long; 7 if the tag does not have the suite's length; 8 if the tag differs.
 ///
 /// ```
-/// use snoekeldraf::{seal, verify, Key, Suite};
+/// use snoekeldraf::{seal, verify, Key, Nonce, Record, Sealed, Suite};
 ///
 /// let (key, nonce) = (Key::from([7; 16]), [1; 16]);
 /// let mut text = [0; 4];
-/// let tag = seal(Suite::Aes128, &key, &nonce, b"data", b"48.5", &mut text)?;
-/// verify(Suite::Aes128, &key, &nonce, b"data", &text, &tag)?;
-/// assert_eq!(verify(Suite::Aes128, &key, &nonce, b"date", &text, &tag).unwrap_err().number, 8);
+/// let record = Record { ad: b"data", text: b"48.5" };
+/// let tag = seal(Suite::Aes128, &key, Nonce::assume_fresh(&nonce)?, record, &mut text)?;
+/// let sealed = Sealed { nonce: &nonce, ad: b"data", text: &text, tag: tag.as_bytes() };
+/// verify(Suite::Aes128, &key, sealed)?;
+/// assert_eq!(verify(Suite::Aes128, &key, Sealed { ad: b"date", ..sealed }).unwrap_err().number(), 8);
 /// # Ok::<(), snoekeldraf::Refused>(())
 /// ```
-pub fn verify(suite: Suite, key: &Key, nonce: &[u8], ad: &[u8], text: &[u8], tag: &[u8]) -> Result<(), Refused> {
-    done(raw::verify(suite.number(), key.bytes(), nonce, ad, text, tag))
+pub fn verify(suite: Suite, key: &Key, sealed: Sealed) -> Result<(), Refused> {
+    let Sealed { nonce, ad, text, tag } = sealed;
+    done(forgetting(|| raw::verify(suite.number(), key.bytes(), nonce, ad, text, tag)))
 }
 
-/// What the sealer or the opener gives, and how many block cipher calls it took.
+/// A result, and how many block cipher calls it took.
 ///
-/// With a and m the block counts of associated data and text, the calls are a + m + 2 whenever the text was worked on,
-/// number 8 included, and 0 on every other refusal. The last block of either may be short; no bytes are no block.
+/// With a and m the block counts of associated data and text, the calls are a + m + 2 on success and on number 8, and 0 on
+/// every other refusal. The last block of either may be short; no bytes are no block.
+///
+/// ```
+/// use snoekeldraf::{open_counted, Counted, Key, Sealed, Suite};
+///
+/// let sealed = Sealed { nonce: &[1; 16], ad: &[], text: &[], tag: &[0; 16] };
+/// let Counted { result, calls } = open_counted(Suite::Aes128, &Key::from([7; 16]), sealed, &mut []);
+/// assert_eq!((result.unwrap_err().number(), calls), (8, 2)); // a wrong tag is found by doing the work
+/// ```
 #[derive(Clone, Copy, Debug)]
 pub struct Counted<T> {
     /// As without the count.
@@ -155,73 +211,72 @@ pub struct Counted<T> {
     pub calls: u64,
 }
 
-/// As [`seal`], with the count of the cipher calls.
+/// As [`seal`], with the number of cipher calls.
 ///
 /// ```
-/// use snoekeldraf::{seal_counted, Key, Suite};
+/// use snoekeldraf::{seal_counted, Key, Nonce, Record, Suite};
 ///
 /// // 5 bytes of associated data are 1 block of 8, and 11 of message are 2
-/// let mut text = [0; 11];
-/// let counted = seal_counted(Suite::Speck64, &Key::from([7; 16]), &[1; 15], &[7, 0, 0, 0, 1], b"torque 48.5", &mut text);
+/// let record = Record { ad: &[7, 0, 0, 0, 1], text: b"torque 48.5" };
+/// let nonce = Nonce::assume_fresh(&[1; 15])?;
+/// let counted = seal_counted(Suite::Speck64, &Key::from([7; 16]), nonce, record, &mut [0; 11]);
 /// assert!(counted.result.is_ok());
 /// assert_eq!(counted.calls, 1 + 2 + 2);
+/// # Ok::<(), snoekeldraf::Refused>(())
 /// ```
-pub fn seal_counted(suite: Suite, key: &Key, nonce: &[u8], ad: &[u8], msg: &[u8], out: &mut [u8]) -> Counted<Tag> {
+pub fn seal_counted(suite: Suite, key: &Key, nonce: Nonce, record: Record, out: &mut [u8]) -> Counted<Tag> {
     let mut tag = Tag::unwritten(suite);
-    let (number, calls) = raw::seal_counted(suite.number(), key.bytes(), nonce, ad, msg, out, tag.lent());
+    let (nonce, to) = (nonce.as_bytes(), tag.as_mut_bytes());
+    let (number, calls) =
+        forgetting(|| raw::seal_counted(suite.number(), key.bytes(), nonce, record.ad, record.text, out, to));
     Counted { result: done(number).map(|()| tag), calls }
 }
 
-/// As [`open`], with the count of the cipher calls.
+/// As [`open`], with the number of cipher calls.
 ///
 /// ```
-/// use snoekeldraf::{open_counted, Key, Suite};
+/// use snoekeldraf::{open_counted, Key, Sealed, Suite};
 ///
-/// // a wrong tag is found by doing the work
-/// let counted = open_counted(Suite::Aes128, &Key::from([7; 16]), &[1; 16], &[], &[], &[0; 16], &mut []);
-/// assert_eq!((counted.result.unwrap_err().number, counted.calls), (8, 2));
+/// let sealed = Sealed { nonce: &[1; 15], ad: &[], text: &[], tag: &[0; 16] };
+/// let counted = open_counted(Suite::Aes128, &Key::from([7; 16]), sealed, &mut []);
+/// assert_eq!((counted.result.unwrap_err().number(), counted.calls), (3, 0)); // refused before any work
 /// ```
-pub fn open_counted(
-    suite: Suite,
-    key: &Key,
-    nonce: &[u8],
-    ad: &[u8],
-    text: &[u8],
-    tag: &[u8],
-    out: &mut [u8],
-) -> Counted<()> {
-    let (number, calls) = raw::open_counted(suite.number(), key.bytes(), nonce, ad, text, tag, out);
+pub fn open_counted(suite: Suite, key: &Key, sealed: Sealed, out: &mut [u8]) -> Counted<()> {
+    let Sealed { nonce, ad, text, tag } = sealed;
+    let (number, calls) = forgetting(|| raw::open_counted(suite.number(), key.bytes(), nonce, ad, text, tag, out));
     Counted { result: done(number), calls }
 }
 
-/// As [`seal`]; gives the ciphertext and the tag.
+/// As [`seal`]; returns the ciphertext and the tag.
 ///
 /// ```
-/// use snoekeldraf::{open_vec, seal_vec, Key, Suite};
+/// use snoekeldraf::{open_vec, seal_vec, Key, Nonce, Record, Sealed, Suite};
 ///
 /// let (key, nonce) = (Key::from([7; 16]), [1; 16]);
-/// let (text, tag) = seal_vec(Suite::Aes128, &key, &nonce, b"data", b"message")?;
-/// assert_eq!(open_vec(Suite::Aes128, &key, &nonce, b"data", &text, &tag)?, b"message");
+/// let record = Record { ad: b"data", text: b"message" };
+/// let (text, tag) = seal_vec(Suite::Aes128, &key, Nonce::assume_fresh(&nonce)?, record)?;
+/// let sealed = Sealed { nonce: &nonce, ad: b"data", text: &text, tag: tag.as_bytes() };
+/// assert_eq!(open_vec(Suite::Aes128, &key, sealed)?, b"message");
 /// # Ok::<(), snoekeldraf::Refused>(())
 /// ```
 #[cfg(feature = "alloc")]
-pub fn seal_vec(suite: Suite, key: &Key, nonce: &[u8], ad: &[u8], msg: &[u8]) -> Result<(Vec<u8>, Tag), Refused> {
-    let mut out = vec![0; msg.len()];
-    let tag = seal(suite, key, nonce, ad, msg, &mut out)?;
+pub fn seal_vec(suite: Suite, key: &Key, nonce: Nonce, record: Record) -> Result<(Vec<u8>, Tag), Refused> {
+    let mut out = vec![0; record.text.len()];
+    let tag = seal(suite, key, nonce, record, &mut out)?;
     Ok((out, tag))
 }
 
-/// As [`open`]; gives the message.
+/// As [`open`]; returns the message.
 ///
 /// ```
-/// use snoekeldraf::{open_vec, Key, Suite};
+/// use snoekeldraf::{open_vec, Key, Sealed, Suite};
 ///
-/// let refused = open_vec(Suite::Aes128, &Key::from([7; 16]), &[1; 16], b"", b"text", &[0; 16]).unwrap_err();
-/// assert_eq!(refused.number, 8);
+/// let sealed = Sealed { nonce: &[1; 16], ad: b"", text: b"text", tag: &[0; 16] };
+/// assert_eq!(open_vec(Suite::Aes128, &Key::from([7; 16]), sealed).unwrap_err().number(), 8);
 /// ```
 #[cfg(feature = "alloc")]
-pub fn open_vec(suite: Suite, key: &Key, nonce: &[u8], ad: &[u8], text: &[u8], tag: &[u8]) -> Result<Vec<u8>, Refused> {
-    let mut out = vec![0; text.len()];
-    open(suite, key, nonce, ad, text, tag, &mut out)?;
+pub fn open_vec(suite: Suite, key: &Key, sealed: Sealed) -> Result<Vec<u8>, Refused> {
+    let mut out = vec![0; sealed.text.len()];
+    open(suite, key, sealed, &mut out)?;
     Ok(out)
 }

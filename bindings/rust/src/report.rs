@@ -1,19 +1,29 @@
 //! The report on a supplier's file.
 
 use crate::refused::checked;
+use crate::secret::forgetting;
 use crate::{raw, Refused, Ring};
 #[cfg(feature = "alloc")]
 use {
-    crate::MOST_ROWS,
+    crate::ROWS_MAX,
     alloc::{vec, vec::Vec},
 };
 
-/// What a report tells: the parts of the lent lists that were written, as long as there are entries.
+/// A report: the parts of the caller's lists that were written, an element for each entry.
+///
+/// ```
+/// use snoekeldraf::{report, Report, Ring};
+///
+/// let empty = [1, 0, 0, 0, 8, 0, 0, 0];
+/// let Report { jobs, numbers } = report(&empty, &Ring::from([7; 256]), &mut [], &mut [])?;
+/// assert!(jobs.is_empty() && numbers.is_empty());
+/// # Ok::<(), snoekeldraf::Refused>(())
+/// ```
 #[derive(Clone, Copy, PartialEq, Eq, Debug)]
 pub struct Report<'l> {
     /// The job number of every entry, in the file's order.
     pub jobs: &'l [u32],
-    /// For each 0 where its tag is right under the ring, 8 where it is wrong.
+    /// For each entry 0 if its tag is right under the ring, else 8.
     pub numbers: &'l [u8],
 }
 
@@ -35,11 +45,11 @@ impl Report<'_> {
 }
 
 /// Reports on a supplier's file of at most 65,280 bytes: every entry's job number, and whether its tag is right. A wrong
-/// tag stops nothing. Lists of [`MOST_ROWS`](crate::MOST_ROWS) places are always long enough.
+/// tag does not end the report. Lists of [`ROWS_MAX`](crate::ROWS_MAX) elements are always long enough.
 ///
-/// Numbers, in this order: 20 where the file is longer; those of [`ShiftFile::check`](crate::ShiftFile::check); 6 where a
-/// list has fewer places than there are entries. A refusal leaves both lists as they were; success leaves the places
-/// behind what is written.
+/// Numbers, in this order: 20 if the file is longer; those of [`ShiftFile::check`](crate::ShiftFile::check); 6 if a list has
+/// fewer elements than the file has entries. A refusal leaves both lists unchanged; success leaves the elements after those
+/// that are written.
 ///
 /// ```
 /// use snoekeldraf::{report, Ring};
@@ -55,12 +65,12 @@ impl Report<'_> {
 /// # Ok::<(), Box<dyn std::error::Error>>(())
 /// ```
 pub fn report<'l>(file: &[u8], ring: &Ring, jobs: &'l mut [u32], numbers: &'l mut [u8]) -> Result<Report<'l>, Refused> {
-    let (answer, count) = raw::report(file, ring.bytes(), jobs, numbers);
+    let (answer, count) = forgetting(|| raw::report(file, ring.bytes(), jobs, numbers));
     checked(answer)?;
     Ok(Report { jobs: &jobs[..count as usize], numbers: &numbers[..count as usize] })
 }
 
-/// As [`report`]; gives each entry's job number and its 0 or 8. Number 6 cannot come.
+/// As [`report`]; returns each entry's job number and its 0 or 8. Number 6 cannot come.
 ///
 /// ```
 /// use snoekeldraf::{report_vec, Ring};
@@ -72,7 +82,7 @@ pub fn report<'l>(file: &[u8], ring: &Ring, jobs: &'l mut [u32], numbers: &'l mu
 /// ```
 #[cfg(feature = "alloc")]
 pub fn report_vec(file: &[u8], ring: &Ring) -> Result<Vec<(u32, u8)>, Refused> {
-    let (mut jobs, mut numbers) = (vec![0; MOST_ROWS], vec![0; MOST_ROWS]);
+    let (mut jobs, mut numbers) = (vec![0; ROWS_MAX], vec![0; ROWS_MAX]);
     let report = report(file, ring, &mut jobs, &mut numbers)?;
     Ok(report.jobs.iter().copied().zip(report.numbers.iter().copied()).collect())
 }

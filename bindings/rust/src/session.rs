@@ -1,56 +1,61 @@
 //! Sealing while measuring.
 
 use crate::refused::done;
-use crate::{raw, Key, Refused, Suite, Tag};
+use crate::secret::{forgetting, wipe};
+use crate::{raw, Key, Nonce, Refused, Suite, Tag};
 #[cfg(feature = "alloc")]
 use alloc::{vec, vec::Vec};
 use core::error::Error;
 use core::fmt::{Debug, Display, Formatter, Result as Written};
 
-/// Seals a record while its message is still being measured: a start, the associated data in parts, the message in
-/// parts, an end. Whatever the cutting, the joined ciphertext and the tag are those of [`seal`](crate::seal) for the
-/// joined parts; [`open`](crate::open) opens them.
+/// Seals a record while its message is still being measured: a start, the associated data in parts, the message in parts, an
+/// end. Whatever the parts, the joined ciphertext and the tag are those of [`seal`](crate::seal) for the joined parts, and
+/// [`open`](crate::open) opens them.
 ///
 /// ```
-/// use snoekeldraf::{open, Key, Session, Suite};
+/// use snoekeldraf::{open, Key, Nonce, Sealed, Session, Suite};
 ///
 /// let (key, nonce) = (Key::from([7; 16]), [2; 15]);
 /// let mut room = [0; 64];
 /// let mut text = vec![];
 ///
-/// let mut session = Session::start(Suite::Speck64, &key, &nonce)?.data(&[7, 0, 0, 0])?.data(&[1])?;
+/// let mut session = Session::start(Suite::Speck64, &key, Nonce::assume_fresh(&nonce)?)?;
+/// session.data(&[7, 0, 0, 0])?;
+/// session.data(&[1])?;
 /// for measured in ["48.5 ", "48.7 48.4 ", "48.6"] {
-///     let (next, done) = session.part(measured.as_bytes(), &mut room)?;
-///     text.extend_from_slice(done);
-///     session = next;
+///     text.extend_from_slice(session.part(measured.as_bytes(), &mut room)?);
 /// }
 /// let (rest, tag) = session.end(&mut room)?;
 /// text.extend_from_slice(rest);
 ///
 /// let mut message = [0; 19];
-/// open(Suite::Speck64, &key, &nonce, &[7, 0, 0, 0, 1], &text, &tag, &mut message)?;
+/// let sealed = Sealed { nonce: &nonce, ad: &[7, 0, 0, 0, 1], text: &text, tag: tag.as_bytes() };
+/// open(Suite::Speck64, &key, sealed, &mut message)?;
 /// assert_eq!(&message, b"48.5 48.7 48.4 48.6");
 /// # Ok::<(), snoekeldraf::Refused>(())
 /// ```
 ///
-/// Each call takes the session and hands the next one back, on a refusal the same one. Going on from one session twice
-/// would seal two records with one key and one nonce, and does not compile:
-///
-/// ```compile_fail,E0382
-/// # use snoekeldraf::{Key, Session, Suite};
-/// # let mut room = [0; 64];
-/// let session = Session::start(Suite::Speck64, &Key::from([7; 16]), &[2; 15]).unwrap();
-/// let one = session.part(b"48.5", &mut room);
-/// let two = session.part(b"48.7", &mut room);
-/// ```
+/// A refused call leaves the session unchanged, and it goes on. Going on from one session twice would seal two records with
+/// one key and one nonce, so a session cannot be copied, and its end consumes it:
 ///
 /// ```compile_fail,E0599
-/// # use snoekeldraf::{Key, Session, Suite};
-/// let session = Session::start(Suite::Speck64, &Key::from([7; 16]), &[2; 15]).unwrap();
+/// # use snoekeldraf::{Key, Nonce, Session, Suite};
+/// # let nonce = Nonce::assume_fresh(&[2; 15]).unwrap();
+/// let session = Session::start(Suite::Speck64, &Key::from([7; 16]), nonce).unwrap();
 /// let again = session.clone();
 /// ```
 ///
-/// A session holds what the key makes: keep it as secret as the key. It is not shown by `Debug`.
+/// ```compile_fail,E0382
+/// # use snoekeldraf::{Key, Nonce, Session, Suite};
+/// # let nonce = Nonce::assume_fresh(&[2; 15]).unwrap();
+/// # let (mut one, mut two) = ([0; 16], [0; 16]);
+/// let mut session = Session::start(Suite::Speck64, &Key::from([7; 16]), nonce).unwrap();
+/// session.end(&mut one).unwrap();
+/// session.part(b"48.7", &mut two).unwrap();
+/// ```
+///
+/// A session holds key material. It is overwritten with zeros when it is dropped, and `Debug` does not show it. A move
+/// copies it: after the function that starts or ends it, [`forget`](crate::forget) overwrites what is left on the stack.
 #[must_use = "a session that is dropped seals nothing"]
 pub struct Session {
     suite: Suite,
@@ -60,89 +65,85 @@ pub struct Session {
 impl Session {
     /// Starts a session.
     ///
-    /// Numbers, in this order: 10 where the suite is 4; 3 where the nonce does not have the suite's length.
+    /// Numbers, in this order: 10 if the suite is 4; 3 if the nonce does not have the suite's length.
     ///
     /// ```
-    /// use snoekeldraf::{Key, Session, Suite};
+    /// use snoekeldraf::{Key, Nonce, Session, Suite};
     ///
-    /// let refused = Session::start(Suite::Aes128, &Key::from([7; 16]), &[2; 15]).unwrap_err();
-    /// assert_eq!(refused.number, 3);
-    /// ```
-    pub fn start(suite: Suite, key: &Key, nonce: &[u8]) -> Result<Session, Refused> {
-        let mut words = [0; 9];
-        done(raw::session_start(&mut words, suite.number(), key.bytes(), nonce))?;
-        Ok(Session { suite, words })
-    }
-
-    /// Brings a part of the associated data, of any length, as long as no byte of the message has come.
-    ///
-    /// Numbers, in this order: 9 where a byte of the message has come, for an empty part too; 4 where there would be more
-    /// than 65,536 bytes in all.
-    ///
-    /// ```
-    /// use snoekeldraf::{Key, Session, Suite};
-    ///
-    /// let session = Session::start(Suite::Aes128, &Key::from([7; 16]), &[2; 16])?.data(b"in ")?.data(b"parts")?;
-    /// let (session, _) = session.part(b"!", &mut [0; 16])?;
-    /// let handed_back = session.data(b"").unwrap_err();
-    /// assert_eq!(handed_back.refused.number, 9);
+    /// let nonce = Nonce::assume_fresh(&[2; 15])?;
+    /// assert_eq!(Session::start(Suite::Aes128, &Key::from([7; 16]), nonce).unwrap_err().number(), 3);
     /// # Ok::<(), snoekeldraf::Refused>(())
     /// ```
-    pub fn data(mut self, ad: &[u8]) -> Result<Session, HandedBack> {
-        let number = raw::session_data(&mut self.words, ad);
-        self.stepped(number, 0).map(|(session, _)| session)
+    pub fn start(suite: Suite, key: &Key, nonce: Nonce) -> Result<Session, Refused> {
+        let mut session = Session { suite, words: [0; 9] };
+        let words = &mut session.words;
+        done(forgetting(|| raw::session_start(words, suite.number(), key.bytes(), nonce.as_bytes())))?;
+        Ok(session)
     }
 
-    /// Brings a part of the message, of any length. The ciphertext of the blocks that it completes comes back, a part of
-    /// `out`; the bytes behind it are as they were. `out` has room for the part and one block less a byte.
+    /// Adds a part of the associated data, of any length, until the first byte of the message.
     ///
-    /// Numbers, in this order: 5 where there would be more than 65,536 bytes of message in all; 6 where `out` has not the
-    /// room. A refusal leaves `out` as it was. An empty part changes nothing and does not begin the message.
+    /// Numbers, in this order: 9 if a byte of the message has come, for an empty part too; 4 if there would be more than
+    /// 65,536 bytes in all.
     ///
     /// ```
-    /// use snoekeldraf::{Key, Session, Suite};
+    /// use snoekeldraf::{Key, Nonce, Reason, Session, Suite};
+    ///
+    /// let mut session = Session::start(Suite::Aes128, &Key::from([7; 16]), Nonce::assume_fresh(&[2; 16])?)?;
+    /// session.data(b"in ")?;
+    /// session.data(b"parts")?;
+    /// session.part(b"!", &mut [0; 16])?;
+    /// assert_eq!(session.data(b"").unwrap_err().reason, Reason::Session);
+    /// # Ok::<(), snoekeldraf::Refused>(())
+    /// ```
+    pub fn data(&mut self, ad: &[u8]) -> Result<(), Refused> {
+        done(forgetting(|| raw::session_data(&mut self.words, ad)))
+    }
+
+    /// Adds a part of the message, of any length, and returns the ciphertext of the blocks that it completes, a part of `out`.
+    /// The bytes after it are unchanged. `out` has [`part_room`](Session::part_room) bytes or more.
+    ///
+    /// Numbers, in this order: 5 if there would be more than 65,536 bytes of message in all; 6 if `out` is too short. A
+    /// refusal leaves `out` unchanged. An empty part changes nothing and does not begin the message.
+    ///
+    /// ```
+    /// use snoekeldraf::{Key, Nonce, Reason, Session, Suite};
     ///
     /// let mut room = [0; 20 + 15];
-    /// let session = Session::start(Suite::Aes128, &Key::from([7; 16]), &[2; 16])?;
-    /// let handed_back = session.part(&[b'm'; 20], &mut room[..34]).unwrap_err();
-    /// assert_eq!(handed_back.refused.number, 6);
-    /// let (_session, text) = handed_back.session.part(&[b'm'; 20], &mut room)?;
+    /// let mut session = Session::start(Suite::Aes128, &Key::from([7; 16]), Nonce::assume_fresh(&[2; 16])?)?;
+    /// let refused = session.part(&[b'm'; 20], &mut room[..34]).unwrap_err();
+    /// assert_eq!(refused.reason, Reason::OutputLength);
+    /// let text = session.part(&[b'm'; 20], &mut room)?;
     /// assert_eq!(text.len(), 16); // four bytes wait for their block
     /// # Ok::<(), snoekeldraf::Refused>(())
     /// ```
-    pub fn part<'o>(mut self, msg: &[u8], out: &'o mut [u8]) -> Result<(Session, &'o [u8]), HandedBack> {
-        let (number, count) = raw::session_part(&mut self.words, msg, out);
-        let (session, count) = self.stepped(number, count)?;
-        Ok((session, &out[..count]))
+    pub fn part<'o>(&mut self, msg: &[u8], out: &'o mut [u8]) -> Result<&'o [u8], Refused> {
+        let (number, count) = forgetting(|| raw::session_part(&mut self.words, msg, out));
+        done(number)?;
+        Ok(&out[..count as usize])
     }
 
-    /// Ends: the rest of the ciphertext, less than a block and a part of `out`, and the tag. `out` has room for a block.
+    /// Ends the session and returns the rest of the ciphertext, less than a block and a part of `out`, and the tag. `out` has
+    /// 16 bytes or more (8 are enough if the block has 8).
     ///
-    /// Number 6 where `out` has not the room; `out` is then as it was, and the session can be ended with more.
+    /// Number 6 if `out` is too short; it is then unchanged, and the session is handed back.
     ///
     /// ```
-    /// use snoekeldraf::{Key, Session, Suite};
+    /// use snoekeldraf::{Key, Nonce, Session, Suite};
     ///
     /// let mut room = [0; 16];
-    /// let session = Session::start(Suite::Speck64, &Key::from([7; 16]), &[2; 15])?;
-    /// let (session, text) = session.part(b"torque", &mut room)?;
-    /// assert_eq!(text, []);
+    /// let mut session = Session::start(Suite::Speck64, &Key::from([7; 16]), Nonce::assume_fresh(&[2; 15])?)?;
+    /// assert_eq!(session.part(b"torque", &mut room)?, []);
     /// let handed_back = session.end(&mut room[..7]).unwrap_err();
     /// let (rest, tag) = handed_back.session.end(&mut room)?;
-    /// assert_eq!((rest.len(), tag.len()), (6, 8));
+    /// assert_eq!((rest.len(), tag.as_bytes().len()), (6, 8));
     /// # Ok::<(), snoekeldraf::Refused>(())
     /// ```
     pub fn end(mut self, out: &mut [u8]) -> Result<(&[u8], Tag), HandedBack> {
         let mut tag = Tag::unwritten(self.suite);
-        let (number, count) = raw::session_end(&mut self.words, out, tag.lent());
-        let (_ended, count) = self.stepped(number, count)?;
-        Ok((&out[..count], tag))
-    }
-
-    /// The next session and how many bytes were written; or, as it was, the session that was given.
-    fn stepped(self, number: u32, count: u32) -> Result<(Session, usize), HandedBack> {
+        let (number, count) = forgetting(|| raw::session_end(&mut self.words, out, tag.as_mut_bytes()));
         match done(number) {
-            Ok(()) => Ok((self, count as usize)),
+            Ok(()) => Ok((&out[..count as usize], tag)),
             Err(refused) => Err(HandedBack { session: self, refused }),
         }
     }
@@ -150,49 +151,63 @@ impl Session {
     /// The suite that it was started with.
     ///
     /// ```
-    /// use snoekeldraf::{Key, Session, Suite};
+    /// use snoekeldraf::{Key, Nonce, Session, Suite};
     ///
-    /// let session = Session::start(Suite::Speck64, &Key::from([7; 16]), &[2; 15])?;
-    /// let room = 20 + session.suite().block_size() - 1; // what a part of 20 bytes needs
-    /// assert_eq!(room, 27);
+    /// let session = Session::start(Suite::Speck64, &Key::from([7; 16]), Nonce::assume_fresh(&[2; 15])?)?;
+    /// assert_eq!(session.suite(), Suite::Speck64);
     /// # Ok::<(), snoekeldraf::Refused>(())
     /// ```
     pub fn suite(&self) -> Suite {
         self.suite
     }
 
-    /// As [`part`](Session::part); the ciphertext is put behind `text`.
+    /// How long the output of [`part`](Session::part) has to be for a part of `len` bytes: one block less a byte more.
     ///
     /// ```
-    /// use snoekeldraf::{Key, Session, Suite};
+    /// use snoekeldraf::{Key, Nonce, Session, Suite};
+    ///
+    /// let session = Session::start(Suite::Speck64, &Key::from([7; 16]), Nonce::assume_fresh(&[2; 15])?)?;
+    /// assert_eq!(session.part_room(20), 27);
+    /// # Ok::<(), snoekeldraf::Refused>(())
+    /// ```
+    pub fn part_room(&self, len: usize) -> usize {
+        len.saturating_add(self.suite.block_size() - 1)
+    }
+
+    /// As [`part`](Session::part); the ciphertext is appended to `text`.
+    ///
+    /// ```
+    /// use snoekeldraf::{Key, Nonce, Session, Suite};
     ///
     /// let mut text = vec![];
-    /// let session = Session::start(Suite::Speck64, &Key::from([7; 16]), &[2; 15])?;
-    /// let session = session.part_vec(b"torque 48.5", &mut text)?.part_vec(b" 48.7", &mut text)?;
+    /// let mut session = Session::start(Suite::Speck64, &Key::from([7; 16]), Nonce::assume_fresh(&[2; 15])?)?;
+    /// session.part_vec(b"torque 48.5", &mut text)?;
+    /// session.part_vec(b" 48.7", &mut text)?;
     /// let tag = session.end_vec(&mut text)?;
-    /// assert_eq!((text.len(), tag.len()), (16, 8));
+    /// assert_eq!((text.len(), tag.as_bytes().len()), (16, 8));
     /// # Ok::<(), snoekeldraf::Refused>(())
     /// ```
     #[cfg(feature = "alloc")]
-    pub fn part_vec(self, msg: &[u8], text: &mut Vec<u8>) -> Result<Session, HandedBack> {
-        let mut room = vec![0; msg.len() + self.suite.block_size() - 1];
-        let (session, done) = self.part(msg, &mut room)?;
-        text.extend_from_slice(done);
-        Ok(session)
+    pub fn part_vec(&mut self, msg: &[u8], text: &mut Vec<u8>) -> Result<(), Refused> {
+        let mut room = vec![0; self.part_room(msg.len())];
+        text.extend_from_slice(self.part(msg, &mut room)?);
+        Ok(())
     }
 
-    /// As [`end`](Session::end); the rest of the ciphertext is put behind `text`.
+    /// As [`end`](Session::end); the rest of the ciphertext is appended to `text`.
     ///
     /// ```
-    /// use snoekeldraf::{seal, Key, Session, Suite};
+    /// use snoekeldraf::{seal_vec, Key, Nonce, Record, Session, Suite};
     ///
     /// let (key, nonce) = (Key::from([7; 16]), [2; 15]);
     /// let mut text = vec![];
-    /// let tag = Session::start(Suite::Speck64, &key, &nonce)?.part_vec(b"48.5", &mut text)?.end_vec(&mut text)?;
+    /// let mut session = Session::start(Suite::Speck64, &key, Nonce::assume_fresh(&nonce)?)?;
+    /// session.part_vec(b"48.5", &mut text)?;
+    /// let tag = session.end_vec(&mut text)?;
     ///
-    /// let mut at_once = [0; 4];
-    /// let its_tag = seal(Suite::Speck64, &key, &nonce, b"", b"48.5", &mut at_once)?;
-    /// assert_eq!((&text[..], &tag[..]), (&at_once[..], &its_tag[..]));
+    /// // the same record, sealed at once; with one key and nonce, only one of the two may ever be sent
+    /// let record = Record { ad: b"", text: b"48.5" };
+    /// assert_eq!((text, tag), seal_vec(Suite::Speck64, &key, Nonce::assume_fresh(&nonce)?, record)?);
     /// # Ok::<(), snoekeldraf::Refused>(())
     /// ```
     #[cfg(feature = "alloc")]
@@ -204,30 +219,39 @@ impl Session {
     }
 }
 
+impl Drop for Session {
+    fn drop(&mut self) {
+        wipe(&mut self.words);
+    }
+}
+
 impl Debug for Session {
     fn fmt(&self, f: &mut Formatter) -> Written {
         write!(f, "Session({:?}, ..)", self.suite)
     }
 }
 
-/// A refusal of a session's call, and the session as it was: the call may be made again.
+/// A refused end of a session, and the session as it was: it can go on.
 ///
-/// It becomes a [`Refused`] by `?`, and the session is then given up.
+/// `?` turns it into a [`Refused`]; the session is then dropped.
 ///
 /// ```
-/// use snoekeldraf::{Key, Session, Suite};
+/// use snoekeldraf::{Key, Nonce, Session, Suite};
+/// use std::error::Error;
 ///
-/// let session = Session::start(Suite::Speck64, &Key::from([7; 16]), &[2; 15])?;
-/// let handed_back = session.part(b"48.5", &mut []).unwrap_err();
-/// assert_eq!(handed_back.to_string(), "the output does not have the length that is needed (number 6)");
-/// let (_session, _text) = handed_back.session.part(b"48.5", &mut [0; 11])?;
+/// let session = Session::start(Suite::Speck64, &Key::from([7; 16]), Nonce::assume_fresh(&[2; 15])?)?;
+/// let handed_back = session.end(&mut []).unwrap_err();
+/// assert_eq!(handed_back.to_string(), "the session was not ended");
+/// let source = handed_back.source().unwrap().to_string();
+/// assert_eq!(source, "the output does not have the required length (number 6)");
+/// let (rest, _tag) = handed_back.session.end(&mut [0; 16])?;
 /// # Ok::<(), snoekeldraf::Refused>(())
 /// ```
 #[derive(Debug)]
 pub struct HandedBack {
-    /// The session that was given.
+    /// The session that was to end.
     pub session: Session,
-    /// Why.
+    /// Why it did not.
     pub refused: Refused,
 }
 
@@ -239,8 +263,12 @@ impl From<HandedBack> for Refused {
 
 impl Display for HandedBack {
     fn fmt(&self, f: &mut Formatter) -> Written {
-        Display::fmt(&self.refused, f)
+        f.write_str("the session was not ended")
     }
 }
 
-impl Error for HandedBack {}
+impl Error for HandedBack {
+    fn source(&self) -> Option<&(dyn Error + 'static)> {
+        Some(&self.refused)
+    }
+}

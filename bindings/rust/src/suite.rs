@@ -1,6 +1,7 @@
 //! The suites.
 
-use crate::Refused;
+use crate::{Reason, Refused};
+use core::fmt::{Display, Formatter, Result as Written};
 
 /// A cipher, a version of COMET and their sizes.
 ///
@@ -13,16 +14,19 @@ use crate::Refused;
 /// | 5 | AES-128 | version 2 | 16 | 16 |
 /// | 6 | Speck-64/128 | version 2 | 8 | 15 |
 ///
-/// Suite 4 is retired: it is opened as before, and sealed no more (number 10).
+/// Suite 4 is retired: it is opened and no longer sealed (number 10). Suites 1 and 5 index lookup tables by secret bytes: they
+/// are not constant-time and can leak through the cache.
 ///
 /// ```
 /// use snoekeldraf::Suite;
 ///
 /// assert_eq!(Suite::try_from(3), Ok(Suite::Speck64));
 /// assert_eq!(Suite::Speck64.number(), 3);
-/// assert_eq!(Suite::try_from(7).unwrap_err().number, 1);
+/// assert_eq!(Suite::try_from(7).unwrap_err().number(), 1);
+/// assert_eq!(Suite::Speck64V2.to_string(), "Speck-64/128, COMET version 2");
+/// assert!(Suite::Aes128 < Suite::Speck64); // by number
 /// ```
-#[derive(Clone, Copy, PartialEq, Eq, Hash, Debug)]
+#[derive(Clone, Copy, PartialEq, Eq, PartialOrd, Ord, Hash, Debug)]
 #[repr(u8)]
 pub enum Suite {
     /// Suite 1.
@@ -31,7 +35,7 @@ pub enum Suite {
     Cham128 = 2,
     /// Suite 3.
     Speck64 = 3,
-    /// Suite 4, which is retired: it opens, and seals no more.
+    /// Suite 4, retired: it is opened and no longer sealed.
     Cham64 = 4,
     /// Suite 5.
     Aes128V2 = 5,
@@ -94,7 +98,7 @@ impl Suite {
         }
     }
 
-    /// Whether the suite opens alone.
+    /// Whether the suite is only opened.
     ///
     /// ```
     /// use snoekeldraf::Suite;
@@ -110,14 +114,27 @@ impl Suite {
 impl TryFrom<u8> for Suite {
     type Error = Refused;
 
-    /// Number 1 where the suite is not 1 to 6.
+    /// Number 1 if the suite is not 1 to 6.
     fn try_from(number: u8) -> Result<Suite, Refused> {
-        Suite::ALL.into_iter().find(|suite| suite.number() == number).ok_or(Refused::by(1))
+        Suite::ALL.into_iter().find(|suite| suite.number() == number).ok_or(Refused::of(Reason::Suite))
     }
 }
 
 impl From<Suite> for u8 {
     fn from(suite: Suite) -> u8 {
         suite.number()
+    }
+}
+
+impl Display for Suite {
+    fn fmt(&self, f: &mut Formatter) -> Written {
+        f.pad(match self {
+            Suite::Aes128 => "AES-128, COMET version 1",
+            Suite::Cham128 => "CHAM-128/128, COMET version 1",
+            Suite::Speck64 => "Speck-64/128, COMET version 1",
+            Suite::Cham64 => "CHAM-64/128, COMET version 1",
+            Suite::Aes128V2 => "AES-128, COMET version 2",
+            Suite::Speck64V2 => "Speck-64/128, COMET version 2",
+        })
     }
 }

@@ -1,12 +1,13 @@
 //! The writer of shift files, and the pass that reseals suite 4.
 
 use crate::refused::worked;
+use crate::secret::forgetting;
 use crate::{raw, Refused, Ring};
 #[cfg(feature = "alloc")]
 use alloc::{vec, vec::Vec};
 
-/// A day before it is sealed: a shift file with edition 0, plaintext where the ciphertext goes, and zero tags. It is lent
-/// the caller's bytes, and made by [`check`](Draft::check) alone.
+/// A checked draft, a day before it is sealed: a shift file with edition 0, plaintext where the ciphertext goes, and zero
+/// tags. It borrows the caller's bytes; [`check`](Draft::check) alone makes one.
 ///
 /// ```
 /// use snoekeldraf::{unseal, Draft, Ring, ShiftFile};
@@ -28,21 +29,22 @@ pub struct Draft<'a> {
 }
 
 impl<'a> Draft<'a> {
-    /// All that sealing asks of a draft.
+    /// Checks everything that sealing requires of a draft.
     ///
-    /// Numbers, in this order: 20 to 31 and 34 as [`ShiftFile::check`](crate::ShiftFile::check), but that 21 says that the
-    /// edition is not 0; 33 with the first row whose tag has a byte that is not zero; 10 with the first row of suite 4.
+    /// Numbers, in this order: 20 to 31 and 34 as [`ShiftFile::check`](crate::ShiftFile::check), except that 21 means
+    /// that the edition is not 0; 33 with the first row whose tag has a byte that is not zero; 10 with the first row of suite 4.
     ///
     /// ```
-    /// use snoekeldraf::{Draft, Refused};
+    /// use snoekeldraf::{Draft, Reason};
     ///
     /// let mut bytes = std::fs::read("../../samples/day.draft").unwrap();
     /// assert!(Draft::check(&bytes).is_ok());
     /// *bytes.last_mut().unwrap() = 1; // in the last tag
-    /// assert_eq!(Draft::check(&bytes), Err(Refused { number: 33, row: Some(6), file: None }));
+    /// let refused = Draft::check(&bytes).unwrap_err();
+    /// assert_eq!((refused.reason, refused.row), (Reason::RowTagSet, Some(6)));
     /// ```
     pub fn check(bytes: &'a [u8]) -> Result<Draft<'a>, Refused> {
-        // Number 2 comes right after the draft's own numbers: with no ring at all it says that none of them applies.
+        // Number 2 comes right after the draft's own numbers: with an empty ring it means that none of them applies.
         match raw::seal_file(bytes, &[], &mut []) {
             (2, _) => Ok(Draft { bytes }),
             answer => Err(worked(answer).expect_err("no file is sealed without a ring")),
@@ -62,10 +64,10 @@ impl<'a> Draft<'a> {
         self.bytes
     }
 
-    /// Seals the draft into `out`, which is as long as the draft. The edition becomes 1, ciphertext and tag stand in
-    /// their places, and every other byte is the draft's.
+    /// Seals the draft into `out`, which is as long as the draft. The edition becomes 1, ciphertext and tags are written, and
+    /// every other byte is the draft's.
     ///
-    /// Number 6 where `out` has another length; it is then as it was.
+    /// Number 6 if `out` has another length; it is then unchanged.
     ///
     /// ```
     /// use snoekeldraf::{Draft, Ring};
@@ -73,16 +75,16 @@ impl<'a> Draft<'a> {
     /// let empty = [0, 0, 0, 0, 8, 0, 0, 0];
     /// let (draft, ring) = (Draft::check(&empty)?, Ring::from([7; 256]));
     /// let mut file = [0xaa; 8];
-    /// assert_eq!(draft.seal(&ring, &mut file[1..]).unwrap_err().number, 6);
+    /// assert_eq!(draft.seal(&ring, &mut file[1..]).unwrap_err().number(), 6);
     /// draft.seal(&ring, &mut file)?;
     /// assert_eq!(file, [1, 0, 0, 0, 8, 0, 0, 0]);
     /// # Ok::<(), snoekeldraf::Refused>(())
     /// ```
     pub fn seal(self, ring: &Ring, out: &mut [u8]) -> Result<(), Refused> {
-        worked(raw::seal_file(self.bytes, ring.bytes(), out))
+        worked(forgetting(|| raw::seal_file(self.bytes, ring.bytes(), out)))
     }
 
-    /// As [`seal`](Draft::seal); gives the sealed file.
+    /// As [`seal`](Draft::seal); returns the sealed file.
     ///
     /// ```
     /// use snoekeldraf::{unseal_vec, Draft, Ring};
@@ -101,34 +103,34 @@ impl<'a> Draft<'a> {
     }
 }
 
-/// Gives the draft of a sealed file back, in `out`, which is as long as the file. Sealing it with the same ring gives the
-/// file, where no entry has suite 4.
+/// Writes the draft of a sealed file to `out`, which is as long as the file. If no entry has suite 4, sealing the draft with
+/// the same ring gives the file.
 ///
-/// Numbers, in this order: 20 to 31 and 34 as [`ShiftFile::check`](crate::ShiftFile::check), but that 21 says that the
-/// edition is not 1; 6 where `out` has another length; 8 with the first row whose tag differs. On 8 every byte of `out`
-/// is 0; every other refusal leaves it as it was.
+/// Numbers, in this order: 20 to 31 and 34 as [`ShiftFile::check`](crate::ShiftFile::check), except that 21 means that
+/// the edition is not 1; 6 if `out` has another length; 8 with the first row whose tag differs. On 8 every byte of `out` is
+/// 0; every other refusal leaves it unchanged.
 ///
 /// ```
-/// use snoekeldraf::{unseal, Refused, Ring};
+/// use snoekeldraf::{unseal, Reason, Ring};
 ///
 /// let file = std::fs::read("../../samples/day.shift").unwrap();
 /// let mut draft = vec![0xaa; file.len()];
 /// let refused = unseal(&file, &Ring::from([7; 256]), &mut draft).unwrap_err();
-/// assert_eq!(refused, Refused { number: 8, row: Some(0), file: None });
+/// assert_eq!((refused.reason, refused.row), (Reason::TagDiffers, Some(0)));
 /// assert!(draft.iter().all(|byte| *byte == 0));
 /// ```
 pub fn unseal(file: &[u8], ring: &Ring, out: &mut [u8]) -> Result<(), Refused> {
-    worked(raw::unseal_file(file, ring.bytes(), out))
+    worked(forgetting(|| raw::unseal_file(file, ring.bytes(), out)))
 }
 
 /// Seals the suite 4 entries of a file again as suite 3, into `out`, which is as long as the file: the same key number,
-/// nonce, associated data and message. Every other byte is kept; the other entries are not opened, and are copied
-/// unchecked.
+/// nonce, associated data and message. Every other byte is kept. The other entries are copied without looking at
+/// their tags.
 ///
-/// Numbers, in this order: 20 to 31 and 34 as [`ShiftFile::check`](crate::ShiftFile::check), but that 21 says that the
-/// edition is not 1; 29 also with the lowest row that would then clash with an earlier one; 6 where `out` has another
-/// length; 8 with the first row of suite 4 whose tag differs. On 8 every byte of `out` is 0; every other refusal leaves
-/// it as it was.
+/// Numbers, in this order: 20 to 31 and 34 as [`ShiftFile::check`](crate::ShiftFile::check), except that 21 means that
+/// the edition is not 1; 29 also with the lowest row that would then repeat the suite, key number and nonce of an earlier one;
+/// 6 if `out` has another length; 8 with the first row of suite 4 whose tag differs. On 8 every byte of `out` is 0; every
+/// other refusal leaves it unchanged.
 ///
 /// ```
 /// use snoekeldraf::{reseal, Ring, ShiftFile, Suite};
@@ -137,15 +139,15 @@ pub fn unseal(file: &[u8], ring: &Ring, out: &mut [u8]) -> Result<(), Refused> {
 /// let old = std::fs::read("../../samples/day.shift")?;
 /// let mut new = vec![0; old.len()];
 /// reseal(&old, &ring, &mut new)?;
-/// let [old, new] = [ShiftFile::check(&old)?.entry(4105)?, ShiftFile::check(&new)?.entry(4105)?];
-/// assert_eq!([old.suite, new.suite], [Suite::Cham64, Suite::Speck64]);
+/// let [old, new] = [&old, &new].map(|bytes| ShiftFile::check(bytes).unwrap().unverified_entry(4105).unwrap().suite);
+/// assert_eq!([old, new], [Suite::Cham64, Suite::Speck64]);
 /// # Ok::<(), Box<dyn std::error::Error>>(())
 /// ```
 pub fn reseal(file: &[u8], ring: &Ring, out: &mut [u8]) -> Result<(), Refused> {
-    worked(raw::reseal(file, ring.bytes(), out))
+    worked(forgetting(|| raw::reseal(file, ring.bytes(), out)))
 }
 
-/// As [`unseal`]; gives the draft.
+/// As [`unseal`]; returns the draft.
 ///
 /// ```
 /// use snoekeldraf::{unseal_vec, Draft, Ring};
@@ -161,7 +163,7 @@ pub fn unseal_vec(file: &[u8], ring: &Ring) -> Result<Vec<u8>, Refused> {
     Ok(out)
 }
 
-/// As [`reseal`]; gives the resealed file.
+/// As [`reseal`]; returns the resealed file.
 ///
 /// ```
 /// use snoekeldraf::{reseal_vec, Ring};

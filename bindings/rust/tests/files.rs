@@ -1,4 +1,4 @@
-//! The shift file against the second program: check, lookup, associated data, entry, opening, search, and all entries.
+//! The shift file against the reference implementation: check, lookup, associated data, entry, opening, search, and all entries.
 
 mod common;
 
@@ -10,14 +10,14 @@ use reference::shift;
 use reference::trials;
 use snoekeldraf::ShiftFile;
 
-/// The entries are what the second program's reader gives, and what looking each job up gives.
+/// The entries are those of the reference's reader, and those that looking each job up gives.
 fn entries_are_the_rows(file: &[u8]) {
     let mut reader = Reader::new(file);
     let Ok(checked) = ShiftFile::check(file) else {
         assert!(reader.entry().is_none());
         return;
     };
-    assert_eq!(usize::from(checked.edition()), shift::edition(file));
+    assert_eq!(checked.edition() as usize, shift::edition(file));
     let mut entries = checked.entries();
     while let Some((i, row)) = reader.entry() {
         assert_eq!(entries.len(), shift::count(file) - i);
@@ -25,9 +25,10 @@ fn entries_are_the_rows(file: &[u8]) {
         assert_eq!((entry.row as usize, entry.job, entry.station), (i, row.job, row.station));
         assert_eq!((entry.suite.number(), entry.key_number, entry.nonce), (row.suite, row.key, row.nonce()));
         let [ad, text, tag] = [row.associated(), row.text(), row.tag()].map(|range| &file[range]);
-        assert_eq!((entry.associated, entry.text, entry.tag), (ad, text, tag));
-        assert_eq!(checked.entry(row.job), Ok(entry));
-        assert_eq!(checked.associated(row.job), Ok(entry.associated));
+        assert_eq!((entry.unverified_ad, entry.text, entry.tag), (ad, text, tag));
+        assert_eq!(entry.unverified_unit.number(), ad[4]);
+        assert_eq!(checked.unverified_entry(row.job), Ok(entry));
+        assert_eq!(checked.unverified_ad(row.job), Ok(entry.unverified_ad));
     }
     for _ in 0..3 {
         assert_eq!((entries.len(), entries.next()), (0, None));

@@ -1,4 +1,4 @@
-//! The sealer and the opener against the second program: every answer, every byte.
+//! The sealer and the opener against the reference implementation: every answer, every byte.
 
 mod common;
 
@@ -8,7 +8,7 @@ use reference::data::{cases, counted};
 use reference::random::Random;
 use reference::trials;
 
-/// The sealer gives its tag back and is lent no room for it: number 7 of the sealer cannot come.
+/// The sealer returns its tag and is passed no buffer for it: number 7 of the sealer cannot come.
 fn can_be_written(call: &Call) -> bool {
     call.opens || call.answer(&REFERENCE).number != 7
 }

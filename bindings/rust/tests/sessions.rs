@@ -1,4 +1,4 @@
-//! Sessions against the second program: its runs, call by call.
+//! Sessions against the reference implementation: its runs, call by call.
 
 mod common;
 
@@ -6,50 +6,64 @@ use common::sealing;
 use reference::calls::{Case, FILLER, REFERENCE};
 use reference::data::sessions::{self, Run, SessionCall, StepOutcome};
 use reference::random::Random;
-use snoekeldraf::{HandedBack, Refused, Session};
+use snoekeldraf::{HandedBack, Key, Nonce, Refused, Session, Suite};
 
-/// What a call of the crate gives: number, count, and what is lent. The count is 0 on a refusal.
+/// What a call of the crate gives: number, count, and what is written. The count is 0 on a refusal.
 type Gave = (u32, usize, Vec<u8>, Vec<u8>);
 
-/// One call. The session goes in and comes back; there is none before the start, after a refused one, and after the end.
+/// The number alone, with no output.
+fn only(result: Result<(), Refused>) -> Gave {
+    (result.map_or_else(|refused| refused.number(), |()| 0), 0, vec![], vec![])
+}
+
+fn part(session: &mut Session, msg: &[u8], out: usize) -> Gave {
+    let mut out = vec![FILLER; out];
+    let start = out.as_ptr();
+    let (number, count) = match session.part(msg, &mut out) {
+        Ok(text) => {
+            assert!(text.is_empty() || text.as_ptr() == start);
+            (0, text.len())
+        }
+        Err(refused) => (refused.number(), 0),
+    };
+    (number, count, out, vec![])
+}
+
+fn end(session: Session, out: usize, tag_size: usize) -> (Option<Session>, Gave) {
+    let (mut out, fits) = (vec![FILLER; out], session.suite().tag_size() == tag_size);
+    match session.end(&mut out) {
+        Ok((rest, tag)) => {
+            assert!(fits);
+            let (count, tag) = (rest.len(), tag.as_bytes().to_vec());
+            (None, (0, count, out, tag))
+        }
+        Err(HandedBack { session, refused }) => (Some(session), (refused.number(), 0, out, vec![FILLER; tag_size])),
+    }
+}
+
+/// One call. There is no session before the start, after a refused one, and after the end.
 fn call(session: Option<Session>, call: &SessionCall) -> Option<(Option<Session>, Gave)> {
-    let handed_back = |back: HandedBack| (Some(back.session), back.refused.number, 0);
-    let (mut lent, mut tag) = (vec![], vec![]);
-    let (next, number, count) = match call {
+    let (next, gave) = match call {
         SessionCall::Start { suite, key, nonce } => {
-            match sealing(*suite, key).and_then(|(suite, key)| Session::start(suite, &key, nonce)) {
-                Ok(session) => (Some(session), 0, 0),
-                Err(Refused { number, .. }) => (None, number, 0),
-            }
+            let started = sealing(*suite, key, nonce)
+                .and_then(|(suite, key, nonce)| Session::start(suite, &key, nonce).map_err(|refused| refused.number()));
+            let number = started.as_ref().map_or_else(|number| *number, |_| 0);
+            (started.ok(), (number, 0, vec![], vec![]))
         }
-        SessionCall::Data(ad) => session?.data(ad).map_or_else(handed_back, |next| (Some(next), 0, 0)),
+        SessionCall::Data(ad) => {
+            let mut session = session?;
+            let gave = only(session.data(ad));
+            (Some(session), gave)
+        }
         SessionCall::Part { msg, out } => {
-            lent.resize(*out, FILLER);
-            let start = lent.as_ptr();
-            session?.part(msg, &mut lent).map_or_else(handed_back, |(next, text)| {
-                assert!(text.is_empty() || text.as_ptr() == start);
-                (Some(next), 0, text.len())
-            })
+            let mut session = session?;
+            let gave = part(&mut session, msg, *out);
+            (Some(session), gave)
         }
-        SessionCall::End { out, tag: tag_size } => {
-            lent.resize(*out, FILLER);
-            let session = session?;
-            let fits = session.suite().tag_size() == *tag_size;
-            match session.end(&mut lent) {
-                Ok((rest, made)) => {
-                    assert!(fits);
-                    tag = made.to_vec();
-                    (None, 0, rest.len())
-                }
-                Err(back) => {
-                    tag.resize(*tag_size, FILLER);
-                    handed_back(back)
-                }
-            }
-        }
+        SessionCall::End { out, tag } => end(session?, *out, *tag),
         SessionCall::Forge { .. } => unreachable!("a session's fields are the crate's own"),
     };
-    Some((next, (number, count, lent, tag)))
+    Some((next, gave))
 }
 
 /// Runs with a forged value, and ends with a tag of another length, cannot be written.
@@ -58,7 +72,7 @@ fn can_be_written(run: &Run, steps: &[StepOutcome]) -> bool {
     !forges && steps.iter().all(|step| step.number != 7)
 }
 
-/// Puts a run: every step as the second program's. Where the crate has no session the second program says 9.
+/// Puts a run: every step is the reference's. Where the crate has no session the reference says 9.
 fn put(run: &Run, tally: &mut [usize; 2]) {
     let steps = run.answer(&REFERENCE);
     if !can_be_written(run, &steps) {
@@ -110,34 +124,25 @@ fn long_runs() {
 /// The totals at their limits, by true parts: 4 and 5, and the session goes on after each.
 #[test]
 fn limits() {
-    let (suite, key) = sealing(3, &[7; 16]).unwrap();
     let bytes: Vec<u8> = (0..65_536).map(|i| (i % 251) as u8).collect();
     let mut room = vec![0; 65_536 + 7];
-    let session = Session::start(suite, &key, &[1; 15]).unwrap();
-    let session = session.data(&bytes[..65_530]).unwrap();
-    let HandedBack { session, refused } = session.data(&bytes[..7]).unwrap_err();
-    assert_eq!(refused.number, 4);
-    let session = session.data(&bytes[65_530..]).unwrap();
-    let HandedBack { session, refused } = session.data(&[0]).unwrap_err();
-    assert_eq!(refused.number, 4);
+    let nonce = Nonce::assume_fresh(&[1; 15]).unwrap();
+    let mut session = Session::start(Suite::Speck64, &Key::from([7; 16]), nonce).unwrap();
+    session.data(&bytes[..65_530]).unwrap();
+    assert_eq!(session.data(&bytes[..7]).unwrap_err().number(), 4);
+    session.data(&bytes[65_530..]).unwrap();
+    assert_eq!(session.data(&[0]).unwrap_err().number(), 4);
 
     let mut text = vec![];
-    let (session, done) = session.part(&bytes[..65_533], &mut room).unwrap();
-    text.extend_from_slice(done);
-    // 5 comes before 6
-    let HandedBack { session, refused } = session.part(&[0; 4], &mut []).unwrap_err();
-    assert_eq!(refused.number, 5);
-    // 9 comes before 4
-    let HandedBack { session, refused } = session.data(&[0]).unwrap_err();
-    assert_eq!(refused.number, 9);
-    let (session, done) = session.part(&bytes[65_533..], &mut room).unwrap();
-    text.extend_from_slice(done);
-    let HandedBack { session, refused } = session.part(&[0], &mut room).unwrap_err();
-    assert_eq!(refused.number, 5);
+    text.extend_from_slice(session.part(&bytes[..65_533], &mut room).unwrap());
+    assert_eq!(session.part(&[0; 4], &mut []).unwrap_err().number(), 5); // 5 comes before 6
+    assert_eq!(session.data(&[0]).unwrap_err().number(), 9); // 9 comes before 4
+    text.extend_from_slice(session.part(&bytes[65_533..], &mut room).unwrap());
+    assert_eq!(session.part(&[0], &mut room).unwrap_err().number(), 5);
     let (rest, tag) = session.end(&mut room).unwrap();
     text.extend_from_slice(rest);
 
     let (mut expected, mut its_tag) = (vec![0; 65_536], [0; 8]);
     assert_eq!(reference::comet::seal(3, &[7; 16], &[1; 15], &bytes, &bytes, &mut expected, &mut its_tag), 0);
-    assert!(text == expected && tag[..] == its_tag);
+    assert!(text == expected && tag.as_bytes() == its_tag);
 }

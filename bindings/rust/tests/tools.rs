@@ -1,4 +1,4 @@
-//! Writer, reseal pass, comparison, moves, amendments and report against the second program.
+//! Writer, reseal pass, comparison, moves, amendments and report against the reference implementation.
 
 mod common;
 

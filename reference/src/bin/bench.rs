@@ -1,7 +1,9 @@
 //! The yardstick: throughput of the proved library as a ratio to the reference and to the plain C, on the same
 //! buffers in one run. A ratio above 1 says that the proved library is the faster.
 //!
-//!     bench [REPETITIONS]
+//! ```text
+//! bench [REPETITIONS]
+//! ```
 
 use reference::calls::{Call, Library, REFERENCE};
 use reference::comet::{is_retired, SEALED, SUITES};

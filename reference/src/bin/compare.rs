@@ -1,7 +1,9 @@
 //! Compares the proved library, and the plain C of the yardstick, with the reference: every answer and every
 //! byte of what is lent, over random and edge inputs. Ends with status 1 where anything differs.
 //!
-//!     compare [SEED]
+//! ```text
+//! compare [SEED]
+//! ```
 //!
 //! The library is compared as its archives are there: the one of this processor, linked into this program, and the one for
 //! x86-64, called by a C program.

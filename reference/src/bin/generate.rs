@@ -1,7 +1,9 @@
 //! Writes the data of the test programs and the samples, byte for byte the same in every run.
 //!
-//!     generate [ROOT]           into the repository's samples/ and those program folders that exist
-//!     generate --all-to DIR     everything under DIR
+//! ```text
+//! generate [ROOT]           into the repository's samples/ and those program folders that exist
+//! generate --all-to DIR     everything under DIR
+//! ```
 
 use reference::data::{parts, Part, FOLDERS};
 use std::path::{Path, PathBuf};

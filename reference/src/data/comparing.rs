@@ -81,9 +81,12 @@ fn of_jobs(jobs: &[u32]) -> Plan {
     Plan::new(jobs.iter().map(|job| entry(*job)).collect())
 }
 
+/// The jobs of two files, and the three lists.
+type Pair<'a> = (&'a [u32], &'a [u32], [&'a [u32]; 3]);
+
 /// Jobs in one file, in the other, in both; at the ends, between, at the edges of 32 bits.
 fn jobs(_: &mut Random) -> Vec<CompareCall> {
-    let pairs: [(&[u32], &[u32], [&[u32]; 3]); 10] = [
+    let pairs: [Pair; 10] = [
         (&[], &[], [&[], &[], &[]]),
         (&[7], &[], [&[7], &[], &[]]),
         (&[], &[7, 8], [&[], &[7, 8], &[]]),

@@ -311,9 +311,12 @@ fn just_good(_: &mut Random) -> Vec<FileCall> {
     files.iter().flat_map(|file| jobs.map(|job| call(file.clone(), job, 4))).collect()
 }
 
-/// Two rows, each of suite, key number, sixteenth nonce byte, with fifteen equal nonce bytes before it, and what the
-/// check gives (document 02, W5). The first is the auditor's file.
-const PAIRS: [([(u8, u8, u8); 2], u32, usize); 21] = [
+/// Two rows, each of suite, key number, sixteenth nonce byte, with fifteen equal nonce bytes before it, and number and row of
+/// the check.
+type RowPair = ([(u8, u8, u8); 2], u32, usize);
+
+/// The pairs of document 02, W5. The first is the auditor's file.
+const PAIRS: [RowPair; 21] = [
     ([(3, 0, 0), (3, 0, 1)], 34, 1),
     ([(3, 0, 1), (3, 0, 0)], 34, 0),
     ([(3, 0, 1), (3, 0, 2)], 34, 0),

@@ -58,8 +58,11 @@ fn unchecked(_: &mut Random) -> Vec<RewriteCall> {
     calls
 }
 
-/// Rows, each of suite, key number and first nonce byte, and what the pass gives: 29 with the lowest later row.
-const CLASHES: [(&[(u8, u8, u8)], u32, usize); 12] = [
+/// Rows, each of suite, key number and first nonce byte, and number and row of the pass.
+type Clash = (&'static [(u8, u8, u8)], u32, usize);
+
+/// Rows that clash get 29 with the lowest later row.
+const CLASHES: [Clash; 12] = [
     (&[(3, 0, 1), (4, 0, 1)], 29, 1),
     (&[(4, 0, 1), (3, 0, 1)], 29, 1),
     (&[(4, 0, 1), (3, 1, 1)], 0, 0),

@@ -1,6 +1,6 @@
-//! The crate as an implementation that the second program's cases are put to.
+//! The crate as an implementation that the cases of the reference implementation are put to.
 //!
-//! Some calls of the second program cannot be written with the crate's types: another suite, a key or a ring of another
+//! Some calls of the reference cannot be written with the crate's types: another suite, a key, nonce, tag or ring of another
 //! length. There the type is refused when it is made; the functions below make it where the order of the numbers has it.
 
 #![allow(dead_code)]
@@ -11,59 +11,66 @@ use reference::difference::Compared;
 use reference::report::Report;
 use reference::shift::{Answer, Places};
 use reference::show::hex;
-use snoekeldraf::{Counted, Draft, Holder, Key, Refused, Ring, ShiftFile, Suite, Tag};
+use snoekeldraf::{Counted, Draft, Holder, Key, Nonce, Reason, Record, Refused, Ring, Sealed, ShiftFile, Suite, Tag};
 
 /// Number and row as the documents give them: 0 where none is carried.
-pub fn answer(result: Result<(), Refused>) -> Answer {
-    result.map_or_else(|refused| (refused.number, refused.row.unwrap_or(0)), |()| (0, 0))
-}
-
-fn number(result: Result<(), Refused>) -> u32 {
-    answer(result).0
+pub fn answer<T>(result: Result<T, Refused>) -> Answer {
+    result.map_or_else(|refused| (refused.number(), refused.row.unwrap_or(0)), |_| (0, 0))
 }
 
 /// Number, file and row.
 fn of_two(refused: Refused) -> (u32, u32, u32) {
-    (refused.number, refused.file.unwrap_or(0), refused.row.unwrap_or(0))
+    (refused.number(), refused.file.unwrap_or(0), refused.row.unwrap_or(0))
 }
 
-/// Suite and key for the sealer: 1, 10, 2.
-pub fn sealing(suite: u8, key: &[u8]) -> Result<(Suite, Key), Refused> {
-    let suite = Suite::try_from(suite)?;
+/// Suite, key and nonce for the sealer, or the number that applies first: 1, 10, 2, 3.
+pub fn sealing(suite: u8, key: &[u8], nonce: &[u8]) -> Result<(Suite, Key, Nonce), u32> {
+    let suite = Suite::try_from(suite).map_err(|refused| refused.number())?;
     if suite.is_retired() {
-        return Err(Refused { number: 10, row: None, file: None });
+        return Err(10);
     }
-    Ok((suite, Key::try_from(key)?))
+    let made = || Ok((suite, Key::try_from(key)?, Nonce::assume_fresh(nonce)?));
+    made().map_err(|refused: Refused| refused.number())
 }
 
-pub fn opening(suite: u8, key: &[u8]) -> Result<(Suite, Key), Refused> {
-    Ok((Suite::try_from(suite)?, Key::try_from(key)?))
+/// Suite and key for the opener, or the number that applies first: 1, 2.
+pub fn opening(suite: u8, key: &[u8]) -> Result<(Suite, Key), u32> {
+    let made = || Ok((Suite::try_from(suite)?, Key::try_from(key)?));
+    made().map_err(|refused: Refused| refused.number())
 }
 
-/// Copies a tag that was given back to where the second program lends room for it.
-fn put(tag: Tag, room: &mut [u8]) {
-    room.copy_from_slice(&tag);
+/// The number, and the tag copied to where the reference wants it.
+fn put(sealed: Result<Tag, Refused>, to: &mut [u8]) -> u32 {
+    if let Ok(tag) = &sealed {
+        to.copy_from_slice(tag.as_bytes());
+    }
+    answer(sealed).0
 }
 
 fn seal(suite: u8, key: &[u8], nonce: &[u8], ad: &[u8], msg: &[u8], out: &mut [u8], tag: &mut [u8]) -> u32 {
-    let sealed = sealing(suite, key).and_then(|(suite, key)| snoekeldraf::seal(suite, &key, nonce, ad, msg, out));
-    number(sealed.map(|made| put(made, tag)))
+    match sealing(suite, key, nonce) {
+        Err(number) => number,
+        Ok((suite, key, nonce)) => put(snoekeldraf::seal(suite, &key, nonce, Record { ad, text: msg }, out), tag),
+    }
 }
 
 fn open(suite: u8, key: &[u8], nonce: &[u8], ad: &[u8], text: &[u8], tag: &[u8], out: &mut [u8]) -> u32 {
-    let opened = opening(suite, key).and_then(|(suite, key)| snoekeldraf::open(suite, &key, nonce, ad, text, tag, out));
-    number(opened)
+    match opening(suite, key) {
+        Err(number) => number,
+        Ok((suite, key)) => answer(snoekeldraf::open(suite, &key, Sealed { nonce, ad, text, tag }, out)).0,
+    }
 }
 
 #[rustfmt::skip]
 fn seal_counted(
     suite: u8, key: &[u8], nonce: &[u8], ad: &[u8], msg: &[u8], out: &mut [u8], tag: &mut [u8],
 ) -> (u32, u64) {
-    match sealing(suite, key) {
-        Err(refused) => (refused.number, 0),
-        Ok((suite, key)) => {
-            let Counted { result, calls } = snoekeldraf::seal_counted(suite, &key, nonce, ad, msg, out);
-            (number(result.map(|made| put(made, tag))), calls)
+    match sealing(suite, key, nonce) {
+        Err(number) => (number, 0),
+        Ok((suite, key, nonce)) => {
+            let record = Record { ad, text: msg };
+            let Counted { result, calls } = snoekeldraf::seal_counted(suite, &key, nonce, record, out);
+            (put(result, tag), calls)
         }
     }
 }
@@ -73,22 +80,49 @@ fn open_counted(
     suite: u8, key: &[u8], nonce: &[u8], ad: &[u8], text: &[u8], tag: &[u8], out: &mut [u8],
 ) -> (u32, u64) {
     match opening(suite, key) {
-        Err(refused) => (refused.number, 0),
+        Err(number) => (number, 0),
         Ok((suite, key)) => {
-            let Counted { result, calls } = snoekeldraf::open_counted(suite, &key, nonce, ad, text, tag, out);
-            (number(result), calls)
+            let sealed = Sealed { nonce, ad, text, tag };
+            let Counted { result, calls } = snoekeldraf::open_counted(suite, &key, sealed, out);
+            (answer(result).0, calls)
         }
     }
 }
 
+fn seal_in_place(suite: u8, key: &[u8], nonce: &[u8], ad: &[u8], text: &mut [u8], tag: &mut [u8]) -> u32 {
+    match sealing(suite, key, nonce) {
+        Err(number) => number,
+        Ok((suite, key, nonce)) => put(snoekeldraf::seal_in_place(suite, &key, nonce, ad, text), tag),
+    }
+}
+
+/// A tag that is neither 8 nor 16 bytes long cannot be made: one of the other length stands in for it and gets 7 too.
+fn open_in_place(suite: u8, key: &[u8], nonce: &[u8], ad: &[u8], text: &mut [u8], tag: &mut [u8]) -> u32 {
+    match opening(suite, key) {
+        Err(number) => number,
+        Ok((suite, key)) => {
+            let other = &[0; 16][..24 - suite.tag_size()];
+            let tag = Tag::try_from(&*tag).or_else(|_| Tag::try_from(other)).unwrap();
+            answer(snoekeldraf::open_in_place(suite, &key, nonce, ad, text, tag)).0
+        }
+    }
+}
+
+fn verify(suite: u8, key: &[u8], nonce: &[u8], ad: &[u8], text: &mut [u8], tag: &mut [u8]) -> u32 {
+    match opening(suite, key) {
+        Err(number) => number,
+        Ok((suite, key)) => answer(snoekeldraf::verify(suite, &key, Sealed { nonce, ad, text, tag })).0,
+    }
+}
+
 fn check(file: &[u8]) -> Answer {
-    answer(ShiftFile::check(file).map(drop))
+    answer(ShiftFile::check(file))
 }
 
 fn lookup(file: &[u8], job: u32) -> Answer {
     match ShiftFile::check(file).and_then(|file| file.lookup(job)) {
         Ok(row) => (0, row),
-        Err(refused) => answer(Err(refused)),
+        refused => answer(refused),
     }
 }
 
@@ -100,16 +134,30 @@ fn place(part: &[u8], bytes: &[u8]) -> usize {
 }
 
 fn associated(file: &[u8], job: u32) -> (u32, usize, usize) {
-    match ShiftFile::check(file).and_then(|file| file.associated(job)) {
+    match ShiftFile::check(file).and_then(|file| file.unverified_ad(job)) {
         Ok(part) => (0, place(part, file), part.len()),
-        Err(refused) => (refused.number, 0, 0),
+        Err(refused) => (refused.number(), 0, 0),
     }
 }
 
 fn entry(file: &[u8], job: u32) -> (Answer, Places) {
-    match ShiftFile::check(file).and_then(|file| file.entry(job)) {
-        Ok(e) => ((0, e.row), [place(e.associated, file), e.associated.len(), place(e.text, file), e.text.len()]),
-        Err(refused) => (answer(Err(refused)), [0; 4]),
+    match ShiftFile::check(file).and_then(|file| file.unverified_entry(job)) {
+        Ok(e) => ((0, e.row), [place(e.unverified_ad, file), e.unverified_ad.len(), place(e.text, file), e.text.len()]),
+        refused => (answer(refused), [0; 4]),
+    }
+}
+
+/// The job's entry opened by itself, without checking the file again, gives what opening the job gives.
+fn entry_opens(file: ShiftFile, ring: &Ring, job: u32, opened: Answer, out: &[u8]) {
+    let (Ok(entry), true) = (file.unverified_entry(job), matches!(opened.0, 0 | 6 | 8)) else { return };
+    let mut again = vec![0xa5; out.len()];
+    let by_entry = entry.open(ring, &mut again);
+    assert_eq!(answer(by_entry), opened);
+    assert_eq!(again, if opened.0 == 6 { vec![0xa5; out.len()] } else { out.to_vec() });
+    assert_eq!(entry.verify(ring).is_ok(), file.verified(ring, job).is_ok());
+    if let Ok(verified) = by_entry {
+        assert_eq!(file.verified(ring, job), Ok(verified));
+        assert_eq!((verified.job(), verified.unit(), verified.ad()), (job, entry.unverified_unit, entry.unverified_ad));
     }
 }
 
@@ -117,9 +165,28 @@ fn open_job(file: &[u8], ring: &[u8], job: u32, out: &mut [u8]) -> Answer {
     let mut opened = || {
         let file = ShiftFile::check(file)?;
         file.lookup(job)?;
-        file.open_job(&Ring::try_from(ring)?, job, out)
+        let ring = Ring::try_from(ring)?;
+        let opened = file.open_job(&ring, job, out);
+        entry_opens(file, &ring, job, answer(opened), out);
+        opened.map(drop)
     };
     answer(opened())
+}
+
+fn verified(file: &[u8], ring: &[u8], job: u32) -> (Answer, usize, usize) {
+    let made = || {
+        let file = ShiftFile::check(file)?;
+        file.lookup(job)?;
+        file.verified(&Ring::try_from(ring)?, job)
+    };
+    match made() {
+        Ok(verified) => {
+            let [unit, data] = [&verified.ad()[4..5], &verified.ad()[5..]];
+            assert_eq!((verified.job(), &[verified.unit().number()][..], verified.data()), (job, unit, data));
+            ((0, 0), place(verified.ad(), file), verified.ad().len())
+        }
+        refused => (answer(refused), 0, 0),
+    }
 }
 
 fn seal_file(draft: &[u8], ring: &[u8], out: &mut [u8]) -> Answer {
@@ -129,13 +196,13 @@ fn seal_file(draft: &[u8], ring: &[u8], out: &mut [u8]) -> Answer {
 
 type Pass = fn(&[u8], &Ring, &mut [u8]) -> Result<(), Refused>;
 
-/// A pass over a file and a ring. With a ring of another length it is asked with a stand-in and no output: 6, which comes
-/// right after 2 and which every file then gets, says that nothing before 2 applies.
+/// A pass over a file and a ring. With a ring of another length it is called with a stand-in and no output: 6, which comes
+/// right after 2 and which every file then gets, means that nothing before 2 applies.
 fn rewrite(pass: Pass, file: &[u8], ring: &[u8], out: &mut [u8]) -> Answer {
     let result = match Ring::try_from(ring) {
         Ok(ring) => pass(file, &ring, out),
         Err(short) => match pass(file, &Ring::from([0; 256]), &mut []) {
-            Err(Refused { number: 6, .. }) => Err(short),
+            Err(Refused { reason: Reason::OutputLength, .. }) => Err(short),
             earlier => earlier,
         },
     };
@@ -148,7 +215,7 @@ fn search(file: &[u8], job: u32) -> (Answer, u32) {
         assert_eq!(file.search(job), searched);
         assert_eq!(file.lookup(job), searched.found);
     }
-    (searched.found.map_or_else(|refused| answer(Err(refused)), |row| (0, row)), searched.looked)
+    (searched.found.map_or_else(|_| answer(searched.found), |row| (0, row)), searched.looked)
 }
 
 fn compare(first: &[u8], second: &[u8], [one, other, both]: [&mut [u32]; 3]) -> Compared {
@@ -172,11 +239,11 @@ fn file_number(holder: Holder) -> u32 {
 }
 
 fn amended(amendment: &[u8], day: &[u8], job: u32) -> Amended {
-    match snoekeldraf::amend(amendment, day, job) {
+    match snoekeldraf::unverified_current(amendment, day, job) {
         Ok(current) => {
             let file = file_number(current.holder);
-            let at = place(current.associated, if file == 1 { amendment } else { day });
-            Amended { number: 0, file, row: current.row, at, length: current.associated.len() }
+            let at = place(current.unverified_ad, if file == 1 { amendment } else { day });
+            Amended { number: 0, file, row: current.row, at, length: current.unverified_ad.len() }
         }
         Err(refused) => {
             let (number, file, row) = of_two(refused);
@@ -187,35 +254,40 @@ fn amended(amendment: &[u8], day: &[u8], job: u32) -> Amended {
 
 fn open_current(amendment: &[u8], day: &[u8], ring: &[u8], job: u32, out: &mut [u8]) -> (u32, u32, u32) {
     let mut opened = || {
-        let holder = snoekeldraf::amend(amendment, day, job)?.holder;
-        let of_holder = |refused: Refused| Refused { file: Some(file_number(holder)), ..refused };
-        let ring = Ring::try_from(ring).map_err(of_holder)?;
-        snoekeldraf::open_amended(amendment, day, &ring, job, out)
+        let current = snoekeldraf::unverified_current(amendment, day, job).map_err(of_two)?;
+        let Ok(ring) = Ring::try_from(ring) else { return Err((2, file_number(current.holder), 0)) };
+        let opened = snoekeldraf::open_amended(amendment, day, &ring, job, out).map_err(of_two)?;
+        assert_eq!((opened.0, opened.1.ad()), (current.holder, current.unverified_ad));
+        Ok((0, file_number(opened.0), 0))
     };
-    opened().map_or_else(of_two, |holder| (0, file_number(holder), 0))
+    opened().unwrap_or_else(|refused| refused)
 }
 
 fn report(file: &[u8], ring: &[u8], jobs: &mut [u32], numbers: &mut [u8]) -> Report {
     let result = match Ring::try_from(ring) {
         Ok(ring) => snoekeldraf::report(file, &ring, jobs, numbers).map(|report| report.jobs.len()),
         Err(short) => match snoekeldraf::report(file, &Ring::from([0; 256]), &mut [], &mut []) {
-            Ok(_) | Err(Refused { number: 6, .. }) => Err(short),
+            Ok(_) | Err(Refused { reason: Reason::OutputLength, .. }) => Err(short),
             Err(earlier) => Err(earlier),
         },
     };
-    let (number, row) = answer(result.map(drop));
+    let (number, row) = answer(result);
     Report { number, row, count: result.unwrap_or(0) as u32 }
 }
 
-/// The crate. A session of the second program is a plain value, which the crate's is not: `sessions.rs` runs those.
+/// The crate. A session of the reference is a plain value, which the crate's is not: `sessions.rs` runs those.
 pub const CRATE: Library = Library {
     seal,
     open,
+    seal_in_place,
+    open_in_place,
+    verify,
     check,
     lookup,
     associated,
     entry,
     open_job,
+    verified,
     seal_file,
     unseal_file: |file, ring, out| rewrite(snoekeldraf::unseal, file, ring, out),
     search,
@@ -232,12 +304,12 @@ pub const CRATE: Library = Library {
     ..REFERENCE
 };
 
-/// The crate's answer to a case is the second program's, and every byte that is lent.
+/// The crate's answer to a case is the reference's, and every byte that is written.
 pub fn same<C: Case>(case: &C) {
     let (got, expected) = (case.answer(&CRATE), case.answer(&REFERENCE));
     assert!(
         got == expected,
-        "the call {}\n the crate: {} the second program: {}",
+        "the call {}\n the crate: {} the reference: {}",
         hex(&case.record()),
         case.lines(&CRATE),
         case.lines(&REFERENCE)

@@ -1,6 +1,6 @@
 //! The plant's shift file, editions 1 and 2: check, lookup, associated data, and opening one job.
 
-use crate::comet;
+use super::comet;
 use std::ops::Range;
 
 pub const HEADER: usize = 8;

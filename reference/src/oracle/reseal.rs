@@ -1,8 +1,8 @@
 //! The pass that reseals the entries of suite 4 as suite 3 (document 02, W7).
 
-use crate::comet;
-use crate::shift::{check_as, fields_at, rows, Answer, Row};
-use crate::writer::refuse_lengths;
+use super::comet;
+use super::shift::{check_as, fields_at, rows, Answer, Row};
+use super::writer::refuse_lengths;
 
 const FROM: u8 = 4;
 const TO: u8 = 3;

@@ -1,7 +1,7 @@
 //! What `job` and `current` print. What `differ` and `inspect` print stands in `difference` and `report`.
 
-use crate::amendment::{amended, open_current};
-use crate::shift::{edition, open_job, rows, Row};
+use super::amendment::{amended, open_current};
+use super::shift::{edition, open_job, rows, Row};
 use crate::show::hex;
 
 /// The longest file that these programs take, and those that write a file.
@@ -38,7 +38,7 @@ fn entry_lines(file: &[u8], job: u32, message: &[u8]) -> String {
 
 /// `job FILE RING JOB`: number and row and, on 0, the entry's lines.
 pub fn job(file: &[u8], ring: &[u8], job: u32) -> String {
-    let (found, _) = crate::shift::lookup(file, job);
+    let (found, _) = super::shift::lookup(file, job);
     let mut out = vec![0; if found == 0 { row_of(file, job).message } else { 0 }];
     let (number, row) = open_job(file, ring, job, &mut out);
     let lines = if number == 0 { entry_lines(file, job, &out) } else { String::new() };

@@ -1,6 +1,6 @@
 //! Moving a shift file from one edition to the other (document 02, W10).
 
-use crate::shift::{check_as, check_header, count, edition, fields_at, row_at, rows, Answer, EDITIONS, LONGEST};
+use super::shift::{check_as, check_header, count, edition, fields_at, row_at, rows, Answer, EDITIONS, LONGEST};
 
 /// How much longer a file is in edition 2.
 fn growth(file: &[u8]) -> usize {

@@ -1,7 +1,7 @@
 //! Suppliers' files (document 02, W14): a reader that gives one entry after another, and a report of a file and a ring.
 
-use crate::difference::PROGRAM_LONGEST;
-use crate::shift::{check, rows, Row, RING};
+use super::difference::PROGRAM_LONGEST;
+use super::shift::{check, rows, Row, RING};
 
 /// Holds the file and its place in it.
 pub struct Reader<'a> {

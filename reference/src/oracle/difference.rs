@@ -1,6 +1,6 @@
 //! Comparing two shift files (document 02, W8).
 
-use crate::shift::{check, rows, Row};
+use super::shift::{check, rows, Row};
 use std::collections::BTreeMap;
 
 /// The number, the file and the row that it speaks of, and how many job numbers were written into each list.

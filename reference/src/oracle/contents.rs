@@ -1,6 +1,6 @@
 //! The table of contents by row number: what the header says, and one row's fields. Both check 20 to 24 alone.
 
-use crate::shift::{check_header, count, edition, fields_at, rows, EDITIONS};
+use super::shift::{check_header, count, edition, fields_at, rows, EDITIONS};
 
 /// Status, edition and row count; both are 0 after every status but 0.
 pub type Header = (u32, u32, u32);

@@ -209,7 +209,7 @@ fn counting<'a, const N: usize>(encrypt: impl Cipher<N> + 'a, calls: &'a Cell<u6
 /// The whole of a record; gives its tag, and how often the cipher was called.
 #[rustfmt::skip]
 fn record<const N: usize>(
-    encrypt: impl Cipher<N>, version: Version, kind: Text, key: &[u8], nonce: &[u8], ad: &[u8], text: &[u8], out: &mut [u8],
+    encrypt: impl Cipher<N>, (version, kind): (Version, Text), key: &[u8], nonce: &[u8], ad: &[u8], text: &[u8], out: &mut [u8],
 ) -> (Vec<u8>, u64) {
     let calls = Cell::new(0);
     let mut state = State::start(counting(encrypt, &calls), version, key, nonce);
@@ -221,7 +221,7 @@ fn record<const N: usize>(
 
 /// Works on a record whose lengths were checked; gives the tag, and how often the cipher was called.
 fn run(suite: u8, kind: Text, key: &[u8], nonce: &[u8], ad: &[u8], text: &[u8], out: &mut [u8]) -> (Vec<u8>, u64) {
-    by_suite!(suite, record(version_of(suite), kind, key, nonce, ad, text, out))
+    by_suite!(suite, record((version_of(suite), kind), key, nonce, ad, text, out))
 }
 
 /// The lengths of a call, as the table of numbers looks at them.

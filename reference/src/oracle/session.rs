@@ -1,6 +1,6 @@
 //! Sealing while measuring (document 02, W2): start, associated data in parts, message in parts, end.
 
-use crate::comet::{
+use super::comet::{
     block_size, by_suite, first, is_retired, nonce_size, version_of, Cipher, State, Text, LIMIT, SEALED,
 };
 

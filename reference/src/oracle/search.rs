@@ -1,6 +1,6 @@
 //! Finding a job by halving (document 02, W6).
 
-use crate::shift::{check_header, rows, Answer, EDITIONS};
+use super::shift::{check_header, rows, Answer, EDITIONS};
 
 /// Number and row, and how many rows were looked at: 20 to 24 with none, then the halving over the table, whatever
 /// stands in it.

@@ -1,6 +1,6 @@
 //! A small file that replaces some jobs of the day's (document 02, W11).
 
-use crate::shift::{associated_place, check, lookup, open_job};
+use super::shift::{associated_place, check, lookup, open_job};
 
 /// The number, the file (1 the amendment, 2 the day's) and the row that it speaks of, and where in that file the current
 /// associated data lies: place and length, both 0 on a refusal.

@@ -1,7 +1,7 @@
 //! The writer of shift files (document 02, W4): a draft is sealed, and a file gives its draft back.
 
-use crate::comet;
-use crate::shift::{check_as, rows, Answer, RING};
+use super::comet;
+use super::shift::{check_as, rows, Answer, RING};
 
 /// Numbers 2 and 6: the ring's length, and that of an output that must be as long as the input.
 pub(crate) fn refuse_lengths(ring: &[u8], input: &[u8], out: &[u8]) -> u32 {

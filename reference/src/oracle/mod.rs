@@ -1,0 +1,17 @@
+//! The implementation itself, from the papers and documents 01 and 02 alone. Outside this folder it uses `show::hex` alone.
+
+pub mod aes;
+pub mod amendment;
+pub mod cham;
+pub mod comet;
+pub mod contents;
+pub mod difference;
+pub mod editions;
+pub mod printed;
+pub mod report;
+pub mod reseal;
+pub mod search;
+pub mod session;
+pub mod shift;
+pub mod speck;
+pub mod writer;
