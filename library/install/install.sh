@@ -39,7 +39,8 @@ read_arguments() {
 check_sums() {
     [ $check = yes ] || return 0
     command -v sha256sum >/dev/null || fail "sha256sum is not there; --no-check installs without it"
-    (cd "$here" && sha256sum --quiet --strict -c SHA256SUMS) >&2 || { say "a file differs from SHA256SUMS: nothing is installed"; exit 1; }
+    (cd "$here" && sha256sum --quiet --strict -c SHA256SUMS) >&2 ||
+        { say "a file differs from SHA256SUMS: nothing is installed"; exit 1; }
 }
 
 # ---- copying
