@@ -5,7 +5,7 @@
  * every piece (PIECE bytes, at any offset) of the key, the message and the chaining values Y and Z, which a session with the
  * same inputs gives. A line for each call: stack bytes, pieces of key, message and state found without snoekeldraf_forget,
  * the same with it, and how many bytes that the call wrote are then still not zero.
- * Exit status 0: nothing is found with snoekeldraf_forget, something is found without it for each group of calls, and no
+ * Exit status 0: nothing is found with snoekeldraf_forget, something is found without it over all calls together, and no
  * call comes within MARGIN bytes of SNOEKELDRAF_STACK_BYTES. Runs on x86-64, AArch64 and Cortex-M.
  */
 #include <stdio.h>

@@ -17,6 +17,7 @@ pub mod plan;
 pub mod random;
 pub mod show;
 pub mod trials;
+pub mod vectors;
 
 // The comparison with the proved library.
 #[cfg(bridged)]

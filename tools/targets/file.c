@@ -137,7 +137,6 @@ static void run_report(const call *c) {
     check_guards(sum);
 }
 
-#ifdef SNOEKELDRAF_VERSION /* the header that has a version has these two */
 /* One row of the table of contents; its nine fields are always written. */
 static void show_row(bytes file, uint32_t row) {
     shift_fields f;
@@ -162,7 +161,6 @@ static void run_contents(const call *c) {
     }
     check_guards(sum);
 }
-#endif
 
 /* What the plant's programs print: their bytes are passed over. */
 static void pass_over(const call *c) {
@@ -180,9 +178,7 @@ void run_file(const call *c) {
     case 4: run_compare(c); break;
     case 5: run_report(c); break;
     case 6: case 7: case 8: case 9: pass_over(c); break;
-#ifdef SNOEKELDRAF_VERSION
     case 10: run_contents(c); break;
-#endif
     default: stop("test_shift has an op that is unknown here");
     }
 }

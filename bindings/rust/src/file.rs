@@ -312,6 +312,26 @@ impl<'a> IntoIterator for ShiftFile<'a> {
     }
 }
 
+/// The job number in a row, not verified, of bytes that need not have passed the check: only 20 to 24 of
+/// [`ShiftFile::check`] are checked, and 32 if there is no such row. For messages about a file that was refused at a row.
+///
+/// ```
+/// use snoekeldraf::{unverified_job, ShiftFile};
+///
+/// let mut bytes = std::fs::read("../../samples/day.shift").unwrap();
+/// let suite_of_row_2 = 8 + 32 * 2 + 4;
+/// bytes[suite_of_row_2] = 9;
+/// let refused = ShiftFile::check(&bytes).unwrap_err();
+/// assert_eq!((refused.number(), refused.row), (26, Some(2)));
+/// assert_eq!(unverified_job(&bytes, 2), Ok(4103));
+/// assert_eq!(unverified_job(&bytes, 8).unwrap_err().number(), 32);
+/// ```
+pub fn unverified_job(file: &[u8], row: u32) -> Result<u32, Refused> {
+    let (number, fields) = raw::row(file, row);
+    done(number)?;
+    Ok(fields.job)
+}
+
 /// The result of a search.
 ///
 /// ```

@@ -88,7 +88,7 @@ pub use amendment::{open_amended, unverified_current, Current, Holder};
 pub use difference::{compare, Difference};
 pub use editions::{moved_len, to_edition1, to_edition2};
 pub use entry::{Entry, Verified};
-pub use file::{search, Entries, Searched, ShiftFile};
+pub use file::{search, unverified_job, Entries, Searched, ShiftFile};
 pub use keys::{Key, Ring};
 pub use nonce::{Nonce, NonceCounter};
 pub use record::{

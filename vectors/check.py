@@ -1,0 +1,191 @@
+#!/usr/bin/env python3
+"""Runs a program over the conformance vectors and says what it answers wrongly.
+
+    check.py [--only CALL,..] [--show N] [FILE.json ..] -- PROGRAM [ARGUMENTS ..]
+
+PROGRAM reads one case a line from its standard input and writes one answer a line to its standard output, by the protocol
+of vectors/README.md. Without FILE.json, every file beside this script is run. --only runs some calls alone, --show limits
+how many failures of a file are printed (default 10).
+
+Exit status: 0 every answer is right, 1 an answer is wrong or missing or none was compared, 2 usage error.
+Standard library alone; Python 3.8 or later.
+"""
+import hashlib
+import json
+import pathlib
+import subprocess
+import sys
+
+SCHEMA = "snoekeldraf-vectors-1"
+HERE = pathlib.Path(__file__).resolve().parent
+# The fields of a case that are byte strings.
+INPUTS = {"key", "block", "nonce", "ad", "msg", "text", "tag", "file", "ring", "amendment", "day", "first", "second"}
+# Those of an answer. It may leave them out after a refusal, if the program gives no output then.
+OUTPUTS = {"out", "tag"}
+
+
+def part_of(part):
+    """The bytes of one part: LEN*BB, LEN@SEED or hex digits."""
+    if "*" in part:
+        length, byte = part.split("*")
+        return bytes.fromhex(byte) * int(length)
+    if "@" in part:
+        length, seed = map(int, part.split("@"))
+        return bytes((seed + 31 * i + i // 256) & 255 for i in range(length))
+    return bytes.fromhex(part)
+
+
+def bytes_of(text):
+    """The byte string that a text stands for."""
+    return b"".join(map(part_of, text.split("+")))
+
+
+def sent(test):
+    """The line that the program reads: the case with its id, and byte strings in plain hex."""
+    case = {"id": test["id"]}
+    for name, value in test["case"].items():
+        case[name] = bytes_of(value).hex() if name in INPUTS else value
+    return json.dumps(case)
+
+
+def is_same_bytes(wanted, given):
+    """Whether hex digits are the byte string of a text, or have its digest."""
+    try:
+        given = bytes.fromhex(given)
+    except (TypeError, ValueError):
+        return False
+    if "#" in wanted:
+        length, digest = wanted.split("#")
+        return len(given) == int(length) and hashlib.sha256(given).hexdigest() == digest
+    return given == bytes_of(wanted)
+
+
+def shown(value):
+    """A value as a message shows it: shortened."""
+    text = str(value)
+    return text if len(text) <= 72 else f"{text[:56]}.. ({len(text)} characters)"
+
+
+def differences(wanted, given):
+    """What is wrong with an answer: one sentence for each field."""
+    refused = wanted.get("status", 0) != 0
+    for name, value in wanted.items():
+        if name not in given:
+            if not (refused and name in OUTPUTS):
+                yield f"{name} is missing"
+        elif name in OUTPUTS:
+            if not is_same_bytes(value, given[name]):
+                yield f"{name} is {shown(given[name])}, not {shown(value)}"
+        elif given[name] != value:
+            yield f"{name} is {shown(json.dumps(given[name]))}, not {shown(json.dumps(value))}"
+
+
+def answers_of(program, tests):
+    """The answers by id, and what the program said on its way to a bad end."""
+    lines = "".join(sent(test) + "\n" for test in tests)
+    try:
+        done = subprocess.run(program, input=lines, stdout=subprocess.PIPE, text=True)
+    except OSError as error:
+        give_up(f"{program[0]}: {error}")
+    answers = {}
+    for line in done.stdout.splitlines():
+        try:
+            answer = json.loads(line)
+            answers[answer["id"]] = answer
+        except (ValueError, TypeError, KeyError):
+            return answers, f"this line is no answer: {shown(line)}"
+    return answers, f"the program ended with {done.returncode}" if done.returncode else None
+
+
+class Counts:
+    passed = failed = skipped = uncompared = 0
+
+
+def judged(test, answers, counts):
+    """Counts one answer; gives what is wrong with it."""
+    answer = answers.get(test["id"])
+    if answer is None:
+        wrong = ["no answer"]
+    elif answer.get("skipped"):
+        counts.skipped += 1
+        return []
+    else:
+        wrong = list(differences(test["answer"], answer))
+        counts.uncompared += any(name in test["answer"] and name not in answer for name in OUTPUTS)
+    counts.failed += bool(wrong)
+    counts.passed += not wrong
+    return wrong
+
+
+def print_failure(name, test, wrong, rules):
+    rule = rules[test["rule"]]
+    print(f"{name} {test['id']}, {test['case']['call']}: {test['comment']}")
+    for sentence in wrong:
+        print(f"    {sentence}")
+    print(f"    rule \"{test['rule']}\" (docs/FORMAT.md, {rule['section']}): {rule['text']}")
+
+
+def run_file(path, program, only, show, counts, broken):
+    """Runs one file and prints its failures; collects the rules that are broken."""
+    vectors = json.loads(path.read_text())
+    if vectors["schema"] != SCHEMA:
+        give_up(f"{path}: the schema is {vectors['schema']}, not {SCHEMA}")
+    tests = [test for test in vectors["cases"] if not only or test["case"]["call"] in only]
+    answers, said = answers_of(program, tests)
+    failures = 0
+    for test in tests:
+        wrong = judged(test, answers, counts)
+        if wrong:
+            failures += 1
+            broken[test["rule"]] = broken.get(test["rule"], 0) + 1
+            if failures <= show:
+                print_failure(path.name, test, wrong, vectors["rules"])
+    if failures > show:
+        print(f"{path.name}: {failures - show} more failures")
+    if said:
+        print(f"{path.name}: {said}")
+
+
+def arguments():
+    """The options, the files and the program of the command line."""
+    if "--" not in sys.argv or sys.argv[-1] == "--":
+        give_up(__doc__)
+    at = sys.argv.index("--")
+    options, program = sys.argv[1:at], sys.argv[at + 1:]
+    only, show, files = set(), 10, []
+    while options:
+        word = options.pop(0)
+        if word in ("--only", "--show") and options:
+            value = options.pop(0)
+            only, show = (set(value.split(",")), show) if word == "--only" else (only, int(value))
+        elif word.startswith("--"):
+            give_up(__doc__)
+        else:
+            files.append(pathlib.Path(word))
+    return only, show, files or sorted(HERE.glob("*.json")), program
+
+
+def give_up(words):
+    print(words, file=sys.stderr)
+    sys.exit(2)
+
+
+def main():
+    only, show, files, program = arguments()
+    counts, broken = Counts(), {}
+    for path in files:
+        run_file(path, program, only, show, counts, broken)
+    if broken:
+        print("rules that are broken, and by how many cases:")
+        for rule, count in sorted(broken.items(), key=lambda entry: -entry[1]):
+            print(f"    {rule}: {count}")
+    if counts.uncompared:
+        print(f"{counts.uncompared} refusals came without the output: what it holds was not compared")
+    skipped = f", {counts.skipped} skipped" if counts.skipped else ""
+    print(f"{counts.passed} passed, {counts.failed} failed{skipped}")
+    # a run that compared nothing is no success
+    return counts.failed > 0 or counts.passed == 0
+
+
+if __name__ == "__main__":
+    sys.exit(main())
