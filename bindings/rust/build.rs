@@ -1,7 +1,8 @@
 //! Links the archive of the proved library for the target, and says how to make it where it is missing.
 //!
 //! The archive is `libsnoekeldraf.a` in the folder that SNOEKELDRAF_DIR names; else in `target/NAME/` of a folder above this
-//! package, where `./run library NAME` writes it; else, where the target is this machine, in a folder that linkers look into.
+//! package, where `./run library NAME` writes it, or in `lib/snoekeldraf/NAME/`, as in a release; else, where the target is this
+//! machine, in a folder that linkers look into.
 
 use std::env;
 use std::path::{Path, PathBuf};
@@ -58,7 +59,9 @@ fn target() -> &'static Target {
 
 /// The folders in which the archive may lie, the likeliest first.
 fn folders(here: &Path, target: &Target) -> Vec<PathBuf> {
-    let built = here.ancestors().skip(1).map(|above| above.join("target").join(target.name));
+    let above = here.ancestors().skip(1);
+    let built =
+        above.flat_map(|above| ["target", "lib/snoekeldraf"].map(|folder| above.join(folder).join(target.name)));
     let mut folders: Vec<PathBuf> = built.collect();
     if of_cargo("HOST") == of_cargo("TARGET") {
         let multiarch = format!("/usr/lib/{}-linux-gnu", target.arch);
