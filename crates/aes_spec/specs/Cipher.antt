@@ -14,7 +14,7 @@ abbrev pub from : ℕ → ℕ → (ℕ → ℕ) → List ℕ
 from i zero f = []
 from i (suc n) f = f i ∷ from (suc i) n f
 
--- section 3.4: byte r + 4 c of the input stands in row r and column c of the state
+-- section 3.4: byte r + 4 c of the input is in row r and column c of the state
 abbrev pub cell : List ℕ → ℕ → ℕ → ℕ
 cell s r c = getD s (r + 4 * c) 0
 

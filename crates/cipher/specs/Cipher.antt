@@ -48,7 +48,7 @@ imageOf cham128 = cham 32
 imageOf speck64 = speck
 imageOf cham64 = cham 16
 
--- the engine of AES reads the tables of its columns, the others none
+-- whether the engine reads lookup tables: that of AES does, the others do not
 abbrev pub hasTables : BlockCipher → Bool
 hasTables aes128 = true
 hasTables cham128 = false

@@ -14,7 +14,7 @@ use Rattle.mode.specs.Blocks.{lengths}
 abbrev pub shortMark : ℕ → ℕ → ℕ → ℕ
 shortMark n short k = cond (ltb k n) short 0
 
--- the marks of the blocks of a text, given their lengths: `first` for the first, `short` for a short one; where both meet, both
+-- the marks of the blocks of a text, given their lengths: `first` for the first, `short` for a short one; both, if both apply
 unfoldable pub textMarks : ℕ → ℕ → ℕ → List ℕ → List ℕ
 textMarks n first short [] = []
 textMarks n first short (k ∷ ks) = xor first (shortMark n short k) ∷ textMarks n 0 short ks

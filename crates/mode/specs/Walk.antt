@@ -16,7 +16,7 @@ pub record States : Type 0 where
   pub Y : List ℕ
   pub Z : List ℕ
 
--- the chain that they stand for, where blocks with the marks ms are still to come, and the tag
+-- the chain that they represent, if blocks with the marks ms and the tag are still to come
 abbrev pub chainOf : Version → States → List ℕ → Chain
 chainOf v s ms = record { Y = s .Y; left = keys v (s .Z) (placed v ms) }
 

@@ -1,4 +1,4 @@
--- Demand 1: every entry point answers on any bytes and any lengths, with one outcome; a refused length or suite changes nothing, a wrong tag leaves zeros.
+-- Demand 1: for any bytes and any lengths each entry point returns, with one outcome; a refused length or suite changes nothing, a wrong tag leaves zeros.
 use mathlib.Core.Path.{_≡_}
 use mathlib.Core.Logic.{_⊎_}
 use Prim.Native.Nat.{ℕ, _≤_, _<_}
@@ -31,7 +31,7 @@ pub record AnswersPart (f : Contract) (part : (κs : Lfts (f .lifetimes)) → re
 pub record EntryPoints : Type 0 where
   pub seal : Answers the.seal
   pub unseal : Answers the.unseal
-  -- the same in the text's place, and the test of a record
+  -- the same in place, and the verifier
   pub seal-in-place : Answers the.seal-in-place
   pub unseal-in-place : Answers the.unseal-in-place
   pub verify : Answers the.verify
@@ -66,7 +66,7 @@ pub record EntryPoints : Type 0 where
   -- W12
   pub seal-counted : Answers the.seal-counted
   pub unseal-counted : Answers the.unseal-counted
-  -- W14: the cursor and the report; the reader's own three, which hold a reference, stand in `Readers.antt`
+  -- W14: the cursor and the report; the reader's own three, which hold a reference, are in `Readers.antt`
   pub start : Answers the.start
   pub ask : Answers the.ask
   pub report : Answers the.report
@@ -104,7 +104,7 @@ OpenInPlace =
     let q : Opened = opening suite key nonce ad text tag out₀ in
     (r .number ≡ q .number) × ((r .number ≡ 0) ⊎ (r .number ≡ 8) → r .out ≡ q .out) × (0 < r .number → r .number < 8 → r .out ≡ text) × (r .number ≡ 6 → ⊥)
 
--- the test of a record gives the opener's number for any output of the text's length: 0 exactly where that opens, 8 exactly where its tag is wrong; never 6
+-- the verifier gives the opener's number for any output of the text's length: 0 exactly if that opens, 8 exactly if its tag is wrong; never 6
 abbrev pub VerifyOpens : Type 0
 VerifyOpens =
     (suite : ℕ) (key nonce ad text tag out₀ : List ℕ) → length out₀ ≡ length text →

@@ -92,11 +92,11 @@ pub record Next (suite : ℕ) (r : Run) : Type 0 where
   -- before the first message byte, associated data within the limit is accepted; after it, no part is, not even an empty one
   pub data-taken : (p : List ℕ) → r .msg ≡ [] → length (r .ad) + length p ≤ limit → dataPart (r .now) p .number ≡ 0
   pub data-late : (p : List ℕ) → (r .msg ≡ [] → ⊥) → dataPart (r .now) p .number ≡ 9
-  -- a message part within the limit and with room is accepted, and gives the ciphertext of the blocks that it completes
+  -- a message part within the limit and with a large enough output is accepted, and gives the ciphertext of the blocks that it completes
   pub text-taken : (p out : List ℕ) → length (r .msg) + length p ≤ limit → length p + (sizeOf suite - 1) ≤ length out → textPart (r .now) p out .number ≡ 0
   pub text-count : (p out : List ℕ) → textPart (r .now) p out .number ≡ 0
       → textPart (r .now) p out .count ≡ (length (r .msg) % sizeOf suite + length p) / sizeOf suite * sizeOf suite
-  -- the end with room is accepted, and gives the rest
+  -- the end with a large enough output is accepted, and gives the rest
   pub end-taken : (out tag₀ : List ℕ) → sizeOf suite ≤ length out → length tag₀ ≡ sizeOf suite → ending (r .now) out tag₀ .number ≡ 0
   pub end-count : (out tag₀ : List ℕ) → ending (r .now) out tag₀ .number ≡ 0 → ending (r .now) out tag₀ .count ≡ length (r .msg) % sizeOf suite
 
@@ -108,7 +108,7 @@ Goes =
     → (runOf suite key nonce cs .ended ≡ false → Next suite (runOf suite key nonce cs))
     × (runOf suite key nonce cs .ended ≡ true → Shut (runOf suite key nonce cs .now))
 
--- whatever the cutting: where the start and the end answered 0, the joined ciphertext and the tag are those of the joined associated data and message, which are within the limits
+-- whatever the cutting: if the start and the end answered 0, the joined ciphertext and the tag are those of the joined associated data and message, which are within the limits
 abbrev pub Whatever : Type 0
 Whatever =
     (suite : ℕ) (key nonce : List ℕ) (cs : List SessionCall) (out₀ tag₀ : List ℕ) → AllBytes key → AllBytes nonce → AllInBytes cs

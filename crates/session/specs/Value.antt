@@ -46,7 +46,7 @@ module _ (κ : Cipher) where
   abbrev pub heldOf : Value → ℕ → List ℕ
   heldOf v t = take (t % κ .size) (v .held)
 
-  -- the first block's mark, where t bytes have come: no block of them is in if they are fewer than a block
+  -- the mark of the next block after t bytes: `m`, the first block's, if no block was absorbed yet (fewer than a block have come), else none
   abbrev pub firstMark : ℕ → ℕ → ℕ
   firstMark m t = cond (ltb t (κ .size)) m 0
 

@@ -91,7 +91,7 @@ headNumber low high f =
     (cond (ltb (length f) (rowStart (rowSizeOf f) (countOf f))) 24
     0))))
 
--- after number 0 the next answer; any other stands
+-- the next answer after number 0; any other number is final
 abbrev pub andThen : Answer → Answer → Answer
 andThen x next = cond (eqb (x .number) 0) next x
 
@@ -107,6 +107,6 @@ checkAs e f = checkBetween e e f
 abbrev pub checkFile : List ℕ → Answer
 checkFile f = checkBetween firstEdition newest f
 
--- it gives a number but 0
+-- whether the check refuses the file: its number is not 0
 abbrev pub refused : List ℕ → Bool
 refused f = not (eqb (checkFile f .number) 0)

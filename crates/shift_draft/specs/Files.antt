@@ -47,7 +47,7 @@ entryOut opening f ring i = textAs opening f ring i (rowOf f i .suite) (textOf f
 unfoldable pub entryTag : Bool → List ℕ → List ℕ → ℕ → List ℕ
 entryTag opening f ring i = tagAs opening f ring i (rowOf f i .suite) (textOf f (rowOf f i))
 
--- ciphertext and tag of row i, whose message stands at the ciphertext's offset
+-- ciphertext and tag of row i, whose message is at the ciphertext's offset
 unfoldable pub sealedPiece : List ℕ → List ℕ → ℕ → List ℕ
 sealedPiece f ring i = entryOut false f ring i ++ entryTag false f ring i
 
