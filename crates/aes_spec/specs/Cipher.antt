@@ -26,7 +26,7 @@ grid f = from 0 16 (λ i. f (i % 4) (i / 4))
 unfoldable pub subBytes : List ℕ → List ℕ
 subBytes s = grid (λ r c. subByte (cell s r c))
 
--- section 5.1.2: row r is shifted by r columns
+-- section 5.1.2: row r is shifted left by r columns
 unfoldable pub shiftRows : List ℕ → List ℕ
 shiftRows s = grid (λ r c. cell s r ((c + r) % 4))
 

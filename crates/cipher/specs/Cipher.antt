@@ -108,6 +108,7 @@ sizeOf s = factsOf s .block
 unfoldable pub nonceOf : ℕ → ℕ
 nonceOf s = factsOf s .nonce
 
+-- its encryption of a block under a key, its version, and both with the block size: what the mode is built over
 unfoldable pub engineOf : ℕ → List ℕ → List ℕ → List ℕ
 engineOf s = imageOf (factsOf s .engine)
 
@@ -126,6 +127,7 @@ isTwo two = true
 unfoldable pub needsTables : ℕ → Bool
 needsTables s = hasTables (factsOf s .engine)
 
+-- one set of tables, which obeys the rule of the tables
 abbrev pub Full : List (List (List ℕ)) → Type 0
 Full t = (length t ≡ 1) × IsTables (getD t 0 [])
 

@@ -1,4 +1,4 @@
--- COMET over a block cipher, in version 1 (document 01, "Bytes, words and the two states"; source 000, algorithms 1 to 3) or 2 (source 004, sections 3 and 7): the start, the chain, the ciphertext, the tag, and the cipher calls that make them. The versions differ in the marks' places and in the doubling, so in the block keys alone.
+-- COMET over a block cipher, in version 1 (document 01, "Bytes, words and the two states"; source 000, algorithms 1 to 3) or 2 (source 004, sections 3 and 7): the start, the chain, the ciphertext, the tag, and the cipher calls that make them. The versions differ in when a mark is applied and in the doubling, so only in the block keys.
 use Prim.Native.Nat.{ℕ}
 use mathlib.Core.Bool.{Bool, false, cond}
 use mathlib.Core.List.{List, [], _∷_, _++_}
@@ -79,7 +79,7 @@ module _ (κ : Cipher) where
   unfoldable pub message : Bool → Chain → List ℕ → List ℕ
   message opening c b = cond opening (masked c b) b
 
-  -- the blocks of a text, one call each: the message blocks are absorbed
+  -- the blocks of a text, one call each: each message block is absorbed
   unfoldable pub trail : Bool → Chain → List (List ℕ) → Trail
   trail opening c [] = record { made = []; out = []; end = c }
   trail opening c (b ∷ bs) =

@@ -32,7 +32,7 @@ abbrev pub blockKey : Version → ℕ → List ℕ → List ℕ
 blockKey one m z = nextKey one m z
 blockKey two m z = nextKey two 0 z
 
--- after the block with the key k, version 2 applies the mark
+-- the Z that is kept after a block with the key k and the mark m: version 2 applies the mark now
 abbrev pub keptBehind : Version → ℕ → List ℕ → List ℕ
 keptBehind one m k = k
 keptBehind two m k = marked m k

@@ -123,7 +123,7 @@ pub record CheckTables (low high : ℕ) (f : List ℕ) : Type 0 where
   pub end : Lines (λ k. checkBetween low high f ≡ answer k 0) (None (headTable low high f) × SoundTo f (countOf f)) (endTable f)
   pub success : (checkBetween low high f ≡ answer 0 0) ↔ ((None (headTable low high f) × SoundTo f (countOf f)) × None (endTable f))
 
--- of a draft, of a file of one edition, and of one of either
+-- for every range of editions: of a draft, of a file of one edition, and of a file of either
 abbrev pub CheckNumbers : Type 0
 CheckNumbers = (low high : ℕ) (f : List ℕ) → CheckTables low high f
 

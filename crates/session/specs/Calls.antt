@@ -38,7 +38,7 @@ abbrev pub accepted : ℕ → List ℕ → List ℕ
 accepted zero p = p
 accepted (suc k) p = []
 
--- an end ends if it was accepted
+-- the run has ended once an end was accepted
 abbrev pub endedBy : ℕ → Bool → Bool
 endedBy zero b = true
 endedBy (suc k) b = b
@@ -70,17 +70,18 @@ joined r e = r .out ++ take (e .count) (e .out)
 abbrev pub Starts : Type 0
 Starts = (suite : ℕ) (key nonce : List ℕ) → Seals suite → length key ≡ 16 → length nonce ≡ nonceOf suite → starting suite key nonce .number ≡ 0
 
--- a refused start returns a session that answers 9 to every call
+-- a session that answers 9 to every call
 abbrev pub Shut : Value → Type 0
 Shut v =
     ((p : List ℕ) → dataPart v p .number ≡ 9)
     × ((p out : List ℕ) → textPart v p out .number ≡ 9)
     × ((out tag : List ℕ) → ending v out tag .number ≡ 9)
 
+-- every refused start returns such a session
 abbrev pub RefusedShut : Type 0
 RefusedShut = (suite : ℕ) (key nonce : List ℕ) → (starting suite key nonce .number ≡ 0 → ⊥) → Shut (starting suite key nonce .next)
 
--- what a run promises, with its suite, of the call that comes next
+-- what holds of a run of the suite that has not ended, and of its next call
 pub record Next (suite : ℕ) (r : Run) : Type 0 where
   -- the suite is the start's and seals; the session's two totals are the lengths of the joined texts, which are within the limits
   pub seals : Seals suite
@@ -100,7 +101,7 @@ pub record Next (suite : ℕ) (r : Run) : Type 0 where
   pub end-taken : (out tag₀ : List ℕ) → sizeOf suite ≤ length out → length tag₀ ≡ sizeOf suite → ending (r .now) out tag₀ .number ≡ 0
   pub end-count : (out tag₀ : List ℕ) → ending (r .now) out tag₀ .number ≡ 0 → ending (r .now) out tag₀ .count ≡ length (r .msg) % sizeOf suite
 
--- after a start with status 0 and any calls: until an end is accepted the next call has this status, and afterwards 9
+-- after a start with status 0 and any calls: until an end is accepted `Next` holds, and afterwards every call answers 9
 abbrev pub Goes : Type 0
 Goes =
     (suite : ℕ) (key nonce : List ℕ) (cs : List SessionCall) → AllBytes key → AllBytes nonce → AllInBytes cs

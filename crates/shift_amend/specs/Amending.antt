@@ -22,7 +22,7 @@ noEntry x = record { number = x .number; row = x .row; «ad_at» = 0; «ad_len»
 abbrev pub inFile : ℕ → Entry → Amended
 inFile k x = record { file = k; entry = x }
 
--- a file that passes has the job
+-- whether a file passes and has the job
 abbrev pub holds : List ℕ → ℕ → Bool
 holds f job = eqb (lookupJob f job .number) 0
 

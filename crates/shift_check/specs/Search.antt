@@ -2,7 +2,7 @@
 use Prim.Native.Nat.{ℕ, zero, suc}
 use mathlib.Core.Bool.{Bool, false, _||_, cond}
 
--- some number below n passes
+-- whether some number below n passes the test
 unfoldable pub anyBelow : (ℕ → Bool) → ℕ → Bool
 anyBelow p zero = false
 anyBelow p (suc n) = p n || anyBelow p n

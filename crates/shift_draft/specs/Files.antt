@@ -18,7 +18,7 @@ draftEdition = 0
 unfoldable pub inEdition : ℕ → List ℕ → List ℕ
 inEdition e f = put f 0 (bytes 2 e)
 
--- text and tag of row i are one piece, after the associated data: where it starts, and how long it is
+-- text and tag of row i are one piece, after the associated data: its offset, and its length
 unfoldable pub pieceStart : List ℕ → ℕ → ℕ
 pieceStart f i = rowOf f i .«ad_at» + rowOf f i .«ad_len»
 
