@@ -12,7 +12,7 @@ use Rattle.session.specs.Calls.{SessionCall, AllInBytes, Run, runOf, joined, St
 use Rattle.promises.specs.Tables.{_when_, Table}
 use Rattle.promises.specs.Numbers.{tagSize}
 
--- of a run whose start and end answered 0
+-- P holds of every run whose start and end answered 0, with the result of that end
 abbrev pub OfRuns : (ℕ → List ℕ → List ℕ → Run → Given → Type 0) → Type 0
 OfRuns P =
     (suite : ℕ) (key nonce : List ℕ) (cs : List SessionCall) (out₀ tag₀ : List ℕ) → AllBytes key → AllBytes nonce → AllInBytes cs
