@@ -1,4 +1,4 @@
-//! Compares the proved library, and the plain C of the yardstick, with the reference: every answer and every
+//! Compares the proved library, and the plain C of `plain/`, with the reference: every answer and every
 //! byte of the buffers, over random and edge inputs. Ends with status 1 if anything differs.
 //!
 //! ```text

@@ -54,8 +54,8 @@ fn expected(call: CompareCall, number: u32, file: u32, row: u32) -> CompareCall 
     call
 }
 
-/// The comparison of two plans' files, once its lists are seen to be these, under lists that just hold them, that have
-/// some elements more, and one too few.
+/// The comparison of two plans' files, after a check that its lists are these: with buffers that just hold them, with longer
+/// ones, and with one that is too short by one element.
 fn listed(first: &Plan, second: &Plan, lists: [&[u32]; 3]) -> Vec<CompareCall> {
     let places = lists.map(|list| list.len());
     let just = call(first.file(&samples::ring()), second.file(&samples::ring()), places);
