@@ -71,7 +71,7 @@ impl Bridge {
         Bridge { calls: BufWriter::new(calls), answers: BufReader::new(answers), program }
     }
 
-    /// Sends a call and waits for its answer.
+    /// Puts a call and waits for its answer.
     fn ask(&mut self, function: u8, arguments: &mut [Argument]) -> std::io::Result<u32> {
         self.calls.write_all(&[function])?;
         for argument in arguments.iter() {
@@ -107,10 +107,10 @@ enum Argument<'a> {
 
 use Argument::{Given, Lent, Number};
 
-/// What an output number holds before the call.
+/// What a number that is lent for writing holds before.
 const UNWRITTEN: [u8; 4] = [0xa5; 4];
 
-/// A function's result, and the numbers that it writes last; the function is named by its index in the table of bridge.c.
+/// What a function gives, and the numbers that it writes last; its number is its place in the table of bridge.c.
 fn ask<const N: usize>(function: u8, given: Vec<Argument>) -> (u32, [u32; N]) {
     let mut numbers = [UNWRITTEN; N];
     let mut arguments = given;
@@ -141,7 +141,7 @@ fn lookup(file: &[u8], job: u32) -> Answer {
     (number, row)
 }
 
-/// The status, and offset and length of the associated data in the file.
+/// The number, and place and length of the associated data in the file.
 fn associated(file: &[u8], job: u32) -> (u32, usize, usize) {
     let (number, [at, length]) = ask(4, vec![Given(file), Number(job.into())]);
     (number, at as usize, length as usize)
@@ -215,7 +215,7 @@ fn unseal_file(file: &[u8], ring: &[u8], out: &mut [u8]) -> Answer {
     (number, row)
 }
 
-/// Status and row, and how many rows were looked at.
+/// Number and row, and how many rows were looked at.
 fn search(file: &[u8], job: u32) -> (Answer, u32) {
     let (number, [row, looked]) = ask(13, vec![Given(file), Number(job.into())]);
     ((number, row), looked)
@@ -293,7 +293,7 @@ fn open_counted(
     (number, u64::from_le_bytes(calls))
 }
 
-/// Text and tag are passed for writing to all three, so that a byte that may not be written would show.
+/// Text and tag are lent for all three, so that a byte written where none may be comes back.
 #[rustfmt::skip]
 fn on_record(
     function: u8, suite: u8, key: &[u8], nonce: &[u8], ad: &[u8], text: &mut [u8], tag: &mut [u8],

@@ -1,4 +1,4 @@
-//! Calls of the sealer, the opener and the shift file, and the answers of an implementation.
+//! What is put to an implementation, and what it answers: calls of the sealer, the opener and the shift file.
 
 use crate::amendment::{self, Amended};
 use crate::contents;
@@ -8,29 +8,29 @@ use crate::session::{Session, Step};
 use crate::show::{fold, shown};
 use crate::{comet, editions, reseal, search, session, shift, writer};
 
-/// Every byte of an output buffer before a call.
+/// What lent buffers hold before a call.
 pub const FILLER: u8 = 0xa5;
 
-/// Every element of an output list of numbers before a call.
+/// What a place of a lent list of numbers holds before a call.
 pub const FILLER_NUMBER: u32 = u32::from_le_bytes([FILLER; 4]);
 
 pub type Seal = fn(u8, &[u8], &[u8], &[u8], &[u8], &mut [u8], &mut [u8]) -> u32;
 pub type Open = fn(u8, &[u8], &[u8], &[u8], &[u8], &[u8], &mut [u8]) -> u32;
 
-/// The sealer and the opener that return the status and the number of cipher calls.
+/// The sealer and the opener that give the number and how often the cipher was called.
 pub type SealCounted = fn(u8, &[u8], &[u8], &[u8], &[u8], &mut [u8], &mut [u8]) -> (u32, u64);
 pub type OpenCounted = fn(u8, &[u8], &[u8], &[u8], &[u8], &[u8], &mut [u8]) -> (u32, u64);
 
-/// Processes a record in place: text and tag are returned as they are afterwards, also if they are only read.
+/// Works on a record where it lies: text and tag come back as they are afterwards, also where they are only read.
 pub type OnRecord = fn(u8, &[u8], &[u8], &[u8], &mut [u8], &mut [u8]) -> u32;
 
-/// Where the associated data of a verified job is: status and row, offset and length.
+/// Where the associated data of a verified job is: number and row, offset and length.
 pub type Verified = fn(&[u8], &[u8], u32) -> (shift::Answer, usize, usize);
 
 /// Compares two files into three lists.
 pub type Compare = fn(&[u8], &[u8], [&mut [u32]; 3]) -> Compared;
 
-/// Opens a job's current entry: status, file and row.
+/// Opens a job's current entry: number, file and row.
 pub type OpenCurrent = fn(&[u8], &[u8], &[u8], u32, &mut [u8]) -> (u32, u32, u32);
 
 /// Reports on a file into two lists.
@@ -39,7 +39,7 @@ pub type MakeReport = fn(&[u8], &[u8], &mut [u32], &mut [u8]) -> Report;
 /// Takes a file and a ring, and writes a file.
 pub type Rewrite = fn(&[u8], &[u8], &mut [u8]) -> shift::Answer;
 
-/// An implementation. `associated` gives the lookup's status, and offset and length in the file; `verified` status and row,
+/// An implementation. `associated` gives the lookup's number, and offset and length in the file; `verified` number and row,
 /// and the same.
 #[derive(Clone, Copy)]
 pub struct Library {
@@ -128,7 +128,7 @@ pub fn head(op: u8, suite: u8, job: u32, numbers: &[usize]) -> Vec<u8> {
 pub trait Case {
     type Outcome: PartialEq;
 
-    /// The implementation's answer, and every byte of its output buffers.
+    /// What the implementation gives, and every byte of what was lent for writing.
     fn answer(&self, by: &Library) -> Self::Outcome;
 
     /// The case as its test program reads it.
@@ -151,7 +151,7 @@ pub struct Call {
     pub tag: Vec<u8>,
 }
 
-/// The status, and every byte of the output buffers (for the opener, `tag` is unchanged).
+/// The number, and every byte of what was lent for writing (for the opener, `tag` is as it was).
 #[derive(PartialEq, Debug)]
 pub struct Outcome {
     pub number: u32,
@@ -242,7 +242,7 @@ impl Case for CountedCall {
     }
 }
 
-/// What is done with a record in place.
+/// What is done with a record where it lies.
 #[derive(Clone, Copy, PartialEq, Debug)]
 pub enum Deed {
     Seal,
@@ -250,7 +250,7 @@ pub enum Deed {
     Verify,
 }
 
-/// A call on a record in place. The call's output is no part of it.
+/// A call on a record where it lies. The call's output is no part of it.
 #[derive(Clone)]
 pub struct InPlaceCall {
     pub deed: Deed,
@@ -323,8 +323,8 @@ impl FileCall {
         [&head[..], &self.file, &self.ring].concat()
     }
 
-    /// The lines of op 1: for each byte of the file, the fold of the answers to its 255 other values: the statuses and
-    /// rows of check and lookup, the status of opening, and the output after it.
+    /// The lines of op 1: for each place of the file, the fold of the answers to its 255 damages: the numbers and
+    /// rows of check and lookup, the number of opening, and what the opening leaves in its output.
     pub fn damage_lines(&self) -> String {
         let mut damaged = self.clone();
         let mut lines = String::new();

@@ -1,8 +1,8 @@
-//! What is linked into this program: the plain C, and the proved library, if the archive of this processor was found.
+//! What is linked into this program: the plain C, and the proved library where the archive of this processor was found.
 
 use crate::calls::{Library, REFERENCE};
 
-/// What an output number holds before the call.
+/// What a number that is lent for writing holds before.
 const UNWRITTEN: u32 = 0xa5a5_a5a5;
 
 /// A sealer, an opener and a check of plain/comet.c with the names given. A slice is passed as its pointer and its length; it
@@ -86,7 +86,7 @@ mod proved {
         Session { suite, y: block(1), z: block(3), held: block(5), ad_total, text_total }
     }
 
-    /// A step: the session's words after the call, its status, and its count.
+    /// A step: what the call makes of the session's words, its number, and its count.
     fn step(given: Words, call: impl FnOnce(&mut Words) -> (u32, u32)) -> Step {
         let mut words = given;
         let (number, count) = call(&mut words);
@@ -165,7 +165,7 @@ pub use crate::bridge::PROVED;
 #[cfg(native)]
 pub use proved::PROVED;
 
-/// The plain C has no lookup and opens no job: the reference implementation is used for those.
+/// The plain C has no lookup and opens no job: the reference stands in for those.
 pub const PLAIN: Library = Library { seal: plain::seal, open: plain::open, check: plain::check, ..REFERENCE };
 
 /// The plain C with AES by four tables.

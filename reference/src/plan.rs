@@ -38,7 +38,7 @@ impl Entry {
 }
 
 /// A file in the making, laid out as edition 1 or 2. `edition` and `count` replace the header's edition and row count,
-/// `longer` is added to the total length in the header, a byte is inserted before the body of each row that `gaps`
+/// `longer` is added to the total length that the header gives, a byte stands before the body of each row that `gaps`
 /// names, and `tail` bytes after the last body.
 #[derive(Clone)]
 pub struct Plan {
@@ -51,7 +51,7 @@ pub struct Plan {
     pub tail: usize,
 }
 
-/// The offset of a row of edition 1.
+/// Where a row of edition 1 starts.
 pub fn row_at(row: usize) -> usize {
     shift::row_at(1, row)
 }
@@ -66,7 +66,7 @@ impl Plan {
         Plan { layout, ..self.clone() }
     }
 
-    /// The same with another suite for each row that has this one.
+    /// The same with another suite where a row has this one.
     pub fn resuited(&self, from: u8, to: u8) -> Plan {
         let mut plan = self.clone();
         plan.entries.iter_mut().filter(|entry| entry.suite == from).for_each(|entry| entry.suite = to);

@@ -29,7 +29,7 @@ fn damaged(random: &mut Random, mut call: Call) -> Call {
     call
 }
 
-/// Each status's fault alone and in all pairs, in all kinds, for the sealer and the opener of each suite.
+/// Each number's fault alone and in all pairs, in all kinds, for the sealer and the opener of each suite.
 pub fn faults(random: &mut Random, mut each: impl FnMut(&Call)) {
     for (suite, opens) in SUITES.into_iter().flat_map(|suite| [(suite, false), (suite, true)]) {
         let numbers = if opens { [1, 2, 3, 4, 5, 6, 7, 8] } else { [1, 10, 2, 3, 4, 5, 6, 7] };
@@ -166,7 +166,7 @@ pub fn edit(random: &mut Random, file: &mut Vec<u8>, rows: usize) {
     }
 }
 
-/// Writes bytes, as far as the file reaches.
+/// Writes bytes where the file has them.
 fn put(file: &mut [u8], at: usize, bytes: &[u8]) {
     if at + bytes.len() <= file.len() {
         file[at..at + bytes.len()].copy_from_slice(bytes);
@@ -179,12 +179,12 @@ fn edit_header(random: &mut Random, file: &mut [u8]) {
     put(file, at, &number.to_le_bytes());
 }
 
-/// The number at an offset, 0 if the file ends before it.
+/// The number at a place, 0 where the file ends before it.
 fn u32_at(file: &[u8], at: usize) -> u32 {
     file.get(at..at + 4).map_or(0, |bytes| u32::from_le_bytes(bytes.try_into().unwrap()))
 }
 
-/// A number near the one at an offset, or at an edge of what the check allows.
+/// A number near what stands at a place, or at an edge of what the check allows.
 fn near(random: &mut Random, file: &[u8], at: usize, edges: &[u32]) -> [u8; 4] {
     let old = u32_at(file, at);
     let step = random.below(5) as u32;
@@ -213,7 +213,7 @@ fn edit_row(random: &mut Random, file: &mut [u8], rows: usize) {
             (fields, file.get(other_fields..other_fields + 2).unwrap_or_default().to_vec())
         }
         8 => (fields + 27, vec![random.below(3) as u8]),
-        // the station, if there is one
+        // the station, where there is one
         9 => (row + 4, near(random, file, row + 4, &[0, 1, u32::MAX])[..fields - row - 4].to_vec()),
         _ => (u32_at(file, fields + 4) as usize + random.below(5), vec![random.below(4) as u8]),
     };

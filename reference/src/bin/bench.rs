@@ -48,7 +48,7 @@ impl Measured {
     }
 }
 
-/// Medians over repetitions in which the three run alternately; each runs first equally often.
+/// Medians over repetitions in which the three take turns; each goes first equally often.
 fn measure(repetitions: usize, run: &mut dyn FnMut(usize)) -> Measured {
     let once = time(3, &mut || run(2)).max(1.0);
     let turns = (BATCH.as_nanos() as f64 / once).ceil() as usize;
@@ -103,7 +103,7 @@ fn growth(repetitions: usize, shorter: &Call, longer: &Call) -> f64 {
     median(ratios.collect())
 }
 
-/// As many messages of a size under one suite as fit into a file, at most 512.
+/// As many messages of a size under one suite as a file has room for, at most 512.
 fn plan(random: &mut Random, suite: u8, size: usize) -> Plan {
     let rows = ((shift::LONGEST - shift::HEADER) / (shift::row_size(1) + 5 + size + 16)).min(shift::MOST_ROWS);
     let entry = |job| Entry::new(job as u32, suite, 0, 1, random.array(), &vec![0; size]);

@@ -1,5 +1,5 @@
-//! Compares the proved library, and the plain C of `plain/`, with the reference: every answer and every
-//! byte of the buffers, over random and edge inputs. Ends with status 1 if anything differs.
+//! Compares the proved library, and the plain C of the yardstick, with the reference: every answer and every
+//! byte of what is lent, over random and edge inputs. Ends with status 1 where anything differs.
 //!
 //! ```text
 //! compare [SEED]

@@ -58,7 +58,7 @@ fn call(job: u32, amendment: &Plan, day: &Plan, out: usize) -> AmendCall {
     AmendCall { job, amendment, day, ring: samples::ring(), out }
 }
 
-/// The call, after a check that lookup and opening give the statuses, files and rows that it was built for.
+/// The call, once the call beside and the opening are seen to give the numbers, files and rows that it was made for.
 fn expected(call: AmendCall, beside: (u32, u32, u32), opened: (u32, u32, u32)) -> AmendCall {
     let AmendOutcome { amended, opened: got, .. } = call.answer(&REFERENCE);
     assert_eq!(((amended.number, amended.file, amended.row), got), (beside, opened));
@@ -75,7 +75,7 @@ fn refused(call: AmendCall, number: u32, file: u32, row: u32) -> AmendCall {
     expected(call, (number, file, row), (number, file, row))
 }
 
-/// An entry whose message and associated data name its file.
+/// An entry whose message and associated data tell whose it is.
 fn entry(job: u32, suite: u8, whose: &str) -> Entry {
     let mut nonce = [job as u8; 16];
     nonce[0] ^= whose.len() as u8;
@@ -85,7 +85,7 @@ fn entry(job: u32, suite: u8, whose: &str) -> Entry {
     entry
 }
 
-/// The day's jobs are 10, 20, 30, 40 and 50; the amendment has 20 and 50 again, and 25 and 60.
+/// The day's jobs are 10, 20, 30, 40 and 50; the amendment has 20 and 50 anew, and 25 and 60.
 fn day() -> Plan {
     Plan::new([(10, 3), (20, 1), (30, 4), (40, 5), (50, 6)].map(|(job, suite)| entry(job, suite, "day")).to_vec())
 }
@@ -117,7 +117,7 @@ fn good(_: &mut Random) -> Vec<AmendCall> {
     calls
 }
 
-/// A plan's file with the fault of one status of the check, in row 1 if the status carries a row.
+/// A plan's file with the fault of one number of the check, in row 1 where the number has one.
 fn faulty(plan: &Plan, number: u32) -> Vec<u8> {
     let mut plan = plan.clone();
     if number > 20 {
@@ -130,7 +130,7 @@ fn faulty(plan: &Plan, number: u32) -> Vec<u8> {
     file
 }
 
-/// Each status of the check in the amendment, in the day's file though the amendment has the job, and in both; beside
+/// Each number of the check in the amendment, in the day's file though the amendment has the job, and in both; beside
 /// all that comes after.
 fn refused_checks(_: &mut Random) -> Vec<AmendCall> {
     let mut calls = vec![];

@@ -84,7 +84,7 @@ pub fn damaged(random: &mut Random) -> Vec<Call> {
     calls
 }
 
-/// Puts the fault of one status into a call; `turn` chooses among its kinds.
+/// Puts the fault of one number into a call; `turn` chooses among its kinds.
 pub fn fault(call: &mut Call, number: u32, turn: usize) {
     let other = |length: usize, lengths: &[usize]| {
         let others: Vec<usize> = lengths.iter().copied().filter(|other| *other != length).collect();
@@ -122,7 +122,7 @@ fn subject(random: &mut Random, suite: u8, opens: bool) -> Call {
     }
 }
 
-/// The call, after a check that it gives the status that it was built for.
+/// The call, once it is seen to give the number that it was made for.
 fn expected(call: Call, number: u32) -> Call {
     assert_eq!(call.answer(&REFERENCE).number, number);
     call

@@ -8,7 +8,7 @@ use crate::random::Random;
 use crate::show::list;
 use crate::trials::edit;
 
-/// Two files, and how many elements each of the three lists has.
+/// Two files, and how many places each of the three lists has.
 #[derive(Clone)]
 pub struct CompareCall {
     pub files: [Vec<u8>; 2],
@@ -48,14 +48,14 @@ fn call(first: Vec<u8>, second: Vec<u8>, places: [usize; 3]) -> CompareCall {
     CompareCall { files: [first, second], places }
 }
 
-/// The call, after a check that it gives the status, the file and the row that it was built for.
+/// The call, once it is seen to give the number, the file and the row that it was made for.
 fn expected(call: CompareCall, number: u32, file: u32, row: u32) -> CompareCall {
     assert_eq!(call.answer(&REFERENCE).answer, Compared { number, file, row, counts: [0; 3] });
     call
 }
 
-/// The comparison of two plans' files, after a check that its lists are these: with buffers that just hold them, with longer
-/// ones, and with one that is too short by one element.
+/// The comparison of two plans' files, once its lists are seen to be these, under lists that just hold them, that have
+/// some places more, and that lack one.
 fn listed(first: &Plan, second: &Plan, lists: [&[u32]; 3]) -> Vec<CompareCall> {
     let places = lists.map(|list| list.len());
     let just = call(first.file(&samples::ring()), second.file(&samples::ring()), places);
@@ -155,7 +155,7 @@ fn bodies(_: &mut Random) -> Vec<CompareCall> {
     calls
 }
 
-/// The editions beside each other: edition 1 has station 0, and a station that differs is reported.
+/// The editions beside each other: edition 1 has station 0, and a station that differs is told.
 fn stations(_: &mut Random) -> Vec<CompareCall> {
     let plain = of_jobs(&[10, 11, 12]);
     let (one, mut other) = (plain.in_edition(2), plain.in_edition(2));
@@ -199,7 +199,7 @@ fn full_tables(_: &mut Random) -> Vec<CompareCall> {
     calls.to_vec()
 }
 
-/// A file with the fault of one status of the check, in row 1 if the status carries a row.
+/// A file with the fault of one number of the check, in row 1 where the number has one.
 fn faulty(edition: usize, number: u32) -> Vec<u8> {
     let mut plan = files::three_rows().in_edition(edition);
     if number > 20 {
@@ -212,7 +212,7 @@ fn faulty(edition: usize, number: u32) -> Vec<u8> {
     file
 }
 
-/// Each status of the check in the first file, in the second, and in both; with lists that would be too short.
+/// Each number of the check in the first file, in the second, and in both; with lists that would be too short.
 fn refused(_: &mut Random) -> Vec<CompareCall> {
     let good = files::three_rows().file(&samples::ring());
     let numbers = [20].into_iter().chain(files::ORDER);
@@ -259,7 +259,7 @@ fn random_files(random: &mut Random) -> Vec<CompareCall> {
     (0..24).map(|_| random_call(random)).collect()
 }
 
-/// A random file, a neighbour or another, and lists that are mostly long enough.
+/// A random file, a neighbour or another, and lists that mostly have room.
 fn random_call(random: &mut Random) -> CompareCall {
     let rows = random.below(9);
     let first = files::random_plan(random, rows, 30);

@@ -94,7 +94,7 @@ fn edges(_: &mut Random) -> Vec<ContentsCall> {
     calls
 }
 
-/// 20 to 24, each alone and beside all later ones; for a row that exists and for one that does not.
+/// 20 to 24, each alone and beside all later ones; asked for a row that is there and for one that is not.
 fn refused(_: &mut Random) -> Vec<ContentsCall> {
     let mut calls = vec![];
     let mut add = |file: Vec<u8>, status: u32| {
@@ -127,12 +127,12 @@ fn refused(_: &mut Random) -> Vec<ContentsCall> {
     calls
 }
 
-/// Bytes of a row from an offset in its fields on: associated data of the largest length at the largest offset, one whose end
+/// Bytes of a row from a place of its fields on: associated data of the largest length at the largest offset, one whose end
 /// is 2^32, the longest text, and ones alone.
 const PATCHES: [(usize, &[u8]); 4] =
     [(2, &[0xff; 6]), (2, &[4, 0, 0xfc, 0xff, 0xff, 0xff]), (8, &[0xff; 4]), (0, &[0xff; 28])];
 
-/// Each fault of a row is in the table and is not refused here; then rows of ones alone, whose text's offset wraps.
+/// Each fault of a row stands in the table and refuses nothing here; then rows of ones alone, whose text's offset wraps.
 fn damaged(_: &mut Random) -> Vec<ContentsCall> {
     let mut calls = vec![];
     for edition in EDITIONS {

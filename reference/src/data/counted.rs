@@ -5,7 +5,7 @@ use crate::calls::{Call, Case, CountedCall, REFERENCE};
 use crate::comet::{block_size, fitting_tag, is_retired, LIMIT, SUITES};
 use crate::random::Random;
 
-/// The call, after a check that it gives the status and the count that it was built for.
+/// The call, once it is seen to give the number and the count that it was made for.
 fn expected(call: Call, number: u32, calls: u64) -> CountedCall {
     let call = CountedCall(call);
     let (got, outcome) = call.answer(&REFERENCE);

@@ -11,8 +11,8 @@ fn call(file: Vec<u8>, job: u32, out: usize) -> FileCall {
     FileCall { file, ring: samples::ring(), job, out }
 }
 
-/// The call, after a check that its full check gives the status and the row that it was built for.
-/// It comes with no ring and an output of no job's length: the check's status comes before theirs.
+/// The call, once its full check is seen to give the number and the row that it was made for.
+/// It comes with no ring and an output of no job's length: the check's number stands before theirs.
 fn expected(file: Vec<u8>, number: u32, row: usize) -> FileCall {
     let call = FileCall { file, ring: vec![], job: 20, out: 2 };
     assert_eq!(call.answer(&REFERENCE).check, (number, row as u32));
@@ -134,7 +134,7 @@ pub const ORDER: [u32; 12] = [21, 22, 23, 24, 25, 26, 27, 28, 34, 29, 30, 31];
 /// Those that carry a row.
 pub const OF_ROWS: [u32; 7] = [25, 26, 27, 28, 34, 29, 30];
 
-/// Puts the fault of one status into a plan, in the given row if the status carries one.
+/// Puts the fault of one number into a plan, in the row where the number has one.
 pub fn fault(plan: &mut Plan, number: u32, row: usize) {
     let previous = plan.entries[row.max(1) - 1].job;
     let Entry { suite, key, nonce, .. } = plan.entries[0];
@@ -165,7 +165,7 @@ pub fn fault(plan: &mut Plan, number: u32, row: usize) {
     }
 }
 
-/// Whether a status's fault is possible in a row: row 0 has no row before it.
+/// Whether a number's fault can stand in a row: row 0 has no row before it.
 fn fits(number: u32, row: usize) -> bool {
     row > 0 || ![25, 29].contains(&number)
 }

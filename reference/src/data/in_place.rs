@@ -5,8 +5,9 @@ use crate::calls::{Call, Case, Deed, InPlaceCall, REFERENCE};
 use crate::comet::{block_size, fitting_tag, is_retired, LIMIT, SUITES};
 use crate::random::Random;
 
-/// The call, after a check that it gives the status that it was built for, and leaves text and tag as it should: unchanged
-/// after a refusal and after verifying, the text all zero after 8 of opening, and else as from buffer to buffer.
+/// The call, once it is seen to give the number that it was made for, and to leave text and tag as that number says: as
+/// they were after a refusal and after verifying, the text all zero after 8 of opening, and else what goes from buffer to
+/// buffer.
 fn expected(deed: Deed, call: Call, number: u32) -> InPlaceCall {
     let given = call.clone();
     let case = InPlaceCall { deed, call };

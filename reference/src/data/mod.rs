@@ -51,7 +51,7 @@ fn joined<const N: usize>(groups: [[Part; 2]; N]) -> Vec<Part> {
     vec![("stdin", of(0)), ("stdout", of(1))]
 }
 
-/// The contents of a folder.
+/// What stands in a folder.
 pub fn parts(folder: &str) -> Vec<Part> {
     match folder {
         "samples" => samples::parts().to_vec(),

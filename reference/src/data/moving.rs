@@ -9,7 +9,7 @@ use crate::shift::{self, fields_at, row_at, rows};
 use crate::show::shown;
 use crate::trials::edit;
 
-/// A file moved to an edition; its length there is compared, too.
+/// A file moved to an edition; its length there is asked, too.
 #[derive(Clone)]
 pub struct MoveCall {
     pub to: usize,
@@ -44,7 +44,7 @@ impl Case for MoveCall {
     }
 }
 
-/// The call, after a check that it gives the status and the row that it was built for.
+/// The call, once it is seen to give the number and the row that it was made for.
 fn expected(call: MoveCall, number: u32, row: usize) -> MoveCall {
     assert_eq!(call.answer(&REFERENCE).answer, (number, row as u32));
     call
@@ -75,7 +75,7 @@ fn good(random: &mut Random) -> Vec<MoveCall> {
     plans.iter().flat_map(both_ways).collect()
 }
 
-/// No tag is compared: a fault in a body is kept.
+/// No tag is looked at: what is wrong in a body goes along.
 fn bodies(_: &mut Random) -> Vec<MoveCall> {
     let mut calls = vec![];
     for good in both_ways(&files::three_rows()) {
@@ -95,7 +95,7 @@ fn source(to: usize) -> Plan {
     files::three_rows().without_stations().in_edition(3 - to)
 }
 
-/// Each status of the source's check, alone and beside all that comes after it; every edition but its own is 21.
+/// Each number of the source's check, alone and beside all that comes after it; every edition but its own is 21.
 fn refused_checks(_: &mut Random) -> Vec<MoveCall> {
     let mut calls = vec![];
     for to in [1, 2] {

@@ -12,7 +12,7 @@ use crate::shift::{self, edition, row_at, rows, EDITIONS};
 use crate::show::{list, shown};
 use crate::trials::{edit, misuse_ring};
 
-/// A file and a ring, how many elements the two lists have, and how often the reader is called.
+/// A file and a ring, how many places the two lists have, and how often the reader is asked.
 #[derive(Clone)]
 pub struct ReadCall {
     pub file: Vec<u8>,
@@ -43,7 +43,7 @@ impl ReadCall {
     }
 }
 
-/// The report is tested on any implementation, the reader on this one alone: C has no reader.
+/// The report is asked of any implementation, the reader of this one alone: C has no reader.
 impl Case for ReadCall {
     type Outcome = ReadOutcome;
 
@@ -65,7 +65,7 @@ impl Case for ReadCall {
     }
 }
 
-/// A call with the samples' ring, an element for each row, and two calls more than there are rows.
+/// A call with the samples' ring, a place for each row, and two asks more than there are rows.
 fn call(rows: usize, file: Vec<u8>) -> ReadCall {
     ReadCall { file, ring: samples::ring(), places: [rows; 2], asks: rows + 2 }
 }
@@ -74,7 +74,7 @@ fn of_plan(plan: &Plan) -> ReadCall {
     call(plan.entries.len(), plan.file(&samples::ring()))
 }
 
-/// The call, after a check that it is refused with the status and the row that it was built for.
+/// The call, once it is seen to be refused with the number and the row that it was made for.
 fn refused(call: ReadCall, number: u32, row: u32) -> ReadCall {
     assert_eq!(call.answer(&REFERENCE).report, Report { number, row, count: 0 });
     call
@@ -124,7 +124,7 @@ fn wrong_tags(_: &mut Random) -> Vec<ReadCall> {
     calls
 }
 
-/// Each status of the check, alone and beside all that comes after it; the reader has ended at once.
+/// Each number of the check, alone and beside all that comes after it; the reader has ended at once.
 fn refused_checks(_: &mut Random) -> Vec<ReadCall> {
     let mut calls = vec![];
     for (edition, number) in EDITIONS

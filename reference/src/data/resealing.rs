@@ -40,7 +40,7 @@ fn good(random: &mut Random) -> Vec<RewriteCall> {
     plans.iter().map(good_call).collect()
 }
 
-/// What is wrong in entries of other suites is copied unchanged.
+/// What is wrong in entries of other suites is copied as it stands.
 fn unchecked(_: &mut Random) -> Vec<RewriteCall> {
     let plan = of_suites(&[1, 4, 3, 2, 4]);
     let good = good_call(&plan);
@@ -105,7 +105,7 @@ fn clashes(_: &mut Random) -> Vec<RewriteCall> {
     calls
 }
 
-/// Each status of the check, alone and beside all that comes after it; a draft and a later edition are 21.
+/// Each number of the check, alone and beside all that comes after it; a draft and a later edition are 21.
 fn refused_checks(_: &mut Random) -> Vec<RewriteCall> {
     let mut calls = vec![];
     for number in [20].into_iter().chain(files::ORDER) {

@@ -31,10 +31,10 @@ const DAY: [(u32, u8, u8, u8, &str); 8] = [
 /// The stations of the day, in its file of edition 2.
 const STATIONS: [u32; 8] = [207, 207, 207, 208, 0, 311, 207, 208];
 
-/// The associated data after the unit, in which a station adds its name.
+/// What stands in the associated data after the unit, where a station adds its name.
 const STATION: &[u8] = b"line 2 station 7";
 
-/// What quality sent, job, suite and record: jobs 4102 and 4110 again, and a job that the day did not have.
+/// What quality sent, job, suite and record: jobs 4102 and 4110 anew, and a job that the day did not have.
 const AMENDMENT: [(u32, u8, &str); 3] = [
     (4102, 2, "gearbox 4102 bolt M8x40 count 8 torque 25.0 25.1 25.0 25.2 25.0 25.0 25.1 25.0, bolts 1 5 8 retorqued"),
     (4110, 3, "gearbox 4110 bolt M6x20 count 2 torque 9.8 9.9, entered by hand"),

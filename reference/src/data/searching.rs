@@ -1,4 +1,4 @@
-//! For `test_shift`: jobs found by binary search.
+//! For `test_shift`: jobs looked for by halving.
 
 use super::{files, samples};
 use crate::calls::{head, Case, Library, REFERENCE};
@@ -32,7 +32,7 @@ impl Case for SearchCall {
     }
 }
 
-/// A file that is a header and a table with these jobs: it passes 20 to 24, and the search checks nothing else.
+/// A file that is a header and a table with these jobs: it passes 20 to 24, and the search asks no more.
 fn table(jobs: &[u32]) -> Vec<u8> {
     table_in(1, jobs)
 }

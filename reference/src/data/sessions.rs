@@ -119,7 +119,7 @@ fn start(random: &mut Random, suite: u8) -> SessionCall {
     Start { suite, key: random.bytes(16), nonce: random.bytes(nonce_size(suite)) }
 }
 
-/// A part of the message with an output of just the length that it needs.
+/// A part of the message with just the room that it needs.
 fn part(suite: u8, msg: &[u8]) -> SessionCall {
     SessionCall::Part { msg: msg.to_vec(), out: msg.len() + block_size(suite) - 1 }
 }
@@ -154,7 +154,7 @@ fn pieces<'a>(random: &mut Random, bytes: &'a [u8], count: usize) -> Vec<&'a [u8
     cuts.windows(2).map(|pair| &bytes[pair[0]..pair[1]]).collect()
 }
 
-/// Lengths around the blocks' borders, cut at random into up to four parts; no part at all for an empty text.
+/// Lengths around the blocks' borders, cut at random into up to four parts; no part at all where nothing comes.
 fn cuttings(random: &mut Random) -> Vec<Run> {
     let mut runs = vec![];
     for suite in SEALED {

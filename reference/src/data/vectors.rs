@@ -5,7 +5,7 @@ use crate::comet;
 use crate::random::Random;
 use crate::show::{hex, unhex};
 
-/// The vectors that the ciphers' papers print: where, suite, key, block, encryption. The words of the Speck
+/// The vectors that the ciphers' papers print: where, suite, key, block, image. The words of the Speck
 /// and CHAM papers are written little-endian, word 0 first.
 pub const PUBLISHED: [(&str, u8, &str, &str, &str); 5] = [
     (

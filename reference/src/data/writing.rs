@@ -65,7 +65,7 @@ pub fn call(pass: Pass, file: Vec<u8>) -> RewriteCall {
     RewriteCall { pass, out: file.len(), file, ring: samples::ring() }
 }
 
-/// The call, after a check that it gives the status and the row that it was built for.
+/// The call, once it is seen to give the number and the row that it was made for.
 pub fn expected(call: RewriteCall, number: u32, row: usize) -> RewriteCall {
     assert_eq!(call.answer(&REFERENCE).answer, (number, row as u32));
     call
@@ -84,7 +84,7 @@ fn both_ways(plan: &Plan) -> [RewriteCall; 2] {
     [seal, unseal]
 }
 
-/// The plan with suite 3 instead of suite 4: its draft can be sealed.
+/// The plan with suite 3 where it has suite 4: its draft can be sealed.
 fn sealable(plan: &Plan) -> Plan {
     plan.resuited(4, 3)
 }
@@ -119,7 +119,7 @@ fn input(pass: Pass, plan: &Plan) -> Vec<u8> {
     }
 }
 
-/// Each status of the check, alone and beside all that comes after the check.
+/// Each number of the check, alone and beside all that comes after the check.
 fn refused_checks(_: &mut Random) -> Vec<RewriteCall> {
     let mut calls = vec![];
     for pass in [Pass::Seal, Pass::Unseal] {

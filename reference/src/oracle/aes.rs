@@ -51,7 +51,7 @@ fn sub_bytes(s: &[u8; 16]) -> [u8; 16] {
     std::array::from_fn(|i| SBOX[s[i] as usize])
 }
 
-/// Row r moves left by r columns.
+/// Row r moves left by r places.
 fn shift_rows(s: &[u8; 16]) -> [u8; 16] {
     std::array::from_fn(|i| s[(i + 4 * (i % 4)) % 16])
 }

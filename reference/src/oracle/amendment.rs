@@ -2,8 +2,8 @@
 
 use super::shift::{associated_place, check, lookup, open_job};
 
-/// The status, the file (1 the amendment, 2 the day's) and the row that it concerns, and where in that file the current
-/// associated data lies: offset and length, both 0 on a refusal.
+/// The number, the file (1 the amendment, 2 the day's) and the row that it speaks of, and where in that file the current
+/// associated data lies: place and length, both 0 on a refusal.
 #[derive(Clone, Copy, PartialEq, Debug)]
 pub struct Amended {
     pub number: u32,
@@ -43,8 +43,8 @@ pub fn current<'a>(amendment: &'a [u8], day: &'a [u8], job: u32) -> &'a [u8] {
     &holds[at..at + length]
 }
 
-/// Opens the current entry: the refusals of `amended`, then 2, 6 and 8 as opening the job in the file that holds it gives
-/// them. Returns status, file and row.
+/// Opens the current entry: what `amended` refuses, then 2, 6 and 8 as opening the job in the file that holds it gives
+/// them, with that file's number. Gives number, file and row.
 pub fn open_current(amendment: &[u8], day: &[u8], ring: &[u8], job: u32, out: &mut [u8]) -> (u32, u32, u32) {
     let Amended { number, file, row, .. } = amended(amendment, day, job);
     if number != 0 {

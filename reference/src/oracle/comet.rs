@@ -15,7 +15,7 @@ pub fn is_retired(suite: u8) -> bool {
     SUITES.contains(&suite) && !SEALED.contains(&suite)
 }
 
-/// Bytes of a block, and of the tag; 0 for a suite that does not exist.
+/// Bytes of a block, which are also those of the tag; 0 for a suite that is none.
 pub fn block_size(suite: u8) -> usize {
     match suite {
         1 | 2 | 5 => 16,
@@ -24,8 +24,8 @@ pub fn block_size(suite: u8) -> usize {
     }
 }
 
-/// Version 2 (source 004, section 7.2) differs from version 1 in two things: how the next block key is computed (Psi), and
-/// when the marks are applied (Delta).
+/// Version 2 (source 004, section 7.2) differs from version 1 in two things: how the next block key is made (Psi), and
+/// when the marks come (Delta).
 #[derive(Clone, Copy, PartialEq)]
 pub enum Version {
     One,
@@ -49,7 +49,7 @@ pub fn nonce_size(suite: u8) -> usize {
     }
 }
 
-/// Doubling in GF(2^64): a plain left shift; if the dropped bit was 1, XOR 0x1b.
+/// Doubling in GF(2^64): a plain left shift; where the dropped bit was 1, XOR 0x1b.
 pub fn double(x: u64) -> u64 {
     (x << 1) ^ ((x >> 63) * 0x1b)
 }
@@ -87,7 +87,7 @@ fn xor<const N: usize>(a: [u8; N], b: [u8; N]) -> [u8; N] {
     std::array::from_fn(|i| a[i] ^ b[i])
 }
 
-/// Whose text is processed: the sealer's message, or the opener's ciphertext.
+/// Whose text is worked on: the sealer's message, or the opener's ciphertext.
 #[derive(Clone, Copy, PartialEq)]
 pub(crate) enum Text {
     Message,
@@ -123,7 +123,7 @@ pub(crate) struct State<const N: usize, E> {
 }
 
 impl<const N: usize, E: Cipher<N>> State<N, E> {
-    /// COMET-128: Y = key, Z = E(key, nonce). COMET-64: Y = E(key, zeros), Z = key XOR nonce.
+    /// COMET-128: Y is the key and Z the nonce's image. COMET-64: Y is the image of zeros and Z the key XOR the nonce.
     pub fn start(encrypt: E, version: Version, key: &[u8], nonce: &[u8]) -> Self {
         let mut z: [u8; 16] = key.try_into().unwrap();
         if N == 16 {
@@ -159,7 +159,7 @@ impl<const N: usize, E: Cipher<N>> State<N, E> {
         (self.encrypt)(&self.z, &self.y)
     }
 
-    /// The call of a block that has a mark: in version 1 the mark comes before this call, in version 2 after it, so that
+    /// The call of a block that has a mark: in version 1 the mark comes before this call, in version 2 behind it, so that
     /// the next call is the first under it.
     fn marked_call(&mut self, mark: u8) -> [u8; N] {
         let (before, behind) = if self.version == Version::One { (mark, 0) } else { (0, mark) };
@@ -168,7 +168,7 @@ impl<const N: usize, E: Cipher<N>> State<N, E> {
         x
     }
 
-    /// Blocks of associated data; `begins` if the first of them is the first of all.
+    /// Blocks of associated data; `begins` where the first of them is the first of all.
     pub fn absorb(&mut self, begins: bool, ad: &[u8]) {
         for (place, piece) in ad.chunks(N).enumerate() {
             let first = if begins && place == 0 { 0x08 } else { 0 };
@@ -178,7 +178,7 @@ impl<const N: usize, E: Cipher<N>> State<N, E> {
         }
     }
 
-    /// Blocks of text in the same way. Y absorbs the message in either direction.
+    /// Blocks of text in the same way. Y takes in the message in either direction.
     pub fn crypt(&mut self, kind: Text, begins: bool, text: &[u8], out: &mut [u8]) {
         for (place, (piece, to)) in text.chunks(N).zip(out.chunks_mut(N)).enumerate() {
             let first = if begins && place == 0 { 0x20 } else { 0 };
@@ -206,7 +206,7 @@ fn counting<'a, const N: usize>(encrypt: impl Cipher<N> + 'a, calls: &'a Cell<u6
     }
 }
 
-/// Processes a whole record; returns its tag, and the number of cipher calls.
+/// The whole of a record; gives its tag, and how often the cipher was called.
 #[rustfmt::skip]
 fn record<const N: usize>(
     encrypt: impl Cipher<N>, (version, kind): (Version, Text), key: &[u8], nonce: &[u8], ad: &[u8], text: &[u8], out: &mut [u8],
@@ -219,12 +219,12 @@ fn record<const N: usize>(
     (tag, calls.get())
 }
 
-/// Processes a record whose lengths were checked; returns the tag, and the number of cipher calls.
+/// Works on a record whose lengths were checked; gives the tag, and how often the cipher was called.
 fn run(suite: u8, kind: Text, key: &[u8], nonce: &[u8], ad: &[u8], text: &[u8], out: &mut [u8]) -> (Vec<u8>, u64) {
     by_suite!(suite, record((version_of(suite), kind), key, nonce, ad, text, out))
 }
 
-/// The lengths of a call, from which the status is computed.
+/// The lengths of a call, as the table of numbers looks at them.
 struct Lengths {
     key: usize,
     nonce: usize,
@@ -234,7 +234,7 @@ struct Lengths {
     tag: usize,
 }
 
-/// The first status that applies, and 0 if none does.
+/// The first number that applies, and 0 where none does.
 pub fn first(table: &[(u32, bool)]) -> u32 {
     table.iter().find(|(_, applies)| *applies).map_or(0, |(number, _)| *number)
 }
@@ -258,7 +258,7 @@ pub fn seal(suite: u8, key: &[u8], nonce: &[u8], ad: &[u8], msg: &[u8], out: &mu
     seal_counted(suite, key, nonce, ad, msg, out, tag).0
 }
 
-/// The same, and the number of cipher calls (document 02, W12): 0 on a refusal.
+/// The same, and how often the cipher was called (document 02, W12): 0 on a refusal.
 #[rustfmt::skip]
 pub fn seal_counted(
     suite: u8, key: &[u8], nonce: &[u8], ad: &[u8], msg: &[u8], out: &mut [u8], tag: &mut [u8],
@@ -281,7 +281,7 @@ pub fn open(suite: u8, key: &[u8], nonce: &[u8], ad: &[u8], text: &[u8], tag: &[
     open_counted(suite, key, nonce, ad, text, tag, out).0
 }
 
-/// The same, and the number of cipher calls: on 8 as on 0, and 0 on another refusal.
+/// The same, and how often the cipher was called: on 8 as on 0, and 0 on another refusal.
 #[rustfmt::skip]
 pub fn open_counted(
     suite: u8, key: &[u8], nonce: &[u8], ad: &[u8], text: &[u8], tag: &[u8], out: &mut [u8],
@@ -302,20 +302,20 @@ pub fn open_counted(
     (0, calls)
 }
 
-/// Seals a text in place: the sealer with an output of the text's length, so that there is no 6. On a refusal text
+/// Seals a text in its place: the sealer with an output of the text's length, so that there is no 6. On a refusal text
 /// and tag are unchanged.
 pub fn seal_in_place(suite: u8, key: &[u8], nonce: &[u8], ad: &[u8], text: &mut [u8], tag: &mut [u8]) -> u32 {
     let msg = text.to_vec();
     seal(suite, key, nonce, ad, &msg, text, tag)
 }
 
-/// Opens a text in place in the same way. On 8 every byte of it is 0; on another refusal it is unchanged.
+/// Opens a text in its place in the same way. On 8 every byte of it is 0; on another refusal it is unchanged.
 pub fn open_in_place(suite: u8, key: &[u8], nonce: &[u8], ad: &[u8], text: &mut [u8], tag: &[u8]) -> u32 {
     let sealed = text.to_vec();
     open(suite, key, nonce, ad, &sealed, tag, text)
 }
 
-/// Whether a record is genuine: the opener's status with an output of the text's length; no message is returned.
+/// Whether a record is genuine: the opener's number with an output of the text's length, and no message comes out.
 pub fn verify(suite: u8, key: &[u8], nonce: &[u8], ad: &[u8], text: &[u8], tag: &[u8]) -> u32 {
     open(suite, key, nonce, ad, text, tag, &mut vec![0; text.len()])
 }
@@ -327,12 +327,12 @@ pub fn specified(suite: u8, key: &[u8], nonce: &[u8], ad: &[u8], msg: &[u8]) -> 
     (text, tag)
 }
 
-/// The tag that fits a ciphertext, whatever its message. Every length is right.
+/// The tag that fits a ciphertext, whatever the message behind it. Every length is right.
 pub fn fitting_tag(suite: u8, key: &[u8], nonce: &[u8], ad: &[u8], text: &[u8]) -> Vec<u8> {
     run(suite, Text::Ciphertext, key, nonce, ad, text, &mut vec![0; text.len()]).0
 }
 
-/// Associated data of two full blocks with another first block and one tag: the second block compensates
+/// Associated data of two full blocks with another first block and one tag: the second block makes up for
 /// the change. Who knows the key can do this, so nothing is promised of changes in two blocks.
 pub fn made_up(suite: u8, key: &[u8], nonce: &[u8], ad: &[u8]) -> Vec<u8> {
     by_suite!(suite, made_up_with(version_of(suite), key, nonce, ad))
@@ -374,7 +374,7 @@ mod tests {
     use super::*;
     use std::cell::RefCell;
 
-    /// Byte 15 of Z at each cipher call, under a cipher that encrypts every block to zeros.
+    /// What each cipher call finds in byte 15 of Z, under a cipher whose images are zeros.
     fn marks<const N: usize>(version: Version, ad: usize, message: usize) -> Vec<u8> {
         let seen = RefCell::new(vec![]);
         let encrypt = |z: &[u8; 16], _: &[u8; N]| {
@@ -414,8 +414,8 @@ mod tests {
         assert_eq!(marks_64(24, 17), [0, 0x08, 0, 0, 0x20, 0, 0xc0]);
     }
 
-    /// The cipher outputs of an opening's message blocks, and its tag, under a cipher that does nothing: a change
-    /// then stays unmixed, and undetected changes (document 02, W13) can be constructed at will.
+    /// The cipher outputs of an opening's message blocks, and its tag, under a cipher that does nothing: what is changed
+    /// then goes on unmixed, and slips (document 02, W13) can be made at will.
     fn opened(ad: &[u8], text: &[u8]) -> (Vec<[u8; 8]>, [u8; 8]) {
         let seen = RefCell::new(vec![]);
         let encrypt = |_: &[u8; 16], y: &[u8; 8]| {
@@ -454,8 +454,8 @@ mod tests {
         (rest == 0).then_some(x)
     }
 
-    /// A change inside one block of associated data or of ciphertext, with full message blocks after it, is accepted
-    /// exactly if the cipher's outputs of the two openings are complements at some message block after it.
+    /// A change inside one block of associated data or of ciphertext, with full message blocks behind it, is accepted
+    /// exactly if the cipher's outputs of the two openings are complements at some message block behind it.
     #[test]
     fn when_a_change_slips_through() {
         let mut changes = vec![1, 0x8000_0000_0000_0000, 0x0123_4567_89ab_cdef, u64::MAX];

@@ -16,7 +16,7 @@ pub fn header(file: &[u8]) -> Header {
     }
 }
 
-/// Status and fields of a row; 32 if there is no such row. The fields are 0 after every status but 0. No row is checked:
+/// Status and fields of a row; 32 where there is no such row. The fields are 0 after every status but 0. No row is checked:
 /// its fields are what the table holds, and the offset of the text is a sum of 32 bits that wraps.
 pub fn row(file: &[u8], index: u32) -> (u32, Fields) {
     let status = check_header(file, &EDITIONS);

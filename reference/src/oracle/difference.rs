@@ -3,7 +3,7 @@
 use super::shift::{check, rows, Row};
 use std::collections::BTreeMap;
 
-/// The status, the file and the row that it concerns, and how many job numbers were written into each list.
+/// The number, the file and the row that it speaks of, and how many job numbers were written into each list.
 #[derive(Clone, Copy, PartialEq, Debug)]
 pub struct Compared {
     pub number: u32,
@@ -35,8 +35,8 @@ fn lists(first: &[u8], second: &[u8]) -> [Vec<u32>; 3] {
     [only(&ones, &others), only(&others, &ones), differing.map(|(job, _, _)| job).collect()]
 }
 
-/// Checks the first file, then the second; then 36 if a list is longer than its buffer. The job numbers of
-/// each list are written in rising order; elements after them, and all on a refusal, are unchanged.
+/// Checks the first file, then the second; then 36 where a list is longer than what is lent for it. The job numbers of
+/// each list are written in rising order; places behind them, and all on a refusal, are as they were.
 pub fn compare(first: &[u8], second: &[u8], lent: [&mut [u32]; 3]) -> Compared {
     for (file, bytes) in [(1, first), (2, second)] {
         let (number, row) = check(bytes);

@@ -7,7 +7,7 @@ fn growth(file: &[u8]) -> usize {
     4 * count(file)
 }
 
-/// How long the file is once it is moved, from edition 1 to 2 or from 2 to 1; 0 if one of 20 to 24 applies.
+/// How long the file is once it is moved, from edition 1 to 2 or from 2 to 1; 0 where one of 20 to 24 applies.
 pub fn moved_length(file: &[u8]) -> usize {
     match check_header(file, &EDITIONS) {
         0 if edition(file) == 1 => file.len() + growth(file),
@@ -36,7 +36,7 @@ fn moved(file: &[u8], from: usize, to: usize, out: &mut [u8]) {
     out[new_table..].copy_from_slice(&file[old_table..]);
 }
 
-/// From edition 1 to 2, station 0 everywhere: the checks of a file of edition 1, 20 if it would be too long, 6. On a
+/// From edition 1 to 2, station 0 everywhere: the checks of a file of edition 1, 20 where it would be too long, 6. On a
 /// refusal `out` is unchanged.
 pub fn to_edition2(file: &[u8], out: &mut [u8]) -> Answer {
     let (number, row) = check_as(file, &[1]);
@@ -55,7 +55,7 @@ pub fn to_edition2(file: &[u8], out: &mut [u8]) -> Answer {
 }
 
 /// From edition 2 to 1: the checks of a file of edition 2, 35 with the first row whose station is not 0, 6. A file that
-/// passes the check gets shorter, so 20 cannot occur again. On a refusal `out` is unchanged.
+/// is no longer than it may be gets shorter, so 20 cannot come again. On a refusal `out` is unchanged.
 pub fn to_edition1(file: &[u8], out: &mut [u8]) -> Answer {
     let (number, row) = check_as(file, &[2]);
     if number != 0 {

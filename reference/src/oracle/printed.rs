@@ -1,4 +1,4 @@
-//! What `job` and `current` print. What `differ` and `inspect` print is in `difference` and `report`.
+//! What `job` and `current` print. What `differ` and `inspect` print stands in `difference` and `report`.
 
 use super::amendment::{amended, open_current};
 use super::shift::{edition, open_job, rows, Row};
@@ -20,7 +20,7 @@ fn text(bytes: &[u8]) -> Option<&str> {
     std::str::from_utf8(bytes).ok().filter(|text| text.chars().all(is_shown))
 }
 
-/// Bytes as text if a person can read them, and else in hex.
+/// Bytes as text where a person can read them, and else in hex.
 fn bytes_line(name: &str, bytes: &[u8]) -> String {
     match (bytes, text(bytes)) {
         ([], _) => format!("{name} empty\n"),
@@ -34,7 +34,7 @@ fn row_of(file: &[u8], job: u32) -> Row {
     rows(file).into_iter().find(|row| row.job == job).expect("a row")
 }
 
-/// The lines of an opened entry: unit, job, suite, key number, station in edition 2, the associated data after job and
+/// The lines of an opened entry: unit, job, suite, key number, station in edition 2, the associated data behind job and
 /// unit, and the message.
 fn entry_lines(file: &[u8], job: u32, message: &[u8]) -> String {
     let row = row_of(file, job);
@@ -47,7 +47,7 @@ fn entry_lines(file: &[u8], job: u32, message: &[u8]) -> String {
     lines + &bytes_line("data", &ad[5..]) + &bytes_line("message", message)
 }
 
-/// `job FILE RING JOB`: status and row and, on 0, the entry's lines.
+/// `job FILE RING JOB`: number and row and, on 0, the entry's lines.
 pub fn job(file: &[u8], ring: &[u8], job: u32) -> String {
     let (found, _) = super::shift::lookup(file, job);
     let mut out = vec![0; if found == 0 { row_of(file, job).message } else { 0 }];
@@ -56,7 +56,7 @@ pub fn job(file: &[u8], ring: &[u8], job: u32) -> String {
     format!("{number} {row}\n{lines}")
 }
 
-/// `current AMENDMENT DAY RING JOB`: status, file and row and, on 0, the entry's lines.
+/// `current AMENDMENT DAY RING JOB`: number, file and row and, on 0, the entry's lines.
 pub fn current(amendment: &[u8], day: &[u8], ring: &[u8], job: u32) -> String {
     let found = amended(amendment, day, job);
     let holds = if found.file == 1 { amendment } else { day };

@@ -14,7 +14,7 @@ impl<'a> Reader<'a> {
         Reader { file, place: 0 }
     }
 
-    /// The next row and its index in the table; None once it has ended, as often as it is called. On a file that does
+    /// The next row and where it stands in the table; None once it has ended, as often as it is asked. On a file that does
     /// not pass the check it has ended at once.
     pub fn entry(&mut self) -> Option<(usize, Row)> {
         if check(self.file).0 != 0 {
@@ -27,7 +27,7 @@ impl<'a> Reader<'a> {
     }
 }
 
-/// The status and its row, and how many entries were reported.
+/// The number and its row, and how many entries were reported.
 #[derive(Clone, Copy, PartialEq, Debug)]
 pub struct Report {
     pub number: u32,
@@ -35,9 +35,9 @@ pub struct Report {
     pub count: u32,
 }
 
-/// Reports each entry of a file: its job, and 0 or 8 as its tag is right under the ring. 20 with row 0 if the file has
-/// more than 65,280 bytes, the check, 2, and 6 if a list has fewer elements than the file has rows. Elements after the count, and all
-/// on a refusal, are unchanged.
+/// Reports each entry of a file: its job, and 0 or 8 as its tag is right under the ring. 20 with row 0 where the file has
+/// more than 65,280 bytes, the check, 2, and 6 where a list has not a place for each row. Places behind the count, and all
+/// on a refusal, are as they were.
 pub fn report(file: &[u8], ring: &[u8], jobs: &mut [u32], numbers: &mut [u8]) -> Report {
     let refused = |number: u32, row: u32| Report { number, row, count: 0 };
     if file.len() > PROGRAM_LONGEST {

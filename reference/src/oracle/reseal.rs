@@ -7,7 +7,7 @@ use super::writer::refuse_lengths;
 const FROM: u8 = 4;
 const TO: u8 = 3;
 
-/// A row as it will be in the table.
+/// A row as it will stand in the table.
 fn resealed(row: &Row) -> Row {
     Row { suite: if row.suite == FROM { TO } else { row.suite }, ..*row }
 }
@@ -19,7 +19,7 @@ fn first_clash(rows: &[Row]) -> Option<usize> {
 }
 
 /// Reseals a file's entries of suite 4, and copies every other byte: the checks with edition 1; 29 with the lowest later
-/// row if resealing would make two rows clash; 2, 6, 8 with the first such entry whose tag is wrong. No other entry
+/// row where resealing would make two rows clash; 2, 6, 8 with the first such entry whose tag is wrong. No other entry
 /// is opened. On 8 every byte of `out` is 0, on another refusal it is unchanged.
 pub fn reseal(file: &[u8], ring: &[u8], out: &mut [u8]) -> Answer {
     let (number, row) = check_as(file, &[1]);

@@ -1,9 +1,9 @@
-//! Finding a job by binary search (document 02, W6).
+//! Finding a job by halving (document 02, W6).
 
 use super::shift::{check_header, rows, Answer, EDITIONS};
 
-/// Status and row, and how many rows were looked at: none with 20 to 24, then the binary search over the table, whatever
-/// it contains.
+/// Number and row, and how many rows were looked at: 20 to 24 with none, then the halving over the table, whatever
+/// stands in it.
 pub fn search(file: &[u8], job: u32) -> (Answer, u32) {
     let number = check_header(file, &EDITIONS);
     if number != 0 {

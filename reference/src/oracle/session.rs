@@ -19,7 +19,7 @@ pub struct Session {
 /// A session that was refused or has ended: it answers 9 to every call.
 pub const OVER: Session = Session { suite: 0, y: [0; 16], z: [0; 16], held: [0; 16], ad_total: 0, text_total: 0 };
 
-/// The result of a call: the next session, the status, and how many bytes were written at the output's start.
+/// What a call gives: the next session, the number, and how many bytes stand at the output's start.
 #[derive(Clone, Copy)]
 pub struct Step {
     pub next: Session,
@@ -27,7 +27,7 @@ pub struct Step {
     pub count: usize,
 }
 
-/// Bytes, padded with zeros.
+/// Bytes, and zeros behind them.
 fn filled(bytes: &[u8]) -> [u8; 16] {
     let mut all = [0; 16];
     all[..bytes.len()].copy_from_slice(bytes);
@@ -36,12 +36,12 @@ fn filled(bytes: &[u8]) -> [u8; 16] {
 
 impl Session {
     /// Any value may arrive. One that names no suite that can be started, or totals over the limits, is over; any other
-    /// is taken as it is.
+    /// is taken at its word.
     fn is_over(&self) -> bool {
         !SEALED.contains(&self.suite) || self.ad_total > LIMIT || self.text_total > LIMIT
     }
 
-    /// The buffered bytes: of the associated data until the message begins, then of the message.
+    /// The bytes held back: of the associated data until the message begins, then of the message.
     pub fn held(&self) -> &[u8] {
         let total = if self.text_total == 0 { self.ad_total } else { self.text_total };
         &self.held[..total % block_size(self.suite)]
@@ -60,7 +60,7 @@ impl Session {
     }
 }
 
-/// How many of these bytes are in whole blocks.
+/// How many of these bytes stand in whole blocks.
 fn whole<const N: usize>(bytes: &[u8]) -> usize {
     bytes.len() / N * N
 }
@@ -77,7 +77,7 @@ fn take_data<const N: usize>(encrypt: impl Cipher<N>, session: Session, ad: &[u8
     Session { ad_total: session.ad_total + ad.len(), ..session.with(state, rest) }
 }
 
-/// The state after all associated data is absorbed, its short last block too, and the buffered bytes of the message.
+/// The state with all associated data in, its short last block too, and the bytes held back of the message.
 fn begun<const N: usize, E: Cipher<N>>(encrypt: E, session: &Session) -> (State<N, E>, &[u8]) {
     let mut state = session.state(encrypt);
     if session.text_total > 0 {
@@ -87,7 +87,7 @@ fn begun<const N: usize, E: Cipher<N>>(encrypt: E, session: &Session) -> (State<
     (state, &[])
 }
 
-/// Seals a part of the message that is not empty; returns the next session and the number of output bytes.
+/// Takes in a part of the message that is not empty; gives the next session and how many bytes went out.
 fn take_text<const N: usize>(
     encrypt: impl Cipher<N>,
     session: Session,
@@ -101,7 +101,7 @@ fn take_text<const N: usize>(
     (Session { text_total: session.text_total + msg.len(), ..session.with(state, rest) }, blocks.len())
 }
 
-/// The rest of the ciphertext and the tag; returns the number of output bytes.
+/// The rest of the ciphertext and the tag; gives how many bytes went out.
 fn finish<const N: usize>(encrypt: impl Cipher<N>, session: Session, out: &mut [u8], tag: &mut [u8]) -> usize {
     let (mut state, held) = begun(encrypt, &session);
     state.crypt(Text::Message, session.text_total < N, held, &mut out[..held.len()]);
@@ -118,7 +118,7 @@ pub fn start(suite: u8, key: &[u8], nonce: &[u8]) -> Step {
     Step { next: by_suite!(suite, fresh(suite, key, nonce)), number: 0, count: 0 }
 }
 
-/// A part of the associated data. 9 also if the message has begun, even for an empty part.
+/// A part of the associated data. 9 also where the message has begun, even for an empty part.
 pub fn data(session: Session, ad: &[u8]) -> Step {
     let room = LIMIT.saturating_sub(session.ad_total);
     let number = first(&[(9, session.is_over() || session.text_total > 0), (4, ad.len() > room)]);
@@ -128,7 +128,7 @@ pub fn data(session: Session, ad: &[u8]) -> Step {
     Step { next: by_suite!(session.suite, take_data(session, ad)), number: 0, count: 0 }
 }
 
-/// A part of the message. The ciphertext of the blocks that it completes is written at the output's start; an empty part
+/// A part of the message. The ciphertext of the blocks that it completes goes to the output's start; an empty part
 /// changes nothing.
 pub fn part(session: Session, msg: &[u8], out: &mut [u8]) -> Step {
     let room = LIMIT.saturating_sub(session.text_total);

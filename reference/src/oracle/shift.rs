@@ -28,17 +28,17 @@ pub fn row_size(edition: usize) -> usize {
     }
 }
 
-/// The offset of a row.
+/// Where a row starts.
 pub fn row_at(edition: usize, i: usize) -> usize {
     HEADER + row_size(edition) * i
 }
 
-/// The offset of the fields after job number and station: suite, key number, lengths, offset, nonce.
+/// Where the fields start that follow job number and station: suite, key number, lengths, offset, nonce.
 pub fn fields_at(edition: usize, i: usize) -> usize {
     row_at(edition, i + 1) - 28
 }
 
-/// The editions of files; a draft has edition 0.
+/// The editions that files are of; a draft has edition 0.
 pub const EDITIONS: [usize; 2] = [1, 2];
 
 pub fn edition(file: &[u8]) -> usize {
@@ -125,7 +125,7 @@ pub fn rows(file: &[u8]) -> Vec<Row> {
     (0..count(file)).map(|i| row(file, i)).collect()
 }
 
-/// The first of 20 to 24 that applies, else 0.
+/// Numbers 20 to 24, and 0 where none applies.
 pub fn check_header(file: &[u8], editions: &[usize]) -> u32 {
     if file.len() < HEADER || file.len() > LONGEST {
         20
@@ -142,7 +142,7 @@ pub fn check_header(file: &[u8], editions: &[usize]) -> u32 {
     }
 }
 
-/// The first of 25 to 28, 34, 29 and 30 that applies to row i, else 0. The rows before it have passed.
+/// Numbers 25 to 28, 34, 29 and 30 of row i, and 0 where none applies. The rows before it have passed.
 fn check_row(file: &[u8], i: usize) -> u32 {
     let this = row(file, i);
     let start = if i == 0 { row_at(edition(file), count(file)) } else { row(file, i - 1).end() };
@@ -170,7 +170,7 @@ pub fn check(file: &[u8]) -> Answer {
     check_as(file, &EDITIONS)
 }
 
-/// The full check that accepts these editions.
+/// The full check of a file that may be of these editions.
 pub fn check_as(file: &[u8], editions: &[usize]) -> Answer {
     let number = check_header(file, editions);
     if number != 0 {
@@ -199,13 +199,13 @@ pub fn lookup(file: &[u8], job: u32) -> Answer {
     }
 }
 
-/// The associated data of the job, as a part of the file; the file's first zero bytes if the lookup refuses.
+/// The associated data of the job, as a part of the file; the file's first zero bytes where the lookup refuses.
 pub fn associated(file: &[u8], job: u32) -> &[u8] {
     let (at, length) = associated_place(file, job);
     &file[at..at + length]
 }
 
-/// Where the associated data lies in the file: offset and length, both 0 if the lookup refuses.
+/// Where the associated data lies in the file: place and length, both 0 where the lookup refuses.
 pub fn associated_place(file: &[u8], job: u32) -> (usize, usize) {
     match lookup(file, job) {
         (0, i) => {
@@ -216,10 +216,10 @@ pub fn associated_place(file: &[u8], job: u32) -> (usize, usize) {
     }
 }
 
-/// Where a job's entry lies: offset and length of its associated data, offset and length of its text.
+/// Where a job's entry lies: place and length of its associated data, place and length of its text.
 pub type Places = [usize; 4];
 
-/// The lookup, and where the job's entry lies in the file; four times 0 if the lookup refuses.
+/// The lookup, and where the job's entry lies in the file; four times 0 where the lookup refuses.
 pub fn entry(file: &[u8], job: u32) -> (Answer, Places) {
     let answer = lookup(file, job);
     if answer.0 != 0 {
@@ -229,7 +229,7 @@ pub fn entry(file: &[u8], job: u32) -> (Answer, Places) {
     (answer, [found.offset, found.ad, found.offset + found.ad, found.message])
 }
 
-/// Opens one job: the full check, 32, then 2 (the ring's length), 6 and 8. The message is written to `out`;
+/// Opens one job: the full check, 32, then 2 (the ring's length), 6 and 8. The message goes into `out`;
 /// on 8 every byte of `out` is 0, on another refusal it is unchanged.
 pub fn open_job(file: &[u8], ring: &[u8], job: u32, out: &mut [u8]) -> Answer {
     let (number, i) = lookup(file, job);
@@ -242,7 +242,7 @@ pub fn open_job(file: &[u8], ring: &[u8], job: u32, out: &mut [u8]) -> Answer {
     (row(file, i as usize).open(file, ring, out), 0)
 }
 
-/// Where the associated data of a job lies whose tag is right under the ring: status and row, offset and length. The full
+/// Where the associated data of a job lies whose tag is right under the ring: number and row, offset and length. The full
 /// check, 32, 2, 8; offset and length are 0 on a refusal.
 pub fn verified(file: &[u8], ring: &[u8], job: u32) -> (Answer, usize, usize) {
     let (answer, [at, length, _, message]) = entry(file, job);

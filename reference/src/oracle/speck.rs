@@ -13,7 +13,7 @@ fn round(x1: u32, x0: u32, r: u32) -> (u32, u32) {
 }
 
 /// The key's words are K0 to K3, byte 0 in K0. At the start R = K0 and L = (K1, K2, K3); the next L
-/// and R are a round on (L, R) with the round's number as the key.
+/// and R are a round on (L, R) with the turn's number as the key.
 pub fn encrypt(key: &[u8; 16], block: &[u8; 8]) -> [u8; 8] {
     let mut r = word(key, 0);
     let mut l = [word(key, 1), word(key, 2), word(key, 3)];

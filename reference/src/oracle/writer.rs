@@ -1,9 +1,9 @@
-//! The writer of shift files (document 02, W4): a draft is sealed, and the draft of a file is restored.
+//! The writer of shift files (document 02, W4): a draft is sealed, and a file gives its draft back.
 
 use super::comet;
 use super::shift::{check_as, rows, Answer, RING};
 
-/// Statuses 2 and 6: the ring's length, and that of an output that must be as long as the input.
+/// Numbers 2 and 6: the ring's length, and that of an output that must be as long as the input.
 pub(crate) fn refuse_lengths(ring: &[u8], input: &[u8], out: &[u8]) -> u32 {
     comet::first(&[(2, ring.len() != RING), (6, out.len() != input.len())])
 }
@@ -35,7 +35,7 @@ pub fn seal_file(draft: &[u8], ring: &[u8], out: &mut [u8]) -> Answer {
     (0, 0)
 }
 
-/// Restores the draft of a file: the checks with edition 1, 2, 6, 8 with the first row whose tag is wrong. On 8
+/// Gives the draft of a file back: the checks with edition 1, 2, 6, 8 with the first row whose tag is wrong. On 8
 /// every byte of `out` is 0, on another refusal it is unchanged.
 pub fn unseal_file(file: &[u8], ring: &[u8], out: &mut [u8]) -> Answer {
     let (number, row) = check_as(file, &[1]);

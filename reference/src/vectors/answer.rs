@@ -11,7 +11,7 @@ use crate::{amendment, difference, editions, report, reseal, search, shift, writ
 /// What every output holds before a call.
 pub const BEFORE: u8 = 0xa5;
 
-/// The answer; None if the call is not known. A mistake changes how records are sealed and opened.
+/// The answer; None where the call is not known. A mistake changes how records are sealed and opened.
 pub fn answer(case: &Object, mistake: Mistake) -> Option<Object> {
     Some(match case.text_of("call") {
         "cipher" => cipher(case),

@@ -36,7 +36,7 @@ pub fn text_of(bytes: &[u8]) -> String {
     parts.join("+")
 }
 
-/// The text of a byte string of an answer: its digest if it is long.
+/// The text of a byte string of an answer: its digest where it is long.
 pub fn answer_text(bytes: &[u8]) -> String {
     let text = text_of(bytes);
     if text.len() > LONGEST_TEXT {
@@ -45,7 +45,7 @@ pub fn answer_text(bytes: &[u8]) -> String {
     text
 }
 
-/// The byte string that a text denotes; a digest denotes none.
+/// The byte string that a text stands for; a digest stands for none.
 pub fn bytes_of(text: &str) -> Vec<u8> {
     text.split('+').flat_map(part_of).collect()
 }

@@ -229,7 +229,7 @@ fn in_order(case: &Object, order: &[u32], also: &str) -> Vec<Test> {
     for (place, status) in order.iter().enumerate() {
         let alone = with_fault(case.clone(), *status);
         tests.push(test(format!("{call}{also}: status {status} alone"), "order", alone.clone(), *status));
-        // a text that is too long is refused before its content matters
+        // a text that is too long has no place for a fault of its content
         for later in order[place + 1..].iter().filter(|later| (*status, **later) != (4, 8)) {
             let both = with_fault(alone.clone(), *later);
             tests.push(test(format!("{call}{also}: status {status} beside {later}"), "order", both, *status));

@@ -1,4 +1,4 @@
-//! Records sealed in parts: sessions.json. Every part's output has the length that it needs, unless stated otherwise.
+//! Records sealed in parts: sessions.json. Every part's output has the length that it needs, where nothing else is said.
 
 use super::bytes::ruled_text;
 use super::json::{Object, Value};
