@@ -15,7 +15,7 @@ ghost use Rattle.cipher.specs.Cipher.{needsTables, Full, TablesFit, isSu
 // The most bytes of associated data, and the most of a message.
 pub const LIMIT: usize = 65536;
 
-// Suite 4, over CHAM-64/128, is retired (document 02, W7): it still opens, and no longer seals.
+// Suite 4, over CHAM-64/128. It is retired (document 02, W7): it opens, and it does not seal.
 pub const RETIRED: u8 = 4;
 
 // Whether the suite exists.
