@@ -1,7 +1,7 @@
 /* The C and C++ interface of Snoekeldraf: COMET (authenticated encryption of records) and the plant's shift file.
  *
- * For every input, a function returns the first status that applies, in the order that stands with it, and leaves every
- * output in the state that stands with it, on errors too. This is proved of every function that returns a status, of
+ * For every input, a function returns the first status that applies, in the order given above its prototype, and leaves
+ * every output in the state described there, on errors too. This is proved of every function that returns a status, of
  * shift_moved_length and of comet_session_wipe. The other three (snoekeldraf_version, snoekeldraf_words,
  * snoekeldraf_forget) are plain C in library/words.c and are tested, not proved.
  *
@@ -14,9 +14,9 @@
  *   - No two records are sealed with one key and one nonce.
  *
  * A length is 64 bits on every processor, also where size_t has 32. Lengths of lists count elements, all others bytes.
- * The functions keep no state between calls and allocate nothing. They call memcpy and memset of the C library (on Arm without
- * an operating system by their __aeabi_ names), and take less than SNOEKELDRAF_STACK_BYTES of stack (measured, not proved;
- * docs/LIBRARY.md has the figure of each function).
+ * The functions keep no state between calls and allocate nothing. They call memcpy and memset of the C library and, on 32-bit
+ * processors, arithmetic functions of the compiler's own library. They take less than SNOEKELDRAF_STACK_BYTES of stack
+ * (measured, not proved; docs/LIBRARY.md has the figure of each function).
  *
  *   +-----------------------------------------------------------------------------------------------------------------+
  *   | Constant time: not claimed. Suites 1 and 5 index lookup tables by secret bytes: they are not constant-time and   |
@@ -193,8 +193,8 @@ const char *snoekeldraf_words(uint32_t status);
 void snoekeldraf_forget(void);
 
 /* What the deepest call of the library takes (comet_session_end: 9,144 bytes, the most of x86-64, AArch64 and Cortex-M4),
- * and 1,096 bytes more. A program with a small stack that
- * uses few functions can measure its own need and build library/words.c with -DSNOEKELDRAF_STACK_BYTES=that.
+ * and 1,096 bytes more. A program with a small stack that uses few functions can measure its own need and build
+ * library/words.c with -DSNOEKELDRAF_STACK_BYTES=that.
  */
 #ifndef SNOEKELDRAF_STACK_BYTES
 #define SNOEKELDRAF_STACK_BYTES 10240
@@ -354,7 +354,7 @@ void comet_session_wipe(comet_session *session);
 /* ---- Shift files: reading ----
  *
  * "The full check" is 20, 21, 22, 23, 24; then for each row from row 0: 25, 26, 27, 28, 34, 29, 30; then 31. Status 21 says
- * that the edition is not 1 or 2, where nothing else is said.
+ * that the edition is not 1 or 2, unless a function says otherwise.
  * *row is always written. It is the row at fault after 25 to 30 and 34; after every other status it is 0 or what the
  * function says. Offsets count bytes from the start of the file.
  */

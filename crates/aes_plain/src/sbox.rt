@@ -1,4 +1,4 @@
-// The S-box as FIPS 197 prints it, section 5.1.1: at 16 x + y stands the substitution value of the byte xy.
+// The S-box as FIPS 197 prints it, section 5.1.1: entry 16 x + y is the substitution value of the byte xy.
 // Table 1 of source 000 has slips at 07, 22, 2a, f0 and f8.
 pub const SBOX: [u8; 256] = [
     0x63,

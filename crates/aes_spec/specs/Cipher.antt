@@ -14,7 +14,7 @@ abbrev pub from : ℕ → ℕ → (ℕ → ℕ) → List ℕ
 from i zero f = []
 from i (suc n) f = f i ∷ from (suc i) n f
 
--- section 3.4: byte r + 4 c of the input stands in row r and column c of the state
+-- section 3.4: byte r + 4 c of the input is in row r and column c of the state
 abbrev pub cell : List ℕ → ℕ → ℕ → ℕ
 cell s r c = getD s (r + 4 * c) 0
 
@@ -26,7 +26,7 @@ grid f = from 0 16 (λ i. f (i % 4) (i / 4))
 unfoldable pub subBytes : List ℕ → List ℕ
 subBytes s = grid (λ r c. subByte (cell s r c))
 
--- section 5.1.2: row r is shifted by r columns
+-- section 5.1.2: row r is shifted left by r columns
 unfoldable pub shiftRows : List ℕ → List ℕ
 shiftRows s = grid (λ r c. cell s r ((c + r) % 4))
 

@@ -34,11 +34,11 @@ pub record IsInverse (x y : ℕ) : Type 0 where
   pub one : 0 < x → x • y ≡ 1
   pub none : x ≡ 0 → y ≡ 0
 
--- a number below n that passes the test, or 0 where none does
+-- a number below n that passes the test, or 0 if none does
 unfoldable pub find : (ℕ → Bool) → ℕ → ℕ
 find p zero = 0
 find p (suc n) = cond (p n) n (find p n)
 
--- the byte whose product with x is 1, or 0 where there is none: it is the inverse and the only one (proofs/Inverse)
+-- the byte whose product with x is 1, or 0 if there is none: the inverse, and the only one (proofs/Inverse)
 unfoldable pub inverse : ℕ → ℕ
 inverse x = find (λ y. eqb (x • y) 1) 256

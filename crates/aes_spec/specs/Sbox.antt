@@ -21,7 +21,7 @@ affine b = ofBits 8 (affineBit b)
 unfoldable pub subByte : ℕ → ℕ
 subByte x = affine (inverse x)
 
--- a table of it
+-- a table of the S-box
 pub record IsSbox (t : List ℕ) : Type 0 where
   pub size : length t ≡ 256
   pub entry : (x : ℕ) → x < 256 → getD t x 0 ≡ subByte x

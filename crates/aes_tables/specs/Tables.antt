@@ -8,7 +8,7 @@ use Rattle.aes_spec.specs.Field.{_•_}
 use Rattle.aes_spec.specs.Sbox.{subByte}
 use Rattle.aes_spec.specs.Cipher.{from}
 
--- section 5.1.3: the multiple of the byte in row 0 that goes into row r of the mixed column
+-- section 5.1.3: the multiple of the byte in row 0 that is added to row r of the mixed column
 abbrev pub multiple : ℕ → ℕ
 multiple r = getD (0x02 ∷ 0x01 ∷ 0x01 ∷ 0x03 ∷ []) r 0
 

@@ -1,4 +1,4 @@
--- Bytes and the words they make: byte 0 is the least significant, and word 0 stands first (document 01, "Bytes, words and the two states").
+-- Bytes and the words they form: byte 0 is the least significant, and word 0 comes first (document 01, "Bytes, words and the two states").
 use mathlib.Core.Bool.{Bool, true, false, _&&_}
 use mathlib.Core.List.{List, [], _∷_}
 use Prim.Native.Nat.{ℕ, zero, suc, _+_, _*_, _/_, _%_, _<_}

@@ -109,7 +109,7 @@ fn put8(number: u64, out: &mut [u8])
     out[7] = r[7];
 }
 
-// Sixteen bytes, by whole words.
+// The block of sixteen bytes, read by whole words.
 pub fn sixteen(block: &[u8]) -> Block
     requires { ⌜ length (now block) ≡ 16 ⌝ }
     ensures { λ r. ⌜ wide r ≡ now (block .entry) ⌝ }
@@ -167,7 +167,7 @@ pub fn number8(eight: [u8; 8]) -> u64
     load8(&eight[0..8])
 }
 
-// Fifteen bytes and a zero. The last eight are read as one number and shifted by one byte, which drops the byte that the first read covers.
+// The block of fifteen bytes, padded with a zero. The last eight are read as one number and shifted by one byte, which drops the byte that the first read covers.
 pub fn fifteen(front: &[u8]) -> Block
     requires { ⌜ length (now front) ≡ 15 ⌝ }
     ensures { λ r. ⌜ wide r ≡ now (front .entry) ++ (0 ∷ []) ⌝ }

@@ -23,7 +23,7 @@ pub record Holds (suite : ℕ) (r : State) (t : States) (k : ℕ) : Type 0 where
   pub clean : Clean suite (r .y)
   pub made : r .calls ≡ k
 
--- one call more, counted in 64 bits
+-- one call more, modulo 2^64
 abbrev pub oneMore : ℕ → ℕ
 oneMore k = add 64 k 1
 

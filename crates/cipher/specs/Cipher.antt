@@ -48,7 +48,7 @@ imageOf cham128 = cham 32
 imageOf speck64 = speck
 imageOf cham64 = cham 16
 
--- the engine of AES reads the tables of its columns, the others none
+-- whether the engine reads lookup tables: that of AES does, the others do not
 abbrev pub hasTables : BlockCipher → Bool
 hasTables aes128 = true
 hasTables cham128 = false
@@ -108,6 +108,7 @@ sizeOf s = factsOf s .block
 unfoldable pub nonceOf : ℕ → ℕ
 nonceOf s = factsOf s .nonce
 
+-- its encryption of a block under a key, its version, and both with the block size: what the mode is built over
 unfoldable pub engineOf : ℕ → List ℕ → List ℕ → List ℕ
 engineOf s = imageOf (factsOf s .engine)
 
@@ -126,6 +127,7 @@ isTwo two = true
 unfoldable pub needsTables : ℕ → Bool
 needsTables s = hasTables (factsOf s .engine)
 
+-- one set of tables, which obeys the rule of the tables
 abbrev pub Full : List (List (List ℕ)) → Type 0
 Full t = (length t ≡ 1) × IsTables (getD t 0 [])
 

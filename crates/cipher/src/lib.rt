@@ -1,4 +1,4 @@
-// The block ciphers of the six suites after one contract.
+// The block ciphers of the six suites under one contract.
 use block::Block;
 ghost use mathlib.Core.Path.{_≡_};
 ghost use mathlib.Core.Bool.{true};
@@ -15,7 +15,7 @@ ghost use Rattle.cipher.specs.Cipher.{needsTables, Full, TablesFit, isSu
 // The most bytes of associated data, and the most of a message.
 pub const LIMIT: usize = 65536;
 
-// Suite 4, over CHAM-64/128. It is retired (document 02, W7): it opens, and is retired.
+// Suite 4, over CHAM-64/128. It is retired (document 02, W7): it opens, and it does not seal.
 pub const RETIRED: u8 = 4;
 
 // Whether the suite exists.
@@ -63,7 +63,7 @@ pub fn is_second(suite: u8) -> bool
     4 < suite
 }
 
-// The lookup tables of AES, copied once a message. Functions take them as a slice: of one element where the suite needs them, else empty.
+// The lookup tables of AES, copied once a message. Functions take them as a slice: of one element if the suite needs them, else empty.
 pub type AesTables = aes_tables::Tables;
 
 // Whether the suite's engine reads the tables of AES.
@@ -138,7 +138,7 @@ pub fn encipher8(suite: u8, key0: u64, key1: u64, block: u64) -> u64
     by_speck(key0, key1, block)
 }
 
-// The image of the block's first bytes, as many as the suite's block has, and zeros after it. It calls the engine of suite 4
+// The encryption of the block's first bytes, as many as the suite's block has, and zeros after it. It calls the engine of suite 4
 // directly: an engine with two callers is not inlined, so `encipher8` saves no registers for it on the path to Speck.
 pub fn encipher(tables: &[AesTables], suite: u8, key: Block, block: Block) -> Block
     requires { ⌜ TablesFit suite (now tables) × IsSuite suite ⌝ }

@@ -19,6 +19,7 @@ abbrev pub sealedAs : ℕ → List ℕ → List ℕ → List ℕ → List ℕ �
 sealedAs zero text tag out₀ tag₀ = record { number = 0; out = text; tag = tag }
 sealedAs (suc j) text tag out₀ tag₀ = record { number = suc j; out = out₀; tag = tag₀ }
 
+-- what a call of the sealer leaves; out₀ and tag₀ are the contents of output and tag buffer before it
 unfoldable pub sealing : ℕ → List ℕ → List ℕ → List ℕ → List ℕ → List ℕ → List ℕ → Sealed
 sealing s key nonce ad msg out₀ tag₀ =
     sealedAs (refusal false s (length key) (length nonce) (length ad) (length msg) (length out₀) (length tag₀))
@@ -29,12 +30,13 @@ pub record Opened : Type 0 where
   pub number : ℕ
   pub out : List ℕ
 
--- lengths and tag right: the message; lengths right and the tag wrong: 8, and every byte 0; any other number leaves the buffer unchanged
+-- on 0 with the right tag the message; on 0 with a wrong tag 8, and every byte 0; any other number leaves the output unchanged
 abbrev pub openedAs : ℕ → Bool → List ℕ → List ℕ → Opened
 openedAs zero true text out₀ = record { number = 0; out = text }
 openedAs zero false text out₀ = record { number = 8; out = replicate (length out₀) 0 }
 openedAs (suc j) right text out₀ = record { number = suc j; out = out₀ }
 
+-- what a call of the opener leaves; out₀ is the contents of the output before it
 unfoldable pub opening : ℕ → List ℕ → List ℕ → List ℕ → List ℕ → List ℕ → List ℕ → Opened
 opening s key nonce ad text tag out₀ =
     openedAs (refusal true s (length key) (length nonce) (length ad) (length text) (length out₀) (length tag))

@@ -13,12 +13,12 @@ pub record Counting (A : Type 0) : Type 0 where
   pub leaves : A
   pub calls : ℕ
 
--- a refused text takes none
+-- k calls if nothing was refused, else none
 abbrev pub countedAs : ℕ → ℕ → ℕ
 countedAs zero k = k
 countedAs (suc j) k = 0
 
--- for an output and a tag of these lengths
+-- the reported number of cipher calls; `out` and `tag` are lengths
 unfoldable pub callsOf : Bool → ℕ → List ℕ → List ℕ → List ℕ → List ℕ → ℕ → ℕ → ℕ
 callsOf opening s key nonce ad text out tag =
     countedAs (refusal opening s (length key) (length nonce) (length ad) (length text) out tag) (length (calls (cipherOf s) opening key nonce ad text))

@@ -1,6 +1,6 @@
 // Moves a shift file to another edition: convert FILE OUT from edition 1 to 2, convert back FILE OUT from edition 2 to 1.
 //
-// Prints number and row on one line; the file OUT is made where the number is 0, and else left alone. A file that cannot
+// Prints status and row on one line. OUT is written if the status is 0, and otherwise unchanged. A file that cannot
 // be read counts as zero bytes. The program takes files up to the format's 1,048,576 bytes (longer: 20).
 use status::checked::Answer;
 ghost use Prim.Native.Nat.{_≤_};
@@ -18,7 +18,7 @@ fn run(back: bool, file: &[u8], i: usize, out: &mut [u8]) {
     }
 }
 
-// An output of the moved file's length; the buffer has room for 512 stations more than the file, so the test always holds.
+// An output of the moved file's length; the buffer holds 512 stations more than the file, so the test always holds.
 fn run_in(back: bool, file: &[u8], i: usize, out: &mut [u8]) {
     let n = shift_editions::moved_length(file);
     if n <= out.len() {

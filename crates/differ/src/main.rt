@@ -1,7 +1,7 @@
 // Compares two shift files: differ FIRST SECOND.
 //
 // Prints the jobs only in the first, only in the second, and in both but different, one number to a line, under the lines
-// "first", "second" and "differ"; on a refusal one line, "refused", file, number and row. A file that cannot be read counts
+// "first", "second" and "differ"; on a refusal one line, "refused", file, status and row. A file that cannot be read counts
 // as zero bytes. The program takes files up to 65,280 bytes (longer: 20).
 fn main() {
     if os::arg_count() != 3 {

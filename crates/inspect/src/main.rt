@@ -1,7 +1,7 @@
 // Checks a supplier's file: inspect FILE RING.
 //
-// Prints "entries" and how many there are, and then a line for each, its job number and 0 where its tag is right under the
-// ring, 8 where it is wrong; on a refusal one line, "refused", number and row. A file that cannot be read counts as zero
+// Prints "entries" and how many there are, and then a line for each, its job number and 0 if its tag is right under the
+// ring, 8 if it is wrong; on a refusal one line, "refused", status and row. A file that cannot be read counts as zero
 // bytes. The program takes files up to 65,280 bytes (longer: 20).
 fn main() {
     if os::arg_count() != 3 {

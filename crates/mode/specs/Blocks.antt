@@ -3,17 +3,17 @@ use Prim.Native.Nat.{ℕ, zero, suc, _-_, min}
 use mathlib.Core.List.{List, [], _∷_}
 use lib.ListN.{length, take, drop}
 
--- at most f blocks
+-- the first blocks, at most f of them
 unfoldable pub chop : ℕ → ℕ → List ℕ → List (List ℕ)
 chop n zero t = []
 chop n (suc f) [] = []
 chop n (suc f) (x ∷ xs) = take n (x ∷ xs) ∷ chop n f (drop n (x ∷ xs))
 
--- the blocks: there are never more than bytes
+-- all blocks: there are never more of them than bytes
 unfoldable pub blocks : ℕ → List ℕ → List (List ℕ)
 blocks n t = chop n (length t) t
 
--- at most f lengths
+-- the first lengths, at most f of them
 unfoldable pub chopLengths : ℕ → ℕ → ℕ → List ℕ
 chopLengths n zero l = []
 chopLengths n (suc f) zero = []

@@ -10,16 +10,16 @@ use Rattle.cipher.specs.Cipher.{Version, one, two}
 use Rattle.mode.specs.Words.{double, double120}
 use Rattle.mode.specs.Blocks.{lengths}
 
--- the mark of a block of k bytes for being short
+-- `short` if a block of k bytes is shorter than n, else no mark
 abbrev pub shortMark : ℕ → ℕ → ℕ → ℕ
 shortMark n short k = cond (ltb k n) short 0
 
--- the marks of the blocks of a text, given their lengths: `first` for the first, `short` for a short one; where both meet, both
+-- the marks of the blocks of a text, given their lengths: `first` for the first, `short` for a short one; both, if both apply
 unfoldable pub textMarks : ℕ → ℕ → ℕ → List ℕ → List ℕ
 textMarks n first short [] = []
 textMarks n first short (k ∷ ks) = xor first (shortMark n short k) ∷ textMarks n 0 short ks
 
--- one call later: a call takes the mark that the one before it held back, and the tag's call its own beside it
+-- every mark one call later: a call takes `held`, the mark of the block before it; the tag's call takes it together with its own
 unfoldable pub late : ℕ → List ℕ → List ℕ
 late held [] = xor held 0x80 ∷ []
 late held (m ∷ ms) = held ∷ late m ms
@@ -29,15 +29,15 @@ abbrev pub placed : Version → List ℕ → List ℕ
 placed one ms = ms ++ (0x80 ∷ [])
 placed two ms = late 0 ms
 
--- for a bytes of associated data and m of message (document 01; source 000, section 3.6)
+-- the marks of a record with a bytes of associated data, m of message and blocks of n bytes (document 01; source 000, section 3.6)
 unfoldable pub marks : Version → ℕ → ℕ → ℕ → List ℕ
 marks v n a m = placed v (textMarks n 0x08 0x10 (lengths n a) ++ textMarks n 0x20 0x40 (lengths n m))
 
--- a mark, XORed into byte 15 of Z
+-- Z with a mark XORed into byte 15
 unfoldable pub marked : ℕ → List ℕ → List ℕ
 marked m z = set z 15 (xor (getD z 15 0) m)
 
--- a function of numbers on the first k bytes of Z as one number, the other bytes kept
+-- Z with f applied to its first k bytes, taken as one number; the other bytes are kept
 unfoldable pub onLow : ℕ → (ℕ → ℕ) → List ℕ → List ℕ
 onLow k f z = bytes k (f (value (take k z))) ++ drop k z
 

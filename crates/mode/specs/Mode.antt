@@ -1,4 +1,4 @@
--- COMET over a block cipher, in version 1 (document 01, "Bytes, words and the two states"; source 000, algorithms 1 to 3) or 2 (source 004, sections 3 and 7): the start, the chain, the ciphertext, the tag, and the cipher calls that make them. The versions differ in the marks' places and in the doubling, so in the block keys alone.
+-- COMET over a block cipher, in version 1 (document 01, "Bytes, words and the two states"; source 000, algorithms 1 to 3) or 2 (source 004, sections 3 and 7): the start, the chain, the ciphertext, the tag, and the cipher calls that make them. The versions differ in when a mark is applied and in the doubling, so only in the block keys.
 use Prim.Native.Nat.{ℕ}
 use mathlib.Core.Bool.{Bool, false, cond}
 use mathlib.Core.List.{List, [], _∷_, _++_}
@@ -35,7 +35,7 @@ laterKeys [] = []
 laterKeys (k ∷ ks) = ks
 
 module _ (κ : Cipher) where
-  -- a nonce has 16 bytes where a block has, else 15
+  -- a nonce has 16 bytes if a block has 16, else 15
   unfoldable pub nonceSize : ℕ
   nonceSize = cond (eqb (κ .size) 16) 16 15
 
@@ -43,15 +43,15 @@ module _ (κ : Cipher) where
   abbrev pub enciphered : CipherCall → List ℕ
   enciphered q = κ .E (q .key) (q .block)
 
-  -- the start's call, under the key: the nonce where a block has 16 bytes, else eight zero bytes
+  -- the start's call, under the key: the nonce if a block has 16 bytes, else eight zero bytes
   abbrev pub startCall : List ℕ → List ℕ → CipherCall
   startCall key nonce = record { key = key; block = cond (eqb (κ .size) 16) nonce (replicate 8 0) }
 
-  -- Y at the start: the key where a block has 16 bytes, else the result of the call
+  -- Y at the start: the key if a block has 16 bytes, else the result of the call
   unfoldable pub startY : List ℕ → List ℕ → List ℕ
   startY key nonce = cond (eqb (κ .size) 16) key (enciphered (startCall key nonce))
 
-  -- Z at the start: the result of the call, else the key, XORed with the nonce in bytes 0 to 14
+  -- Z at the start: the result of the call if a block has 16 bytes, else the key, XORed with the nonce in bytes 0 to 14
   unfoldable pub startZ : List ℕ → List ℕ → List ℕ
   startZ key nonce = cond (eqb (κ .size) 16) (enciphered (startCall key nonce)) (xors (take 15 key) nonce ++ drop 15 key)
 
@@ -79,7 +79,7 @@ module _ (κ : Cipher) where
   unfoldable pub message : Bool → Chain → List ℕ → List ℕ
   message opening c b = cond opening (masked c b) b
 
-  -- the blocks of a text, one call each: the message blocks are absorbed
+  -- the blocks of a text, one call each: each message block is absorbed
   unfoldable pub trail : Bool → Chain → List (List ℕ) → Trail
   trail opening c [] = record { made = []; out = []; end = c }
   trail opening c (b ∷ bs) =

@@ -35,7 +35,7 @@ carried y z = record { Y = y; Z = z }
 
 -- over a cipher with blocks of n bytes
 module _ (n : ℕ) (E : List ℕ → List ℕ → List ℕ) where
-  -- start, where a block has 16 bytes: Y = key, Z = E(key, nonce); else Y = E(key, eight zero bytes), Z = key, XORed with the nonce in bytes 0 to 14
+  -- start, if a block has 16 bytes: Y = key, Z = E(key, nonce); else Y = E(key, eight zero bytes), Z = key, XORed with the nonce in bytes 0 to 14
   abbrev pub begin : List ℕ → List ℕ → Carried
   begin key nonce = cond (eqb n 16) (carried key (E key nonce)) (carried (E key (replicate 8 0)) (xors (take 15 key) nonce ++ drop 15 key))
 

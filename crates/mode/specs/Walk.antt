@@ -16,7 +16,7 @@ pub record States : Type 0 where
   pub Y : List ℕ
   pub Z : List ℕ
 
--- the chain that they stand for, where blocks with the marks ms are still to come, and the tag
+-- the chain that they represent, if blocks with the marks ms and the tag are still to come
 abbrev pub chainOf : Version → States → List ℕ → Chain
 chainOf v s ms = record { Y = s .Y; left = keys v (s .Z) (placed v ms) }
 
@@ -32,7 +32,7 @@ abbrev pub blockKey : Version → ℕ → List ℕ → List ℕ
 blockKey one m z = nextKey one m z
 blockKey two m z = nextKey two 0 z
 
--- after the block with the key k, version 2 applies the mark
+-- the Z that is kept after a block with the key k and the mark m: version 2 applies the mark now
 abbrev pub keptBehind : Version → ℕ → List ℕ → List ℕ
 keptBehind one m k = k
 keptBehind two m k = marked m k

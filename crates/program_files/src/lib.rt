@@ -1,4 +1,4 @@
-// What the plant's programs share: their arguments, the files that these name, and the answer of those that write a file.
+// Shared by the plant's programs: their arguments, the files that these name, and the answer of programs that write a file.
 mod save;
 
 use libc::STDERR_FILENO;
@@ -7,12 +7,12 @@ use program_text::text::answer;
 use program_text::text::end;
 ghost use Prim.Native.Nat.{_≤_};
 
-// Says how a program is used.
+// Prints how a program is called.
 pub fn usage(text: &[u8]) {
     io::write_all(STDERR_FILENO, text);
 }
 
-// The number that the digits spell; 4,294,967,296 where they spell none of 32 bits.
+// The number that the digits spell; 4,294,967,296 if they spell no number of 32 bits.
 fn digit(n: u64, b: u8) -> u64
     requires { ⌜ n ≤ 4294967296 ⌝ }
     ensures { λ r. ⌜ r ≤ 4294967296 ⌝ }
@@ -36,7 +36,7 @@ fn spelled(digits: &[u8]) -> u64
     if digits.len() == 0 { 4294967296 } else { n }
 }
 
-// The job that an argument spells; 4,294,967,296 where it spells none of 32 bits.
+// The job that an argument spells; 4,294,967,296 if it spells no number of 32 bits.
 pub fn job(argument: usize) -> u64 {
     let mut digits = [0u8; 16];
     let n = os::arg(argument, &mut digits);
@@ -64,7 +64,7 @@ pub fn is_word(argument: usize, word: &[u8]) -> bool {
     same(&given[..n], word)
 }
 
-// How many bytes stand in buf once fd is read to its end; 0 where they fill it, or a read fails.
+// The number of bytes in buf after fd is read to its end; 0 if they fill buf, or if a read fails.
 fn read_whole(fd: i32, buf: &mut [u8]) -> usize {
     let got = io::read_full(fd, buf);
     let mut more = [0u8; 1];

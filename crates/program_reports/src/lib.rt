@@ -1,4 +1,4 @@
-// What the plant's programs print, as text in a buffer: each function answers how long it is.
+// What the plant's programs print, as text in a buffer; each function returns the text's length.
 mod compared;
 mod opened;
 mod readable;
@@ -11,7 +11,7 @@ pub use reported::inspect;
 ghost use mathlib.Core.Path.{_≡_};
 ghost use lib.ListN.{replicate};
 
-// Zeros, with room for whatever a program prints: twice the longest message, and some 5,000 bytes.
+// A buffer of zeros that holds whatever a program prints: twice the longest message, and some 5,000 bytes.
 pub fn page() -> [u8; 136192]
     ensures { λ r. ⌜ r ≡ replicate 136192 0 ⌝ }
 {

@@ -17,7 +17,7 @@ fn extended(bits: u32, byte: u8) -> u32 {
     (bits << 6) | wide(byte % 64)
 }
 
-// The code, or 0 where fewer bytes would have done.
+// The code, or 0 if fewer bytes would do (an overlong form).
 fn at_least(least: u32, code: u32) -> u32 {
     if code < least {
         return 0;
@@ -25,7 +25,7 @@ fn at_least(least: u32, code: u32) -> u32 {
     code
 }
 
-// How many bytes a sequence has, by its first byte; 0 where none starts so.
+// How many bytes a sequence has, by its first byte; 0 if no sequence starts with it.
 fn sequence_len(first: u8) -> usize
     ensures { λ r. ⌜ r ≤ 4 ⌝ }
 {
@@ -44,7 +44,7 @@ fn sequence_len(first: u8) -> usize
     4
 }
 
-// The code point of a sequence of two bytes, 0 (a control character) where it is none. Likewise of three and of four.
+// The code point of a sequence of two bytes, 0 (a control character) if it is none. Likewise for three and for four.
 fn two(b: &[u8]) -> u32 {
     if b.len() != 2 || !follows(b[1]) {
         return 0;
@@ -69,7 +69,7 @@ fn four(b: &[u8]) -> u32 {
     at_least(0x10000, extended(bits, b[3]))
 }
 
-// The code point of a whole sequence, 0 where it is none.
+// The code point of a whole sequence, 0 if it is none.
 fn code_point(b: &[u8]) -> u32 {
     match b.len() {
         1 => wide(b[0]),
@@ -86,7 +86,7 @@ fn is_control(code: u32) -> bool {
 }
 
 // What sets the direction of writing: marks, embeddings, overrides and isolates. U+2028 and U+2029, which end a line and a
-// paragraph, stand beside them.
+// paragraph, are refused with them.
 fn is_direction(code: u32) -> bool {
     if code == 0x061c || code == 0x200e || code == 0x200f {
         return true;

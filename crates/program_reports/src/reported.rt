@@ -27,7 +27,7 @@ fn entries(out: &mut [u8], at: usize, jobs: &[u32], numbers: &[u8], n: usize) ->
 }
 
 // "entries" and their number, and then a line for each: its job number and 0 if its tag is right under the ring, 8
-// where it is wrong; on a refusal one line, "refused", number and row. A file has at most 512 rows, so no list is too short.
+// if it is wrong; on a refusal one line, "refused", status and row. A file has at most 512 rows, so no list is too short.
 pub fn inspect(file: &[u8], ring: &[u8], out: &mut [u8]) -> usize {
     let mut jobs = [0u32; MAX_ROWS];
     let mut numbers = [0u8; MAX_ROWS];

@@ -1,9 +1,9 @@
-// A call of a test program, as an input has it, and the lines that it gives.
+// A call of a test program: its head in the input, and the lines that it prints.
 use libc::STDIN_FILENO;
 use libc::STDOUT_FILENO;
 ghost use Prim.Native.Nat.{_<_};
 
-// What every call begins with: op, suite, job and six numbers, most of them lengths; 0 where a call has none.
+// What every call begins with: op, suite, job and six numbers, most of them lengths; 0 if a call has none.
 pub struct Call {
     pub op: u8,
     pub suite: u8,
@@ -36,7 +36,7 @@ pub fn call_of(head: &[u8; 30]) -> Call {
     }
 }
 
-// Says that the input is bad where it is.
+// Prints `bad input` if it is bad, and returns whether it was good.
 fn said(good: bool) -> bool {
     if !good {
         io::write_all(STDOUT_FILENO, b"bad input\n");
@@ -44,7 +44,7 @@ fn said(good: bool) -> bool {
     good
 }
 
-// Reads the head of the next call; false at the end of the input, or where it ends inside the head.
+// Reads the head of the next call; false at the end of the input, or if it ends inside the head.
 pub fn next(head: &mut [u8; 30]) -> bool {
     let n = io::read_full(STDIN_FILENO, head);
     if n == 0 {
@@ -53,7 +53,7 @@ pub fn next(head: &mut [u8; 30]) -> bool {
     said(n == 30)
 }
 
-// Writes the lines of a call, the first len bytes of a text; false where there are none: the call was bad.
+// Writes the lines of a call, the first len bytes of a text; false if there are none: the call was bad.
 pub fn done(text: &[u8], len: usize) -> bool {
     crate::text::write(text, len);
     said(0 < len)

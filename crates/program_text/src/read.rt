@@ -10,7 +10,7 @@ pub fn file_room() -> [u8; 1048577]
     [0u8; 1048577]
 }
 
-// The first len bytes of buf, or all of it where it has no more.
+// The first len bytes of buf, or all of buf if it is shorter.
 pub fn front(buf: &[u8], len: usize) -> &[u8]
     ensures { λ r. ⌜ (now r ≡ take len (now (buf .entry))) × (r .ptr ≡ buf .entry .ptr) ⌝ }
 {
@@ -20,7 +20,7 @@ pub fn front(buf: &[u8], len: usize) -> &[u8]
     &buf[0..len]
 }
 
-// Reads len bytes of the input into buf and answers them; fewer where buf has no room or the input ends.
+// Reads len bytes of the input into buf and returns them; fewer if buf is too short or the input ends.
 pub fn field(buf: &mut [u8], len: usize) -> &[u8] {
     let mut got: usize = 0;
     if len <= buf.len() {

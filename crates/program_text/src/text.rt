@@ -1,5 +1,5 @@
-// Text, made in a buffer and written by one call. Each function puts something at `at` and answers where it ends; what has
-// no room is left out.
+// Text, built in a buffer and written by one call. Each function writes at `at` and returns the offset after it; what does
+// not fit is left out.
 use libc::STDOUT_FILENO;
 
 // One byte.
@@ -66,7 +66,7 @@ pub fn hex(out: &mut [u8], at: usize, bytes: &[u8]) -> usize {
     to
 }
 
-// The bytes as the test programs show them: in hex where there are at most 64, else how many there are and their fold.
+// The bytes as the test programs show them: in hex if there are at most 64, else their count and their fold.
 pub fn shown(out: &mut [u8], at: usize, bytes: &[u8]) -> usize {
     if bytes.len() <= 64 {
         return hex(out, at, bytes);
@@ -76,7 +76,7 @@ pub fn shown(out: &mut [u8], at: usize, bytes: &[u8]) -> usize {
     hex_number(out, to, crate::fold::fold_of(bytes), 8)
 }
 
-// A space, and the bytes so.
+// A space, and the bytes in that form.
 pub fn and_shown(out: &mut [u8], at: usize, bytes: &[u8]) -> usize {
     let to = space(out, at);
     shown(out, to, bytes)

@@ -1,4 +1,4 @@
--- Document 02, W12: how many cipher calls sealer and opener report. For every suite the list of key and block pairs that the definition enciphers decides; that it is a + m + 2 long, with a and m the block counts, follows.
+-- Document 02, W12: how many cipher calls sealer and opener report. For every suite it is the length of the list of key and block pairs that the definition enciphers; that this is a + m + 2, with a and m the block counts, follows.
 use mathlib.Core.Path.{_≡_}
 use mathlib.Core.Logic.{_⊎_}
 use mathlib.Core.Bool.{Bool, true, false}
@@ -26,7 +26,7 @@ SealReports =
     let r : Counting Sealed = sealingCounted suite key nonce ad msg out₀ tag₀ in
     (r .leaves .number ≡ 0 → r .calls ≡ length (calls (cipherOf suite) false key nonce ad msg)) × (0 < r .leaves .number → r .calls ≡ 0)
 
--- the opener on 0 and on 8, and 0 on 1 to 7
+-- the opener reports its length on 0 and on 8, and 0 on 1 to 7
 abbrev pub OpenReports : Type 0
 OpenReports =
     (suite : ℕ) (key nonce ad text tag out₀ : List ℕ) →
@@ -34,7 +34,7 @@ OpenReports =
     ((r .leaves .number ≡ 0) ⊎ (r .leaves .number ≡ 8) → r .calls ≡ length (calls (cipherOf suite) true key nonce ad text))
     × (0 < r .leaves .number → r .leaves .number < 8 → r .calls ≡ 0)
 
--- a + m + 2
+-- its length is a + m + 2
 abbrev pub CallsSum : Type 0
 CallsSum =
     (suite : ℕ) (opening : Bool) (key nonce ad text : List ℕ)

@@ -1,4 +1,4 @@
--- Every outcome of the shift file's other calls, and when it is given. Of writer and reseal pass the numbers in their order; what each leaves stands in `shift_draft/specs/Promised.antt` (`SealCases`, `UnsealCases`) and `shift_reseal/specs/Promised.antt` (`ResealCases`). The amendments' stand in `shift_amend/specs/Promised.antt`.
+-- Every outcome of the shift file's other calls, and when it is given. For writer and reseal pass, the numbers in their order; what each leaves in the output is in `shift_draft/specs/Promised.antt` (`SealCases`, `UnsealCases`) and `shift_reseal/specs/Promised.antt` (`ResealCases`). Those of the amendments are in `shift_amend/specs/Promised.antt`.
 use mathlib.Core.Path.{_≡_}
 use mathlib.Core.Logic.{_⊎_, _↔_}
 use Prim.Native.Nat.{ℕ, _≤_, _<_}
@@ -90,7 +90,7 @@ pub record UpCases (f out : List ℕ) : Type 0 where
   pub room : checkAs firstEdition f .number ≡ 0 → length (moved newest f) ≤ 1048576 → (length out ≡ length (moved newest f) → ⊥) → toEdition2 f out ≡ unmoved 6 0 out
   pub moves : checkAs firstEdition f .number ≡ 0 → length (moved newest f) ≤ 1048576 → length out ≡ length (moved newest f) → toEdition2 f out ≡ done (moved newest f)
 
--- back to edition 1: the checks of edition 2, 35 with the first row that has a station, 6; 20 cannot come out (`BackShort`)
+-- back to edition 1: the checks of edition 2, 35 with the first row that has a station, 6; 20 cannot occur (`BackShort`)
 pub record BackCases (f out : List ℕ) : Type 0 where
   pub numbers : checkAs newest f .number ≡ 0 → Order (λ k i. toEdition1 f out .answer ≡ answer k i) (
       rows 35 (countOf f) (λ i. stationOf f i ≡ 0 → ⊥)
@@ -102,7 +102,7 @@ pub record BackCases (f out : List ℕ) : Type 0 where
   pub room : checkAs newest f .number ≡ 0 → ((i : ℕ) → i < countOf f → stationOf f i ≡ 0) → (length out ≡ length (moved firstEdition f) → ⊥) → toEdition1 f out ≡ unmoved 6 0 out
   pub moves : checkAs newest f .number ≡ 0 → ((i : ℕ) → i < countOf f → stationOf f i ≡ 0) → length out ≡ length (moved firstEdition f) → toEdition1 f out ≡ done (moved firstEdition f)
 
--- the report (W14): 20 for a file of more than 65,280 bytes, the checks, 2; 6 where a list has fewer places than there are entries
+-- the report (W14): 20 for a file of more than 65,280 bytes, the checks, 2; 6 if a list has fewer elements than there are entries
 pub record ReportCases (f ring jobs numbers : List ℕ) : Type 0 where
   pub numbered : length f ≤ longest → checkFile f .number ≡ 0 → Table (λ k. reporting f ring jobs numbers .said .number ≡ k) (
       (2 when (length ring ≡ 256 → ⊥))

@@ -1,4 +1,4 @@
--- The table of contents by row number: on a file that passes the check it is the reader's list, and it is where the jobs' entries lie.
+-- The table of contents by row number: on a file that passes the check it is the reader's list, and its offsets are those of the jobs' entries.
 use Rattle.shift_reader.specs.Contents.{HeaderGiven, RowsAsRead, RowGiven, RowAsEntry}
 
 pub record Contents : Type 0 where

@@ -1,4 +1,4 @@
--- Demand 1: every entry point answers on any bytes and any lengths, with one outcome; a refused length or suite changes nothing, a wrong tag leaves zeros.
+-- Demand 1: for any bytes and any lengths each entry point returns, with one outcome; a refused length or suite changes nothing, a wrong tag leaves zeros.
 use mathlib.Core.Path.{_≡_}
 use mathlib.Core.Logic.{_⊎_}
 use Prim.Native.Nat.{ℕ, _≤_, _<_}
@@ -12,7 +12,7 @@ use Rattle.comet.specs.Answers.{Sealed, sealing, Opened, opening, verifying}
 use Rattle.promises.specs.Contracts.{Contract}
 use Rattle.promises.specs.Contracts as the
 
--- whatever a routine may give for its arguments, by its own contract
+-- an outcome of a routine that its own contract allows
 abbrev pub Gave : (f : Contract) (κs : Lfts (f .lifetimes)) → Dens κs (f .params) → Type 0
 Gave f κs a = Outcome (f .params) (f .result) (f .Post) κs a
 
@@ -31,7 +31,7 @@ pub record AnswersPart (f : Contract) (part : (κs : Lfts (f .lifetimes)) → re
 pub record EntryPoints : Type 0 where
   pub seal : Answers the.seal
   pub unseal : Answers the.unseal
-  -- the same in the text's place, and the test of a record
+  -- the same in place, and the verifier
   pub seal-in-place : Answers the.seal-in-place
   pub unseal-in-place : Answers the.unseal-in-place
   pub verify : Answers the.verify
@@ -41,32 +41,32 @@ pub record EntryPoints : Type 0 where
   pub associated : AnswersPart the.associated (λ κs r. r)
   pub open-job : Answers the.open-job
   pub verified : Answers the.verified
-  -- of document 02, W2: a session's four calls
+  -- document 02, W2: a session's four calls
   pub session-start : Answers the.session-start
   pub session-data : Answers the.session-data
   pub session-part : Answers the.session-part
   pub session-end : Answers the.session-end
-  -- W4
+  -- W4: the writer
   pub seal-file : Answers the.seal-file
   pub unseal-file : Answers the.unseal-file
-  -- W6
+  -- W6: the search
   pub search : Answers the.search
-  -- W7
+  -- W7: the reseal pass
   pub reseal : Answers the.reseal
-  -- W8
+  -- W8: compare
   pub compare : Answers the.compare
-  -- W10
+  -- W10: the length of a moved file, and the moves
   pub moved-length : Answers the.moved-length
   pub to-edition2 : Answers the.to-edition2
   pub to-edition1 : Answers the.to-edition1
-  -- W11: the second returns a part of one of two files
+  -- W11: amendments; the second returns a part of one of two files
   pub locate : Answers the.locate
   pub current : AnswersPart the.current (λ κs r. r)
   pub open-current : Answers the.open-current
-  -- W12
+  -- W12: sealer and opener with the count of their cipher calls
   pub seal-counted : Answers the.seal-counted
   pub unseal-counted : Answers the.unseal-counted
-  -- W14: the cursor and the report; the reader's own three, which hold a reference, stand in `Readers.antt`
+  -- W14: the cursor and the report; the reader's own three, which hold a reference, are in `Readers.antt`
   pub start : Answers the.start
   pub ask : Answers the.ask
   pub report : Answers the.report
@@ -88,7 +88,7 @@ OpenKeeps =
     let r : Opened = opening suite key nonce ad text tag out₀ in
     (r .number ≤ 8) × (0 < r .number → r .number < 8 → r .out ≡ out₀) × (r .number ≡ 8 → r .out ≡ replicate (length out₀) 0)
 
--- in place, the sealer gives what it gives with any output of the text's length: number and tag are the same, on 0 the output too, and on any other number the text is unchanged
+-- in place, number and tag are the sealer's for any output of the text's length, and on 0 the output is too; on any other number the text is unchanged; never 6
 abbrev pub SealInPlace : Type 0
 SealInPlace =
     (suite : ℕ) (key nonce ad text tag₀ out₀ : List ℕ) → length out₀ ≡ length text →
@@ -96,7 +96,7 @@ SealInPlace =
     let q : Sealed = sealing suite key nonce ad text out₀ tag₀ in
     (r .number ≡ q .number) × (r .tag ≡ q .tag) × (r .number ≡ 0 → r .out ≡ q .out) × (0 < r .number → r .out ≡ text) × (r .number ≡ 6 → ⊥)
 
--- so does the opener: on 0 the message, on 8 zeros, and on any other number the text is unchanged
+-- the same of the opener: on 0 the message, on 8 zeros, and on any other number the text is unchanged; never 6
 abbrev pub OpenInPlace : Type 0
 OpenInPlace =
     (suite : ℕ) (key nonce ad text tag out₀ : List ℕ) → length out₀ ≡ length text →
@@ -104,7 +104,7 @@ OpenInPlace =
     let q : Opened = opening suite key nonce ad text tag out₀ in
     (r .number ≡ q .number) × ((r .number ≡ 0) ⊎ (r .number ≡ 8) → r .out ≡ q .out) × (0 < r .number → r .number < 8 → r .out ≡ text) × (r .number ≡ 6 → ⊥)
 
--- the test of a record gives the opener's number for any output of the text's length: 0 exactly where that opens, 8 exactly where its tag is wrong; never 6
+-- the verifier gives the opener's number for any output of the text's length: 0 exactly if that opens, 8 exactly if its tag is wrong; never 6
 abbrev pub VerifyOpens : Type 0
 VerifyOpens =
     (suite : ℕ) (key nonce ad text tag out₀ : List ℕ) → length out₀ ≡ length text →

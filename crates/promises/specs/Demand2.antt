@@ -10,7 +10,7 @@ use Rattle.mode.specs.Mode.{ciphertext, tag}
 use Rattle.comet.specs.Answers.{sealing, opening}
 use Rattle.promises.specs.Input.{Input}
 
--- the sealer's outputs are the specification's, where the suite seals
+-- the sealer's outputs are the specification's, if the suite seals
 abbrev pub Sealing : Type 0
 Sealing =
     (suite : ℕ) (key nonce ad msg out₀ tag₀ : List ℕ) → Input suite key nonce ad msg → Seals suite → length out₀ ≡ length msg → length tag₀ ≡ sizeOf suite
@@ -23,7 +23,7 @@ Accepting =
     → (opening suite key nonce ad c t out₀ .number ≡ 0)
     ↔ ((m : List ℕ) × AllBytes m × (ciphertext (cipherOf suite) key nonce ad m ≡ c) × (tag (cipherOf suite) key nonce ad m ≡ t))
 
--- where the suite seals, said of the sealer itself: the pair is accepted exactly if the sealer gives it, with 0, for some message
+-- for a suite that seals, stated of the sealer itself: the pair is accepted exactly if the sealer gives it, with 0, for some message
 abbrev pub AcceptsSealed : Type 0
 AcceptsSealed =
     (suite : ℕ) (key nonce ad c t out₀ : List ℕ) → Input suite key nonce ad c → Seals suite → length out₀ ≡ length c → length t ≡ sizeOf suite

@@ -1,4 +1,4 @@
--- Document 02, W10: edition 2 of the shift file. Each statement stands, with the words that it uses, in `shift_editions/specs/Promised.antt`.
+-- Document 02, W10: edition 2 of the shift file. Each statement, with the definitions that it uses, is in `shift_editions/specs/Promised.antt`.
 use mathlib.Core.Path.{_≡_}
 use mathlib.Core.List.{List}
 use Prim.Native.Nat.{ℕ}
@@ -30,9 +30,9 @@ pub record Editions : Type 0 where
   -- all else of a row is as before, and so is its body
   pub up-keeps : UpKeeps
   pub back-keeps : BackKeeps
-  -- going back, 20 cannot come out after the checks
+  -- going back, 20 cannot occur after the checks
   pub back-short : BackShort
-  -- and the length that is told of a file is the moved file's
+  -- and `moved_length` of a file is the length of the moved file
   pub length-told : LengthTold
   -- lookup, search, associated data and opening give on the moved file what they gave
   pub up-reads : UpReads

@@ -1,4 +1,4 @@
--- Demand 1, "refusing by the numbers, in the order given, and only then": document 01's tables, and document 02's, line by line. `Tables.antt` says what it is that a table's numbers are given.
+-- Demand 1, "refusing by the numbers, in the order given, and only then": document 01's tables, and document 02's, line by line. `Tables.antt` defines what it means that a call gives a table's numbers.
 use mathlib.Core.Path.{_≡_}
 use mathlib.Core.Bool.{Bool, true, false}
 use mathlib.Core.Logic.{_⊎_, _↔_}
@@ -54,7 +54,7 @@ StartNumbers =
     ∷ []
     )
 
--- a session that goes on: neither refused nor ended, of a suite that seals and with totals within the limits
+-- a session in progress: neither refused nor ended, of a suite that seals and with totals within the limits
 abbrev pub Going : Value → Type 0
 Going v = Seals (v .suite) × ((v .«ad_total» ≤ limit) × (v .«text_total» ≤ limit))
 
@@ -123,7 +123,7 @@ pub record CheckTables (low high : ℕ) (f : List ℕ) : Type 0 where
   pub end : Lines (λ k. checkBetween low high f ≡ answer k 0) (None (headTable low high f) × SoundTo f (countOf f)) (endTable f)
   pub success : (checkBetween low high f ≡ answer 0 0) ↔ ((None (headTable low high f) × SoundTo f (countOf f)) × None (endTable f))
 
--- of a draft, of a file of one edition, and of one of either
+-- for every range of editions: of a draft, of a file of one edition, and of a file of either
 abbrev pub CheckNumbers : Type 0
 CheckNumbers = (low high : ℕ) (f : List ℕ) → CheckTables low high f
 

@@ -3,13 +3,13 @@ use Rattle.shift_reader.specs.Promised.{RowsThenEnded, EndedAtOnce, OthersEnded
 use Rattle.shift_report.specs.Promised.{OpeningSays, WriterReported}
 
 pub record Reading : Type 0 where
-  -- on a file that passes the check the reader's list is the table's rows in order, each once, and then that it has ended, as often as it is checked
+  -- on a file that passes the check the reader's list is the table's rows in order, each once, and then that it has ended, as often as it is called
   pub rows : RowsThenEnded
   -- on any other it has ended at once
   pub other : EndedAtOnce
-  -- and so has a reader that was given for no such file, where its place is past the rows that the header lays down or its count is another
+  -- and so has a reader that `read` did not return for this file, if its index is past the rows that the header states, or if it was made for another number of rows
   pub forged : OthersEnded
-  -- else it gives the rows of the table from its index on, as they stand there
+  -- any other reader gives the rows of the table from its index on, unchecked
   pub foreign : OthersRows
   -- an entry line's 0 or 8 is what opening its job answers
   pub opening : OpeningSays

@@ -1,4 +1,4 @@
--- Document 02, W7: the reseal pass. Each statement stands, with the words that it uses, in `shift_reseal/specs/Promised.antt`.
+-- Document 02, W7: the reseal pass. Each statement, with the definitions that it uses, is in `shift_reseal/specs/Promised.antt`.
 use Rattle.shift_reseal.specs.Promised.{Renewing, NothingRetired, ResealedTwice, ClashOfCheck, Resealing, ResealNumbers}
 
 pub record Reseal : Type 0 where
@@ -9,6 +9,6 @@ pub record Reseal : Type 0 where
   pub twice : ResealedTwice
   -- 29 is what the check itself says of the file with the new suites
   pub clash : ClashOfCheck
-  -- every outcome, and when it is given: the checks, 29, 2, 6, 8, 0; no other number comes out
+  -- every outcome, and when it is given: the checks, 29, 2, 6, 8, 0; no other number is given
   pub resealing : Resealing
   pub numbers : ResealNumbers

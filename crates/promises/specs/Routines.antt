@@ -118,7 +118,7 @@ pub record Routines : Type 0 where
       let (_, (_, (first′, (second′, (differ′, _))))) = x .last in
       _≡_ {A = Comparison} (record { finding = findingOf (x .result); first = first′; second = second′; differ = differ′ })
       (comparison (now f) (now g) (now first) (now second) (now differ))
-  -- W14: the cursor and the report; the reader's own three stand in `Readers.antt`
+  -- W14: the cursor and the report; the reader's own three are in `Readers.antt`
   pub start : (κs : Lfts 1) (file : RefT (List ℕ)) (x : Gave the.start κs (file, tt)) →
       x .result ≡ startOf (now file)
   pub ask : (κs : Lfts 1) (c : Cursor) (file : RefT (List ℕ)) (x : Gave the.ask κs (c, (file, tt))) →

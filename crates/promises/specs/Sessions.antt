@@ -1,4 +1,4 @@
--- W2 (document 02): sealing in parts. The statements on a run of a session stand in `session/specs/Calls.antt`; here they are gathered, with what needs the one-call sealer and the opener.
+-- W2 (document 02): sealing in parts. The statements on a run of a session are in `session/specs/Calls.antt`; here they are gathered, with those that need the one-call sealer and the opener.
 use mathlib.Core.Path.{_≡_}
 use mathlib.Core.Bool.{false}
 use Prim.Native.Nat.{ℕ, _+_, _-_, _<_}
@@ -12,7 +12,7 @@ use Rattle.session.specs.Calls.{SessionCall, AllInBytes, Run, runOf, joined, St
 use Rattle.promises.specs.Tables.{_when_, Table}
 use Rattle.promises.specs.Numbers.{tagSize}
 
--- of a run whose start and end answered 0
+-- P holds of every run whose start and end answered 0, with the result of that end
 abbrev pub OfRuns : (ℕ → List ℕ → List ℕ → Run → Given → Type 0) → Type 0
 OfRuns P =
     (suite : ℕ) (key nonce : List ℕ) (cs : List SessionCall) (out₀ tag₀ : List ℕ) → AllBytes key → AllBytes nonce → AllInBytes cs

@@ -10,9 +10,9 @@ use Rattle.mode.specs.Toy.{Toy}
 use Rattle.comet.specs.Answers.{opening}
 use Rattle.promises.specs.Input.{Input}
 
--- an accepted record (its number is 0); at least one byte is changed, all inside one block of associated data or one of ciphertext; lengths, key, nonce and tag stay, and every message block after the change is full.
+-- take an accepted record (its number is 0); at least one byte is changed, all inside one block of associated data or one of ciphertext; lengths, key, nonce and tag stay, and every message block after the change is full.
 -- It is accepted exactly if at some message block after the change the cipher outputs of the two openings are complements in every bit.
--- The request requires this of version 1, suites 1 to 4; suites 5 and 6 have it too, since equal lengths give equal keys in either version
+-- The request speaks of version 1, suites 1 to 4; it holds of suites 5 and 6 too, since equal lengths give equal keys in either version
 abbrev pub SlipsPastOpener : Type 0
 SlipsPastOpener =
     (suite : ℕ) (key nonce ad ad′ c c′ t out₀ out₁ : List ℕ) (first : ℕ) → Input suite key nonce ad c → Input suite key nonce ad′ c′

@@ -1,4 +1,4 @@
--- Document 02, W9: version 2 of COMET, for suites 5 and 6. Demands 2 and 3, the session's cutting and the writer's round trips are the statements that they were, over every suite that we have, these two among them.
+-- Document 02, W9: version 2 of COMET, for suites 5 and 6. Demands 2 and 3, the session's cutting and the writer's round trips are stated for every suite, these two among them.
 use mathlib.Core.List.{List, [], _∷_}
 use mathlib.Core.Path.{_≡_}
 use Prim.Native.Nat.{ℕ, _-_, _^_}
@@ -46,7 +46,7 @@ givenTwo =
     ∷ marks two 16 20 33
     ∷ []
 
--- what the paper's two components come to, by hand
+-- the values of the paper's two components, computed by hand
 abbrev pub statedTwo : List (List ℕ)
 statedTwo =
     (2 ∷ [])

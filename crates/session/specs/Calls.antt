@@ -38,7 +38,7 @@ abbrev pub accepted : ℕ → List ℕ → List ℕ
 accepted zero p = p
 accepted (suc k) p = []
 
--- an end ends if it was accepted
+-- the run has ended once an end was accepted
 abbrev pub endedBy : ℕ → Bool → Bool
 endedBy zero b = true
 endedBy (suc k) b = b
@@ -70,17 +70,18 @@ joined r e = r .out ++ take (e .count) (e .out)
 abbrev pub Starts : Type 0
 Starts = (suite : ℕ) (key nonce : List ℕ) → Seals suite → length key ≡ 16 → length nonce ≡ nonceOf suite → starting suite key nonce .number ≡ 0
 
--- a refused start returns a session that answers 9 to every call
+-- a session that answers 9 to every call
 abbrev pub Shut : Value → Type 0
 Shut v =
     ((p : List ℕ) → dataPart v p .number ≡ 9)
     × ((p out : List ℕ) → textPart v p out .number ≡ 9)
     × ((out tag : List ℕ) → ending v out tag .number ≡ 9)
 
+-- every refused start returns such a session
 abbrev pub RefusedShut : Type 0
 RefusedShut = (suite : ℕ) (key nonce : List ℕ) → (starting suite key nonce .number ≡ 0 → ⊥) → Shut (starting suite key nonce .next)
 
--- what a run promises, with its suite, of the call that comes next
+-- what holds of a run of the suite that has not ended, and of its next call
 pub record Next (suite : ℕ) (r : Run) : Type 0 where
   -- the suite is the start's and seals; the session's two totals are the lengths of the joined texts, which are within the limits
   pub seals : Seals suite
@@ -92,15 +93,15 @@ pub record Next (suite : ℕ) (r : Run) : Type 0 where
   -- before the first message byte, associated data within the limit is accepted; after it, no part is, not even an empty one
   pub data-taken : (p : List ℕ) → r .msg ≡ [] → length (r .ad) + length p ≤ limit → dataPart (r .now) p .number ≡ 0
   pub data-late : (p : List ℕ) → (r .msg ≡ [] → ⊥) → dataPart (r .now) p .number ≡ 9
-  -- a message part within the limit and with room is accepted, and gives the ciphertext of the blocks that it completes
+  -- a message part within the limit and with a large enough output is accepted, and gives the ciphertext of the blocks that it completes
   pub text-taken : (p out : List ℕ) → length (r .msg) + length p ≤ limit → length p + (sizeOf suite - 1) ≤ length out → textPart (r .now) p out .number ≡ 0
   pub text-count : (p out : List ℕ) → textPart (r .now) p out .number ≡ 0
       → textPart (r .now) p out .count ≡ (length (r .msg) % sizeOf suite + length p) / sizeOf suite * sizeOf suite
-  -- the end with room is accepted, and gives the rest
+  -- the end with a large enough output is accepted, and gives the rest
   pub end-taken : (out tag₀ : List ℕ) → sizeOf suite ≤ length out → length tag₀ ≡ sizeOf suite → ending (r .now) out tag₀ .number ≡ 0
   pub end-count : (out tag₀ : List ℕ) → ending (r .now) out tag₀ .number ≡ 0 → ending (r .now) out tag₀ .count ≡ length (r .msg) % sizeOf suite
 
--- after a start with status 0 and any calls: until an end is accepted the next call has this status, and afterwards 9
+-- after a start with status 0 and any calls: until an end is accepted `Next` holds, and afterwards every call answers 9
 abbrev pub Goes : Type 0
 Goes =
     (suite : ℕ) (key nonce : List ℕ) (cs : List SessionCall) → AllBytes key → AllBytes nonce → AllInBytes cs
@@ -108,7 +109,7 @@ Goes =
     → (runOf suite key nonce cs .ended ≡ false → Next suite (runOf suite key nonce cs))
     × (runOf suite key nonce cs .ended ≡ true → Shut (runOf suite key nonce cs .now))
 
--- whatever the cutting: where the start and the end answered 0, the joined ciphertext and the tag are those of the joined associated data and message, which are within the limits
+-- whatever the cutting: if the start and the end answered 0, the joined ciphertext and the tag are those of the joined associated data and message, which are within the limits
 abbrev pub Whatever : Type 0
 Whatever =
     (suite : ℕ) (key nonce : List ℕ) (cs : List SessionCall) (out₀ tag₀ : List ℕ) → AllBytes key → AllBytes nonce → AllInBytes cs

@@ -1,4 +1,4 @@
--- What the code's structs stand for.
+-- The values that the code's structs represent.
 use Prim.Native.Nat.{ℕ}
 use mathlib.Core.List.{List}
 use Rattle.block.specs.Blocks.{wide}

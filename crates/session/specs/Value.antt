@@ -31,7 +31,7 @@ over = record { suite = 0; Y = replicate 16 0; Z = replicate 16 0; held = replic
 abbrev pub sound : ℕ → ℕ → ℕ → Bool
 sound suite ad-total text-total = seals suite && (leb ad-total limit && leb text-total limit)
 
--- the same, as facts that the proofs use
+-- what a session in progress fulfils, as facts that the proofs use
 pub record Sound (suite ad-total text-total : ℕ) : Type 0 where
   pub known : IsSuite suite
   pub data-most : ad-total ≤ limit
@@ -46,7 +46,7 @@ module _ (κ : Cipher) where
   abbrev pub heldOf : Value → ℕ → List ℕ
   heldOf v t = take (t % κ .size) (v .held)
 
-  -- the first block's mark, where t bytes have come: no block of them is in if they are fewer than a block
+  -- the mark of the next block after t bytes: `m`, the first block's, if no block was absorbed yet (fewer than a block have come), else none
   abbrev pub firstMark : ℕ → ℕ → ℕ
   firstMark m t = cond (ltb t (κ .size)) m 0
 
@@ -54,6 +54,7 @@ module _ (κ : Cipher) where
   unfoldable pub dataStates : Value → List ℕ → States
   dataStates v p = walked κ false (firstMark 0x08 (v .«ad_total»)) 0x10 (states v) (blocks (κ .size) (whole (κ .size) (heldOf v (v .«ad_total») ++ p)))
 
+  -- the session after associated data p
   unfoldable pub dataIn : Value → List ℕ → Value
   dataIn v p = valueOf (v .suite) (dataStates v p) (filled (rest (κ .size) (heldOf v (v .«ad_total») ++ p))) (v .«ad_total» + length p) (v .«text_total»)
 
@@ -68,7 +69,7 @@ module _ (κ : Cipher) where
   unfoldable pub blocksOut : Value → List ℕ → List ℕ
   blocksOut v l = covered κ false (firstMark 0x20 (v .«text_total»)) 0x40 (begun v) (blocks (κ .size) l)
 
-  -- message bytes p, at least one
+  -- the session after message bytes p, at least one
   unfoldable pub textIn : Value → List ℕ → Value
   textIn v p = valueOf (v .suite) (textStates v (whole (κ .size) (heldOf v (v .«text_total») ++ p))) (filled (rest (κ .size) (heldOf v (v .«text_total») ++ p))) (v .«ad_total») (v .«text_total» + length p)
 
@@ -99,15 +100,17 @@ abbrev pub answered : ℕ → Given → Value → List ℕ → List ℕ → Give
 answered zero done v out tag = done
 answered (suc k) done v out tag = gave (suc k) 0 v out tag
 
--- the first bytes of a buffer overwritten
+-- a buffer with its first bytes overwritten by `new`
 abbrev pub written : List ℕ → List ℕ → List ℕ
 written new out = new ++ drop (length new) out
 
 -- ---- start
 
+-- 1, 10, 2, 3, from the suite and the lengths of key and nonce
 unfoldable pub startNumber : ℕ → ℕ → ℕ → ℕ
 startNumber suite key nonce = underKey (seals suite) suite key nonce 0
 
+-- the session after an accepted start
 abbrev pub fresh : ℕ → List ℕ → List ℕ → Value
 fresh suite key nonce = valueOf suite (origin (cipherOf suite) key nonce) (replicate 16 0) 0 0
 
@@ -116,6 +119,7 @@ starting suite key nonce = answered (startNumber suite (length key) (length nonc
 
 -- ---- associated data
 
+-- 9 (not in progress, or the message has begun), 4, for a part of l bytes
 unfoldable pub dataNumber : ℕ → ℕ → ℕ → ℕ → ℕ
 dataNumber suite ad-total text-total l = cond (not (sound suite ad-total text-total && eqb text-total 0)) 9 (cond (ltb (limit - ad-total) l) 4 0)
 
@@ -124,6 +128,7 @@ dataPart v p = answered (dataNumber (v .suite) (v .«ad_total») (v .«text_tota
 
 -- ---- message: an empty part changes nothing
 
+-- 9 (not in progress), 5, 6, for a part of l bytes and an output of o bytes
 unfoldable pub textNumber : ℕ → ℕ → ℕ → ℕ → ℕ → ℕ
 textNumber suite ad-total text-total l o = cond (not (sound suite ad-total text-total)) 9 (cond (ltb (limit - text-total) l) 5 (cond (ltb o (l + (sizeOf suite - 1))) 6 0))
 
@@ -140,6 +145,7 @@ textPart v p out = answered (textNumber (v .suite) (v .«ad_total») (v .«text_
 
 -- ---- end
 
+-- 9 (not in progress), 6, 7, for an output of o bytes and a tag buffer of t bytes
 unfoldable pub endNumber : ℕ → ℕ → ℕ → ℕ → ℕ → ℕ
 endNumber suite ad-total text-total o t = cond (not (sound suite ad-total text-total)) 9 (cond (ltb o (sizeOf suite)) 6 (cond (not (eqb t (sizeOf suite))) 7 0))
 

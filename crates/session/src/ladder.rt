@@ -1,4 +1,4 @@
-// The numbers of the four calls, from the suite, the totals and the lengths: the first that applies.
+// The statuses of the four calls, from the suite, the totals and the lengths: the first that applies.
 use cipher::LIMIT;
 ghost use mathlib.Core.Path.{_≡_};
 ghost use Rattle.session.specs.Value.{sound, startNumber, dataNumber, textNumber, endNumber};

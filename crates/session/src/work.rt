@@ -168,7 +168,7 @@ fn begin(s: Session) -> State
     absorb_last(suite, two, m ^ MARK_SHORT_DATA, &held[0..h])
 }
 
-// The same, with no call where the message has begun.
+// The same as `begin`, without a call if the message has begun.
 fn going(s: Session) -> State
     requires { ⌜ IsSuite (s .suite) ⌝ }
     ensures { λ r. ⌜ twoOf (s .suite) r ≡ begun (cipherOf (s .suite)) (asValue s) ⌝ }

@@ -22,11 +22,11 @@ noEntry x = record { number = x .number; row = x .row; «ad_at» = 0; «ad_len»
 abbrev pub inFile : ℕ → Entry → Amended
 inFile k x = record { file = k; entry = x }
 
--- a file that passes has the job
+-- whether a file passes and has the job
 abbrev pub holds : List ℕ → ℕ → Bool
 holds f job = eqb (lookupJob f job .number) 0
 
--- check the amendment (1), then the day's file (2), in full even where the amendment has the job: a refusal names its file. Then the entry of the file that
+-- check the amendment (1), then the day's file (2), in full even if the amendment has the job: a refusal names its file. Then the entry of the file that
 -- holds it, the amendment's if it has the job, else the day's; 32, file 0, if neither has
 unfoldable pub amendedEntry : List ℕ → List ℕ → ℕ → Amended
 amendedEntry a d job =

@@ -28,11 +28,11 @@ pub record Refusals (a d : List ℕ) (job : ℕ) : Type 0 where
   pub amendment : (checkFile a .number ≡ 0 → ⊥) → amendedEntry a d job ≡ inFile 1 (noEntry (checkFile a))
   pub day : checkFile a .number ≡ 0 → (checkFile d .number ≡ 0 → ⊥) → amendedEntry a d job ≡ inFile 2 (noEntry (checkFile d))
 
--- which entry is the current one, where both files pass
+-- which entry is the current one, if both files pass
 pub record Chooses (a d : List ℕ) (job : ℕ) : Type 0 where
   -- the amendment wins: a row of it that has the job is the current entry, whatever the day's file has
   pub amendment : (i : ℕ) → Has a job i → (amendedEntry a d job ≡ inFile 1 (entryOf a job)) × (lookupJob a job .number ≡ 0) × (lookupJob a job .row ≡ i)
-  -- the day's is, where the amendment has none
+  -- the day's is, if the amendment has none
   pub day : Lacks a job → (i : ℕ) → Has d job i → (amendedEntry a d job ≡ inFile 2 (entryOf d job)) × (lookupJob d job .number ≡ 0) × (lookupJob d job .row ≡ i)
 
 abbrev pub InOrder : Type 0

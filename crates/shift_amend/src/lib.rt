@@ -10,7 +10,7 @@ ghost use Rattle.shift_jobs.specs.Answers.{foundAnswer, openedAnswer};
 ghost use Rattle.shift_amend.specs.Amending.{amendedEntry, CurrentPart, AmendedOpening, amendedOpening};
 ghost use Rattle.shift_amend.specs.Inside.{refusing, finding, Tells};
 
-// The current entry of a job: the file that its status concerns (1 the amendment, 2 the day's, 0 where neither has the
+// The current entry of a job: the file that its status concerns (1 the amendment, 2 the day's, 0 if neither has the
 // job), and the entry.
 pub struct Amended {
     pub file: u8,
@@ -23,13 +23,13 @@ pub struct OpenedIn {
     pub opened: JobAnswer,
 }
 
-// What determines the current entry: the file that its status concerns, and that file's lookup (the day's, where neither has the job).
+// What determines the current entry: the file that its status concerns, and that file's lookup (the day's, if neither has the job).
 struct Looked {
     file: u8,
     found: Found,
 }
 
-// The lookup refuses the file.
+// Whether the lookup refuses the file.
 fn refuses(found: Found) -> bool
     ensures { λ r. ⌜ r ≡ refusing found ⌝ }
 {
@@ -40,7 +40,7 @@ fn refuses(found: Found) -> bool
     }
 }
 
-// The lookup finds the job.
+// Whether the lookup finds the job.
 fn finds(found: Found) -> bool
     ensures { λ r. ⌜ r ≡ finding found ⌝ }
 {

@@ -29,11 +29,11 @@ badSuite r = not (isSuite (r .suite)) || ltb 15 (r .key)
 unfoldable pub badLength : Row → Bool
 badLength r = outside 5 1024 (r .«ad_len») || ltb limit (r .«text_len»)
 
--- where the body of row i of n has to start: after the table (row 0), or at the previous body's end
+-- the offset at which the body of row i of n has to start: after the table (row 0), or at the previous body's end
 unfoldable pub bodyStart : ℕ → List ℕ → ℕ → ℕ → ℕ
 bodyStart w f n i = cond (eqb i 0) (rowStart w n) (bodyEnd (rowAt w f (i - 1)))
 
--- 28: offset not there, or the body ends past the file
+-- 28: the offset is not that one, or the body ends past the file
 unfoldable pub misplaced : ℕ → List ℕ → ℕ → ℕ → Bool
 misplaced w f n i = not (eqb (rowAt w f i .«ad_at») (bodyStart w f n i)) || ltb (length f) (bodyEnd (rowAt w f i))
 
@@ -91,7 +91,7 @@ headNumber low high f =
     (cond (ltb (length f) (rowStart (rowSizeOf f) (countOf f))) 24
     0))))
 
--- after number 0 the next answer; any other stands
+-- the next answer after number 0; any other number is final
 abbrev pub andThen : Answer → Answer → Answer
 andThen x next = cond (eqb (x .number) 0) next x
 
@@ -99,14 +99,14 @@ andThen x next = cond (eqb (x .number) 0) next x
 unfoldable pub checkBetween : ℕ → ℕ → List ℕ → Answer
 checkBetween low high f = andThen (answer (headNumber low high f) 0) (rowsFrom (rowSizeOf f) f (countOf f) 0)
 
--- one edition alone
+-- the full check that accepts one edition
 abbrev pub checkAs : ℕ → List ℕ → Answer
 checkAs e f = checkBetween e e f
 
--- the full check of a shift file, whichever its edition
+-- the full check of a shift file, of edition 1 or 2
 abbrev pub checkFile : List ℕ → Answer
 checkFile f = checkBetween firstEdition newest f
 
--- it gives a number but 0
+-- whether the check refuses the file: its number is not 0
 abbrev pub refused : List ℕ → Bool
 refused f = not (eqb (checkFile f .number) 0)

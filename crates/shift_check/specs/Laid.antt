@@ -27,6 +27,6 @@ pub record Laid (f : List ℕ) : Type 0 where
   -- the file is its header and table, then the bodies, and nothing else
   pub whole : f ≡ take (rowStart (rowSizeOf f) (countOf f)) f ++ bodies (rowSizeOf f) f 0 (countOf f)
 
--- of every file that passes
+-- this holds of every file that passes
 abbrev pub BodiesLaid : Type 0
 BodiesLaid = (f : List ℕ) → checkFile f .number ≡ 0 → Laid f

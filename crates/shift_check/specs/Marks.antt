@@ -30,11 +30,11 @@ wordOf x = x / 2 ^ 25 % 128
 unfoldable pub bitsOf : ℕ → ℕ
 bitsOf x = bitOr (2 ^ (x / 2 ^ 19 % 64)) (2 ^ (x / 2 ^ 32 % 64))
 
--- both are set
+-- whether both are set
 unfoldable pub has : List ℕ → ℕ → Bool
 has seen x = eqb (bitOr (getD seen (wordOf x) 0) (bitsOf x)) (getD seen (wordOf x) 0)
 
--- with both set
+-- the filter with both set
 unfoldable pub with : List ℕ → ℕ → List ℕ
 with seen x = set seen (wordOf x) (bitOr (getD seen (wordOf x) 0) (bitsOf x))
 

@@ -27,7 +27,7 @@ ghost use Rattle.status.specs.Answers.{answer, checkedAnswer};
 ghost use Rattle.shift_check.specs.Check.{headNumber, rowsFrom, checkBetween, checkAs, checkFile};
 ghost use Rattle.shift_format.specs.Inside.{TableIn};
 
-// 20 to 24; the editions from low to high are accepted.
+// The first of 20 to 24 that applies; editions from low to high are accepted.
 pub fn check_head(low: u16, high: u16, file: &[u8]) -> Checked
     ensures { λ r. ⌜ checkedAnswer r ≡ answer (headNumber low high (now (file .entry))) 0 ⌝ }
 {
@@ -54,7 +54,7 @@ pub fn check_head(low: u16, high: u16, file: &[u8]) -> Checked
     Checked::Passed
 }
 
-// The rows, each with 25 to 30 and 34, and then 31. The loop carries where the next body has to start, and the Bloom filter of the rows so far.
+// The rows, each with 25 to 30 and 34, and then 31. The loop carries the offset at which the next body has to start, and the Bloom filter of the rows so far.
 fn check_rows(size: usize, file: &[u8], rows: usize) -> Checked
     requires { ⌜ TableIn size (now file) rows ⌝ }
     ensures { λ r. ⌜ checkedAnswer r ≡ rowsFrom size (now (file .entry)) rows 0 ⌝ }

@@ -14,7 +14,7 @@ fn fold(a: u64, b: u64) -> u64
 }
 
 // Suite, key number and that word, mixed by halves of 32 bits. The three multipliers are odd constants below 2^31, so the sum stays
-// below 2^64. They decide only how often two different rows share a mark and are compared for nothing: no contract of the check
+// below 2^64. They decide only how often two different rows share their bits and are compared for nothing: no contract of the check
 // names them, so other constants would change its time and not its answer.
 fn mix(suite: u8, key: u8, x: u64) -> u64
     ensures { λ r. ⌜ r ≡ mixed suite key x ⌝ }

@@ -68,7 +68,7 @@ fn bad_length(row: Row) -> bool
     LIMIT < len
 }
 
-// Where the body of a row has to start; where the index is the number of rows, where the last body ends.
+// The offset at which the body of a row has to start. For an index equal to the number of rows: the offset at which the last body ends.
 pub(crate) fn body_start(size: usize, file: &[u8], rows: usize, index: usize) -> usize
     requires { ⌜ TableIn size (now file) rows × (index ≤ rows) ⌝ }
     ensures { λ r. ⌜ r ≡ bodyStart size (now (file .entry)) rows index ⌝ }

@@ -47,11 +47,11 @@ sameEntry f g i j =
 unfoldable pub jobAt : List ℕ → ℕ → ℕ
 jobAt f i = rowOf f i .job
 
--- row j has the job
+-- whether row j has the job
 abbrev pub has : List ℕ → ℕ → ℕ → Bool
 has f job j = eqb (jobAt f j) job
 
--- some row has it
+-- whether some row has it
 abbrev pub hasJob : List ℕ → ℕ → Bool
 hasJob f job = anyBelow (has f job) (countOf f)
 
@@ -59,7 +59,7 @@ hasJob f job = anyBelow (has f job) (countOf f)
 abbrev pub differs : List ℕ → List ℕ → ℕ → Bool
 differs f g i = anyBelow (λ j. has g (jobAt f i) j && not (sameEntry f g i j)) (countOf g)
 
--- the jobs of f's rows that g has not
+-- the jobs of f's rows that no row of g has
 unfoldable pub onlyIn : List ℕ → List ℕ → List ℕ
 onlyIn f g = kept (λ i. not (hasJob g (jobAt f i))) (jobAt f) 0 (countOf f)
 
@@ -99,7 +99,7 @@ pub record Comparison : Type 0 where
 abbrev pub stopped : Finding → List ℕ → List ℕ → List ℕ → Comparison
 stopped t x y z = record { finding = t; first = x; second = y; differ = z }
 
--- a list is longer than its buffer
+-- whether a list is longer than its buffer
 abbrev pub tooLong : List ℕ → List ℕ → List ℕ → List ℕ → List ℕ → Bool
 tooLong f g x y z = ltb (length x) (length (onlyFirst f g)) || (ltb (length y) (length (onlySecond f g)) || ltb (length z) (length (differing f g)))
 

@@ -54,14 +54,14 @@ countsOf f g = record { first = length (onlyFirst f g); second = length (onlySec
 abbrev pub longer : Counts → ℕ → ℕ → ℕ → Bool
 longer n first second differ = ltb first (n .first) || (ltb second (n .second) || ltb differ (n .differ))
 
--- a pass that writes has room
+-- the precondition of the pass: if it writes, each list fits its buffer
 pub record Passable (f g : List ℕ) (write : Bool) (x y z : List ℕ) : Type 0 where
   pub sound : Sound f g
   pub first : write ≡ true → length (onlyFirst f g) ≤ length x
   pub second : write ≡ true → length (onlySecond f g) ≤ length y
   pub differ : write ≡ true → length (differing f g) ≤ length z
 
--- it counts, and writes if it is checked to
+-- its result: the lists are counted and, if `write` is true, written
 pub record Passed (f g : List ℕ) (write : Bool) (x₀ y₀ z₀ : List ℕ) (r : Counts) (x y z : List ℕ) : Type 0 where
   pub counts : r ≡ countsOf f g
   pub first : x ≡ cond write (onList (onlyFirst f g) x₀) x₀

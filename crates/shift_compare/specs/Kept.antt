@@ -9,6 +9,6 @@ unfoldable pub kept : (ℕ → Bool) → (ℕ → ℕ) → ℕ → ℕ → List 
 kept p what i zero = []
 kept p what i (suc k) = cond (p i) (what i ∷ kept p what (suc i) k) (kept p what (suc i) k)
 
--- the list, followed by what stood there
+-- the list at the front of another, whose later elements are kept
 abbrev pub onList : List ℕ → List ℕ → List ℕ
 onList l buffer = l ++ drop (length l) buffer

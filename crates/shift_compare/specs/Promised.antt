@@ -37,7 +37,7 @@ pub record Listed (f g : List ℕ) (job : ℕ) : Type 0 where
   pub second : List·Memᴰ job (onlySecond f g) ↔ (InFile g job × (InFile f job → ⊥))
   pub differ : List·Memᴰ job (differing f g) ↔ Different f g job
 
--- of any two files
+-- this holds of any two files
 abbrev pub ExactlyListed : Type 0
 ExactlyListed = (f g : List ℕ) (job : ℕ) → Listed f g job
 

@@ -86,7 +86,7 @@ fn too_long(n: Counts, first: usize, second: usize, differ: usize) -> bool
     differ < n.differ
 }
 
-// Whether a list of two files that pass is longer than its buffer. None is if each buffer has room for every row; else the lists are counted.
+// Whether a list of two files that pass is longer than its buffer. If each buffer has an element for every row, none is; otherwise the lists are counted.
 fn no_room(f: &[u8], g: &[u8], first: &mut [u32], second: &mut [u32], differ: &mut [u32]) -> bool
     requires { ⌜ Sound (now f) (now g) ⌝ }
     ensures { λ r. ⌜ (r ≡ tooLong (now (f .entry)) (now (g .entry)) (now (first .entry)) (now (second .entry)) (now (differ .entry)))
@@ -112,7 +112,7 @@ fn lists(f: &[u8], g: &[u8], first: &mut [u32], second: &mut [u32], differ: &mut
     Compared::Done(m.first, m.second, m.differ)
 }
 
-// Compares two files: the first's refusal, the second's, 36 where a list is longer than its buffer, else the three lists.
+// Compares two files: the first's refusal, the second's, 36 if a list is longer than its buffer, else the three lists.
 pub fn compare(
     first: &[u8],
     second: &[u8],

@@ -89,7 +89,7 @@ fn second_turn(job: u32, i: usize, j: usize) -> Turn
     }
 }
 
-// The iteration where both files have a row left.
+// The next iteration, if both files have a row left.
 fn both_turn(f: &[u8], g: &[u8], i: usize, j: usize) -> Turn
     requires { ⌜ At (now f) (now g) i j × (i < countOf (now f)) × (j < countOf (now g)) ⌝ }
     ensures { λ t. ⌜ Turned (now (f .entry)) (now (g .entry)) i j t ⌝ }
@@ -113,7 +113,7 @@ fn both_turn(f: &[u8], g: &[u8], i: usize, j: usize) -> Turn
     }
 }
 
-// The next iteration, where a row is left.
+// The next iteration, if at least one file has a row left.
 fn take_turn(f: &[u8], g: &[u8], i: usize, j: usize) -> Turn
     requires { ⌜ At (now f) (now g) i j × (i + j < countOf (now f) + countOf (now g)) ⌝ }
     ensures { λ t. ⌜ Turned (now (f .entry)) (now (g .entry)) i j t ⌝ }
@@ -127,7 +127,7 @@ fn take_turn(f: &[u8], g: &[u8], i: usize, j: usize) -> Turn
     both_turn(f, g, i, j)
 }
 
-// The length of a list of `at` jobs after this one: one more where `yes`, and then the job is written where `write` says so.
+// The length of a list of `at` jobs after this iteration: one more if `yes`; the job is then written, if `write`.
 fn put(out: &mut [u32], at: usize, yes: bool, write: bool, job: u32) -> usize
     requires { ⌜ (yes ≡ true → write ≡ true → at < length (now out)) × (yes ≡ true → at < 512) ⌝ }
     ensures { λ r. ⌜ (r ≡ cond yes (at + 1) at) × (now (out .exit) ≡ cond (yes && write) (set (now (out .entry)) at job) (now (out .entry))) ⌝ }
@@ -142,7 +142,7 @@ fn put(out: &mut [u32], at: usize, yes: bool, write: bool, job: u32) -> usize
     at
 }
 
-// The pass over both tables: counts the three lists, and writes them where `write` says so.
+// The pass over both tables: counts the three lists, and writes them if `write`.
 pub(crate) fn pass(
     f: &[u8],
     g: &[u8],

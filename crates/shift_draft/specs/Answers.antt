@@ -13,15 +13,15 @@ use Rattle.status.specs.Answers.{answer}
 use Rattle.shift_check.specs.Check.{andThen, checkAs}
 use Rattle.shift_draft.specs.Files.{draftEdition, entryTag, sealedFile, draftFile}
 
--- the tag of row i has a byte that is not zero
+-- whether the tag of row i has a byte that is not zero
 unfoldable pub tagSet : List ℕ → ℕ → Bool
 tagSet f i = not (sameBytes (tagOf f (rowOf f i)) (replicate (sizeOf (rowOf f i .suite)) 0))
 
--- the suite of row i is retired
+-- whether the suite of row i does not seal: it is retired
 unfoldable pub rowRetired : List ℕ → ℕ → Bool
 rowRetired f i = not (seals (rowOf f i .suite))
 
--- the tag of row i is the tag of its text
+-- whether the tag of row i is the one that opening computes
 unfoldable pub tagRight : List ℕ → List ℕ → ℕ → Bool
 tagRight f ring i = sameBytes (entryTag true f ring i) (tagOf f (rowOf f i))
 

@@ -18,7 +18,7 @@ draftEdition = 0
 unfoldable pub inEdition : ℕ → List ℕ → List ℕ
 inEdition e f = put f 0 (bytes 2 e)
 
--- text and tag of row i are one piece, after the associated data: where it starts, and how long it is
+-- text and tag of row i are one piece, after the associated data: its offset, and its length
 unfoldable pub pieceStart : List ℕ → ℕ → ℕ
 pieceStart f i = rowOf f i .«ad_at» + rowOf f i .«ad_len»
 
@@ -47,7 +47,7 @@ entryOut opening f ring i = textAs opening f ring i (rowOf f i .suite) (textOf f
 unfoldable pub entryTag : Bool → List ℕ → List ℕ → ℕ → List ℕ
 entryTag opening f ring i = tagAs opening f ring i (rowOf f i .suite) (textOf f (rowOf f i))
 
--- ciphertext and tag of row i, whose message stands at the ciphertext's offset
+-- ciphertext and tag of row i, whose message is at the ciphertext's offset
 unfoldable pub sealedPiece : List ℕ → List ℕ → ℕ → List ℕ
 sealedPiece f ring i = entryOut false f ring i ++ entryTag false f ring i
 

@@ -51,7 +51,7 @@ SealedBack =
     let sealed : FileWritten = fileSealing draft ring out₀ in
     (sealed .answer ≡ answer 0 0) × Genuine (sealed .out) ring × (fileUnsealing (sealed .out) ring out₁ ≡ writes (answer 0 0) draft)
 
--- a genuine file is unsealed, what comes out is a valid draft, and sealing it gives the file, where no entry has suite 4
+-- a genuine file is unsealed, the result is a valid draft and, if no entry has suite 4, sealing it gives the file
 abbrev pub UnsealedBack : Type 0
 UnsealedBack =
     (file ring out₀ out₁ : List ℕ) → WithRing file ring → length out₀ ≡ length file → length out₁ ≡ length file → Genuine file ring →
@@ -131,7 +131,7 @@ TextAltered =
     j * n < rowOf file i .«text_len» → rowOf file i .«text_len» ≤ j * n + n → Altered file other (pieceStart file i + j * n) (pieceStart file i + rowOf file i .«text_len»)
     → fileUnsealing other ring out ≡ writes (answer 8 i) (replicate (length out) 0)
 
--- inside block j of the associated data of row i, whose message is empty: the same, where job number and unit still pass; else it is the check's 30
+-- inside block j of the associated data of row i, whose message is empty: the same, if job number and unit still pass; else it is the check's 30
 abbrev pub DataAltered : Type 0
 DataAltered =
     (file other ring out : List ℕ) (i j to : ℕ) → WithRing file ring → AllBytes other → length out ≡ length file → Genuine file ring → i < countOf file →

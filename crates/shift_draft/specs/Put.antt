@@ -7,7 +7,7 @@ use lib.ListN.{length, take, drop}
 unfoldable pub put : List ℕ → ℕ → List ℕ → List ℕ
 put l at x = take at l ++ (x ++ drop (at + length x) l)
 
--- the list with each of the first k pieces where it starts
+-- the list with each of the first k pieces written from its start on
 unfoldable pub putAll : (ℕ → ℕ) → (ℕ → List ℕ) → ℕ → List ℕ → List ℕ
 putAll start piece zero l = l
 putAll start piece (suc k) l = put (putAll start piece k l) (start k) (piece k)

@@ -32,7 +32,7 @@ lengthAnswer new out = cond (ltb 1048576 new) (answer 20 0) (cond (not (eqb out 
 abbrev pub other : List ℕ → ℕ
 other f = cond (eqb (editionOf f) newest) firstEdition newest
 
--- how long it is there; 0 where one of 20 to 24 applies
+-- how long the file is in that edition; 0 if one of 20 to 24 applies
 unfoldable pub movedLength : List ℕ → ℕ
 movedLength f = cond (eqb (headNumber firstEdition newest f) 0) (length (moved (other f) f)) 0
 

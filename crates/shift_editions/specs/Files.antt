@@ -10,7 +10,7 @@ use Rattle.shift_format.specs.Format.{countOf, rowSize, rowSizeOf, rowStart, re
 unfoldable pub carried : ℕ → ℕ → ℕ → ℕ → ℕ
 carried w v n x = x - rowStart w n + rowStart v n
 
--- row i of n: its job number, a station of 0 where the new edition has one, and the rest, with the offset carried
+-- row i of n: its job number, a station of 0 if the new edition has stations, and the rest, with the offset carried
 unfoldable pub movedRow : ℕ → ℕ → List ℕ → ℕ → ℕ → List ℕ
 movedRow w v f n i =
     stretch f (rowStart w i) 4

@@ -1,4 +1,4 @@
-// An output that is written from the front: each call keeps what stands before `at` and appends one part.
+// An output that is written from the front: each call keeps the bytes before `at` and appends one part.
 use byte_runs::copy;
 use shift_format::row::stretch;
 ghost use mathlib.Core.Path.{_≡_};

@@ -27,7 +27,7 @@ fn offset(from: usize, to: usize, file: &[u8], rows: usize, index: usize) -> u32
     (at - old + new) as u32
 }
 
-// Writes the job number of a row, and a station of 0 where there is one.
+// Writes the job number of a row and, if the new edition has stations, a station of 0.
 fn put_job(out: &mut [u8], from: usize, to: usize, file: &[u8], rows: usize, index: usize)
     requires { ⌜ Movable from to (now file) rows × ((index < rows) × (rowStart to rows ≤ length (now out))) ⌝ }
     ensures { λ _. ⌜ take (restStart to index) (now (out .exit)) ≡ take (rowStart to index) (now (out .entry)) ++ (stretch (now (file .entry)) (rowStart from index) 4 ++ replicate (to - 32) 0) ⌝ }

@@ -37,15 +37,15 @@ rowSize e = cond (eqb e newest) 36 32
 abbrev pub rowSizeOf : List ℕ → ℕ
 rowSizeOf f = rowSize (editionOf f)
 
--- where row i starts, rows being w bytes long; the bodies start where row n would
+-- the offset of row i, if rows have w bytes; the bodies start at the offset of row n
 unfoldable pub rowStart : ℕ → ℕ → ℕ
 rowStart w i = 8 + w * i
 
--- where the rest of row i starts: its last 28 bytes, all but job number and station
+-- the offset of the rest of row i: its last 28 bytes, all but job number and station
 unfoldable pub restStart : ℕ → ℕ → ℕ
 restStart w i = rowStart w i + (w - 28)
 
--- row i: job number (4), suite (1), key number (1), associated data length (2), body offset (4), message length (4), nonce (16)
+-- row i: job number (4), suite (1), key number (1), associated data length (2), body offset (4), message length (4); the nonce (16) is below
 unfoldable pub rowAt : ℕ → List ℕ → ℕ → Row
 rowAt w f i = record {
   job = word 4 f (rowStart w i);
@@ -60,14 +60,14 @@ rowAt w f i = record {
 unfoldable pub stationAt : ℕ → List ℕ → ℕ → ℕ
 stationAt w f i = word (w - 32) f (rowStart w i + 4)
 
--- its nonce, the last sixteen bytes: where they start
+-- its nonce, the last sixteen bytes: their offset, and the bytes
 unfoldable pub nonceStart : ℕ → ℕ → ℕ
 nonceStart w i = restStart w i + 12
 
 unfoldable pub nonceAt : ℕ → List ℕ → ℕ → List ℕ
 nonceAt w f i = stretch f (nonceStart w i) 16
 
--- of these the suite reads as many as its nonce has
+-- the first of these bytes, as many as the nonce of the row's suite has
 abbrev pub nonceReadAt : ℕ → List ℕ → ℕ → List ℕ
 nonceReadAt w f i = take (nonceOf (rowAt w f i .suite)) (nonceAt w f i)
 
@@ -90,7 +90,7 @@ textOf f r = stretch f (r .«ad_at» + r .«ad_len») (r .«text_len»)
 abbrev pub tagOf : List ℕ → Row → List ℕ
 tagOf f r = stretch f (r .«ad_at» + r .«ad_len» + r .«text_len») (sizeOf (r .suite))
 
--- where it ends
+-- the offset at which the body ends
 unfoldable pub bodyEnd : Row → ℕ
 bodyEnd r = r .«ad_at» + r .«ad_len» + r .«text_len» + sizeOf (r .suite)
 

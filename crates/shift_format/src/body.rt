@@ -8,7 +8,7 @@ ghost use Rattle.cipher.specs.Cipher.{sizeOf};
 ghost use Rattle.shift_format.specs.Part.{PartOf};
 ghost use Rattle.shift_format.specs.Format.{bodyEnd};
 
-// Where a row's text starts, after its associated data.
+// The offset of a row's text, after its associated data.
 pub fn text_start(row: Row) -> usize
     ensures { λ r. ⌜ r ≡ row .«ad_at» + row .«ad_len» ⌝ }
 {

@@ -1,4 +1,4 @@
-// The rows of the shift file as they lie there, and the body that each names.
+// The layout of the shift file: its header, its rows, and the body that each row names.
 pub mod body;
 pub mod limits;
 pub mod row;

@@ -64,7 +64,7 @@ pub fn row_size_of(file: &[u8]) -> usize
     row_size(get16(file, 0))
 }
 
-// Where a row starts, by its index; where the index is their number, where the bodies do.
+// The offset of a row, by its index. For an index equal to the number of rows: the offset of the first body.
 pub fn row_start(size: usize, index: usize) -> usize
     requires { ⌜ rowStart size index < 0x1_0000_0000_0000_0000 ⌝ }
     ensures { λ r. ⌜ r ≡ rowStart size index ⌝ }
@@ -72,7 +72,7 @@ pub fn row_start(size: usize, index: usize) -> usize
     8 + size * index
 }
 
-// Where the rest of a row starts, after job number and station.
+// The offset of the rest of a row, after job number and station.
 pub fn rest_start(size: usize, index: usize) -> usize
     requires { ⌜ (28 ≤ size) × (rowStart size index + size < 0x1_0000_0000_0000_0000) ⌝ }
     ensures { λ r. ⌜ (r ≡ restStart size index) × (r + 28 ≡ rowStart size index + size) ⌝ }
@@ -80,7 +80,7 @@ pub fn rest_start(size: usize, index: usize) -> usize
     row_start(size, index) + (size - 28)
 }
 
-// Where the nonce of a row starts: in its last sixteen bytes.
+// The offset of a row's nonce, its last sixteen bytes.
 pub fn nonce_start(size: usize, index: usize) -> usize
     requires { ⌜ (28 ≤ size) × (rowStart size index + size < 0x1_0000_0000_0000_0000) ⌝ }
     ensures { λ r. ⌜ (r ≡ nonceStart size index) × (r + 16 ≡ rowStart size index + size) ⌝ }
@@ -105,7 +105,7 @@ pub fn row_at(size: usize, file: &[u8], index: usize) -> Row
     }
 }
 
-// The station of a row of a shift file; 0 where its edition has none.
+// The station of a row of a shift file; 0 if its edition has none.
 pub fn station_of(file: &[u8], index: usize) -> u32
     requires { ⌜ RowIn (rowSizeOf (now file)) (now file) index ⌝ }
     ensures { λ r. ⌜ r ≡ stationOf (now (file .entry)) index ⌝ }
@@ -117,7 +117,7 @@ pub fn station_of(file: &[u8], index: usize) -> u32
     get32(file, row_start(size, index) + 4)
 }
 
-// Another suite for a row.
+// Replaces the suite byte of a row.
 pub fn set_suite(size: usize, file: &mut [u8], index: usize, suite: u8)
     requires { ⌜ RowIn size (now file) index ⌝ }
     ensures { λ _. ⌜ now (file .exit) ≡ set (now (file .entry)) (restStart size index) suite ⌝ }
@@ -157,7 +157,7 @@ pub fn read_block(size: usize, file: &[u8], index: usize, suite: u8) -> Block
     byte_runs::filled(stretch(file, nonce_start(size, index), cipher::nonce_size(suite)))
 }
 
-// Where a row's body ends.
+// The offset at which a row's body ends.
 pub fn body_end(row: Row) -> usize
     ensures { λ r. ⌜ r ≡ bodyEnd row ⌝ }
 {

@@ -55,7 +55,7 @@ fieldsOf x = record {
   «text_len» = x .row .«text_len»;
 }
 
--- row i: one of 20 to 24, 32 where the table has no such row, else its fields
+-- row i: one of 20 to 24, 32 if the table has no such row, else its fields
 unfoldable pub rowAnswer : List ℕ → ℕ → RowFields
 rowAnswer f i = cond (eqb (headStatus f) 0) (cond (ltb i (countOf f)) (fieldsOf (listedOf f i)) (noFields 32)) (noFields (headStatus f))
 
@@ -64,7 +64,7 @@ unfoldable pub rowAnswers : List ℕ → ℕ → ℕ → List RowFields
 rowAnswers f i zero = []
 rowAnswers f i (suc k) = rowAnswer f i ∷ rowAnswers f (suc i) k
 
--- an answer of the reader as the fields of a row: 32 where it has ended
+-- an answer of the reader as the fields of a row: 32 if it has ended
 abbrev pub asFields : NextRow → RowFields
 asFields (Row x) = fieldsOf x
 asFields Ended = noFields 32

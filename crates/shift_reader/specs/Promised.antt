@@ -11,7 +11,7 @@ use Rattle.shift_reader.specs.declared.cursor.NextRow.the-variants.{Ende
 use Rattle.shift_reader.specs.declared.Reader.{Reader}
 use Rattle.shift_reader.specs.Reading.{rowsLaid, readerOf, asks, listedFrom}
 
--- on a file that passes the check: the table's rows in order, each once, and then that it has ended, as often as it is checked
+-- on a file that passes the check: the table's rows in order, each once, and then that it has ended, as often as it is called
 abbrev pub RowsThenEnded : Type 0
 RowsThenEnded = (s : RefT (List ℕ)) (m : ℕ) → checkFile (now s) .number ≡ 0 → asks (countOf (now s) + m) (readerOf s) ≡ listedFrom (now s) 0 (countOf (now s)) ++ replicate m Ended
 
@@ -23,6 +23,6 @@ EndedAtOnce = (s : RefT (List ℕ)) (m : ℕ) → (checkFile (now s) .number ≡
 abbrev pub OthersEnded : Type 0
 OthersEnded = (r : Reader) (m : ℕ) → (rowsLaid (now (r .src)) ≤ r .place .at) ⊎ (r .place .end ≡ rowsLaid (now (r .src)) → ⊥) → asks m r ≡ replicate m Ended
 
--- any other gives the table's rows from its index on, as they stand there, and then has ended: only 20 to 24 are known of the file
+-- any other gives the table's rows from its index on, unchecked, and then has ended: of the file only 20 to 24 are known not to apply
 abbrev pub OthersRows : Type 0
 OthersRows = (r : Reader) (k m : ℕ) → r .place .end ≡ rowsLaid (now (r .src)) → r .place .at + k ≡ rowsLaid (now (r .src)) → asks (k + m) r ≡ listedFrom (now (r .src)) (r .place .at) k ++ replicate m Ended

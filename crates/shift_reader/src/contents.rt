@@ -93,7 +93,7 @@ fn fields_of(listed: Listed) -> RowFields
     }
 }
 
-// The fields of the row at an index: one of 20 to 24, or 32 where the file has no such row.
+// The fields of the row at an index: one of 20 to 24, or 32 if the file has no such row.
 pub fn row(file: &[u8], index: u32) -> RowFields
     ensures { λ r. ⌜ r ≡ rowAnswer (now (file .entry)) index ⌝ }
 {

@@ -10,7 +10,7 @@ use cursor::start;
 ghost use mathlib.Core.Path.{_≡_};
 ghost use Rattle.shift_reader.specs.Reading.{askOf, readerOf, nextOf};
 
-// The reader: the file, and the place in it.
+// The reader: the file, and its position in it.
 pub struct Reader<'a> {
     src: &'a [u8],
     place: Cursor,
@@ -48,7 +48,7 @@ impl<'a> Reader<'a> {
     }
 }
 
-// The entry of a file at a place, and the place past it, by the reader: for callers that hold no reader.
+// The entry of a file at a cursor, and the cursor after it, by the reader: for callers that hold no reader.
 pub fn step_at(file: &[u8], place: Cursor) -> Stepped
     ensures { λ r. ⌜ r ≡ askOf place (now (file .entry)) ⌝ }
 {

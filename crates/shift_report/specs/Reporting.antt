@@ -19,7 +19,7 @@ use Rattle.shift_report.specs.declared.answers.Reported.the-variants.{En
 abbrev pub jobOf : List ℕ → ℕ → ℕ
 jobOf f i = rowOf f i .job
 
--- 0 where its tag is right under the ring, else 8
+-- 0 if its tag is right under the ring, else 8
 unfoldable pub tagNumber : List ℕ → List ℕ → ℕ → ℕ
 tagNumber f ring i = cond (tagRight f ring i) 0 8
 
@@ -28,7 +28,7 @@ unfoldable pub each : (ℕ → ℕ) → ℕ → List ℕ
 each what zero = []
 each what (suc n) = each what n ++ (what n ∷ [])
 
--- that, at the front of a list; the rest is unchanged
+-- these values at the front of a list; the rest is unchanged
 abbrev pub front : (ℕ → ℕ) → ℕ → List ℕ → List ℕ
 front what n l = each what n ++ drop n l
 

@@ -12,7 +12,7 @@ pub struct ReportSummary {
 }
 
 // How many entries a file has, or why there is no report: the file is refused, the ring is not of 256 bytes, or a list has
-// fewer places than there are entries.
+// fewer elements than the file has entries.
 pub enum Reported {
     Entries(usize),
     Refused(Refusal),

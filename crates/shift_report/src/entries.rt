@@ -7,7 +7,7 @@ ghost use Prim.Native.Nat.{_<_};
 ghost use Rattle.shift_report.specs.Reporting.{jobOf, tagNumber, front};
 ghost use Rattle.shift_report.specs.Inside.{Openable, Listable};
 
-// 0 where the tag of a row is right, 8 where it is wrong; no message is written.
+// 0 if the tag of a row is right, 8 if it is wrong; no message is written.
 fn tag_number(file: &[u8], ring: &[u8], index: usize, row: Row) -> u8
     requires { ⌜ Openable (now file) (now ring) index row ⌝ }
     ensures { λ r. ⌜ r ≡ tagNumber (now (file .entry)) (now (ring .entry)) index ⌝ }
@@ -16,7 +16,7 @@ fn tag_number(file: &[u8], ring: &[u8], index: usize, row: Row) -> u8
     a.number()
 }
 
-// All entries, from the front of both lists on; a wrong tag stops nothing.
+// Lists all entries, from the front of both lists on; a wrong tag does not stop it.
 pub(crate) fn list_all(file: &[u8], ring: &[u8], rows: usize, jobs: &mut [u32], numbers: &mut [u8])
     requires { ⌜ Listable (now file) (now ring) rows (now jobs) (now numbers) ⌝ }
     ensures { λ _. ⌜ (now (jobs .exit) ≡ front (jobOf (now (file .entry))) rows (now (jobs .entry))) × (now (numbers .exit) ≡ front (tagNumber (now (file .entry)) (now (ring .entry))) rows (now (numbers .entry))) ⌝ }

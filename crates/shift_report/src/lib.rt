@@ -16,7 +16,7 @@ ghost use Rattle.shift_report.specs.Reporting.{saidOf, Report, reporting
 pub const MAX_REPORT: usize = 65280;
 
 // Reports on a supplier's file of at most 65,280 bytes: its entries' jobs, and 0 or 8 for each tag under the ring. Order: a
-// longer file is 20; the file's checks; 2; 6 where a list has fewer places than there are entries.
+// longer file is 20; the file's checks; 2; 6 if a list has fewer elements than the file has entries.
 pub fn report(file: &[u8], ring: &[u8], jobs: &mut [u32], numbers: &mut [u8]) -> Reported
     ensures { λ r. ⌜ _≡_ {A = Report} (record { said = saidOf r; jobs = now (jobs .exit); numbers = now (numbers .exit) })
         (reporting (now (file .entry)) (now (ring .entry)) (now (jobs .entry)) (now (numbers .entry))) ⌝ }

@@ -17,7 +17,7 @@ use Rattle.shift_reseal.specs.Files.{retabled, resealedFile}
 unfoldable pub seenFrom : List ℕ → ℕ → ℕ → Answer
 seenFrom f n i = firstOf (nonceSeen (rowSizeOf f) f) (answer 29) (answer 0 0) i (n - i)
 
--- the tag of row i is wrong and the row is opened: only suite 4 entries are
+-- whether row i has suite 4 and a wrong tag: no other row is opened
 unfoldable pub wrongAgain : List ℕ → List ℕ → ℕ → Bool
 wrongAgain f ring i = eqb (rowOf f i .suite) retiredSuite && not (tagRight f ring i)
 

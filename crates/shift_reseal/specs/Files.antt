@@ -19,11 +19,11 @@ newSuite s = cond (eqb s retiredSuite) successor s
 unfoldable pub resuited : List ℕ → ℕ → List ℕ → List ℕ
 resuited f n l = putAll (restStart (rowSizeOf f)) (λ i. newSuite (rowOf f i .suite) ∷ []) n l
 
--- the file with the table as it would be
+-- the file with the new suites in its table
 abbrev pub retabled : List ℕ → List ℕ
 retabled f = resuited f (countOf f) f
 
--- what is put where text and tag of row i stand: of a suite 4 entry its message, sealed as suite 3 with the row's own key number, nonce and associated data; of any other nothing
+-- what replaces text and tag of row i: for a suite 4 entry its message, sealed as suite 3 with the row's own key number, nonce and associated data; for any other nothing, so they are kept
 unfoldable pub againPiece : List ℕ → List ℕ → ℕ → List ℕ
 againPiece f ring i = cond (eqb (rowOf f i .suite) retiredSuite) (pieceAs f ring i successor (entryOut true f ring i)) []
 

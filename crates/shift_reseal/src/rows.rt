@@ -39,7 +39,7 @@ fn reseal_entry(file: &[u8], ring: &[u8], index: usize, row: Row, out: &mut [u8]
     true
 }
 
-// Reseals a row of suite 4; any other stays unchanged copied. False if the tag is wrong.
+// Reseals a row of suite 4; any other row stays as it was copied. False if the tag is wrong.
 fn reseal_row(file: &[u8], ring: &[u8], index: usize, out: &mut [u8]) -> bool
     requires { ⌜ RowWritable (now file) index (now ring) (now out) ⌝ }
     ensures right { λ r. ⌜ not r ≡ wrongAgain (now (file .entry)) (now (ring .entry)) index ⌝ }

@@ -20,7 +20,7 @@ ghost use Rattle.shift_draft.specs.Answers.{tagRight, wrongFrom, leaves, FileWr
 ghost use Rattle.shift_writer.specs.Answers.{writtenAnswer};
 ghost use Rattle.shift_writer.specs.Inside.{RowsSeal, Writable, RowWritable};
 
-// The edition, in the first two bytes.
+// Writes the edition, in the first two bytes.
 pub(crate) fn put_edition(edition: u16, out: &mut [u8])
     requires { ⌜ 2 ≤ length (now out) ⌝ }
     ensures { λ _. ⌜ now (out .exit) ≡ inEdition edition (now (out .entry)) ⌝ }
@@ -57,7 +57,7 @@ pub(crate) fn seal_rows(file: &[u8], rows: usize, ring: &[u8], out: &mut [u8])
     }
 }
 
-// Opens row i of a file into the output, and zeros its tag there; false where the tag is wrong.
+// Opens row i of a file into the output, and zeros its tag there; false if the tag is wrong.
 fn unseal_entry(file: &[u8], ring: &[u8], index: usize, out: &mut [u8]) -> bool
     requires { ⌜ RowWritable (now file) index (now ring) (now out) ⌝ }
     ensures right { λ r. ⌜ r ≡ tagRight (now (file .entry)) (now (ring .entry)) index ⌝ }

@@ -1,4 +1,4 @@
-// 10: a draft's suites seal.
+// 10: every suite of a draft has to seal.
 use crate::answers::Written;
 use shift_jobs::lend::row_of;
 ghost use mathlib.Core.Path.{_≡_};

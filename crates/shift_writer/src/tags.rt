@@ -1,4 +1,4 @@
-// 33: a draft's tags are zero.
+// 33: every tag of a draft has to be zero.
 use crate::answers::Written;
 use byte_runs::all_zero;
 use shift_format::body::tag_of;

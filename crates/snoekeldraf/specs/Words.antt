@@ -18,7 +18,7 @@ ofWords w =
       «text_total» = getD w 8 0;
     }
 
--- nine words of 64 bits: what the C array holds, whatever it holds
+-- any nine words of 64 bits, which is all that is known of the C array
 pub record Nine (w : List ℕ) : Type 0 where
   pub long : length w ≡ 9
   pub small : (i : ℕ) → getD w i 0 < 2 ^ 64

@@ -2,7 +2,7 @@
 ghost use mathlib.Core.Path.{_≡_};
 ghost use Rattle.shift_compare.specs.Comparing.{Comparison, comparison};
 
-// The first file's refusal, the second's, 36 where a list is longer than its buffer, else the three lists and their lengths.
+// The first file's refusal, the second's, 36 if a list is longer than its buffer, else the three lists and their lengths.
 #[no_mangle]
 pub extern "C" fn shift_compare(
     first: &[u8],

@@ -15,7 +15,7 @@ pub extern "C" fn shift_rows(file: &[u8], edition: &mut u32, count: &mut u32) ->
     h.status as u32
 }
 
-// 20 to 24 alone, 32 where there is no such row, then its nine fields; all are 0 after every status but 0. No row is checked.
+// 20 to 24 alone, 32 if there is no such row, then its nine fields; all are 0 after every status but 0. No row is checked.
 #[no_mangle]
 pub extern "C" fn shift_row(file: &[u8], row: u32, fields: &mut [u32; 9]) -> u32
     ensures { λ r. ⌜ _≡_ {A = InFields} (record { status = r; fields = now (fields .exit) }) (inFields (rowAnswer (now (file .entry)) row)) ⌝ }

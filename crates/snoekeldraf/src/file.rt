@@ -37,7 +37,7 @@ pub extern "C" fn shift_lookup(file: &[u8], job: u32, row: &mut u32) -> u32
     say(shift_jobs::lookup(file, job).answer(), row)
 }
 
-// The lookup's number, and where in the file the job's associated data lies; 0 and 0 where the lookup refuses.
+// The lookup's number, and where in the file the job's associated data lies; 0 and 0 if the lookup refuses.
 #[no_mangle]
 pub extern "C" fn shift_associated(file: &[u8], job: u32, at: &mut u32, len: &mut u32) -> u32
     ensures { λ r. ⌜ _≡_ {A = Located} (record { number = r; at = now (at .exit); len = now (len .exit) }) (locating (now (file .entry)) job) ⌝ }
@@ -48,7 +48,7 @@ pub extern "C" fn shift_associated(file: &[u8], job: u32, at: &mut u32, len: &mu
     e.number as u32
 }
 
-// The lookup's number and row, and where in the file the job's associated data and its text lie; 0 where the lookup refuses.
+// The lookup's number and row, and where in the file the job's associated data and its text lie; 0 if the lookup refuses.
 #[no_mangle]
 pub extern "C" fn shift_entry(
     file: &[u8],

@@ -2,7 +2,7 @@
 ghost use mathlib.Core.Path.{_≡_};
 ghost use Rattle.shift_report.specs.Reporting.{Report, reporting};
 
-// A file over 65,280 bytes is 20; the file's checks; 2; 6 where a list has fewer places than there are entries; else the jobs, and
+// A file over 65,280 bytes is 20; the file's checks; 2; 6 if a list has fewer elements than the file has entries; else the jobs, and
 // 0 or 8 for each.
 #[no_mangle]
 pub extern "C" fn shift_report(

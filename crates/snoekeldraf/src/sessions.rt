@@ -9,7 +9,7 @@ ghost use Rattle.session.specs.Value.{starting, dataPart, textPart, ending};
 ghost use Rattle.session.specs.Structs.{asValue};
 ghost use Rattle.snoekeldraf.specs.Words.{ofWords, wordsOf, after, inWords};
 
-// The nine words by value: nine of them, and each of 64 bits.
+// The nine words by value.
 fn copied(state: &[u64; 9]) -> [u64; 9]
     ensures { λ r. ⌜ r ≡ now (state .entry) ⌝ }
 {
@@ -54,7 +54,7 @@ fn words_of(s: Session) -> [u64; 9]
     ]
 }
 
-// Starts a session; a refused start leaves nine zeros, which every later call answers by 9.
+// Starts a session. A refused start leaves nine zeros, for which every later call returns 9.
 #[no_mangle]
 pub extern "C" fn comet_session_start(
     state: &mut [u64; 9],
@@ -129,7 +129,7 @@ pub extern "C" fn comet_session_end(
     r.number as u32
 }
 
-// Wipes a session: nine zeros, which every later call answers by 9.
+// Wipes a session: nine zeros, for which every later call returns 9.
 #[no_mangle]
 pub extern "C" fn comet_session_wipe(state: &mut [u64; 9])
     ensures { λ _. ⌜ now (state .exit) ≡ replicate 9 0 ⌝ }

@@ -23,7 +23,7 @@ numberOf Retired = 10
 abbrev pub takes : Bool → ℕ → Bool
 takes opening suite = opening || seals suite
 
--- numbers 1, 10, 2 and 3 of every call under a key (10 where the call does not accept the suite), from the suite and the lengths of key and nonce: the first that applies, else the call's own number
+-- numbers 1, 10, 2 and 3 of every call under a key (10 if the call does not accept the suite), from the suite and the lengths of key and nonce: the first that applies, else the call's own number
 abbrev pub underKey : Bool → ℕ → ℕ → ℕ → ℕ → ℕ
 underKey taken suite key nonce own =
     cond (not (isSuite suite)) 1
@@ -32,7 +32,7 @@ underKey taken suite key nonce own =
     (cond (not (eqb nonce (nonceOf suite))) 3
     own)))
 
--- numbers 4 to 7, from the suite and the lengths of associated data, text, output and tag: the first that applies, 0 where none does
+-- numbers 4 to 7, from the suite and the lengths of associated data, text, output and tag: the first that applies, 0 if none does
 abbrev pub textsNumber : ℕ → ℕ → ℕ → ℕ → ℕ → ℕ
 textsNumber suite ad text out tag =
     cond (ltb limit ad) 4
@@ -41,6 +41,6 @@ textsNumber suite ad text out tag =
     (cond (not (eqb tag (sizeOf suite))) 7
     0)))
 
--- numbers 1, 10 and 2 to 7, from the suite and the lengths of key, nonce, associated data, text, output and tag: the first that applies, 0 where none does
+-- numbers 1, 10 and 2 to 7, from the suite and the lengths of key, nonce, associated data, text, output and tag: the first that applies, 0 if none does
 unfoldable pub refusal : Bool → ℕ → ℕ → ℕ → ℕ → ℕ → ℕ → ℕ → ℕ
 refusal opening suite key nonce ad text out tag = underKey (takes opening suite) suite key nonce (textsNumber suite ad text out tag)

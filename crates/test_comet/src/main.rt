@@ -1,10 +1,10 @@
-// Runs the calls of the sealer and the opener that stand in the input, and writes a line for each.
+// Runs the sealer's and opener's calls of the input, and writes a line for each.
 //
 // A call's numbers are the lengths of key, nonce, associated data, text, output and tag; the bytes of key, nonce,
 // associated data and text follow and, to open or verify, those of the tag. Op 0 seals and 1 opens; 2 and 3 are the same,
 // counted; 4 seals and 5 opens in place, and 6 verifies, without an output. A line is the number, for 2 and 3 the count of
-// the cipher calls, the output (for 4 and 5 the text) and, to seal, the tag; for 6 the number alone. What borrows for
-// writing alone holds 0xa5 before the call.
+// the cipher calls, the output (for 4 and 5 the text) and, to seal, the tag; for 6 the number alone. Buffers that
+// are only written hold 0xa5 before the call.
 use comet::Counted;
 use libc::STDIN_FILENO;
 use program_text::call::Call;
@@ -20,7 +20,7 @@ fn counted(a: Counted, line: &mut [u8]) -> usize {
     and_number(line, at, a.calls)
 }
 
-// Seals, and puts the number into the line.
+// Seals, and writes the status into the line.
 fn sealed(
     c: Call,
     key: &[u8],
@@ -200,7 +200,7 @@ fn in_place(c: Call, key: &[u8], nonce: &[u8], ad: &[u8], line: &mut [u8]) -> us
     unseal_in_place(c, key, nonce, ad, &mut text[0..n], &mut tag[0..g], line)
 }
 
-// Reads the rest of a call and runs it; no line where a buffer has no room or the input ends.
+// Reads the rest of a call and runs it; no line if a buffer is too small or the input ends.
 fn run(c: Call, line: &mut [u8]) -> usize {
     let mut k = [0u8; 40];
     let mut v = [0u8; 40];

@@ -1,9 +1,9 @@
-// Puts the calls that stand in the input to one session, which is over at first, and writes a line for each.
+// Runs the calls of the input on one session, which is over at first, and writes a line for each.
 //
 // Op 0 starts (lengths of key and nonce; both follow), 1 brings associated data (its length; it follows), 2 a part of the
 // message (its length and the output's; it follows), 3 ends (0, lengths of output and tag). Op 4 is no call: the session
-// gets this suite and, in the place of the second and third number, these totals, and no line is written. A line is the
-// number, the count and, where the call has them, output and tag. The borrowed buffers hold 0xa5 before the call.
+// gets this suite and the second and third number as its totals, and no line is written. A line is the
+// number, the count and, if the call has them, output and tag. The borrowed buffers hold 0xa5 before the call.
 use block::Block;
 use program_text::call::Call;
 use program_text::text::and_shown;
@@ -11,7 +11,7 @@ use program_text::text::answer;
 use program_text::text::end;
 use session::Session;
 
-// The session that stands, and whether the input goes on.
+// The current session, and whether the input goes on.
 struct After {
     next: Session,
     good: bool,
@@ -121,7 +121,7 @@ fn finish(s: Session, c: Call, line: &mut [u8]) -> After {
     ended(s, &mut out[0..o], &mut tag[0..g], line)
 }
 
-// A value that the caller built himself.
+// A session value that no run gives, as a caller can build it.
 fn forge(s: Session, c: Call) -> After {
     let y = s.y;
     let z = s.z;
@@ -152,7 +152,7 @@ fn put(s: Session, c: Call, line: &mut [u8]) -> After {
     }
 }
 
-// Reads a call and puts it to the session; no good at the end of the input.
+// Reads a call and runs it on the session; `good` is false at the end of the input.
 fn turn(s: Session) -> After {
     let mut head = [0u8; 30];
     let mut line = [0u8; 512];

@@ -15,7 +15,7 @@ fn answer(line: &mut [u8], at: usize, answer: u8, file: u8, row: usize) -> usize
     and_number(line, at, row as u64)
 }
 
-// The call beside; place, length and bytes of the part.
+// Status, file and row; offset, length and bytes of the part.
 fn located<'a>(amendment: &'a [u8], day: &'a [u8], job: u32, line: &mut [u8]) -> usize {
     let x = shift_amend::locate(amendment, day, job);
     let part = shift_amend::current(amendment, day, job);
@@ -43,7 +43,7 @@ fn opening(
     end(line, at)
 }
 
-// Runs a call, once both files are there; no line where ring or output have no room.
+// Runs a call, once both files are there; no line if the buffer of ring or output is too small.
 fn one<'a>(amendment: &'a [u8], day: &'a [u8], c: Call, line: &mut [u8]) -> usize {
     let mut r = [0u8; 300];
     let mut out = [0xa5u8; 65540];
@@ -60,7 +60,7 @@ fn one<'a>(amendment: &'a [u8], day: &'a [u8], c: Call, line: &mut [u8]) -> usiz
     opening(amendment, day, ring, c.job, &mut out[0..o], line, at)
 }
 
-// Reads both files; no line where one has no room or the input ends.
+// Reads both files; no line if a buffer is too small or the input ends.
 pub(crate) fn run(c: Call, line: &mut [u8]) -> usize {
     let mut f = [0u8; 65540];
     let mut g = [0u8; 65540];

@@ -1,6 +1,6 @@
-// The comparison of two files. Numbers: the lengths of the files and how many places the three lists have; the files follow.
+// The comparison of two files. Numbers: the lengths of the files and how many elements the three lists have; the files follow.
 //
-// A line: number, file, row, the three counts, and every place of the three lists.
+// A line: number, file, row, the three counts, and every element of the three lists.
 use program_text::call::Call;
 use program_text::text::and_list;
 use program_text::text::and_number;
@@ -33,7 +33,7 @@ fn one(
     end(line, at)
 }
 
-// Runs a call on its files; no line where a list has more places than there are.
+// Runs a call on its files; no line if a list has more elements than the buffer.
 fn run_on(first: &[u8], second: &[u8], c: Call, line: &mut [u8]) -> usize {
     let mut x = [0xa5a5a5a5u32; 520];
     let mut y = [0xa5a5a5a5u32; 520];
@@ -54,7 +54,7 @@ fn run_on(first: &[u8], second: &[u8], c: Call, line: &mut [u8]) -> usize {
     )
 }
 
-// Reads both files; no line where one has no room or the input ends.
+// Reads both files; no line if a buffer is too small or the input ends.
 pub(crate) fn run(c: Call, line: &mut [u8]) -> usize {
     let mut a = [0u8; 65540];
     let mut b = [0u8; 65540];

@@ -1,7 +1,7 @@
 // Runs the calls that read shift files, and writes the lines of each.
 //
-// The call's op says which: 0 and 1 `opening`, 2 `binary search`, 3 `amended`, 4 `compared`, 5 `report`, 6 to 9 `printing`, 10
-// `contents`. What a call's numbers are, what follows them and what its lines say stands in the module of that name. Lent
+// The call's op says which: 0 and 1 `opening`, 2 `search`, 3 `amended`, 4 `compared`, 5 `report`, 6 to 9 `printing`, 10
+// `contents`. What a call's numbers are, what follows them and what its lines say is in the module of that name. Borrowed
 // buffers hold 0xa5 before the call.
 mod amended;
 mod compared;
@@ -13,7 +13,7 @@ mod search;
 
 use program_text::call::Call;
 
-// No line where a buffer has no room, the input ends, or there is no such op.
+// Runs a call; no line if a buffer is too small, the input ends, or there is no such op.
 fn run(c: Call, line: &mut [u8]) -> usize {
     let op = c.op;
     match op {

@@ -1,7 +1,7 @@
 // Check, lookup and opening of one job. Numbers: the lengths of file, ring and output; the file and the ring follow.
 //
-// Op 0: one line, number and row of the check and of the lookup; place, length and bytes of the associated data; number and
-// row of the opening, and its output. Op 1: a line for each byte of the file, the fold of the answers to its 255 damages,
+// Op 0: one line, number and row of the check and of the lookup; offset, length and bytes of the associated data; number and
+// row of the opening, and its output. Op 1: a line for each byte of the file, the fold of the answers to its 255 other values,
 // outputs too.
 use libc::STDIN_FILENO;
 use program_text::call::Call;
@@ -27,7 +27,7 @@ fn found(file: &[u8], job: u32, line: &mut [u8]) -> usize {
     and_answer(line, at, shift_jobs::lookup(file, job).answer())
 }
 
-// Place, length and bytes of the associated data.
+// Offset, length and bytes of the associated data.
 fn place(file: &[u8], job: u32, line: &mut [u8], at: usize) -> usize {
     let entry = shift_jobs::entry(file, job);
     let ad = shift_jobs::associated(file, job);
@@ -53,7 +53,7 @@ fn opening(
     end(line, at)
 }
 
-// op 0; no line where the output has no room.
+// Op 0; no line if the output's buffer is too small.
 fn one(file: &[u8], ring: &[u8], c: Call, line: &mut [u8]) -> usize {
     let mut out = [0xa5u8; 65540];
     let o = c.third;
@@ -102,7 +102,7 @@ fn answers(s: u64, file: &[u8], ring: &[u8], job: u32, o: usize) -> u64
     opened(s4, file, ring, job, o)
 }
 
-// The 255 damages of byte p.
+// The fold of the answers to the 255 other values of byte p.
 fn damages(file: &mut [u8], p: usize, ring: &[u8], job: u32, o: usize) -> u64
     requires { ⌜ (p < length (now file)) × (o ≤ 300) ⌝ }
 {
@@ -124,7 +124,7 @@ fn fold_line(line: &mut [u8], at: usize, s: u64) -> usize {
     end(line, to)
 }
 
-// op 1; no line where the output has no room.
+// Op 1; no line if the output's buffer is too small.
 fn damage(file: &mut [u8], ring: &[u8], job: u32, o: usize, line: &mut [u8]) -> usize {
     if 300 < o {
         return 0;
@@ -152,7 +152,7 @@ fn run_on(file: &mut [u8], c: Call, line: &mut [u8]) -> usize {
     damage(file, ring, c.job, c.third, line)
 }
 
-// Reads the file of a call into f and runs it; no line where f has no room or the input ends.
+// Reads the file of a call into f and runs it; no line if f is too small or the input ends.
 fn run_in(f: &mut [u8], c: Call, line: &mut [u8]) -> usize {
     let n = c.first;
     if f.len() < n {

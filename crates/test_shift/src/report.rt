@@ -1,8 +1,8 @@
-// The report on a file, and the reader. Numbers: the lengths of file and ring, how many places the list of jobs and the list
-// of numbers have, and how often the reader is checked; the file and the ring follow.
+// The report on a file, and the reader. Numbers: the lengths of file and ring, how many elements the list of jobs and the list
+// of numbers have, and how often the reader is called; the file and the ring follow.
 //
-// Two lines: number, row and count of the report, every place of the list of jobs, and the list of numbers as bytes; and
-// "reader" and, for each ask, row, job and station of the entry and where its nonce starts, or "-" where it has ended.
+// Two lines: number, row and count of the report, every element of the list of jobs, and the list of numbers as bytes; and
+// "reader" and, for each call, row, job and station of the entry and the offset of its nonce, or "-" if it has ended.
 use program_text::call::Call;
 use program_text::text::and_list;
 use program_text::text::and_number;
@@ -49,7 +49,7 @@ fn entry(e: NextRow, line: &mut [u8], at: usize) -> usize {
     }
 }
 
-// The reader's answers to so many requires.
+// The reader's answers to so many calls.
 fn answers(file: &[u8], asks: usize, line: &mut [u8], at: usize) -> usize {
     let mut to = put(line, at, b"reader");
     let mut c = start(file);
@@ -64,7 +64,7 @@ fn answers(file: &[u8], asks: usize, line: &mut [u8], at: usize) -> usize {
     end(line, to)
 }
 
-// Runs a call on its file, once its ring is read; no line where ring or lists have no room.
+// Runs a call on its file, once its ring is read; no line if the buffer of ring or lists is too small.
 fn run_on(file: &[u8], c: Call, line: &mut [u8]) -> usize {
     let mut r = [0u8; 300];
     let mut x = [0xa5a5a5a5u32; 520];
@@ -83,7 +83,7 @@ fn run_on(file: &[u8], c: Call, line: &mut [u8]) -> usize {
     answers(file, c.fifth, line, at)
 }
 
-// Reads the file of a call and runs it; no line where the file has no room or the input ends.
+// Reads the file of a call and runs it; no line if its buffer is too small or the input ends.
 pub(crate) fn run(c: Call, line: &mut [u8]) -> usize {
     let mut f = [0u8; 65540];
     let n = c.first;

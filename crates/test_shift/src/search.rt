@@ -31,7 +31,7 @@ fn searches(file: &[u8], first: u32, count: usize, line: &mut [u8]) -> usize {
     at
 }
 
-// Reads the file of a call into f and runs it; no line where f has no room or the input ends.
+// Reads the file of a call into f and runs it; no line if f is too small or the input ends.
 fn run_in(f: &mut [u8], c: Call, line: &mut [u8]) -> usize {
     let n = c.first;
     let file = program_text::read::field(f, n);

@@ -15,7 +15,7 @@ fn said(a: Answer, out: &[u8], line: &mut [u8]) -> usize {
     end(line, at)
 }
 
-// Runs a call into an output; no line where there is no such op.
+// Runs a call into an output; no line if there is no such op.
 fn write(op: u8, file: &[u8], ring: &[u8], out: &mut [u8], line: &mut [u8]) -> usize {
     match op {
         0 => said(shift_writer::seal_file(file, ring, out).answer(), out, line),
@@ -31,7 +31,7 @@ fn write(op: u8, file: &[u8], ring: &[u8], out: &mut [u8], line: &mut [u8]) -> u
     }
 }
 
-// Runs a call on its file, once its ring is read; no line where ring or output have no room.
+// Runs a call on its file, once its ring is read; no line if the buffer of ring or output is too small.
 fn run_on(file: &[u8], c: Call, line: &mut [u8]) -> usize {
     let mut r = [0u8; 300];
     let mut out = [0xa5u8; 65540];
@@ -47,7 +47,7 @@ fn run_on(file: &[u8], c: Call, line: &mut [u8]) -> usize {
     write(c.op, file, ring, &mut out[0..o], line)
 }
 
-// Reads the file of a call into f and runs it; no line where f has no room or the input ends.
+// Reads the file of a call into f and runs it; no line if f is too small or the input ends.
 fn run_in(f: &mut [u8], c: Call, line: &mut [u8]) -> usize {
     let n = c.first;
     let file = program_text::read::field(f, n);

@@ -1,7 +1,7 @@
 // Writes a shift file: write DRAFT RING OUT seals a draft, write back FILE RING OUT gives the draft of a file back,
 // write reseal FILE RING OUT seals its suite 4 entries again as suite 3.
 //
-// Prints number and row on one line; the file OUT is made where the number is 0, and else left alone. A file that cannot
+// Prints status and row on one line. OUT is written if the status is 0, and otherwise unchanged. A file that cannot
 // be read counts as zero bytes. The program takes files up to the format's 1,048,576 bytes (longer: 20).
 use status::checked::Answer;
 ghost use Prim.Native.Nat.{_≤_};
@@ -39,7 +39,7 @@ fn run(way: Way, file: &[u8], i: usize, out: &mut [u8])
     }
 }
 
-// An output of the file's length; the buffer has room for every file, so the test always holds.
+// An output of the file's length; the buffer holds every file, so the test always holds.
 fn run_in(way: Way, file: &[u8], i: usize, out: &mut [u8])
     requires { ⌜ i ≤ 3 ⌝ }
 {
