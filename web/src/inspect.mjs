@@ -37,7 +37,9 @@ function headNotes(status, size) {
     23: 'Bytes are missing or were added: the file may have been cut off while it was copied.',
     24: 'Bytes are missing, or the number of rows in its header is wrong.',
   }[status];
-  return more ? [own, more] : [own];
+  // Dropped among shift files, only a ring of the right length is known as one.
+  const ring = size < 2 * RING_BYTES && size !== RING_BYTES ? `If it is meant as a key ring: a ring has ${bytesWord(RING_BYTES)}.` : null;
+  return [own, more, ring].filter(Boolean);
 }
 
 function endNotes(library, bytes, size) {

@@ -45,6 +45,9 @@ test('a ring of another length is refused in words (2)', () => {
     assert.deepEqual([r.verdict, r.status], ['unverified', 2]);
     assert.match(r.headline, /^Checked, not verified: .*the ring is not 256 bytes long \(2\)$/);
     assert.match(r.notes.join(' '), new RegExp(`The chosen ring has ${length} bytes?; a key ring has 256`));
+    const dropped = new Uint8Array(length).fill(7); // among the shift files
+    assert.ok(!looksLikeRing(library, dropped));
+    assert.match(inspect(library, dropped, null).notes.join(' '), /If it is meant as a key ring: a ring has 256 bytes\./);
   }
   assert.equal(inspect(library, longest(), new Uint8Array(3)).status, 2);
 });
