@@ -22,6 +22,10 @@ HERE = pathlib.Path(__file__).resolve().parent
 INPUTS = {"key", "block", "nonce", "ad", "msg", "text", "tag", "file", "ring", "amendment", "day", "first", "second"}
 # Those of an answer. It may leave them out after a refusal, if the program gives no output then.
 OUTPUTS = {"out", "tag"}
+# The rule that an answer breaks if its status is right and only its outputs are wrong: after 8, and after every other refusal.
+ORDER = "In which order each routine checks"
+AFTER_8 = ("after 8", {"section": ORDER, "text": "8 leaves every byte of the output 0"})
+AFTER_REFUSAL = ("after a refusal", {"section": ORDER, "text": "a status other than 0 and 8 leaves outputs and tags unchanged"})
 
 
 def part_of(part):
@@ -67,17 +71,28 @@ def shown(value):
 
 
 def differences(wanted, given):
-    """What is wrong with an answer: one sentence for each field."""
+    """What is wrong with an answer: for each wrong field its name and a sentence."""
     refused = wanted.get("status", 0) != 0
     for name, value in wanted.items():
         if name not in given:
             if not (refused and name in OUTPUTS):
-                yield f"{name} is missing"
+                yield name, f"{name} is missing"
         elif name in OUTPUTS:
             if not is_same_bytes(value, given[name]):
-                yield f"{name} is {shown(given[name])}, not {shown(value)}"
+                yield name, f"{name} is {shown(given[name])}, not {shown(value)}"
         elif given[name] != value:
-            yield f"{name} is {shown(json.dumps(given[name]))}, not {shown(json.dumps(value))}"
+            yield name, f"{name} is {shown(json.dumps(given[name]))}, not {shown(json.dumps(value))}"
+
+
+def broken_rule(test, wrong, rules):
+    """The rule that wrong fields break, (name, rule); None if there is no answer. A case tries one rule, but a program that
+    refuses it rightly can still break the rule on outputs."""
+    status = test["answer"].get("status", 0)
+    if not wrong:
+        return None
+    if status != 0 and OUTPUTS.issuperset(wrong):
+        return AFTER_8 if status == 8 else AFTER_REFUSAL
+    return test["rule"], rules[test["rule"]]
 
 
 def answers_of(program, tests):
@@ -98,48 +113,55 @@ def answers_of(program, tests):
 
 
 class Counts:
-    passed = failed = skipped = uncompared = 0
+    passed = failed = skipped = unanswered = uncompared = 0
 
 
 def judged(test, answers, counts):
-    """Counts one answer; gives what is wrong with it."""
+    """Counts one answer; gives what is wrong with it as {field: sentence}, or None if nothing is."""
     answer = answers.get(test["id"])
     if answer is None:
-        wrong = ["no answer"]
-    elif answer.get("skipped"):
+        counts.failed += 1
+        counts.unanswered += 1
+        return {}
+    if answer.get("skipped"):
         counts.skipped += 1
-        return []
-    else:
-        wrong = list(differences(test["answer"], answer))
-        counts.uncompared += any(name in test["answer"] and name not in answer for name in OUTPUTS)
+        return None
+    wrong = dict(differences(test["answer"], answer))
+    counts.uncompared += any(name in test["answer"] and name not in answer for name in OUTPUTS)
     counts.failed += bool(wrong)
     counts.passed += not wrong
-    return wrong
+    return wrong or None
 
 
-def print_failure(name, test, wrong, rules):
-    rule = rules[test["rule"]]
+def print_failure(name, test, wrong, rule):
     print(f"{name} {test['id']}, {test['case']['call']}: {test['comment']}")
-    for sentence in wrong:
+    for sentence in wrong.values() or ["no answer"]:
         print(f"    {sentence}")
-    print(f"    rule \"{test['rule']}\" (docs/FORMAT.md, {rule['section']}): {rule['text']}")
+    if rule:
+        print(f"    rule \"{rule[0]}\" (docs/FORMAT.md, {rule[1]['section']}): {rule[1]['text']}")
 
 
 def run_file(path, program, only, show, counts, broken):
     """Runs one file and prints its failures; collects the rules that are broken."""
-    vectors = json.loads(path.read_text())
-    if vectors["schema"] != SCHEMA:
-        give_up(f"{path}: the schema is {vectors['schema']}, not {SCHEMA}")
+    try:
+        vectors = json.loads(path.read_text())
+        schema = vectors["schema"]
+    except (OSError, ValueError, TypeError, KeyError) as error:
+        give_up(f"{path} is no file of vectors: {error}")
+    if schema != SCHEMA:
+        give_up(f"{path}: the schema is {schema}, not {SCHEMA}")
     tests = [test for test in vectors["cases"] if not only or test["case"]["call"] in only]
     answers, said = answers_of(program, tests)
     failures = 0
     for test in tests:
         wrong = judged(test, answers, counts)
-        if wrong:
+        if wrong is not None:
+            rule = broken_rule(test, wrong, vectors["rules"])
             failures += 1
-            broken[test["rule"]] = broken.get(test["rule"], 0) + 1
+            if rule:
+                broken[rule[0]] = broken.get(rule[0], 0) + 1
             if failures <= show:
-                print_failure(path.name, test, wrong, vectors["rules"])
+                print_failure(path.name, test, wrong, rule)
     if failures > show:
         print(f"{path.name}: {failures - show} more failures")
     if said:
@@ -155,9 +177,10 @@ def arguments():
     only, show, files = set(), 10, []
     while options:
         word = options.pop(0)
-        if word in ("--only", "--show") and options:
-            value = options.pop(0)
-            only, show = (set(value.split(",")), show) if word == "--only" else (only, int(value))
+        if word == "--only" and options:
+            only = set(options.pop(0).split(","))
+        elif word == "--show" and options and options[0].isdecimal():
+            show = int(options.pop(0))
         elif word.startswith("--"):
             give_up(__doc__)
         else:
@@ -179,6 +202,8 @@ def main():
         print("rules that are broken, and by how many cases:")
         for rule, count in sorted(broken.items(), key=lambda entry: -entry[1]):
             print(f"    {rule}: {count}")
+    if counts.unanswered:
+        print(f"{counts.unanswered} cases had no answer")
     if counts.uncompared:
         print(f"{counts.uncompared} refusals came without the output: what it holds was not compared")
     skipped = f", {counts.skipped} skipped" if counts.skipped else ""

@@ -45,7 +45,10 @@ function unitWarnings(entries) {
 function refusedReport(library, report, refusal, own) {
   const [whose, notes] = refusal.file === 1 ? ['the amendment', own.amendment.notes] : ["the day's file", own.day.notes];
   const { status, row } = refusal;
-  return { ...report, verdict: 'refused', status, row, headline: `Refused: ${whose}: ${refusalLine(library, refusal)}`, notes };
+  return {
+    ...report, verdict: 'refused', status, row, headline: `Refused: ${whose}: ${refusalLine(library, refusal)}`,
+    warnings: ['Use nothing of these two files: which entries are current is unknown.'], notes,
+  };
 }
 
 function standingNote(standing) {

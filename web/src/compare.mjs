@@ -58,8 +58,9 @@ function warningsOf(differ) {
 const NOTE = 'Compared are suite, key number, station, nonce, data, sealed message and tag of each job. Offsets do not count.';
 
 function headlineOf({ onlyFirst, onlySecond, differ }, entries) {
-  const parts = [[onlyFirst, 'only in the first'], [onlySecond, 'only in the second'], [differ, 'in both but different']]
-    .filter(([list]) => list.length > 0).map(([list, words]) => `${list.length} ${words}`);
+  const noun = (i, n) => (i > 0 ? '' : n === 1 ? ' job' : ' jobs'); // once, at the first count
+  const parts = [[onlyFirst, 'only in the first file'], [onlySecond, 'only in the second file'], [differ, 'in both files but different']]
+    .filter(([list]) => list.length > 0).map(([list, words], i) => `${list.length}${noun(i, list.length)} ${words}`);
   if (parts.length > 0) return `Different: ${parts.join(', ')}`;
   if (entries === 0) return 'The same: both files have no entries';
   return `The same: ${entries === 1 ? 'the only entry is' : `all ${entries} entries are`} equal`;

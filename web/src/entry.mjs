@@ -40,14 +40,21 @@ async function copy(control, text) {
   setTimeout(() => { control.textContent = before; }, 1600);
 }
 
-// The entry as text. It always contains the unit and what is known of it.
+const STANDING_SAYS = {
+  replaces: "From the amendment: it replaces the day's entry.",
+  adds: "From the amendment: the day's file does not have this job.",
+  replaced: 'No longer current: the amendment replaces it.',
+};
+
+// The entry as text. It always contains the unit and what is known of it, and with an amendment whether it is current.
 function copyText(entry, message) {
   const form = (bytes) => {
     const line = onOneLine(bytes);
     return bytes.length === 0 ? 'empty' : line.startsWith('hex ') ? line : `text ${line}`;
   };
   return [
-    `job ${entry.job}`, `unit ${entry.unit} ${UNITS[entry.unit].name} (${TRUST[entry.verdict]})`, `suite ${entry.suite}`, `key ${entry.key}`,
+    `job ${entry.job}`, ...(STANDING_SAYS[entry.standing] ? [STANDING_SAYS[entry.standing]] : []),
+    `unit ${entry.unit} ${UNITS[entry.unit].name} (${TRUST[entry.verdict]})`, `suite ${entry.suite}`, `key ${entry.key}`,
     ...(entry.station === null ? [] : [`station ${entry.station} (not covered by the tag)`]), `data ${form(entry.data)}`,
     ...(message ? [`message ${form(message)}`] : []),
   ].join('\n');
@@ -87,12 +94,6 @@ const UNIT_SAYS = {
 const unitBanner = (unit, verdict) => el('div', { class: `unit-banner unit-${unit} is-${verdict}` },
   el('span', { class: 'banner-short', 'aria-hidden': 'true' }, UNITS[unit].short),
   el('div', {}, el('p', { class: 'banner-name' }, UNITS[unit].name), el('p', { class: 'banner-says' }, UNIT_SAYS[verdict])));
-
-const STANDING_SAYS = {
-  replaces: "From the amendment: it replaces the day's entry.",
-  adds: "From the amendment: the day's file does not have this job.",
-  replaced: 'No longer current: the amendment replaces it.',
-};
 
 function factsOfEntry(entry) {
   const { name, version, retired } = SUITES[entry.suite];

@@ -37,7 +37,9 @@ function headNotes(status, size) {
     23: 'Bytes are missing or were added: the file may have been cut off while it was copied.',
     24: 'Bytes are missing, or the number of rows in its header is wrong.',
   }[status];
-  return more ? [own, more] : [own];
+  // Dropped among shift files, only a ring of the right length is known as one.
+  const ring = size < 2 * RING_BYTES && size !== RING_BYTES ? `If it is meant as a key ring: a ring has ${bytesWord(RING_BYTES)}.` : null;
+  return [own, more, ring].filter(Boolean);
 }
 
 function endNotes(library, bytes, size) {
@@ -65,7 +67,7 @@ function repeatNotes(library, bytes, at, row) {
   return [
     `Row ${row} (job ${at.job}) and row ${earlier} (job ${other.job}) have suite ${at.suite} (${suiteName(at.suite)}), `
       + `key number ${at.key} and nonce ${hex(nonceOf(bytes, at))}.`,
-    'No two records may have the same key and nonce: the sender must seal one of them again with a new nonce.',
+    'No two records may have the same key and nonce: the sender must seal both again with new nonces.',
   ];
 }
 
@@ -174,9 +176,10 @@ function ringHint(entries) {
 // The verdict on verified entries. `whose` follows the count: ' of both files'.
 export function verdictOf(entries, whose = '') {
   const forged = entries.filter((e) => e.verdict === 'forged').map((e) => e.job);
+  const jobs = [...new Set(forged)]; // a job can be forged in both files
   const all = entries.length === 1 ? 'the only entry' : `all ${entriesWord(entries.length)}`;
   if (forged.length === 0) return { verdict: 'genuine', headline: `Genuine: ${all}${whose}`, warnings: [], notes: [COVERS] };
-  const some = `${grouped(forged.length)} of ${entriesWord(entries.length)}${whose} (${jobsWord(forged)})`;
+  const some = `${grouped(forged.length)} of ${entriesWord(entries.length)}${whose} (${jobsWord(jobs)})`;
   return {
     verdict: 'forged',
     headline: `FORGED: ${forged.length === entries.length ? `${all}${whose}` : some}`,
@@ -189,14 +192,16 @@ function unverifiedOf(library, ring, entries) {
   const why = ring ? `${library.words(2)} (2)` : 'no key ring';
   return {
     verdict: 'unverified', status: ring ? 2 : 0, headline: `Checked, not verified: ${why}`,
+    warnings: ['Use nothing yet: no tag was compared.'],
     notes: [
       `The file is well formed and has ${entriesWord(entries.length)}. Whether they are genuine is unknown: that takes the key ring.`,
       'Job numbers, units and data are what the file claims.',
-      ...(ring ? [`The chosen ring has ${bytesWord(ring.length)}.`] : []),
+      ...(ring ? [`The chosen ring has ${bytesWord(ring.length)}; a key ring has ${RING_BYTES}.`] : []),
     ],
   };
 }
 
+export const USE_NOTHING = 'Use nothing of this file.';
 const EMPTY_NOTE = 'A file without entries has no tag: nothing in it can be verified, and anyone can make one.';
 
 export const blankReport = (size) => (
@@ -208,8 +213,10 @@ export const blankReport = (size) => (
 export function inspect(library, bytes, ring, size = bytes.length) {
   const refusal = library.check(bytes);
   if (refusal.status !== 0) {
-    const headline = `Refused: ${refusalLine(library, refusal)}`;
-    return { ...blankReport(size), verdict: 'refused', ...refusal, headline, notes: refusalNotes(library, bytes, refusal, size) };
+    return {
+      ...blankReport(size), verdict: 'refused', ...refusal, headline: `Refused: ${refusalLine(library, refusal)}`,
+      warnings: [USE_NOTHING], notes: refusalNotes(library, bytes, refusal, size),
+    };
   }
   const { edition, entries } = claimedEntries(library, bytes);
   const report = { ...blankReport(size), edition, entries };

@@ -1,5 +1,5 @@
 // What is chosen on the page and what was found in it. Nothing is stored: it ends with the page.
-import { READ_BYTES_MAX, inspect, looksLikeRing } from './inspect.mjs';
+import { READ_BYTES_MAX, USE_NOTHING, inspect, looksLikeRing } from './inspect.mjs';
 import { inspectAmended } from './amend.mjs';
 import { compareFiles } from './compare.mjs';
 import { sha256 } from './sha256.mjs';
@@ -38,7 +38,8 @@ function guarded(work) {
     return work();
   } catch (error) {
     return {
-      verdict: 'broken', headline: 'No verdict: the inspection failed', warnings: [`Please report this: ${error.message}`], notes: [],
+      verdict: 'broken', headline: 'No verdict: the inspection failed',
+      warnings: [USE_NOTHING, `Please report this: ${error.message}`], notes: [],
       status: null, row: 0, size: 0, edition: null, entries: [], counts: { entries: 0, newtonMetres: 0, inchPounds: 0 },
       onlyFirst: [], onlySecond: [], differ: [],
     };

@@ -84,6 +84,7 @@ export function showTable() {
   columns = COLUMNS.filter((c) => !c.when || c.when(report));
   const stations = columns.some((c) => c.id === 'station');
   $('columns').replaceChildren(...columns.map(headerCell));
+  $('paper-head').colSpan = columns.length;
   $('entries').setAttribute('aria-label', `Entries of ${viewed().name}`);
   $('entries').classList.toggle('long', report.entries.length > 100);
   $('entries').classList.toggle('amended', Boolean(report.amended));

@@ -71,6 +71,8 @@ function factsOfFile(file, { edition }) {
     ['Key ring', state.ring ? state.ring.name : 'none'],
     ['Amendment', state.amended ? state.amendment.name : null],
     ['its SHA-256', state.amended ? digestWords(state.amendment) : null, 'code'],
+    ['Second file', state.comparison ? state.second.name : null],
+    ['its SHA-256', state.comparison ? digestWords(state.second) : null, 'code'],
     ['Inspected', showTime(state.time)],
     ['Library', $('library').textContent, 'print-only code'],
   ]);
@@ -90,6 +92,9 @@ function fileWords(file) {
   return state.amended ? `${file.name}, amended by ${state.amendment.name}` : file.name;
 }
 
+// Stands above the table on every printed page.
+const paperHead = (file, { headline }) => `${fileWords(file)}: ${headline}. SHA-256 ${digestWords(file)}`;
+
 // Shows the verdict on the viewed file.
 export function showVerdict() {
   const [file, report] = [viewed(), viewedReport()];
@@ -105,4 +110,5 @@ export function showVerdict() {
   $('warnings').replaceChildren(...warningItems(report.warnings));
   $('notes').replaceChildren(...noteItems(report.notes));
   $('facts').replaceChildren(...factsOfFile(file, report));
+  $('paper-head').textContent = paperHead(file, report);
 }

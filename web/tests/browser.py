@@ -218,6 +218,8 @@ def paper(name):
     text = js("return document.body.innerText")
     for words in (headline(), "SHA-256", "Inspected", "16 November 2026", "Snoekeldraf"):
         check(words in text, f"{name} on paper: {words} is missing")
+    head = texts("#paper-head")[0]
+    check(headline() in head and one("#verdict-file").text in head and js("return document.querySelector('#facts dd.code').textContent") in head, f"{name} on paper: the head of a page is {head}")
     screen(1280, 900, False)
     got = driver.execute_cdp_cmd("Page.printToPDF", {"preferCSSPageSize": True, "printBackground": True})
     check(len(got["data"]) > 5000, "the printed report")
@@ -247,6 +249,7 @@ def not_verified():
     shows("Checked, not verified: no key ring")
     equal(column("job"), JOBS)
     check(all("claimed" in u for u in column("unit")), column("unit"))
+    equal(texts("#warnings li"), ["Use nothing yet: no tag was compared."])
     equal(set(column("verdict")), {"not verified"})
     look("1-unverified")
     one("#rows .open").click()
@@ -284,6 +287,14 @@ def units_differ_without_colour():
         check(a != b, f"the units have the same {what}: {a}")
 
 
+def copied_entry():
+    """What the copy button of the open entry puts on the clipboard."""
+    driver.execute_cdp_cmd("Browser.grantPermissions", {"permissions": ["clipboardReadWrite", "clipboardSanitizedWrite"]})
+    one("#copy-entry").click()
+    wait(lambda: one("#copy-entry").text == "Copied", "copying")
+    return driver.execute_async_script("navigator.clipboard.readText().then(arguments[0], e => arguments[0](String(e)))")
+
+
 def one_entry_by_keyboard():
     choose("files", "day.shift")
     choose("ring", "ring.keys")
@@ -296,10 +307,7 @@ def one_entry_by_keyboard():
     check(one(".banner-says").text.startswith("Verified"), one(".banner-says").text)
     look("entry-2-genuine")
     named()
-    driver.execute_cdp_cmd("Browser.grantPermissions", {"permissions": ["clipboardReadWrite", "clipboardSanitizedWrite"]})
-    one("#copy-entry").click()
-    wait(lambda: one("#copy-entry").text == "Copied", "copying")
-    copied = driver.execute_async_script("navigator.clipboard.readText().then(arguments[0], e => arguments[0](String(e)))")
+    copied = copied_entry()
     check("unit 2 inch-pounds (verified)" in copied and "message text gearbox 4103" in copied, copied)
     one(".toggle-hex").click()
     check(one("#entry pre").text.startswith("0000  67 65 61 72 62 6f 78"), one("#entry pre").text)
@@ -339,6 +347,7 @@ def forged():
     shows("FORGED: 2 of 8 entries (jobs 4102 and 4210)")
     equal(one("#verdict").get_attribute("data-verdict"), "forged")
     equal([i for i, v in enumerate(column("verdict")) if v == "FORGED"], [1, 6])
+    check(one("#headline").rect["y"] < one("#warnings").rect["y"] < one("#units").rect["y"], "the warning stands between verdict and units")
     look("3-forged")
     picture("page-forged")
     one("#only-forged").click()
@@ -456,6 +465,8 @@ def amended():
     one("#open-other").click()
     check("No longer current" in one("#entry").text and one("#entry pre").text != text and "24.9 25.1" in one("#entry pre").text, one("#entry").text)
     look("entry-5-replaced")
+    copied = copied_entry()
+    check("No longer current" in copied and "unit 1 newton-metres (verified)" in copied, copied)
     close_entry()
     look("7-amended")
     paper("amended")
@@ -490,11 +501,12 @@ def compared():
     choose("ring", "ring.keys")
     choose("files", "day.shift")
     choose("second", "amendment.shift")
-    wait(lambda: texts(".comparison-headline") == ["Different: 6 only in the first, 1 only in the second, 2 in both but different"], "the comparison")
+    wait(lambda: texts(".comparison-headline") == ["Different: 6 jobs only in the first file, 1 only in the second file, 2 in both files but different"], "the comparison")
     equal([t.split("differs")[0] for t in texts(".differ summary")], ["Job 4102", "Job 4110"])
     look("8-comparison-amendment")
     choose("second", "exchanged.shift")
-    wait(lambda: texts(".comparison-headline") == ["Different: 1 in both but different"], "the unit differs")
+    wait(lambda: texts(".comparison-headline") == ["Different: 1 job in both files but different"], "the unit differs")
+    check(hashlib.sha256((FILES / "exchanged.shift").read_bytes()).hexdigest() in one("#facts").text, "SHA-256 of the second file")
     check("claimed unit differs" in "".join(texts(".differ summary")), "flag")
     equal(texts(".beside .unequal th:first-child"), ["Unitdiffers", "Verdictdiffers"])
     look("8-comparison")
@@ -502,7 +514,7 @@ def compared():
     wait(lambda: len(column("job")) == 8, "back to the entries")
     named()
     choose("second", "stations.shift")
-    wait(lambda: "7 in both but different" in "".join(texts(".comparison-headline")), "stations differ")
+    wait(lambda: "7 jobs in both files but different" in "".join(texts(".comparison-headline")), "stations differ")
     choose("second", "cut.shift")
     wait(lambda: "Refused: the second file" in "".join(texts(".comparison-headline")), "a refused second file")
     choose("second", "day.shift")
@@ -632,7 +644,7 @@ def no_verdict_on_an_error():
         choose("files", "day.shift")
         shows("No verdict: the inspection failed")
         equal([one("#verdict").get_attribute("data-verdict"), texts("#rows tr")], ["broken", []], what)
-        check("Please report this" in one("#warnings").text, what)
+        check("Use nothing of this file." in one("#warnings").text and "Please report this" in one("#warnings").text, what)
         if what == "a trap":
             screen(1280, 900, False)
             look("10-no-verdict")

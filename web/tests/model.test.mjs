@@ -44,7 +44,10 @@ test('a ring of another length is refused in words (2)', () => {
     const r = inspect(library, day, new Uint8Array(length));
     assert.deepEqual([r.verdict, r.status], ['unverified', 2]);
     assert.match(r.headline, /^Checked, not verified: .*the ring is not 256 bytes long \(2\)$/);
-    assert.match(r.notes.join(' '), new RegExp(`The chosen ring has ${length} byte`));
+    assert.match(r.notes.join(' '), new RegExp(`The chosen ring has ${length} bytes?; a key ring has 256`));
+    const dropped = new Uint8Array(length).fill(7); // among the shift files
+    assert.ok(!looksLikeRing(library, dropped));
+    assert.match(inspect(library, dropped, null).notes.join(' '), /If it is meant as a key ring: a ring has 256 bytes\./);
   }
   assert.equal(inspect(library, longest(), new Uint8Array(3)).status, 2);
 });
@@ -119,6 +122,7 @@ test('every status of the check is a refusal in words, with its row', () => {
     assert.deepEqual([r.verdict, r.status, r.row, r.entries.length], ['refused', status, at, 0], `${status}`);
     assert.ok(r.headline.startsWith('Refused: ') && r.headline.endsWith(`(${status})`), r.headline);
     assert.ok(r.notes.length > 0 && r.notes.every((n) => !/undefined|NaN|null/.test(n)), r.notes.join());
+    assert.deepEqual(r.warnings, ['Use nothing of this file.']);
     assert.equal(inspect(library, bytes, null).headline, r.headline);
   }
   const met = new Set([...refused.map(([status]) => status), 32, ...UNREACHABLE]);
@@ -145,6 +149,7 @@ test('words are the C table and name the row', () => {
   const line = (status) => inspect(library, refusedWith(status), ring);
   assert.match(line(29).headline, /^Refused: row 4 repeats the suite, key number and nonce of an earlier row.*\(29\)$/);
   assert.match(line(29).notes[0], /^Row 4 \(job 4110\) and row 2 \(job 4103\) have suite 3 \(Speck-64\/128\), key number 2/);
+  assert.match(line(29).notes[1], /the sender must seal both again with new nonces/);
   assert.match(line(25).headline, /^Refused: row 1's job number is not above the row before's \(25\)$/);
   assert.match(line(25).notes[0], /^Row 1 has job 4101, and row 0 has job 4101/);
   assert.match(line(21).notes.join(' '), /A draft \(edition 0\)/);
@@ -326,7 +331,8 @@ test('an amendment', () => {
   assert.match(text(openCurrent(library, amendment, day, ring, now).message), /^gearbox 4102 /);
   assert.match(text(openEntry(library, day, ring, old).message), /^gearbox 4102 bolt M8x40 count 8 torque 24.9/);
   assert.equal(r.notes[0], 'With the amendment there are 9 jobs: 6 unchanged, 2 replaced, 1 added.');
-  assert.equal(inspectAmended(library, amendment, day, null).headline, 'Checked, not verified: no key ring');
+  const unverified = inspectAmended(library, amendment, day, null);
+  assert.deepEqual([unverified.headline, unverified.warnings], ['Checked, not verified: no key ring', ['Use nothing yet: no tag was compared.']]);
 });
 
 test('an amendment changes a unit, or claims to', () => {
@@ -343,7 +349,11 @@ test('an amendment that is forged or refused', () => {
   assert.equal(forged.headline, 'FORGED: 1 of 11 entries of both files (job 4220)');
   const old = inspectAmended(library, amendment, altered(day, { [bodyOf(1) + 30]: flip }), ring);
   assert.deepEqual(old.entries.filter((e) => e.verdict === 'forged').map((e) => e.standing), ['replaced']);
-  assert.match(inspectAmended(library, day.slice(1), day, ring).headline, /^Refused: the amendment: /);
+  const both = inspectAmended(library, altered(amendment, { [bodyAt(amendment, 0) + 20]: flip }), altered(day, { [bodyOf(1) + 30]: flip }), ring);
+  assert.equal(both.headline, 'FORGED: 2 of 11 entries of both files (job 4102)');
+  const refusal = inspectAmended(library, day.slice(1), day, ring);
+  assert.match(refusal.headline, /^Refused: the amendment: /);
+  assert.deepEqual(refusal.warnings, ['Use nothing of these two files: which entries are current is unknown.']);
   assert.match(inspectAmended(library, amendment, refusedWith(29), ring).headline, /^Refused: the day's file: row 4 repeats .*\(29\)$/);
 });
 
@@ -352,7 +362,7 @@ test('an amendment that is forged or refused', () => {
 test('two files compared', () => {
   assert.equal(compareFiles(library, day, day, ring).headline, 'The same: all 8 entries are equal');
   const r = compareFiles(library, day, amendment, ring);
-  assert.equal(r.headline, 'Different: 6 only in the first, 1 only in the second, 2 in both but different');
+  assert.equal(r.headline, 'Different: 6 jobs only in the first file, 1 only in the second file, 2 in both files but different');
   assert.deepEqual([jobs(r.onlyFirst), jobs(r.onlySecond), jobs(r.differ)], [[4101, 4103, 4105, 4200, 4210, 4211], [4220], [4102, 4110]]);
   assert.match(compareFiles(library, day, day.slice(1), ring).headline, /^Refused: the second file:/);
   assert.match(compareFiles(library, refusedWith(30), day, ring).headline, /^Refused: the first file: row 6/);
@@ -363,7 +373,7 @@ test('in which field entries differ', () => {
   assert.deepEqual(jobs(station.differ), [4101, 4102, 4103, 4105, 4200, 4210, 4211]);
   assert.ok(station.differ.every((d) => differing(d) === 'Station' && !d.nonceTwice));
   const unit = compareFiles(library, day, exchanged, ring);
-  assert.deepEqual([unit.headline, unit.warnings], ['Different: 1 in both but different', ['The claimed unit of job 4103 differs.']]);
+  assert.deepEqual([unit.headline, unit.warnings], ['Different: 1 job in both files but different', ['The claimed unit of job 4103 differs.']]);
   assert.equal(differing(unit.differ[0]), 'Unit,Verdict');
   // A file of edition 1 has station 0 in every row, as its move to edition 2 has.
   const moved = compareFiles(library, day, library.toEdition2(exchanged).out, ring);
