@@ -112,13 +112,13 @@ const UNWRITTEN: [u8; 4] = [0xa5; 4];
 
 /// The return value of a function, and its last N outputs, which are integers. `function` is its index in the table of
 /// bridge.c.
-fn call<const N: usize>(function: u8, mut arguments: Vec<Argument>) -> (u32, [u32; N]) {
+fn call<const N: usize>(function: u8, arguments: Vec<Argument>) -> (u32, [u32; N]) {
     let mut numbers = [UNWRITTEN; N];
-    arguments.extend(numbers.iter_mut().map(|number| Output(number)));
+    let mut all = arguments;
+    all.extend(numbers.iter_mut().map(|number| Output(number)));
     let mut bridge = BRIDGE.lock().unwrap();
     let bridge = bridge.get_or_insert_with(Bridge::start);
-    let status =
-        bridge.call(function, &mut arguments).unwrap_or_else(|e| panic!("{PROGRAM}, function {function}: {e}"));
+    let status = bridge.call(function, &mut all).unwrap_or_else(|e| panic!("{PROGRAM}, function {function}: {e}"));
     (status, numbers.map(u32::from_le_bytes))
 }
 

@@ -6,9 +6,9 @@ use reference::{aes, comet};
 
 #[test]
 fn published_vectors() {
-    for (place, suite, key, block, image) in PUBLISHED {
+    for (source, suite, key, block, encrypted) in PUBLISHED {
         let key = unhex(key).try_into().unwrap();
-        assert_eq!(comet::encipher(suite, &key, &unhex(block)), unhex(image), "{place}");
+        assert_eq!(comet::encipher(suite, &key, &unhex(block)), unhex(encrypted), "{source}");
     }
 }
 

@@ -21,10 +21,10 @@ const fn times(mut a: u8, mut b: u8) -> u8 {
 /// The inverse of a in GF(2^8), and 0 for 0. It is a^254, since a^255 = 1 for every a other than 0.
 const fn inverse(a: u8) -> u8 {
     let mut power = 1;
-    let mut turn = 0;
-    while turn < 254 {
+    let mut step = 0;
+    while step < 254 {
         power = times(power, a);
-        turn += 1;
+        step += 1;
     }
     power
 }

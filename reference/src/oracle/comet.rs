@@ -237,7 +237,7 @@ struct Lengths {
 
 /// The first status of the table whose condition holds, or 0.
 pub fn first(table: &[(u32, bool)]) -> u32 {
-    table.iter().find(|(_, applies)| *applies).map_or(0, |(number, _)| *number)
+    table.iter().find(|(_, applies)| *applies).map_or(0, |(status, _)| *status)
 }
 
 /// The first of statuses 1 to 7 that applies, or 0; the sealer also has 10, just after 1.
@@ -264,13 +264,13 @@ pub fn seal(suite: u8, key: &[u8], nonce: &[u8], ad: &[u8], msg: &[u8], out: &mu
 pub fn seal_counted(
     suite: u8, key: &[u8], nonce: &[u8], ad: &[u8], msg: &[u8], out: &mut [u8], tag: &mut [u8],
 ) -> (u32, u64) {
-    let number = refusal(
+    let status = refusal(
         Text::Message,
         suite,
         Lengths { key: key.len(), nonce: nonce.len(), ad: ad.len(), text: msg.len(), out: out.len(), tag: tag.len() },
     );
-    if number != 0 {
-        return (number, 0);
+    if status != 0 {
+        return (status, 0);
     }
     let (made, calls) = run(suite, Text::Message, key, nonce, ad, msg, out);
     tag.copy_from_slice(&made);
@@ -287,13 +287,13 @@ pub fn open(suite: u8, key: &[u8], nonce: &[u8], ad: &[u8], text: &[u8], tag: &[
 pub fn open_counted(
     suite: u8, key: &[u8], nonce: &[u8], ad: &[u8], text: &[u8], tag: &[u8], out: &mut [u8],
 ) -> (u32, u64) {
-    let number = refusal(
+    let status = refusal(
         Text::Ciphertext,
         suite,
         Lengths { key: key.len(), nonce: nonce.len(), ad: ad.len(), text: text.len(), out: out.len(), tag: tag.len() },
     );
-    if number != 0 {
-        return (number, 0);
+    if status != 0 {
+        return (status, 0);
     }
     let (made, calls) = run(suite, Text::Ciphertext, key, nonce, ad, text, out);
     if made != tag {

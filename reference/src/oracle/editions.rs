@@ -39,9 +39,9 @@ fn moved(file: &[u8], from: usize, to: usize, out: &mut [u8]) {
 /// Moves a file from edition 1 to 2, with station 0 everywhere. Refusals: the check of edition 1, 20 if the result would be
 /// too long, 6. On a refusal `out` is unchanged.
 pub fn to_edition2(file: &[u8], out: &mut [u8]) -> Answer {
-    let (number, row) = check_as(file, &[1]);
-    if number != 0 {
-        return (number, row);
+    let (status, row) = check_as(file, &[1]);
+    if status != 0 {
+        return (status, row);
     }
     let length = file.len() + growth(file);
     if length > LONGEST {
@@ -57,9 +57,9 @@ pub fn to_edition2(file: &[u8], out: &mut [u8]) -> Answer {
 /// Moves a file from edition 2 to 1. Refusals: the check of edition 2, 35 with the first row whose station is not 0, 6. The
 /// result is no longer than the file, so it is never too long. On a refusal `out` is unchanged.
 pub fn to_edition1(file: &[u8], out: &mut [u8]) -> Answer {
-    let (number, row) = check_as(file, &[2]);
-    if number != 0 {
-        return (number, row);
+    let (status, row) = check_as(file, &[2]);
+    if status != 0 {
+        return (status, row);
     }
     if let Some(i) = rows(file).iter().position(|row| row.station != 0) {
         return (35, i as u32);

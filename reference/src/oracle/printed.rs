@@ -51,17 +51,17 @@ fn entry_lines(file: &[u8], job: u32, message: &[u8]) -> String {
 pub fn job(file: &[u8], ring: &[u8], job: u32) -> String {
     let (found, _) = super::shift::lookup(file, job);
     let mut out = vec![0; if found == 0 { row_of(file, job).message } else { 0 }];
-    let (number, row) = open_job(file, ring, job, &mut out);
-    let lines = if number == 0 { entry_lines(file, job, &out) } else { String::new() };
-    format!("{number} {row}\n{lines}")
+    let (status, row) = open_job(file, ring, job, &mut out);
+    let lines = if status == 0 { entry_lines(file, job, &out) } else { String::new() };
+    format!("{status} {row}\n{lines}")
 }
 
 /// What `current AMENDMENT DAY RING JOB` prints: status, file and row and, after 0, the entry's lines.
 pub fn current(amendment: &[u8], day: &[u8], ring: &[u8], job: u32) -> String {
     let found = amended(amendment, day, job);
-    let holds = if found.file == 1 { amendment } else { day };
-    let mut out = vec![0; if found.number == 0 { row_of(holds, job).message } else { 0 }];
-    let (number, file, row) = open_current(amendment, day, ring, job, &mut out);
-    let lines = if number == 0 { entry_lines(holds, job, &out) } else { String::new() };
-    format!("{number} {file} {row}\n{lines}")
+    let source = if found.file == 1 { amendment } else { day };
+    let mut out = vec![0; if found.number == 0 { row_of(source, job).message } else { 0 }];
+    let (status, file, row) = open_current(amendment, day, ring, job, &mut out);
+    let lines = if status == 0 { entry_lines(source, job, &out) } else { String::new() };
+    format!("{status} {file} {row}\n{lines}")
 }

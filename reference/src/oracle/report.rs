@@ -64,10 +64,10 @@ pub fn report(file: &[u8], ring: &[u8], jobs: &mut [u32], numbers: &mut [u8]) ->
 /// What `inspect` prints.
 pub fn printed(file: &[u8], ring: &[u8]) -> String {
     let (mut jobs, mut numbers) = ([0; 512], [0; 512]);
-    let Report { number, row, count } = report(file, ring, &mut jobs, &mut numbers);
-    if number != 0 {
-        return format!("refused {number} {row}\n");
+    let Report { number: status, row, count } = report(file, ring, &mut jobs, &mut numbers);
+    if status != 0 {
+        return format!("refused {status} {row}\n");
     }
     let entries = jobs.iter().zip(&numbers).take(count as usize);
-    format!("entries {count}\n") + &entries.map(|(job, number)| format!("{job} {number}\n")).collect::<String>()
+    format!("entries {count}\n") + &entries.map(|(job, status)| format!("{job} {status}\n")).collect::<String>()
 }

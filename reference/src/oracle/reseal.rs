@@ -22,17 +22,17 @@ fn first_clash(rows: &[Row]) -> Option<usize> {
 /// lowest later row if two rows would clash after resealing; 2; 6; 8 with the first entry of suite 4 whose tag is wrong. No
 /// other entry is opened. On 8 every byte of `out` is 0, on another refusal it is unchanged.
 pub fn reseal(file: &[u8], ring: &[u8], out: &mut [u8]) -> Answer {
-    let (number, row) = check_as(file, &[1]);
-    if number != 0 {
-        return (number, row);
+    let (status, row) = check_as(file, &[1]);
+    if status != 0 {
+        return (status, row);
     }
     let rows = rows(file);
     if let Some(later) = first_clash(&rows) {
         return (29, later as u32);
     }
-    let number = refuse_lengths(ring, file, out);
-    if number != 0 {
-        return (number, 0);
+    let status = refuse_lengths(ring, file, out);
+    if status != 0 {
+        return (status, 0);
     }
     out.copy_from_slice(file);
     for (i, row) in rows.iter().enumerate().filter(|(_, row)| row.suite == FROM) {

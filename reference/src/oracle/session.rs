@@ -55,8 +55,8 @@ impl Session {
         Session { y: filled(&state.y), z: state.z, held: filled(held), ..self }
     }
 
-    fn refused(self, number: u32) -> Step {
-        Step { next: self, number, count: 0 }
+    fn refused(self, status: u32) -> Step {
+        Step { next: self, number: status, count: 0 }
     }
 }
 
@@ -111,19 +111,19 @@ fn finish<const N: usize>(encrypt: impl Cipher<N>, session: Session, out: &mut [
 
 pub fn start(suite: u8, key: &[u8], nonce: &[u8]) -> Step {
     let (key_fits, nonce_fits) = (key.len() == 16, nonce.len() == nonce_size(suite));
-    let number = first(&[(1, block_size(suite) == 0), (10, is_retired(suite)), (2, !key_fits), (3, !nonce_fits)]);
-    if number != 0 {
-        return OVER.refused(number);
+    let status = first(&[(1, block_size(suite) == 0), (10, is_retired(suite)), (2, !key_fits), (3, !nonce_fits)]);
+    if status != 0 {
+        return OVER.refused(status);
     }
     Step { next: by_suite!(suite, fresh(suite, key, nonce)), number: 0, count: 0 }
 }
 
 /// Absorbs a part of the associated data. 9 also if the message has begun, even for an empty part.
 pub fn data(session: Session, ad: &[u8]) -> Step {
-    let room = LIMIT.saturating_sub(session.ad_total);
-    let number = first(&[(9, session.is_over() || session.text_total > 0), (4, ad.len() > room)]);
-    if number != 0 {
-        return session.refused(number);
+    let left = LIMIT.saturating_sub(session.ad_total);
+    let status = first(&[(9, session.is_over() || session.text_total > 0), (4, ad.len() > left)]);
+    if status != 0 {
+        return session.refused(status);
     }
     Step { next: by_suite!(session.suite, take_data(session, ad)), number: 0, count: 0 }
 }
@@ -131,11 +131,11 @@ pub fn data(session: Session, ad: &[u8]) -> Step {
 /// Absorbs a part of the message, and writes the ciphertext of the blocks that it completes to the start of `out`. An empty
 /// part changes nothing.
 pub fn part(session: Session, msg: &[u8], out: &mut [u8]) -> Step {
-    let room = LIMIT.saturating_sub(session.text_total);
+    let left = LIMIT.saturating_sub(session.text_total);
     let is_narrow = out.len() + 1 < msg.len() + block_size(session.suite);
-    let number = first(&[(9, session.is_over()), (5, msg.len() > room), (6, is_narrow)]);
-    if number != 0 || msg.is_empty() {
-        return session.refused(number);
+    let status = first(&[(9, session.is_over()), (5, msg.len() > left), (6, is_narrow)]);
+    if status != 0 || msg.is_empty() {
+        return session.refused(status);
     }
     let (next, count) = by_suite!(session.suite, take_text(session, msg, out));
     Step { next, number: 0, count }
@@ -144,9 +144,9 @@ pub fn part(session: Session, msg: &[u8], out: &mut [u8]) -> Step {
 /// Ends the session: writes the rest of the ciphertext to the start of `out`, and the tag.
 pub fn end(session: Session, out: &mut [u8], tag: &mut [u8]) -> Step {
     let block = block_size(session.suite);
-    let number = first(&[(9, session.is_over()), (6, out.len() < block), (7, tag.len() != block)]);
-    if number != 0 {
-        return session.refused(number);
+    let status = first(&[(9, session.is_over()), (6, out.len() < block), (7, tag.len() != block)]);
+    if status != 0 {
+        return session.refused(status);
     }
     Step { next: OVER, number: 0, count: by_suite!(session.suite, finish(session, out, tag)) }
 }

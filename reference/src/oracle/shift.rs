@@ -111,7 +111,7 @@ impl Row {
 
     /// Opens the entry in a file that passes the check: 0, 6 or 8.
     pub fn open(&self, file: &[u8], ring: &[u8], out: &mut [u8]) -> u32 {
-        let [ad, text, tag] = [self.associated(), self.text(), self.tag()].map(|place| &file[place]);
+        let [ad, text, tag] = [self.associated(), self.text(), self.tag()].map(|range| &file[range]);
         comet::open(self.suite, self.key(ring), self.nonce(), ad, text, tag, out)
     }
 }
@@ -172,15 +172,15 @@ pub fn check(file: &[u8]) -> Answer {
 
 /// The full check of a file of one of these editions.
 pub fn check_as(file: &[u8], editions: &[usize]) -> Answer {
-    let number = check_header(file, editions);
-    if number != 0 {
-        return (number, 0);
+    let status = check_header(file, editions);
+    if status != 0 {
+        return (status, 0);
     }
     let n = count(file);
     for i in 0..n {
-        let number = check_row(file, i);
-        if number != 0 {
-            return (number, i as u32);
+        let status = check_row(file, i);
+        if status != 0 {
+            return (status, i as u32);
         }
     }
     let end = if n == 0 { HEADER } else { row(file, n - 1).end() };
@@ -189,9 +189,9 @@ pub fn check_as(file: &[u8], editions: &[usize]) -> Answer {
 
 /// The full check, then the row of the job, or 32.
 pub fn lookup(file: &[u8], job: u32) -> Answer {
-    let (number, at) = check(file);
-    if number != 0 {
-        return (number, at);
+    let (status, at) = check(file);
+    if status != 0 {
+        return (status, at);
     }
     match rows(file).iter().position(|row| row.job == job) {
         Some(i) => (0, i as u32),
@@ -232,9 +232,9 @@ pub fn entry(file: &[u8], job: u32) -> (Answer, Places) {
 /// Opens one job and writes its message to `out`. Refusals: the full check, 32, 2 (the ring's length), 6, 8. On 8 every
 /// byte of `out` is 0, on another refusal it is unchanged.
 pub fn open_job(file: &[u8], ring: &[u8], job: u32, out: &mut [u8]) -> Answer {
-    let (number, i) = lookup(file, job);
-    if number != 0 {
-        return (number, i);
+    let (status, i) = lookup(file, job);
+    if status != 0 {
+        return (status, i);
     }
     if ring.len() != RING {
         return (2, 0);
