@@ -12,7 +12,7 @@ fn published_vectors() {
     }
 }
 
-/// The rule at document 01's three entries, and at the five that source 000 prints wrongly.
+/// The S-box at the three entries of document 01, and at the five that source 000 prints wrongly.
 #[test]
 fn sbox_entries() {
     let document_01 = [(0x00, 0x63), (0x3a, 0x80), (0xff, 0x16)];
