@@ -1,4 +1,4 @@
-// The state of the page: the chosen files and the results. Nothing is stored when the page is closed.
+// What is chosen on the page and what was found in it. Nothing is stored: it ends with the page.
 import { READ_BYTES_MAX, inspect, looksLikeRing } from './inspect.mjs';
 import { inspectAmended } from './amend.mjs';
 import { compareFiles } from './compare.mjs';
