@@ -1,9 +1,9 @@
 /* Times calls of the archive and of plain C alternately, and prints the time of the best C divided by ours.
  *
- * Each time is the least of many interleaved runs, so other work on the machine changes it little. The script `time` in
- * this folder builds and runs the program. On x86-64 the clock is the time stamp counter, read around one call; the targets
- * are for x86-64. On AArch64 the counter is coarse, so several calls are timed together, and there is no target.
- * On an emulated processor times mean nothing, so the program stops.
+ * Each figure is the least of many interleaved runs, so other work on the machine changes it little. The script `time`
+ * beside this file builds and runs it. On x86-64 the clock is the time stamp counter, around one call; the targets of
+ * issue 42 hold there. On AArch64 the counter is coarse, so several calls are timed together, and there is no target.
+ * Under QEMU's emulation a time means nothing, and the program refuses.
  *
  * Exit status: 0 every target is met (AArch64: measured), 1 a target is missed, 2 outputs differ or the processor is emulated.
  */
@@ -100,7 +100,7 @@ static void compare(const job *j) {
     }
 }
 
-/* Sets best to the least time of each maker. */
+/* The least time of each maker. */
 static void measure(const job *j, uint64_t best[MAKERS]) {
     int runs = j->len >= 65536 ? 120 : j->len >= 1024 ? 2000 : 8000, at_once = calls_at_once(j->len);
     for (int maker = 0; maker < MAKERS; maker++) best[maker] = UINT64_MAX;
