@@ -5,7 +5,7 @@
  *
  * This writes target/cortex-m4/wrench.o: these four functions, and of the library what suite 3 needs. Nothing else is
  * visible in it. It needs memcpy and memset, and arithmetic functions of the compiler's own library (libgcc has them). Any
- * compiler of the target links it; main.c beside this file is a program that uses it:
+ * compiler of the target links it; main.c in this folder is a program that uses it:
  *
  *     arm-none-eabi-gcc -mcpu=cortex-m4 -mthumb -Iinclude examples/wrench/main.c target/cortex-m4/wrench.o ..
  *

@@ -230,7 +230,7 @@ fn refused(_: &mut Random) -> Vec<CompareCall> {
 }
 
 /// A variant of a plan: some entries changed, some removed and some added.
-fn neighbour(random: &mut Random, plan: &Plan) -> Plan {
+fn variant(random: &mut Random, plan: &Plan) -> Plan {
     let mut other = plan.clone();
     for entry in &mut other.entries {
         if random.below(3) == 0 {
@@ -263,7 +263,7 @@ fn random_files(random: &mut Random) -> Vec<CompareCall> {
 fn random_call(random: &mut Random) -> CompareCall {
     let rows = random.below(9);
     let first = files::random_plan(random, rows, 30);
-    let second = if random.below(6) == 0 { files::random_plan(random, rows, 30) } else { neighbour(random, &first) };
+    let second = if random.below(6) == 0 { files::random_plan(random, rows, 30) } else { variant(random, &first) };
     let places = [0; 3].map(|_| if random.below(6) == 0 { random.below(3) } else { 3 + random.below(8) });
     let mut files = [first, second].map(|plan| plan.in_edition(1 + random.below(2)).file(&samples::ring()));
     if random.below(2) == 0 {

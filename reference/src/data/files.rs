@@ -40,7 +40,7 @@ pub fn three_rows() -> Plan {
     plan
 }
 
-/// The files of document 01, and files of 0 to 8 bytes.
+/// The files of document 01 and three rows, in both editions, and files of 0 to 8 bytes.
 fn worked(_: &mut Random) -> Vec<FileCall> {
     let empty = Plan::new(vec![]).file(&[]);
     assert_eq!(empty, [1, 0, 0, 0, 8, 0, 0, 0]);

@@ -56,7 +56,7 @@ fn call(to: usize, rows: usize, file: Vec<u8>) -> MoveCall {
     MoveCall { to, file, out }
 }
 
-/// A plan's file moved from edition 1 to 2 and back.
+/// A plan's file moved from edition 1 to 2 and from 2 to 1, after a check that each outputs the other.
 fn both_ways(plan: &Plan) -> [MoveCall; 2] {
     let plan = plan.without_stations();
     let [one, two] = [1, 2].map(|edition| plan.in_edition(edition).file(&samples::ring()));

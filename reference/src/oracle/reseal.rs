@@ -12,7 +12,7 @@ fn resealed(row: &Row) -> Row {
     Row { suite: if row.suite == FROM { TO } else { row.suite }, ..*row }
 }
 
-/// The lowest row that clashes with an earlier one.
+/// The lowest row that would clash with an earlier one after resealing.
 fn first_clash(rows: &[Row]) -> Option<usize> {
     let rows: Vec<Row> = rows.iter().map(resealed).collect();
     (0..rows.len()).find(|later| rows[..*later].iter().any(|earlier| earlier.clashes(&rows[*later])))
