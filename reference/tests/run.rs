@@ -145,7 +145,7 @@ fn pipes_get_every_byte() {
     assert!(folder.get("got") == [b"first,", &two[..]].concat());
 }
 
-/// OUT keeps its mode and, for root, its owner. A new OUT follows the umask, except a restored draft, which is private.
+/// OUT keeps its mode and, for root, its owner. A restored draft is private; other new files follow the umask.
 #[test]
 fn modes_are_kept() {
     if !is_built() {
@@ -179,7 +179,7 @@ fn modes_are_kept() {
     }
 }
 
-/// While a draft is being restored, other users can read neither OUT nor its temporary file.
+/// While a draft is being restored, no file in its folder can be read by others.
 #[test]
 fn a_draft_is_private_from_the_first_byte() {
     if !is_built() {

@@ -21,7 +21,7 @@ chmod +x target/bin/job
 echo end >>"$here/calls"
 "#;
 
-/// A tree with `./run`, the program `job`, the crate `lines` that it depends on, and the crate `other`, which it does not use.
+/// A tree with `./run`, the program `job`, the crate `lines` below it and `other` beside it.
 fn tree(name: &str) -> Folder {
     let folder = Folder::new(name);
     let arch = Command::new("uname").arg("-m").output().unwrap().stdout;
@@ -186,7 +186,7 @@ fn another_rt_goes_first() {
     assert!(said.contains("another rt began to work here") && proofs(&folder) == before + 2, "{said}");
 }
 
-/// `./run` prints an estimate of the time before a proof, and its progress during it.
+/// A proof says how far it is, and how long it takes before it starts.
 #[test]
 fn a_proof_says_how_far_it_is() {
     let folder = tree("progress");

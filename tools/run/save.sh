@@ -24,8 +24,8 @@ cannot_write() { # OUT WHY
     exit 3
 }
 
-# Sets $descriptor to the open descriptor that a path names, or to nothing. Such a path must not be opened again: that would
-# truncate the file to which the descriptor is open.
+# Sets $descriptor to the number of the open descriptor that a path names: such a path is not opened again, for that would
+# truncate a file behind it.
 find_descriptor() { # PATH
     descriptor=''
     case $1 in
@@ -75,7 +75,7 @@ write_stream() { # OUT
     fi || cannot_write "$1" "${said##*: }"
 }
 
-# Gives a file the owner, group and mode of another, as far as permitted. If the group cannot be set, it gets no access.
+# Gives a file the owner, group and mode of another, as far as we may: if the group cannot be kept, it gets no access.
 keep_mode() { # FROM TO
     local group=yes
     chown --reference="$1" -- "$2" 2>/dev/null || chgrp --reference="$1" -- "$2" 2>/dev/null || group=no

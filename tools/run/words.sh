@@ -60,7 +60,7 @@ means() { # NAME FIRST_ARGUMENT STATUS ROW FILE WHOSE
     say "$3: $6$words"
 }
 
-# Tells why an input could not be read (it then counts as empty), or how long it is.
+# Says why an input could not be read (it then counts as no bytes), or how long it is.
 about_input() { # FILE
     local why
     why=$(reason "$1")
@@ -71,7 +71,7 @@ about_input() { # FILE
     fi
 }
 
-# Tells what to do after a refusal.
+# Says what to do after a refusal.
 advise() { # NAME STATUS
     case $1,$2 in
     write,10) say "seal suite 4 entries again first: ./run write reseal FILE RING OUT on the sealed file; a draft needs another suite" ;;
