@@ -24,7 +24,7 @@ static void require(const char *what, uint32_t status)
     exit(1);
 }
 
-/* Measures some values from number `from` on: hundredths of a newton-metre, which rise and settle. */
+/* Measures `some` values from index `from` on: hundredths of a newton-metre, which rise and settle. */
 static void measure(unsigned from, unsigned some, uint8_t *values)
 {
     for (unsigned i = 0; i < some; i++) {
@@ -51,7 +51,7 @@ int main(void)
         require("part", comet_session_part(&session, part, VALUE_BYTES * some, text + sealed, sizeof text - sealed, &count));
         sealed += count;
     }
-    /* The end needs room for one block, here too little: a refusal leaves the session as it was, and we repeat the call. */
+    /* The end needs an output of one block. This one is too short: the refusal leaves the session unchanged, so we call again. */
     status = comet_session_end(&session, text + sealed, COMET_END_ROOM(SUITE) - 1, tag, sizeof tag, &count);
     printf("end with too little room: %s\n", snoekeldraf_words(status));
     require("end", comet_session_end(&session, text + sealed, sizeof text - sealed, tag, sizeof tag, &count));
@@ -65,6 +65,6 @@ int main(void)
                                         text, sealed, tag, sizeof tag));
     int equal = sealed == CURVE_BYTES && memcmp(text, curve, CURVE_BYTES) == 0;
     printf("opened: %s\n", equal ? "the curve that was measured" : "another curve");
-    snoekeldraf_forget(); /* clears what the calls left on the stack */
+    snoekeldraf_forget(); /* clears the stack that the calls used */
     return equal ? 0 : 1;
 }

@@ -13,7 +13,7 @@
 
 enum { SUITE = COMET_SPECK64 };
 
-/* A key comes from a key ring, and a nonce from a counter that never repeats. Fixed bytes are for examples alone. */
+/* A real program takes the key from a key ring and the nonce from a counter that never repeats, not from constants. */
 static const uint8_t key[COMET_KEY_BYTES] = {0, 1, 2, 3, 4, 5, 6, 7, 8, 9, 10, 11, 12, 13, 14, 15};
 static const uint8_t first_nonce[COMET_NONCE_BYTES(SUITE)] = {1};
 static const uint8_t second_nonce[COMET_NONCE_BYTES(SUITE)] = {3};
@@ -49,14 +49,14 @@ static void from_buffer_to_buffer(void)
                                text, sizeof text, tag, sizeof tag, opened, sizeof opened));
     printf("  %-12s%s\n", "message", (const char *)opened);
 
-    /* The unit was exchanged: the tag differs, and the output is all zero. */
+    /* The unit was changed: the tag differs, and the output is all zero. */
     uint32_t status = comet_open(SUITE, key, sizeof key, first_nonce, sizeof first_nonce, wrong_ad, sizeof wrong_ad,
                                  text, sizeof text, tag, sizeof tag, opened, sizeof opened);
     printf("open with the other unit: %s\n", snoekeldraf_words(status));
     print_hex("output", opened, sizeof opened);
 }
 
-/* One buffer, where memory is short. comet_verify compares the tag and writes nothing, so it can come first. */
+/* Uses one buffer, if memory is scarce. comet_verify compares the tag and writes nothing, so it can come first. */
 static void in_place(void)
 {
     uint8_t text[] = "torque 51.0 51.2 50.9", tag[COMET_TAG_BYTES(SUITE)];
@@ -75,6 +75,6 @@ int main(void)
 {
     from_buffer_to_buffer();
     in_place();
-    snoekeldraf_forget(); /* clears what the calls left on the stack */
+    snoekeldraf_forget(); /* clears the stack that the calls used */
     return 0;
 }

@@ -39,7 +39,7 @@ static const char *unit_in_words(uint8_t unit)
     switch (unit) {
     case SHIFT_NEWTON_METRES: return "newton-metres";
     case SHIFT_INCH_POUNDS: return "inch-pounds";
-    default: return "unknown"; /* not after a status 0: the full check refuses other units by 30 */
+    default: return "unknown"; /* cannot occur after status 0: the full check refuses other units with 30 */
     }
 }
 
@@ -64,6 +64,6 @@ int main(int count, char **arguments)
     status = shift_open_job(file, file_len, ring, ring_len, job, message, text_len, &row);
     require("open", status, row);
     printf("%.*s\n", (int)text_len, (const char *)message);
-    snoekeldraf_forget(); /* clears what the calls left on the stack */
+    snoekeldraf_forget(); /* clears the stack that the calls used */
     return 0;
 }

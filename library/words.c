@@ -8,12 +8,12 @@ uint32_t snoekeldraf_version(void)
     return SNOEKELDRAF_VERSION;
 }
 
-/* The one table of words, a line for each status. Scripts read it too (./run prints these words), so its format is fixed:
+/* The table of words, a line for each status. Scripts read it too (./run prints these words), so its format is fixed:
  *     WORDS(8, "the tag differs")
  *     FILE_WORDS(32, "no row has the job, or the file has no such row", "no row has the job")
- * Four spaces, WORDS or FILE_WORDS, the status, and strings without a quote or a backslash in them. A script takes the
- * last string of the line: of FILE_WORDS that is the narrower wording for the programs, which know that they work on a
- * shift file. Words that begin with "the row" speak of the row that the call gives beside the status.
+ * Four spaces, WORDS or FILE_WORDS, the status, and strings without quotes or backslashes. A script uses the last string of
+ * the line: in FILE_WORDS that is the narrower wording for programs that always work on a shift file. Words that begin with
+ * "the row" are about the row that the function returns with the status.
  */
 #define WORDS(status, words) case status: return words;
 #define FILE_WORDS(status, words, of_a_file) case status: return words;
@@ -53,7 +53,7 @@ const char *snoekeldraf_words(uint32_t status)
     }
 }
 
-/* Never inlined: its frame has to lie where the frames of the earlier calls lay. Volatile stores are not removed. */
+/* Never inlined: its frame must occupy the stack that the earlier calls used. The compiler keeps volatile stores. */
 #if defined(__GNUC__)
 __attribute__((noinline))
 #endif

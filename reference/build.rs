@@ -1,17 +1,17 @@
 //! Under the feature `linked`: compiles plain/comet.c, links the proved library's archive of this processor (`cfg(native)`),
-//! and links bridge/bridge.c with the archive for x86-64 (`cfg(bridged)`). An archive that is not there is left out; where
-//! neither is there the build stops. Without the feature it does nothing, and needs neither a C compiler nor an archive.
+//! and links bridge/bridge.c with the archive for x86-64 (`cfg(bridged)`). A missing archive is skipped; if both are missing,
+//! the build fails. Without the feature the script does nothing, and needs neither a C compiler nor an archive.
 
 use std::env;
 use std::path::{Path, PathBuf};
 use std::process::{exit, Command};
 
-/// What compiles for x86-64 on another processor.
+/// The C compiler for x86-64 on another processor.
 const CROSS_COMPILER: &str = "x86_64-linux-gnu-gcc";
 
 const ARCHIVE: &str = "libsnoekeldraf.a";
 
-/// Ends the build with one sentence.
+/// Prints a message and fails the build.
 fn stop(sentence: String) -> ! {
     eprintln!("{sentence}");
     exit(1)
@@ -28,8 +28,8 @@ fn native_compiler() -> String {
     env::var("CC").unwrap_or("cc".to_string())
 }
 
-/// The archive of plain/comet.c, at -O3; its functions are aligned, so that the speed of a short loop does not
-/// depend on what is linked before it.
+/// Builds and links the archive of plain/comet.c, at -O3. Its functions are aligned, so that the speed of a short loop does
+/// not depend on what the linker places before it.
 fn compile_plain(here: &Path, to: &Path) {
     let (object, archive) = (to.join("comet.o"), to.join("libplain.a"));
     let flags = ["-O3", "-falign-functions=64", "-c"];
@@ -39,7 +39,7 @@ fn compile_plain(here: &Path, to: &Path) {
     println!("cargo:rustc-link-lib=static=plain");
 }
 
-/// The first of these folders that has an archive.
+/// The first of these folders that contains an archive.
 fn with_archive(folders: Vec<PathBuf>) -> Option<PathBuf> {
     for folder in &folders {
         println!("cargo:rerun-if-changed={}", folder.join(ARCHIVE).display());
@@ -47,12 +47,12 @@ fn with_archive(folders: Vec<PathBuf>) -> Option<PathBuf> {
     folders.into_iter().find(|folder| folder.join(ARCHIVE).exists())
 }
 
-/// Where the archive for x86-64 may be: as `./run library x86-64` writes it, or `rt staticlib snoekeldraf`.
+/// The folders into which `./run library x86-64` and `rt staticlib snoekeldraf` write the archive for x86-64.
 fn folders_of_x86(built: &Path) -> Vec<PathBuf> {
     vec![built.join("x86-64"), built.join("staticlib")]
 }
 
-/// Links the archive of this processor; SNOEKELDRAF_DIR names another folder than that of `./run library`.
+/// Links the archive of this processor; false if there is none. SNOEKELDRAF_DIR overrides the folder of `./run library`.
 fn link_native(built: &Path, is_x86: bool) -> bool {
     let named = env::var("SNOEKELDRAF_DIR").map(|folder| vec![PathBuf::from(folder)]);
     let arch = env::var("CARGO_CFG_TARGET_ARCH").unwrap();
@@ -64,7 +64,7 @@ fn link_native(built: &Path, is_x86: bool) -> bool {
     true
 }
 
-/// The C program that calls the archive for x86-64. On another processor it is left out where no compiler for x86-64 is.
+/// Builds the C program that calls the archive for x86-64; false if the archive, or a compiler for x86-64, is missing.
 fn compile_bridge(here: &Path, built: &Path, to: &Path, is_x86: bool) -> bool {
     let Some(folder) = with_archive(folders_of_x86(built)) else { return false };
     let compiler = if is_x86 { native_compiler() } else { CROSS_COMPILER.to_string() };

@@ -45,7 +45,7 @@ def bytes_of(text):
 
 
 def sent(test):
-    """The line that the program reads: the case with its id, and byte strings in plain hex."""
+    """The line that the program reads: the case with its id, and with byte strings in plain hex."""
     case = {"id": test["id"]}
     for name, value in test["case"].items():
         case[name] = bytes_of(value).hex() if name in INPUTS else value
@@ -53,7 +53,7 @@ def sent(test):
 
 
 def is_same_bytes(wanted, given):
-    """Whether hex digits are the byte string of a text, or have its digest."""
+    """Whether hex digits are the byte string that a text stands for, or match its digest."""
     try:
         given = bytes.fromhex(given)
     except (TypeError, ValueError):
@@ -65,7 +65,7 @@ def is_same_bytes(wanted, given):
 
 
 def shown(value):
-    """A value as a message shows it: shortened."""
+    """A value as messages show it, shortened if it is long."""
     text = str(value)
     return text if len(text) <= 72 else f"{text[:56]}.. ({len(text)} characters)"
 
@@ -96,7 +96,7 @@ def broken_rule(test, wrong, rules):
 
 
 def answers_of(program, tests):
-    """The answers by id, and what the program said on its way to a bad end."""
+    """The program's answers by id, and a sentence on how it failed, if it did."""
     lines = "".join(sent(test) + "\n" for test in tests)
     try:
         done = subprocess.run(program, input=lines, stdout=subprocess.PIPE, text=True)

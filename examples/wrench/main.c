@@ -6,7 +6,7 @@
 
 enum { VALUES = 101, AT_ONCE = 7, CURVE = 2 * VALUES };
 
-/* Hundredths of a newton-metre: the torque rises, and settles. */
+/* The torque at step i in hundredths of a newton-metre: it rises and settles. */
 static unsigned measured(int i) { return i < 80 ? 60u * (unsigned)i : 4800u + (unsigned)(i % 3); }
 
 static const uint8_t key[WRENCH_KEY] = {0, 1, 2, 3, 4, 5, 6, 7, 8, 9, 10, 11, 12, 13, 14, 15};

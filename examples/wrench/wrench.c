@@ -5,7 +5,7 @@
  *
  * This writes target/cortex-m4/wrench.o: these four functions, and of the library what suite 3 needs. Nothing else is
  * visible in it. It needs memcpy and memset, and arithmetic functions of the compiler's own library (libgcc has them). Any
- * compiler of the target links it; main.c beside this file is a program that uses it:
+ * compiler of the target links it; main.c in this folder is a program that uses it:
  *
  *     arm-none-eabi-gcc -mcpu=cortex-m4 -mthumb -Iinclude examples/wrench/main.c target/cortex-m4/wrench.o ..
  *
@@ -15,14 +15,14 @@
  *     ./run library aarch64 --with examples/wrench/wrench.c --keep wrench_start,wrench_part,wrench_end,wrench_open
  *     aarch64-linux-gnu-gcc -Iinclude examples/wrench/main.c target/aarch64/wrench.o -o target/wrench
  *
- * The functions that are called are the proved ones. What is compiled of this file is not proved: it only passes constants.
+ * The library's functions are proved. The code of this file is not: it only passes constants.
  */
 #include "wrench.h"
 
 enum { SUITE = 3 };
 
-/* A session is in memory, and with it its suite. This test makes the suite a constant for the compiler, so that no other
- * suite's code is kept. Words that are no session of suite 3 get 9, as comet_session_part gives for words that are none. */
+/* Whether a session is of suite 3. A session has its suite in memory; this test makes the suite a constant for the compiler,
+ * so that the code of other suites is removed. Other sessions get 9, which comet_session_part returns for no session. */
 static int is_ours(const comet_session *session) { return session->word[0] == SUITE; }
 
 uint32_t wrench_start(comet_session *session, const uint8_t key[WRENCH_KEY], const uint8_t nonce[WRENCH_NONCE],

@@ -12,11 +12,11 @@ enum { WRENCH_KEY = 16, WRENCH_NONCE = 15, WRENCH_TAG = 8, WRENCH_BLOCK = 8 };
 uint32_t wrench_start(comet_session *session, const uint8_t key[WRENCH_KEY], const uint8_t nonce[WRENCH_NONCE],
                       const uint8_t *ad, uint32_t ad_len);
 
-/* Seals a part of the message: 9, 5, 6, 0. out needs part_len + 7 bytes; *count bytes of ciphertext stand at its start. */
+/* Seals a part of the message: 9, 5, 6, 0. out needs part_len + 7 bytes; the call writes *count bytes of ciphertext to it. */
 uint32_t wrench_part(comet_session *session, const uint8_t *part, uint32_t part_len, uint8_t *out, uint32_t out_len,
                      uint32_t *count);
 
-/* Ends the record: 9, 0. The last *count bytes of ciphertext, fewer than 8, stand at out's start. */
+/* Ends the record: 9, 0. The call writes the last *count bytes of ciphertext, fewer than 8, to the start of out. */
 uint32_t wrench_end(comet_session *session, uint8_t out[WRENCH_BLOCK], uint8_t tag[WRENCH_TAG], uint32_t *count);
 
 /* Opens a record in place: 4, 5, 8, 0. After 8 every byte of text is 0. */

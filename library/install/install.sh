@@ -3,9 +3,9 @@
 #
 #     ./install.sh [--prefix FOLDER] [--no-check]
 #
-# FOLDER is an absolute path, /usr/local if it is not given. DESTDIR, if set, is put before it (for packages). SHA256SUMS is
-# checked first; --no-check leaves that out. The library of this machine's processor becomes FOLDER/lib/libsnoekeldraf.a;
-# the variable TARGET chooses another one of lib/snoekeldraf/. A file is replaced whole or not at all.
+# FOLDER is an absolute path, by default /usr/local. DESTDIR, if set, is prepended to it (for packages). The script first
+# checks SHA256SUMS; --no-check skips that. The library of this machine's processor becomes FOLDER/lib/libsnoekeldraf.a; the
+# variable TARGET chooses another one of lib/snoekeldraf/. Each file is replaced atomically.
 # Exit status: 0 success, 1 a file differs from SHA256SUMS, 2 usage error, 3 something is missing or could not be written.
 set -eu
 here=$(CDPATH='' cd -- "$(dirname -- "$0")" && pwd)
@@ -30,7 +30,7 @@ read_arguments() {
         shift
     done
     case $prefix in /*) ;; *) usage "--prefix needs an absolute path" ;; esac
-    # these would be read as commands where the prefix is filled in
+    # sed would interpret these when it fills in the prefix
     case $prefix in *['|&\']*) usage "a prefix with one of | & \\ is not supported" ;; esac
     prefix=${prefix%/}
     to=${DESTDIR-}$prefix
@@ -56,7 +56,7 @@ put() { # MODE FILE OUT
     place "$1" "$3"
 }
 
-# Copies a folder's files, with the folders in it; what is executable stays so. A folder that is not there is left out.
+# Copies a folder's files recursively and keeps them executable if they are. A missing folder is skipped.
 put_all() { # FOLDER OUT
     [ -d "$1" ] || return 0
     (cd "$1" && find . -type f) | while IFS= read -r file; do
@@ -67,7 +67,7 @@ put_all() { # FOLDER OUT
 
 # ---- parts
 
-# The library's name for this machine's processor, or TARGET.
+# Prints TARGET, or the name of the library for this machine's processor.
 own_target() {
     case ${TARGET-},$(uname -s),$(uname -m) in
     ?*,*,*) echo "$TARGET" ;;
@@ -98,7 +98,7 @@ install_library() {
     fi
 }
 
-# The office program with its manual and completions, and the plant's programs.
+# Installs the office program with its manual and completions, and the plant's programs.
 install_programs() {
     if [ -f "$here/programs/$(uname -m)/snoekeldraf" ]; then
         put 755 "$here/programs/$(uname -m)/snoekeldraf" "$to/bin/snoekeldraf"

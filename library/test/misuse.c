@@ -1,5 +1,5 @@
-/* Mistakes that a compiler sees. As it stands the file is right and compiles without a warning; with -DWRONG=N the Nth
- * call is wrong, and tools/test-c requires gcc's warning for it.
+/* Mistakes that a compiler can detect. Without an option the file is correct and compiles without a warning. With -DWRONG=N
+ * the Nth call is wrong, and tools/test-c requires that gcc warns about it.
  */
 #include "snoekeldraf.h"
 
@@ -11,7 +11,7 @@ static const uint8_t ring[SHIFT_RING_BYTES] = {0}, key[COMET_KEY_BYTES] = {0};
 static const uint8_t nonce[COMET_NONCE_BYTES(COMET_SPECK64)] = {0}, msg[100] = {0};
 static uint8_t text[100], tag[COMET_TAG_BYTES(COMET_SPECK64)], out[100];
 
-/* 1: the status is ignored, and the plaintext is sent if sealing was refused. */
+/* 1: the status is ignored, so that the plaintext would be sent if sealing were refused. */
 uint32_t ignored(void);
 uint32_t ignored(void)
 {
@@ -23,7 +23,7 @@ uint32_t ignored(void)
 #endif
 }
 
-/* 2: message and output are one buffer. */
+/* 2: message and output are the same buffer. */
 uint32_t overlapping(void);
 uint32_t overlapping(void)
 {
@@ -42,28 +42,28 @@ uint32_t written_past(void)
     return comet_seal(COMET_SPECK64, key, sizeof key, nonce, sizeof nonce, 0, 0, msg, 100, small, 100, tag, sizeof tag);
 }
 
-/* 4: a key where the ring belongs. */
-uint32_t read_past(const uint8_t *file, uint64_t len, uint32_t places[3]);
-uint32_t read_past(const uint8_t *file, uint64_t len, uint32_t places[3])
+/* 4: a key in place of the ring. */
+uint32_t read_past(const uint8_t *file, uint64_t len, uint32_t results[3]);
+uint32_t read_past(const uint8_t *file, uint64_t len, uint32_t results[3])
 {
-    return shift_verified(file, len, WRONG == 4 ? key : ring, SHIFT_RING_BYTES, 4103, places, places + 1, places + 2);
+    return shift_verified(file, len, WRONG == 4 ? key : ring, SHIFT_RING_BYTES, 4103, results, results + 1, results + 2);
 }
 
-/* 5: NULL for what is always written. */
+/* 5: NULL for an output that is always written. */
 uint32_t no_row(const uint8_t *file, uint64_t len, uint32_t *row);
 uint32_t no_row(const uint8_t *file, uint64_t len, uint32_t *row)
 {
     return shift_check(file, len, WRONG == 5 ? 0 : row);
 }
 
-/* 6: NULL with a length that is not 0. NULL with length 0, as for ad in the calls above, is right. */
+/* 6: NULL with a length other than 0. NULL with length 0, as for ad in the calls above, is correct. */
 uint32_t no_data(comet_session *session);
 uint32_t no_data(comet_session *session)
 {
     return comet_session_data(session, 0, WRONG == 6 ? 5 : 0);
 }
 
-/* 7: a suite that is no byte. */
+/* 7: a suite that does not fit into a byte. */
 uint32_t large_suite(comet_session *session);
 uint32_t large_suite(comet_session *session)
 {

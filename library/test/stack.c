@@ -19,7 +19,7 @@ enum { KEYS, MESSAGES, STATES, KINDS };
 
 static uint8_t stack[STACK] __attribute__((aligned(16)));
 
-/* Runs call on the painted stack. */
+/* Runs call on the stack that is filled with the pattern. */
 static void on_stack(void (*call)(void))
 {
     uint8_t *top = stack + STACK;
@@ -42,7 +42,7 @@ static void on_stack(void (*call)(void))
 #endif
 }
 
-/* The inputs. Bytes are pseudo-random, so that a piece of them is recognised. */
+/* The inputs. Their bytes are pseudorandom, so that a piece of them can be recognised. */
 static uint8_t suite, key[16], nonce[16], ad[AD], message[MESSAGE], sealed[MESSAGE], tag[16], output[MESSAGE + 16];
 static uint8_t day[FILE_MAX], draft[FILE_MAX], ring[SHIFT_RING_BYTES], made[FILE_MAX];
 static uint64_t day_len, draft_len;
@@ -58,7 +58,7 @@ static void random_bytes(uint8_t *bytes, size_t len, uint64_t seed)
     }
 }
 
-/* The stack pointer of the function that calls: what lies below it is not that function's own. */
+/* The stack pointer of the calling function: the stack below it does not belong to that function. */
 static uint8_t *here;
 #if defined(__x86_64__)
 #define NOTE_HERE __asm__ volatile("movq %%rsp, %0" : "=r"(here))
@@ -66,7 +66,7 @@ static uint8_t *here;
 #define NOTE_HERE __asm__ volatile("mov %0, sp" : "=r"(here))
 #endif
 
-/* The calls. Each is made from a function of its own, as a program makes it. */
+/* The calls, each in a function of its own, as in a program. */
 #define KEYED suite, key, sizeof key, nonce, COMET_NONCE_BYTES(suite), ad, sizeof ad
 #define TAGGED tag, COMET_TAG_BYTES(suite)
 #define CALL(name, call) static void name(void) { status = call; } \
@@ -95,7 +95,7 @@ CALL(to_edition2, shift_to_edition2(day, day_len, made, shift_moved_length(day, 
 CALL(compare, shift_compare(day, day_len, day, day_len, jobs, 100, jobs + 100, 100, jobs + 200, 100,
                             words, words + 1, words + 2, words + 3, jobs + 400))
 
-/* The secrets to look for: copies of key, message and states. */
+/* The secrets to search for: copies of key, message and states. */
 static struct secret { uint8_t bytes[512]; size_t len; } secrets[KINDS];
 
 static void add_secret(int kind, const void *bytes, size_t len)
@@ -114,7 +114,7 @@ static size_t depth(void)
     return STACK - untouched;
 }
 
-/* How many times a piece stands on the stack. */
+/* How many times a piece occurs on the stack. */
 static unsigned found_piece(const uint8_t *piece)
 {
     unsigned times = 0;
@@ -136,7 +136,7 @@ static unsigned found(int kind)
     return pieces;
 }
 
-/* Y and Z, as a session with the same inputs has them: after the start, the associated data and the message. */
+/* Records Y and Z of a session with the same inputs as secrets: after the start, the associated data and the message. */
 static void learn_states(const uint8_t *msg, size_t len)
 {
     secrets[STATES].len = 0;
@@ -161,7 +161,7 @@ static void run(void (*call)(void), void (*prepare)(void), unsigned count[KINDS]
     for (int kind = 0; kind < KINDS; kind++) count[kind] = found(kind);
 }
 
-/* One call without and with snoekeldraf_forget. */
+/* Tests one call without and with snoekeldraf_forget. */
 static void try_call(const char *name, void (*call)(void), void (*forgetting)(void), void (*prepare)(void))
 {
     unsigned before[KINDS], after[KINDS], left = 0;
@@ -202,7 +202,7 @@ static void try_records(uint8_t which)
     try_call("session_end", end, end_forget, to_end);
 }
 
-/* A job of the sample file: its key is the ring's, its message what opening gives, its states a session's. */
+/* Tests calls on a job of the sample file. The secrets are its key in the ring, its message, and the states of a session. */
 static void try_job(uint32_t which)
 {
     uint32_t at[5];
@@ -225,7 +225,7 @@ static void try_job(uint32_t which)
     try_call("open_amended", open_amended, open_amended_forget, job_length);
 }
 
-/* Calls on whole files: every key of the ring and no message is looked for. */
+/* Tests calls on whole files. The secrets are the keys of the ring; messages are not searched for. */
 static void try_file(void)
 {
     secrets[KEYS].len = secrets[MESSAGES].len = secrets[STATES].len = 0;

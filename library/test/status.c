@@ -1,4 +1,4 @@
-/* Prints the library's version, and the words of the statuses 0 to 40 and of the largest number. */
+/* Prints the library's version, and the words for 0 to 40 and for the largest 32-bit number. */
 #include <stdio.h>
 
 #include "snoekeldraf.h"

@@ -1,10 +1,10 @@
-// The ciphers and the mode against implementations that were not written here: AES-128 of OpenSSL; Speck-64/128, CHAM-64/128 and
+// Compares the ciphers and the mode with implementations by others: AES-128 of OpenSSL; Speck-64/128, CHAM-64/128 and
 // CHAM-128/128 of Crypto++. README.md of reference/ says what this shows and what it does not.
 //
 //     foreign ciphers              reads records of suite, key, block and encryption (the program `ciphers`), and compares each
 //     foreign records COUNT SEED   COMET over the foreign ciphers against the archive, COUNT random records of each suite
 //
-// A library that is not there is left out: its ciphers are skipped. The last line is `N passed, M failed, K skipped`.
+// The ciphers of a library that is missing at build time are skipped. The last line is `N passed, M failed, K skipped`.
 #include <algorithm>
 #include <array>
 #include <cstdint>
@@ -55,7 +55,7 @@ static void speck64(const uint8_t *key, const uint8_t *block, uint8_t *image)
     CryptoPP::SPECK64::Encryption(key, 16).ProcessBlock(block, image);
 }
 
-// The bytes of each word in the other order: Crypto++ reads the words of CHAM big-endian.
+// Reverses the bytes of each word: Crypto++ reads the words of CHAM big-endian.
 static std::array<uint8_t, 16> reversed(const uint8_t *bytes, unsigned len, unsigned word)
 {
     std::array<uint8_t, 16> result{};
@@ -74,7 +74,7 @@ static void cham(const uint8_t *key, const uint8_t *block, uint8_t *image)
 
 struct Suite {
     const char *name;
-    Cipher cipher; // null where its library is not there
+    Cipher cipher; // null if its library is missing
     unsigned block, nonce;
     int version;
 };
@@ -149,8 +149,8 @@ static int compare_blocks()
 
 // ---- COMET, from docs/FORMAT.md and docs/comet-v2.md, over any cipher
 
-// The mark before each call after the start, the tag's included: from the lengths alone. In version 2 the marks of a block
-// come before the call after it.
+// The mark before each cipher call after the start, the tag's included, computed from the lengths alone. In version 2 the
+// marks of a block are added before the next call.
 static Bytes marks_of(const Suite &suite, size_t ad, size_t msg)
 {
     const size_t a = (ad + suite.block - 1) / suite.block, m = (msg + suite.block - 1) / suite.block;
@@ -164,7 +164,8 @@ static Bytes marks_of(const Suite &suite, size_t ad, size_t msg)
     return marks;
 }
 
-// Z times x: its lowest 8 bytes modulo x^64 + x^4 + x^3 + x + 1, or in version 2 its lowest 15 modulo x^120 + x^9 + x^6 + x^2 + 1.
+// Multiplies the lowest 8 bytes of Z by x modulo x^64 + x^4 + x^3 + x + 1, or in version 2 its lowest 15 bytes modulo
+// x^120 + x^9 + x^6 + x^2 + 1.
 static void next_key(uint8_t z[16], int version)
 {
     const unsigned len = version == 2 ? 15 : 8, polynomial = version == 2 ? 0x245 : 0x1b;
@@ -175,7 +176,7 @@ static void next_key(uint8_t z[16], int version)
     z[1] ^= (uint8_t)(dropped * (polynomial >> 8));
 }
 
-// (X3, X2, X1, X0) becomes (X1, X0, X2 rotated right by 1, X3), X0 in the first bytes.
+// Maps (X3, X2, X1, X0) to (X1, X0, X2 rotated right by 1, X3), with X0 in the first bytes.
 static void shuffle(const uint8_t *x, unsigned size, uint8_t *shuffled)
 {
     const unsigned word = size / 4;
@@ -207,7 +208,7 @@ public:
         }
     }
 
-    // Absorbs a text; the ciphertext of a message goes to `out`.
+    // Absorbs a text; if `out` is given, the text is a message and its ciphertext is appended to `out`.
     void text(const Bytes &bytes, Bytes *out)
     {
         for (size_t at = 0; at < bytes.size(); at += suite.block) {
@@ -264,7 +265,7 @@ static Bytes random_bytes(size_t len)
     return bytes;
 }
 
-// Mostly short texts with every remainder, a few long ones.
+// A random length: mostly short, with every remainder, sometimes long.
 static size_t random_len()
 {
     const uint64_t kind = random_number() % 100;
@@ -272,7 +273,7 @@ static size_t random_len()
 }
 
 #ifdef WITH_ARCHIVE
-// Whether the archive seals the record so, and opens what the foreign ciphers sealed. Suite 4 is opened alone.
+// Whether the archive seals the record to the same bytes and opens what the foreign ciphers sealed. Suite 4 is only opened.
 static bool agrees(unsigned number, const Suite &suite, const Record &record)
 {
     Bytes text, out(record.msg.size()), tag(suite.block), back(record.msg.size());

@@ -1,4 +1,5 @@
-/* The yardstick: what one writes in C for speed; AES once with no more than the S-box as a table, once with four. */
+/* Plain C written for speed, against which the proved library is measured. AES is there twice: with the S-box as its only
+ * table, and by columns from four tables. */
 #include "comet.h"
 #include <string.h>
 
@@ -45,7 +46,7 @@ INLINE uint16_t rotl16(uint16_t x, int k) {
     return (uint16_t)(x << k | x >> (16 - k));
 }
 
-/* ---- AES-128 (FIPS 197), round keys as it goes; a column is a word, row 0 its low byte ---- */
+/* ---- AES-128 (FIPS 197), with the round keys computed during encryption; a column is a word, row 0 its low byte ---- */
 
 static const uint8_t sbox[256] = {
     0x63, 0x7c, 0x77, 0x7b, 0xf2, 0x6b, 0x6f, 0xc5, 0x30, 0x01, 0x67, 0x2b, 0xfe, 0xd7, 0xab, 0x76,
@@ -66,7 +67,7 @@ static const uint8_t sbox[256] = {
     0x8c, 0xa1, 0x89, 0x0d, 0xbf, 0xe6, 0x42, 0x68, 0x41, 0x99, 0x2d, 0x0f, 0xb0, 0x54, 0xbb, 0x16,
 };
 
-/* A column after SubBytes and ShiftRows: row r comes from the r-th of the four columns that follow each other. */
+/* A column after SubBytes and ShiftRows: row r comes from the r-th of the four consecutive columns. */
 INLINE uint32_t substituted(uint32_t a, uint32_t b, uint32_t c, uint32_t d) {
     return sbox[a & 0xff] | (uint32_t)sbox[b >> 8 & 0xff] << 8 | (uint32_t)sbox[c >> 16 & 0xff] << 16 |
            (uint32_t)sbox[d >> 24] << 24;
@@ -104,7 +105,7 @@ static block aes128(block key, block in) {
     return (block){t[0] | (uint64_t)t[1] << 32, t[2] | (uint64_t)t[3] << 32};
 }
 
-/* ---- AES-128 by columns: a table for each row, the S-box and then the column's multiples ---- */
+/* ---- AES-128 by columns: one table for each row, which combines the S-box and MixColumns ---- */
 
 static uint32_t tables[4][256];
 
@@ -134,7 +135,7 @@ static block aes128_columns(block key, block in) {
     return (block){t[0] | (uint64_t)t[1] << 32, t[2] | (uint64_t)t[3] << 32};
 }
 
-/* ---- CHAM, 80 rounds: four rounds at a time, so that no word moves ---- */
+/* ---- CHAM, 80 rounds: four rounds in an iteration, so that no word has to be moved ---- */
 
 static block cham128(block key, block in) {
     uint32_t k[4] = {(uint32_t)key.lo, (uint32_t)(key.lo >> 32), (uint32_t)key.hi, (uint32_t)(key.hi >> 32)};
@@ -172,7 +173,7 @@ static uint64_t cham64(block key, uint64_t in) {
     return a | (uint64_t)b << 16 | (uint64_t)c << 32 | (uint64_t)d << 48;
 }
 
-/* ---- Speck-64/128, 27 rounds, round keys as it goes ---- */
+/* ---- Speck-64/128, 27 rounds, with the round keys computed during encryption ---- */
 
 #define SPECK_ROUND(x1, x0, r) (x1 = (rotl32(x1, 24) + x0) ^ (r), x0 = rotl32(x0, 3) ^ x1)
 
@@ -191,22 +192,22 @@ static uint64_t speck64(block key, uint64_t in) {
     return x0 | (uint64_t)x1 << 32;
 }
 
-/* ---- the mode: marks, next block key, shuffle; then once for each block size ---- */
+/* ---- the mode: marks, next block key, shuffle; then the record, once for each block size ---- */
 
 INLINE void put_mark(block *z, uint64_t mark) {
     z->hi ^= mark << 56;
 }
 
-/* A block's mark comes before its call in version 1, and behind it in version 2. */
+/* Version 1 adds a block's mark before its cipher call, version 2 after it. */
 INLINE void mark_before(int version, block *z, uint64_t mark) {
     if (version == 1) put_mark(z, mark);
 }
 
-INLINE void mark_behind(int version, block *z, uint64_t mark) {
+INLINE void mark_after(int version, block *z, uint64_t mark) {
     if (version == 2) put_mark(z, mark);
 }
 
-/* Version 1 doubles the low 64 bits, version 2 the low 120. */
+/* Replaces Z by the next block key: version 1 doubles the low 64 bits, version 2 the low 120. */
 INLINE void next_key(int version, block *z) {
     if (version == 1) {
         z->lo = z->lo << 1 ^ (z->lo >> 63) * 0x1b;
@@ -237,7 +238,7 @@ INLINE void absorb128(cipher128 *encrypt, int version, block *y, block *z, const
         mark_before(version, z, mark);
         next_key(version, z);
         *y = xor128(encrypt(*z, *y), load128(ad));
-        mark_behind(version, z, mark);
+        mark_after(version, z, mark);
     }
     if (len > 0) {
         uint8_t last[16] = {0};
@@ -246,7 +247,7 @@ INLINE void absorb128(cipher128 *encrypt, int version, block *y, block *z, const
         mark_before(version, z, mark | 0x10);
         next_key(version, z);
         *y = xor128(encrypt(*z, *y), load128(last));
-        mark_behind(version, z, mark | 0x10);
+        mark_after(version, z, mark | 0x10);
     }
 }
 
@@ -258,7 +259,7 @@ INLINE void crypt128(cipher128 *encrypt, int version, int opens, block *y, block
         mark_before(version, z, mark);
         next_key(version, z);
         block x = encrypt(*z, *y), in = load128(text), done = xor128(in, shuffle128(x));
-        mark_behind(version, z, mark);
+        mark_after(version, z, mark);
         store128(out, done);
         *y = xor128(x, opens ? done : in);
     }
@@ -267,7 +268,7 @@ INLINE void crypt128(cipher128 *encrypt, int version, int opens, block *y, block
         mark_before(version, z, mark | 0x40);
         next_key(version, z);
         block x = encrypt(*z, *y);
-        mark_behind(version, z, mark | 0x40);
+        mark_after(version, z, mark | 0x40);
         store128(stream, shuffle128(x));
         for (size_t i = 0; i < len; i++) {
             uint8_t in = text[i];
@@ -279,7 +280,7 @@ INLINE void crypt128(cipher128 *encrypt, int version, int opens, block *y, block
     }
 }
 
-/* A whole record of COMET-128; the tag goes into tag. */
+/* Seals or opens a whole record of COMET-128 and writes its tag. */
 INLINE void run128(cipher128 *encrypt, int version, int opens, block key, const uint8_t *nonce, const uint8_t *ad, size_t ad_len,
                    const uint8_t *text, size_t len, uint8_t *out, uint8_t *tag) {
     block y = key, z = encrypt(key, load128(nonce));
@@ -290,14 +291,14 @@ INLINE void run128(cipher128 *encrypt, int version, int opens, block key, const 
     store128(tag, encrypt(z, y));
 }
 
-/* The same three for COMET-64. */
+/* The same three functions for COMET-64. */
 INLINE void absorb64(cipher64 *encrypt, int version, uint64_t *y, block *z, const uint8_t *ad, size_t len) {
     uint64_t mark = 0x08;
     for (; len >= 8; ad += 8, len -= 8, mark = 0) {
         mark_before(version, z, mark);
         next_key(version, z);
         *y = encrypt(*z, *y) ^ load64(ad);
-        mark_behind(version, z, mark);
+        mark_after(version, z, mark);
     }
     if (len > 0) {
         uint8_t last[8] = {0};
@@ -306,7 +307,7 @@ INLINE void absorb64(cipher64 *encrypt, int version, uint64_t *y, block *z, cons
         mark_before(version, z, mark | 0x10);
         next_key(version, z);
         *y = encrypt(*z, *y) ^ load64(last);
-        mark_behind(version, z, mark | 0x10);
+        mark_after(version, z, mark | 0x10);
     }
 }
 
@@ -317,7 +318,7 @@ INLINE void crypt64(cipher64 *encrypt, int version, int opens, uint64_t *y, bloc
         mark_before(version, z, mark);
         next_key(version, z);
         uint64_t x = encrypt(*z, *y), in = load64(text), done = in ^ shuffle64(x);
-        mark_behind(version, z, mark);
+        mark_after(version, z, mark);
         store64(out, done);
         *y = x ^ (opens ? done : in);
     }
@@ -326,7 +327,7 @@ INLINE void crypt64(cipher64 *encrypt, int version, int opens, uint64_t *y, bloc
         mark_before(version, z, mark | 0x40);
         next_key(version, z);
         uint64_t x = encrypt(*z, *y);
-        mark_behind(version, z, mark | 0x40);
+        mark_after(version, z, mark | 0x40);
         store64(stream, shuffle64(x));
         for (size_t i = 0; i < len; i++) {
             uint8_t in = text[i];
@@ -364,12 +365,12 @@ INLINE void run(cipher128 *aes, uint8_t suite, int opens, const uint8_t *key, co
     }
 }
 
-/* Whether a block has 16 bytes; else it has 8, and the nonce 15. */
+/* Whether the suite has blocks of 16 bytes; otherwise a block has 8 and the nonce 15. */
 INLINE int is_wide(uint8_t suite) {
     return suite < 3 || suite == 5;
 }
 
-/* Numbers 1 to 7 in the table's order; to seal, 10 just after 1. */
+/* The first of statuses 1 to 7 that applies, or 0; the sealer also has 10, just after 1. */
 static uint32_t refusal(int opens, uint8_t suite, size_t key_len, size_t nonce_len, size_t ad_len, size_t len,
                         size_t out_len, size_t tag_len) {
     if (suite < 1 || suite > 6) return 1;
@@ -383,14 +384,14 @@ static uint32_t refusal(int opens, uint8_t suite, size_t key_len, size_t nonce_l
     return 0;
 }
 
-/* The sealer and the opener over an engine of AES. */
+/* Define a sealer and an opener over one of the two AES functions. */
 #define SEALER(name, aes)                                                                                              \
     uint32_t name(uint8_t suite, const uint8_t *key, size_t key_len, const uint8_t *nonce, size_t nonce_len,           \
                   const uint8_t *ad, size_t ad_len, const uint8_t *msg, size_t msg_len,                                \
                   uint8_t *out, size_t out_len, uint8_t *tag, size_t tag_len) {                                        \
-        uint32_t number = refusal(0, suite, key_len, nonce_len, ad_len, msg_len, out_len, tag_len);                    \
-        if (number == 0) run(aes, suite, 0, key, nonce, ad, ad_len, msg, msg_len, out, tag);                           \
-        return number;                                                                                                 \
+        uint32_t status = refusal(0, suite, key_len, nonce_len, ad_len, msg_len, out_len, tag_len);                    \
+        if (status == 0) run(aes, suite, 0, key, nonce, ad, ad_len, msg, msg_len, out, tag);                           \
+        return status;                                                                                                 \
     }
 
 #define OPENER(name, aes)                                                                                              \
@@ -398,8 +399,8 @@ static uint32_t refusal(int opens, uint8_t suite, size_t key_len, size_t nonce_l
                   const uint8_t *ad, size_t ad_len, const uint8_t *text, size_t text_len,                              \
                   const uint8_t *tag, size_t tag_len, uint8_t *out, size_t out_len) {                                  \
         uint8_t made[16];                                                                                              \
-        uint32_t number = refusal(1, suite, key_len, nonce_len, ad_len, text_len, out_len, tag_len);                   \
-        if (number != 0) return number;                                                                                \
+        uint32_t status = refusal(1, suite, key_len, nonce_len, ad_len, text_len, out_len, tag_len);                   \
+        if (status != 0) return status;                                                                                \
         run(aes, suite, 1, key, nonce, ad, ad_len, text, text_len, out, made);                                         \
         if (memcmp(made, tag, tag_len) == 0) return 0;                                                                 \
         memset(out, 0, out_len);                                                                                       \
@@ -417,12 +418,13 @@ INLINE uint32_t load16(const uint8_t *p) {
     return p[0] | (uint32_t)p[1] << 8;
 }
 
-/* Where a row's fields begin that follow job number and station: 28 bytes, the last of the row's. */
+/* The fields of a row after job number and station: its last 28 bytes. */
 INLINE const uint8_t *fields(const uint8_t *row, size_t size) {
     return row + size - 28;
 }
 
-/* Whether an earlier row has this row's suite, key number and nonce; a nonce byte that is not read is 0 in both. */
+/* Whether an earlier row has row i's suite, key number and nonce. All 16 nonce bytes can be compared, since status 34
+ * ensures that a byte that the suite does not read is 0. */
 INLINE int clashes(const uint8_t *rows, size_t size, uint32_t i) {
     const uint8_t *first = fields(rows, size), *row = first + size * i;
     for (const uint8_t *other = first; other < row; other += size)
@@ -430,7 +432,8 @@ INLINE int clashes(const uint8_t *rows, size_t size, uint32_t i) {
     return 0;
 }
 
-/* Numbers 25 to 28, 34, 29 and 30 of row i; the body starts at *end, which moves to where it ends. */
+/* The first of statuses 25 to 28, 34, 29 and 30 that applies to row i, or 0. *end is the offset at which the body must
+ * start, and is advanced to its end. */
 INLINE uint32_t check_row(const uint8_t *file, size_t len, size_t size, uint32_t i, uint64_t *end) {
     const uint8_t *rows = file + 8, *row = rows + size * i, *rest = fields(row, size);
     uint32_t job = load32(row), ad = load16(rest + 2), offset = load32(rest + 4), message = load32(rest + 8);
@@ -446,7 +449,7 @@ INLINE uint32_t check_row(const uint8_t *file, size_t len, size_t size, uint32_t
     return 0;
 }
 
-/* The check of a file whose rows have this size, from 22 on. */
+/* The check of a file with rows of this size, from status 22 on. */
 INLINE uint32_t check_rows(const uint8_t *file, size_t file_len, size_t size, uint32_t *row) {
     uint32_t n = load16(file + 2);
     if (n > 512) return 22;
@@ -454,10 +457,10 @@ INLINE uint32_t check_rows(const uint8_t *file, size_t file_len, size_t size, ui
     if (8 + size * n > file_len) return 24;
     uint64_t end = 8 + size * n;
     for (uint32_t i = 0; i < n; i++) {
-        uint32_t number = check_row(file, file_len, size, i, &end);
-        if (number != 0) {
+        uint32_t status = check_row(file, file_len, size, i, &end);
+        if (status != 0) {
             *row = i;
-            return number;
+            return status;
         }
     }
     return end == file_len ? 0 : 31;

@@ -1,5 +1,5 @@
-/* plain/comet.c and its check, and above them what one would write in C for the other routines of the shift file, with
- * the numbers and outputs of the C header. AES by four tables throughout. */
+/* Plain C for the shift file: plain/comet.c with its check, and on top of them the other functions of the C header, with the
+ * same statuses and outputs. AES is always by four tables. */
 #include "names.h"
 #define plain_seal NAME(plain_seal)
 #define plain_open NAME(plain_open)
@@ -36,7 +36,7 @@ INLINE uint32_t sealed(const uint8_t *f, row r, uint32_t suite, const uint8_t *r
                         out, r.len, tag, r.tag);
 }
 
-/* The check for a draft or one edition alone. */
+/* The check of a file of one edition; a draft has edition 0. */
 static uint32_t check_as(uint32_t edition, const uint8_t *f, size_t len, uint32_t *r) {
     *r = 0;
     if (len < 8 || len > 1048576) return 20;
@@ -116,7 +116,7 @@ uint32_t NAME(open_amended)(const uint8_t *a, size_t a_len, const uint8_t *d, si
     return opened(f, x, ring, out);
 }
 
-/* ---- compare: one merge into lists of its own, copied out where there is room ---- */
+/* ---- compare: merges the two tables into local lists and copies them to the outputs if they fit ---- */
 
 INLINE int same_entry(const uint8_t *f, row x, const uint8_t *g, row y) {
     return x.suite == y.suite && x.key == y.key && x.ad == y.ad && x.station == y.station && x.len == y.len &&

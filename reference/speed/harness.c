@@ -1,6 +1,6 @@
-/* Calls every case once for each implementation, between two marks; the plugin (plugin.c) writes how many instructions ran
- * between them. Standard output has a line for each pair of marks: case, unit, what the count is divided by,
- * implementation; `count` joins both. Results are compared with ours: a case that differs ends the run.
+/* Calls every case for each implementation between two marks; the plugin (plugin.c) writes the instruction count at each
+ * mark. The standard output has a line for each pair of marks: case, unit, divisor of the count, implementation; `count`
+ * joins both. The results of all implementations are compared with the proved library's: a difference ends the run.
  *
  *   harness              all cases
  *   harness ONLY         the cases whose name starts with ONLY; ONLY$ is one case by its whole name
@@ -38,13 +38,13 @@ static inline __attribute__((always_inline)) void system_call(long number, long 
         }                                                                                                              \
     } while (0)
 
-/* Whether a case may be chosen whose name starts so: what others need is not made. */
+/* Whether some case whose name begins with `start` may be chosen; if not, its data need not be built. */
 static int may(const char *start) {
     size_t a = strlen(only), b = strlen(start);
     return strncmp(start, only, a < b ? a : b) == 0;
 }
 
-/* Results are compared where every implementation is called. */
+/* Whether the results of a case are compared: only if every implementation was called. */
 static int compared_too(const char *name) { return !*alone && chosen(name); }
 
 static void must(int right, const char *what) {
@@ -175,7 +175,7 @@ static void modes_all(void) {
             }
 }
 
-/* Refusals: what a call costs that does nothing. A wrong tag: what wiping adds. */
+/* The cost of a refused call, and of a wrong tag, which adds the wiping of the output. */
 static void refusals(void) {
     EACH(i) {
         COUNT("refused 1", "call", 1, mode[i].name, mode[i].seal(9, key, 16, nonce, 16, ad, 16, msg, 64, two, 64, tag2, 16));
@@ -187,7 +187,7 @@ static void refusals(void) {
 
 /* ---- sessions ---- */
 
-static uint32_t refused; /* any status but 0 of a session's calls */
+static uint32_t refused; /* the OR of all statuses of the session calls */
 
 static void session(int s, N part, N all) {
     N nl = wide(s) ? 16 : 15, tl = wide(s) ? 16 : 8, at = 0;
@@ -224,15 +224,15 @@ static void sessions(void) {
 static void put16(B *p, U x) { p[0] = (B)x, p[1] = (B)(x >> 8); }
 static void put32(B *p, U x) { put16(p, x), put16(p + 2, x >> 16); }
 
-/* A draft of n rows, each with a bytes of associated data and a message of m bytes; suite 0: 1, 2, 3, 5, 6 in turn. Job
- * 10 i + 10. like: nonces that differ in their last bytes alone, as counters do. */
+/* Writes a draft of n rows to f and returns its length. Row i has job 10 i + 10, a bytes of associated data and a message
+ * of m bytes. Suite 0 stands for 1, 2, 3, 5, 6 cyclically. like: the nonces differ in their last bytes only, like counters. */
 static N draft(B *f, U n, N a, N m, int suite, int like) {
-    static const B turn[5] = {1, 2, 3, 5, 6};
+    static const B cycle[5] = {1, 2, 3, 5, 6};
     N at = 8 + 32 * n;
     seed = 7;
     memset(f, 0, MIB);
     for (U i = 0; i < n; i++) {
-        B *p = f + 8 + 32 * i, s = suite ? (B)suite : turn[i % 5];
+        B *p = f + 8 + 32 * i, s = suite ? (B)suite : cycle[i % 5];
         put32(p, 10 * i + 10);
         p[4] = s, p[5] = i % 16;
         put16(p + 6, (U)a), put32(p + 8, (U)at), put32(p + 12, (U)m);
@@ -247,7 +247,7 @@ static N draft(B *f, U n, N a, N m, int suite, int like) {
     return at;
 }
 
-/* The same, sealed; suite 4 too, which no writer seals any more. */
+/* Writes the sealed file of such a draft; also for suite 4, which is retired and which the writer refuses. */
 static N file(B *f, U n, N a, N m, int suite, int like) {
     static B d[MIB];
     U r;
@@ -261,8 +261,8 @@ static N file(B *f, U n, N a, N m, int suite, int like) {
     return len;
 }
 
-/* A file of n rows of suite 1 whose marks all stand in one place of the check's filter (crates/shift_check/src/marks.rt): the two
- * words of a nonce fold to the same value in each row. So every row is compared with every earlier one. */
+/* Writes a file of n rows of suite 1 that all hash to the same bits of the check's Bloom filter (crates/shift_check/src/marks.rt):
+ * the two words of a nonce fold to the same value in each row. So every row is compared with every earlier one. */
 static N colliding(B *f, U n) {
     N len = file(f, n, 5, 0, 1, 0);
     for (U i = 0; i < n; i++) {
@@ -456,7 +456,7 @@ static void moves(void) {
 }
 
 #ifdef YARD
-/* ---- the reader, which has no C interface: from the crate yard ---- */
+/* ---- the reader, which has no C interface; the crate yard exports it ---- */
 
 extern uint64_t yard_cursor(P, N, uint64_t);
 

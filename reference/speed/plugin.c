@@ -1,11 +1,11 @@
 /* Counts executed guest instructions: a TCG plugin for Debian's qemu-user (7.2, plugin interface version 1).
  *
- * The guest marks a point by a system call that no kernel has, 0x5245 with an identity: the plugin writes the identity and
- * the number of instructions executed so far as one line to out=FILE.
+ * The guest sets a mark by system call 0x5245, which no kernel has, with an identifier. The plugin then writes the
+ * identifier and the number of instructions executed so far as one line to out=FILE.
  *
- * The packages have no qemu-plugin.h: what is used of it is declared here. Every instruction counts for itself. Counting
- * whole blocks is faster and not exact: QEMU 7.2 ends a block before an instruction that reaches into the next page and
- * still tells the plugin of it. `rep movs` and the like count once for each turn, as QEMU runs them.
+ * The packages have no qemu-plugin.h, so this file declares what it uses of it. It counts each instruction separately.
+ * Counting whole blocks would be faster but not exact: QEMU 7.2 ends a block before an instruction that crosses a page and
+ * still reports it to the plugin. An instruction with a `rep` prefix counts once for each iteration, as QEMU runs it.
  */
 #include <inttypes.h>
 #include <stdint.h>

@@ -1,6 +1,6 @@
-/* What one writes in C first: one sealer for every cipher, called through a pointer, and blocks as bytes in memory. No
- * length is checked. Its entry points have the parameters of comet_seal and comet_open. It is slower than plain/comet.c
- * but for the shortest messages, where it is the one to beat. */
+/* The simplest C: one sealer for every cipher, which it calls through a pointer, with blocks as bytes in memory. It checks
+ * no length. Its two functions have the parameters of comet_seal and comet_open. It is slower than plain/comet.c, except on
+ * the shortest messages, where it is the fastest C. */
 #include "names.h"
 #include <stddef.h>
 #include <stdint.h>
@@ -65,7 +65,7 @@ static void aes(const uint8_t *key, const uint8_t *in, uint8_t *out) {
 
 /* ---- CHAM and Speck ---- */
 
-/* One round: the word that leaves the state is overwritten. */
+/* One round, in place: the new word replaces the one that leaves the state. */
 #define ROUND(rol, a, b, k, i, p, q) a = rol((a ^ (i)) + (rol(b, p) ^ (k)), q)
 
 #define CHAM(name, word, rol, words, size)                                                                             \
@@ -108,7 +108,7 @@ typedef void cipher(const uint8_t *key, const uint8_t *in, uint8_t *out);
 static cipher *const ciphers[7] = {0, aes, cham128, speck, cham64, aes, speck};
 static const size_t sizes[7] = {0, 16, 16, 8, 8, 16, 8};
 
-/* Version 1 doubles the low 64 bits, version 2 the low 120. */
+/* Replaces Z by the next block key: version 1 doubles the low 64 bits, version 2 the low 120. */
 static void doubled(int version, uint8_t *z) {
     uint64_t lo, hi;
     memcpy(&lo, z, 8);
@@ -139,8 +139,8 @@ static void shuffled(const uint8_t *x, uint8_t *out, size_t n) {
     }
 }
 
-/* The next call's key, and the call; a mark goes in before the doubling in version 1, behind the call in version 2. */
-static void turn(cipher *e, int version, uint8_t mark, uint8_t *z, const uint8_t *y, uint8_t *x) {
+/* Computes the next block key and encrypts y into x. Version 1 adds the mark before the doubling, version 2 after the call. */
+static void marked_call(cipher *e, int version, uint8_t mark, uint8_t *z, const uint8_t *y, uint8_t *x) {
     if (version == 1) z[15] ^= mark;
     doubled(version, z);
     e(z, y, x);
@@ -164,7 +164,7 @@ static void run(uint8_t suite, int opens, const uint8_t *key, const uint8_t *non
     }
     for (size_t i = 0; i < ad_len; i += n, mark = 0) {
         size_t k = ad_len - i < n ? ad_len - i : n;
-        turn(e, version, k < n ? mark ^ 16 : mark, z, y, x);
+        marked_call(e, version, k < n ? mark ^ 16 : mark, z, y, x);
         memcpy(y, x, n);
         for (size_t j = 0; j < k; j++) y[j] ^= ad[i + j];
         if (k < n) y[k] ^= 1;
@@ -172,7 +172,7 @@ static void run(uint8_t suite, int opens, const uint8_t *key, const uint8_t *non
     mark = 32;
     for (size_t i = 0; i < len; i += n, mark = 0) {
         size_t k = len - i < n ? len - i : n;
-        turn(e, version, k < n ? mark ^ 64 : mark, z, y, x);
+        marked_call(e, version, k < n ? mark ^ 64 : mark, z, y, x);
         shuffled(x, s, n);
         memcpy(y, x, n);
         for (size_t j = 0; j < k; j++) {

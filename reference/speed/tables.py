@@ -1,4 +1,4 @@
-"""What was counted, as tables in Markdown."""
+"""The instruction counts as tables in Markdown."""
 
 COMPILERS = ("gcc", "clang", "kit")
 LENGTHS = (0, 1, 15, 64, 1024, 65536)
@@ -10,7 +10,7 @@ class Case:
         self.unit, self.by, self.ran = unit, by, {}
 
     def least(self, name):
-        """Of one compiler, the least of what stands for the same work."""
+        """The least count of one compiler's variants; None if it has none."""
         return min((n for who, n in self.ran.items() if who.split("-")[0] == name), default=None)
 
     def best(self):
@@ -49,7 +49,7 @@ def full(cases):
 
 
 def ratios(cases):
-    """Sealing, opening, by suite and length."""
+    """Instructions of sealing or opening, by suite and length."""
     rows = []
     for suite in range(1, 7):
         cells = []
@@ -61,7 +61,7 @@ def ratios(cases):
 
 
 def a_byte(cases):
-    """Instructions a byte at 64 KiB, of a message of 0 bytes, and how a byte's cost at 64 KiB stands to that at 1 KiB."""
+    """Instructions per byte at 64 KiB, of an empty message, and the cost of a byte at 64 KiB divided by that at 1 KiB."""
     rows = []
     for suite in range(1, 7):
         way = "open" if suite == 4 else "seal"
@@ -102,7 +102,7 @@ def routines(cases):
 
 
 def by_rows(cases):
-    """Instructions a row."""
+    """Instructions per row."""
     kinds = {"check, random nonces": "check {} rows random nonces", "check, counters": "check {} rows counter nonces",
              "reader, asked to its end": "reader asked over {} rows", "compare, equal": "compare equal {} rows small",
              "seal_file, no text": "seal_file {} rows small"}
@@ -112,7 +112,7 @@ def by_rows(cases):
 
 
 def by_bytes(cases):
-    """Instructions a byte of a file of 512 rows."""
+    """Instructions per byte of a file of 512 rows."""
     kinds = {"seal_file": "seal_file 512 rows of {}", "unseal_file": "unseal_file 512 rows of {}",
              "reseal, all suite 4": "reseal 512 rows of {}, all suite 4",
              "reseal, none suite 4": "reseal 512 rows of {}, none suite 4",

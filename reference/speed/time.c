@@ -1,11 +1,11 @@
-/* Times one call of the archive and of plain C in turn, and prints the best C / ours: ratios of one run.
+/* Times calls of the archive and of plain C alternately, and prints the time of the best C divided by ours.
  *
  * Each figure is the least of many interleaved runs, so other work on the machine changes it little. The script `time`
  * beside this file builds and runs it. On x86-64 the clock is the time stamp counter, around one call; the targets of
  * issue 42 hold there. On AArch64 the counter is coarse, so several calls are timed together, and there is no target.
  * Under QEMU's emulation a time means nothing, and the program refuses.
  *
- * Exit status: 0 every target is met (AArch64: done), 1 a target is missed, 2 outputs differ or the processor is emulated.
+ * Exit status: 0 every target is met (AArch64: measured), 1 a target is missed, 2 outputs differ or the processor is emulated.
  */
 #include "snoekeldraf.h"
 #include <stdio.h>
@@ -42,7 +42,7 @@ static uint64_t now(void) {
 
 static int calls_at_once(size_t len) { return len >= 65536 ? 1 : len >= 1024 ? 8 : 64; }
 
-/* Whether the processor names itself as QEMU's own does: no implementer, part 0x51. */
+/* Whether the processor identifies itself as QEMU's: no implementer, part 0x51. */
 static int emulated(void) {
     uint64_t id;
     if (!(getauxval(AT_HWCAP) & HWCAP_REGISTERS)) return 0;
@@ -89,7 +89,7 @@ static void call(const job *j, int maker) {
     }
 }
 
-/* Every maker gives what ours gives. */
+/* Stops the program if some maker's output differs from ours. */
 static void compare(const job *j) {
     for (int maker = 0; maker < MAKERS; maker++) {
         if (!j->opening && memcmp(text[maker], text[OURS], j->len) == 0 && memcmp(tags[maker], tags[OURS], j->tag_len) == 0)
@@ -142,7 +142,7 @@ static void show_suite(int suite) {
         printf("suite %d %-7s", suite, opening ? "opening" : "sealing");
         for (int z = 0; z < 4; z++) {
             job j = {suite, 0, sizes[z], wide ? 16 : 15, wide ? 16 : 8};
-            call(&j, OURS); /* what is opened */
+            call(&j, OURS); /* seals the record that is opened */
             j.opening = opening;
             show(&j);
         }

@@ -1,6 +1,6 @@
-//! The proved library for x86-64, called by the C program bridge/bridge.c, which is linked with its archive.
+//! The proved library for x86-64, called through the C program bridge/bridge.c, which is linked with its archive.
 //!
-//! On another processor that program is compiled for x86-64 by a cross compiler and runs under the emulator of the kit that
+//! On another processor a cross compiler compiles that program for x86-64. It runs under the emulator of the kit that
 //! proves the library, or under a `qemu-x86_64` on the path.
 
 use crate::amendment::Amended;
@@ -19,7 +19,7 @@ use std::sync::Mutex;
 /// The program, as build.rs compiled it.
 const PROGRAM: &str = env!("BRIDGE");
 
-/// The kit's folder: what RATTLE_HOME names, or the one above that of the command `rt`.
+/// The kit's folder: the one that RATTLE_HOME names, or the parent of the folder that holds the command `rt`.
 fn kit() -> Option<PathBuf> {
     let by_command = || {
         let commands = env::split_paths(&env::var_os("PATH")?).map(|folder| folder.join("rt")).collect::<Vec<_>>();
@@ -31,8 +31,8 @@ fn kit() -> Option<PathBuf> {
 
 /// The emulator beside the kit's compiler, or the one on the path.
 fn emulator() -> PathBuf {
-    let place = format!("on/{}/toolchain/bin/qemu-x86_64", env::consts::ARCH);
-    let of_kit = kit().map(|kit| kit.join(place)).filter(|path| path.is_file());
+    let path = format!("on/{}/toolchain/bin/qemu-x86_64", env::consts::ARCH);
+    let of_kit = kit().map(|kit| kit.join(path)).filter(|path| path.is_file());
     of_kit.unwrap_or(PathBuf::from("qemu-x86_64"))
 }
 
@@ -42,10 +42,10 @@ struct Bridge {
     program: Child,
 }
 
-/// Started with the first call.
+/// The running program; the first call starts it.
 static BRIDGE: Mutex<Option<Bridge>> = Mutex::new(None);
 
-/// Closes the program's input and waits until it has ended; says whether it ended well.
+/// Closes the program's input and waits for its end; true if it exited with status 0 or was never started.
 pub fn finish() -> bool {
     match BRIDGE.lock().unwrap().take() {
         Some(Bridge { calls, mut program, .. }) => {
@@ -71,25 +71,25 @@ impl Bridge {
         Bridge { calls: BufWriter::new(calls), answers: BufReader::new(answers), program }
     }
 
-    /// Puts a call and waits for its answer.
-    fn ask(&mut self, function: u8, arguments: &mut [Argument]) -> std::io::Result<u32> {
+    /// Sends one call, waits for its result and fills the outputs; returns the function's return value.
+    fn call(&mut self, function: u8, arguments: &mut [Argument]) -> std::io::Result<u32> {
         self.calls.write_all(&[function])?;
         for argument in arguments.iter() {
             match argument {
                 Number(number) => self.calls.write_all(&number.to_le_bytes())?,
-                Given(bytes) => self.send(bytes)?,
-                Lent(bytes) => self.send(bytes)?,
+                Input(bytes) => self.send(bytes)?,
+                Output(bytes) => self.send(bytes)?,
             }
         }
         self.calls.flush()?;
-        let mut number = [0; 4];
-        self.answers.read_exact(&mut number)?;
+        let mut status = [0; 4];
+        self.answers.read_exact(&mut status)?;
         for argument in arguments {
-            if let Lent(bytes) = argument {
+            if let Output(bytes) = argument {
                 self.answers.read_exact(bytes)?;
             }
         }
-        Ok(u32::from_le_bytes(number))
+        Ok(u32::from_le_bytes(status))
     }
 
     fn send(&mut self, bytes: &[u8]) -> std::io::Result<()> {
@@ -98,78 +98,82 @@ impl Bridge {
     }
 }
 
-/// An argument of a function of snoekeldraf.h; `Lent` is for writing.
+/// An argument of a function of snoekeldraf.h; the function writes into an `Output`.
 enum Argument<'a> {
     Number(u64),
-    Given(&'a [u8]),
-    Lent(&'a mut [u8]),
+    Input(&'a [u8]),
+    Output(&'a mut [u8]),
 }
 
-use Argument::{Given, Lent, Number};
+use Argument::{Input, Number, Output};
 
-/// What a number that is lent for writing holds before.
+/// The bytes of an output integer before the call.
 const UNWRITTEN: [u8; 4] = [0xa5; 4];
 
-/// What a function gives, and the numbers that it writes last; its number is its place in the table of bridge.c.
-fn ask<const N: usize>(function: u8, given: Vec<Argument>) -> (u32, [u32; N]) {
+/// The return value of a function, and its last N outputs, which are integers. `function` is its index in the table of
+/// bridge.c.
+fn call<const N: usize>(function: u8, arguments: Vec<Argument>) -> (u32, [u32; N]) {
     let mut numbers = [UNWRITTEN; N];
-    let mut arguments = given;
-    arguments.extend(numbers.iter_mut().map(|number| Lent(number)));
+    let mut all = arguments;
+    all.extend(numbers.iter_mut().map(|number| Output(number)));
     let mut bridge = BRIDGE.lock().unwrap();
     let bridge = bridge.get_or_insert_with(Bridge::start);
-    let answer = bridge.ask(function, &mut arguments).unwrap_or_else(|e| panic!("{PROGRAM}, function {function}: {e}"));
-    (answer, numbers.map(u32::from_le_bytes))
+    let status = bridge.call(function, &mut all).unwrap_or_else(|e| panic!("{PROGRAM}, function {function}: {e}"));
+    (status, numbers.map(u32::from_le_bytes))
 }
 
 fn seal(suite: u8, key: &[u8], nonce: &[u8], ad: &[u8], msg: &[u8], out: &mut [u8], tag: &mut [u8]) -> u32 {
-    let given = vec![Number(suite.into()), Given(key), Given(nonce), Given(ad), Given(msg), Lent(out), Lent(tag)];
-    ask::<0>(0, given).0
+    let arguments =
+        vec![Number(suite.into()), Input(key), Input(nonce), Input(ad), Input(msg), Output(out), Output(tag)];
+    call::<0>(0, arguments).0
 }
 
 fn open(suite: u8, key: &[u8], nonce: &[u8], ad: &[u8], text: &[u8], tag: &[u8], out: &mut [u8]) -> u32 {
-    let given = vec![Number(suite.into()), Given(key), Given(nonce), Given(ad), Given(text), Given(tag), Lent(out)];
-    ask::<0>(1, given).0
+    let arguments =
+        vec![Number(suite.into()), Input(key), Input(nonce), Input(ad), Input(text), Input(tag), Output(out)];
+    call::<0>(1, arguments).0
 }
 
 fn check(file: &[u8]) -> Answer {
-    let (number, [row]) = ask(2, vec![Given(file)]);
-    (number, row)
+    let (status, [row]) = call(2, vec![Input(file)]);
+    (status, row)
 }
 
 fn lookup(file: &[u8], job: u32) -> Answer {
-    let (number, [row]) = ask(3, vec![Given(file), Number(job.into())]);
-    (number, row)
+    let (status, [row]) = call(3, vec![Input(file), Number(job.into())]);
+    (status, row)
 }
 
-/// The number, and place and length of the associated data in the file.
+/// Status, and offset and length of the associated data in the file.
 fn associated(file: &[u8], job: u32) -> (u32, usize, usize) {
-    let (number, [at, length]) = ask(4, vec![Given(file), Number(job.into())]);
-    (number, at as usize, length as usize)
+    let (status, [at, length]) = call(4, vec![Input(file), Number(job.into())]);
+    (status, at as usize, length as usize)
 }
 
 fn open_job(file: &[u8], ring: &[u8], job: u32, out: &mut [u8]) -> Answer {
-    let (number, [row]) = ask(5, vec![Given(file), Given(ring), Number(job.into()), Lent(out)]);
-    (number, row)
+    let (status, [row]) = call(5, vec![Input(file), Input(ring), Number(job.into()), Output(out)]);
+    (status, row)
 }
 
 fn entry(file: &[u8], job: u32) -> (Answer, Places) {
-    let (number, [row, places @ ..]) = ask::<5>(6, vec![Given(file), Number(job.into())]);
-    ((number, row), places.map(|place| place as usize))
+    let (status, [row, extents @ ..]) = call::<5>(6, vec![Input(file), Number(job.into())]);
+    ((status, row), extents.map(|value| value as usize))
 }
 
 fn verified(file: &[u8], ring: &[u8], job: u32) -> (Answer, usize, usize) {
-    let (number, [row, at, length]) = ask(28, vec![Given(file), Given(ring), Number(job.into())]);
-    ((number, row), at as usize, length as usize)
+    let (status, [row, at, length]) = call(28, vec![Input(file), Input(ring), Number(job.into())]);
+    ((status, row), at as usize, length as usize)
 }
 
-/// A session's nine words as they lie in memory: suite, Y, Z, held bytes, totals.
+/// A session's nine words as bytes in memory order: suite, Y, Z, held bytes, totals.
 fn flat(s: &Session) -> [u8; 72] {
     let [suite, ad_total, text_total] = [s.suite as u64, s.ad_total as u64, s.text_total as u64].map(u64::to_le_bytes);
     let all = [&suite[..], &s.y, &s.z, &s.held, &ad_total, &text_total].concat();
     all.try_into().unwrap()
 }
 
-fn raised(flat: &[u8; 72]) -> Session {
+/// The inverse of `flat`.
+fn session_of(flat: &[u8; 72]) -> Session {
     let block = |at: usize| flat[at..at + 16].try_into().unwrap();
     let word = |at: usize| u64::from_le_bytes(flat[at..at + 8].try_into().unwrap());
     let suite = word(0).try_into().expect("no call writes a suite over 255");
@@ -177,28 +181,29 @@ fn raised(flat: &[u8; 72]) -> Session {
     Session { suite, y: block(8), z: block(24), held: block(40), ad_total, text_total }
 }
 
-/// A call on a session's words. Only the calls with an output write a count: `N` is 1 for these, else 0.
-fn step<const N: usize>(function: u8, mut words: [u8; 72], given: Vec<Argument>) -> Step {
-    let mut arguments = vec![Lent(&mut words)];
-    arguments.extend(given);
-    let (number, counts) = ask::<N>(function, arguments);
-    Step { next: raised(&words), number, count: counts.first().map_or(0, |count| *count as usize) }
+/// Calls a session function on a session's words and the other arguments. N is 1 for the functions that write a count,
+/// else 0.
+fn step<const N: usize>(function: u8, mut words: [u8; 72], rest: Vec<Argument>) -> Step {
+    let mut arguments = vec![Output(&mut words)];
+    arguments.extend(rest);
+    let (status, counts) = call::<N>(function, arguments);
+    Step { next: session_of(&words), number: status, count: counts.first().map_or(0, |count| *count as usize) }
 }
 
 fn session_start(suite: u8, key: &[u8], nonce: &[u8]) -> Step {
-    step::<0>(7, [0xa5; 72], vec![Number(suite.into()), Given(key), Given(nonce)])
+    step::<0>(7, [0xa5; 72], vec![Number(suite.into()), Input(key), Input(nonce)])
 }
 
 fn session_data(session: Session, ad: &[u8]) -> Step {
-    step::<0>(8, flat(&session), vec![Given(ad)])
+    step::<0>(8, flat(&session), vec![Input(ad)])
 }
 
 fn session_part(session: Session, msg: &[u8], out: &mut [u8]) -> Step {
-    step::<1>(9, flat(&session), vec![Given(msg), Lent(out)])
+    step::<1>(9, flat(&session), vec![Input(msg), Output(out)])
 }
 
 fn session_end(session: Session, out: &mut [u8], tag: &mut [u8]) -> Step {
-    step::<1>(10, flat(&session), vec![Lent(out), Lent(tag)])
+    step::<1>(10, flat(&session), vec![Output(out), Output(tag)])
 }
 
 fn session_wipe(session: Session) -> Session {
@@ -206,27 +211,27 @@ fn session_wipe(session: Session) -> Session {
 }
 
 fn seal_file(draft: &[u8], ring: &[u8], out: &mut [u8]) -> Answer {
-    let (number, [row]) = ask(11, vec![Given(draft), Given(ring), Lent(out)]);
-    (number, row)
+    let (status, [row]) = call(11, vec![Input(draft), Input(ring), Output(out)]);
+    (status, row)
 }
 
 fn unseal_file(file: &[u8], ring: &[u8], out: &mut [u8]) -> Answer {
-    let (number, [row]) = ask(12, vec![Given(file), Given(ring), Lent(out)]);
-    (number, row)
+    let (status, [row]) = call(12, vec![Input(file), Input(ring), Output(out)]);
+    (status, row)
 }
 
-/// Number and row, and how many rows were looked at.
+/// Status and row, and how many rows the search read.
 fn search(file: &[u8], job: u32) -> (Answer, u32) {
-    let (number, [row, looked]) = ask(13, vec![Given(file), Number(job.into())]);
-    ((number, row), looked)
+    let (status, [row, looked]) = call(13, vec![Input(file), Number(job.into())]);
+    ((status, row), looked)
 }
 
 fn reseal(file: &[u8], ring: &[u8], out: &mut [u8]) -> Answer {
-    let (number, [row]) = ask(14, vec![Given(file), Given(ring), Lent(out)]);
-    (number, row)
+    let (status, [row]) = call(14, vec![Input(file), Input(ring), Output(out)]);
+    (status, row)
 }
 
-/// A list of numbers as it lies in memory.
+/// The bytes of a list of integers in memory order.
 fn bytes_of(list: &[u32]) -> Vec<u8> {
     list.iter().flat_map(|number| number.to_le_bytes()).collect()
 }
@@ -236,39 +241,39 @@ fn numbers_of(bytes: &[u8]) -> Vec<u32> {
 }
 
 fn compare(first: &[u8], second: &[u8], lists: [&mut [u32]; 3]) -> Compared {
-    let mut lent = [bytes_of(lists[0]), bytes_of(lists[1]), bytes_of(lists[2])];
-    let [one, other, both] = &mut lent;
-    let given = vec![Given(first), Given(second), Lent(one), Lent(other), Lent(both)];
-    let (number, [a, b, c, file, row]) = ask(15, given);
-    for (list, bytes) in lists.into_iter().zip(&lent) {
+    let mut buffers = [bytes_of(lists[0]), bytes_of(lists[1]), bytes_of(lists[2])];
+    let [one, other, both] = &mut buffers;
+    let arguments = vec![Input(first), Input(second), Output(one), Output(other), Output(both)];
+    let (status, [a, b, c, file, row]) = call(15, arguments);
+    for (list, bytes) in lists.into_iter().zip(&buffers) {
         list.copy_from_slice(&numbers_of(bytes));
     }
-    Compared { number, file, row, counts: [a, b, c] }
+    Compared { number: status, file, row, counts: [a, b, c] }
 }
 
 fn moved_length(file: &[u8]) -> usize {
-    ask::<0>(26, vec![Given(file)]).0 as usize
+    call::<0>(26, vec![Input(file)]).0 as usize
 }
 
 fn to_edition2(file: &[u8], out: &mut [u8]) -> Answer {
-    let (number, [row]) = ask(16, vec![Given(file), Lent(out)]);
-    (number, row)
+    let (status, [row]) = call(16, vec![Input(file), Output(out)]);
+    (status, row)
 }
 
 fn to_edition1(file: &[u8], out: &mut [u8]) -> Answer {
-    let (number, [row]) = ask(17, vec![Given(file), Lent(out)]);
-    (number, row)
+    let (status, [row]) = call(17, vec![Input(file), Output(out)]);
+    (status, row)
 }
 
 fn amended(amendment: &[u8], day: &[u8], job: u32) -> Amended {
-    let (number, [file, row, at, length]) = ask(18, vec![Given(amendment), Given(day), Number(job.into())]);
-    Amended { number, file, row, at: at as usize, length: length as usize }
+    let (status, [file, row, at, length]) = call(18, vec![Input(amendment), Input(day), Number(job.into())]);
+    Amended { number: status, file, row, at: at as usize, length: length as usize }
 }
 
 fn open_current(amendment: &[u8], day: &[u8], ring: &[u8], job: u32, out: &mut [u8]) -> (u32, u32, u32) {
-    let given = vec![Given(amendment), Given(day), Given(ring), Number(job.into()), Lent(out)];
-    let (number, [file, row]) = ask(19, given);
-    (number, file, row)
+    let arguments = vec![Input(amendment), Input(day), Input(ring), Number(job.into()), Output(out)];
+    let (status, [file, row]) = call(19, arguments);
+    (status, file, row)
 }
 
 #[rustfmt::skip]
@@ -276,10 +281,10 @@ fn seal_counted(
     suite: u8, key: &[u8], nonce: &[u8], ad: &[u8], msg: &[u8], out: &mut [u8], tag: &mut [u8],
 ) -> (u32, u64) {
     let mut calls = [0xa5; 8];
-    let mut given = vec![Number(suite.into()), Given(key), Given(nonce), Given(ad), Given(msg), Lent(out), Lent(tag)];
-    given.push(Lent(&mut calls));
-    let (number, []) = ask(20, given);
-    (number, u64::from_le_bytes(calls))
+    let mut arguments = vec![Number(suite.into()), Input(key), Input(nonce), Input(ad), Input(msg), Output(out), Output(tag)];
+    arguments.push(Output(&mut calls));
+    let (status, []) = call(20, arguments);
+    (status, u64::from_le_bytes(calls))
 }
 
 #[rustfmt::skip]
@@ -287,19 +292,20 @@ fn open_counted(
     suite: u8, key: &[u8], nonce: &[u8], ad: &[u8], text: &[u8], tag: &[u8], out: &mut [u8],
 ) -> (u32, u64) {
     let mut calls = [0xa5; 8];
-    let mut given = vec![Number(suite.into()), Given(key), Given(nonce), Given(ad), Given(text), Given(tag), Lent(out)];
-    given.push(Lent(&mut calls));
-    let (number, []) = ask(21, given);
-    (number, u64::from_le_bytes(calls))
+    let mut arguments = vec![Number(suite.into()), Input(key), Input(nonce), Input(ad), Input(text), Input(tag), Output(out)];
+    arguments.push(Output(&mut calls));
+    let (status, []) = call(21, arguments);
+    (status, u64::from_le_bytes(calls))
 }
 
-/// Text and tag are lent for all three, so that a byte written where none may be comes back.
+/// Calls a function that works in place. Text and tag are outputs for all three functions, so that the comparison sees a
+/// byte that was written by mistake.
 #[rustfmt::skip]
 fn on_record(
     function: u8, suite: u8, key: &[u8], nonce: &[u8], ad: &[u8], text: &mut [u8], tag: &mut [u8],
 ) -> u32 {
-    let given = vec![Number(suite.into()), Given(key), Given(nonce), Given(ad), Lent(text), Lent(tag)];
-    ask::<0>(function, given).0
+    let arguments = vec![Number(suite.into()), Input(key), Input(nonce), Input(ad), Output(text), Output(tag)];
+    call::<0>(function, arguments).0
 }
 
 fn seal_in_place(suite: u8, key: &[u8], nonce: &[u8], ad: &[u8], text: &mut [u8], tag: &mut [u8]) -> u32 {
@@ -315,20 +321,20 @@ fn verify(suite: u8, key: &[u8], nonce: &[u8], ad: &[u8], text: &mut [u8], tag: 
 }
 
 fn report(file: &[u8], ring: &[u8], jobs: &mut [u32], numbers: &mut [u8]) -> Report {
-    let mut lent = bytes_of(jobs);
-    let (number, [count, row]) = ask(22, vec![Given(file), Given(ring), Lent(&mut lent), Lent(numbers)]);
-    jobs.copy_from_slice(&numbers_of(&lent));
-    Report { number, row, count }
+    let mut job_bytes = bytes_of(jobs);
+    let (status, [count, row]) = call(22, vec![Input(file), Input(ring), Output(&mut job_bytes), Output(numbers)]);
+    jobs.copy_from_slice(&numbers_of(&job_bytes));
+    Report { number: status, row, count }
 }
 
 fn contents_header(file: &[u8]) -> Header {
-    let (status, [edition, count]) = ask(29, vec![Given(file)]);
+    let (status, [edition, count]) = call(29, vec![Input(file)]);
     (status, edition, count)
 }
 
 fn contents_row(file: &[u8], row: u32) -> (u32, Fields) {
     let mut fields = [0xa5; 36];
-    let (status, []) = ask(30, vec![Given(file), Number(row.into()), Lent(&mut fields)]);
+    let (status, []) = call(30, vec![Input(file), Number(row.into()), Output(&mut fields)]);
     (status, numbers_of(&fields).try_into().unwrap())
 }
 

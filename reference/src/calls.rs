@@ -1,4 +1,4 @@
-//! What is put to an implementation, and what it answers: calls of the sealer, the opener and the shift file.
+//! An implementation as a table of functions, and the calls of its sealer, opener and shift file with their outcomes.
 
 use crate::amendment::{self, Amended};
 use crate::contents;
@@ -8,39 +8,39 @@ use crate::session::{Session, Step};
 use crate::show::{fold, shown};
 use crate::{comet, editions, reseal, search, session, shift, writer};
 
-/// What lent buffers hold before a call.
+/// Every byte of an output buffer before a call.
 pub const FILLER: u8 = 0xa5;
 
-/// What a place of a lent list of numbers holds before a call.
+/// Every element of an output list of integers before a call.
 pub const FILLER_NUMBER: u32 = u32::from_le_bytes([FILLER; 4]);
 
 pub type Seal = fn(u8, &[u8], &[u8], &[u8], &[u8], &mut [u8], &mut [u8]) -> u32;
 pub type Open = fn(u8, &[u8], &[u8], &[u8], &[u8], &[u8], &mut [u8]) -> u32;
 
-/// The sealer and the opener that give the number and how often the cipher was called.
+/// The sealer and the opener that return the status and the number of cipher calls.
 pub type SealCounted = fn(u8, &[u8], &[u8], &[u8], &[u8], &mut [u8], &mut [u8]) -> (u32, u64);
 pub type OpenCounted = fn(u8, &[u8], &[u8], &[u8], &[u8], &[u8], &mut [u8]) -> (u32, u64);
 
-/// Works on a record where it lies: text and tag come back as they are afterwards, also where they are only read.
+/// Seals, opens or verifies a record in place and returns the status. Text and tag are mutable in all three, so that the
+/// caller can compare them with what they were, even where they may only be read.
 pub type OnRecord = fn(u8, &[u8], &[u8], &[u8], &mut [u8], &mut [u8]) -> u32;
 
-/// Where the associated data of a verified job is: number and row, offset and length.
+/// Verifies a job's entry: status and row, offset and length of its associated data.
 pub type Verified = fn(&[u8], &[u8], u32) -> (shift::Answer, usize, usize);
 
-/// Compares two files into three lists.
+/// Compares two files and writes three lists of jobs.
 pub type Compare = fn(&[u8], &[u8], [&mut [u32]; 3]) -> Compared;
 
-/// Opens a job's current entry: number, file and row.
+/// Opens a job's current entry: status, file and row.
 pub type OpenCurrent = fn(&[u8], &[u8], &[u8], u32, &mut [u8]) -> (u32, u32, u32);
 
-/// Reports on a file into two lists.
+/// Checks every entry of a file and writes the lists of jobs and of statuses.
 pub type MakeReport = fn(&[u8], &[u8], &mut [u32], &mut [u8]) -> Report;
 
-/// Takes a file and a ring, and writes a file.
+/// Reads a file and a ring, and writes a file.
 pub type Rewrite = fn(&[u8], &[u8], &mut [u8]) -> shift::Answer;
 
-/// An implementation. `associated` gives the lookup's number, and offset and length in the file; `verified` number and row,
-/// and the same.
+/// An implementation. `associated` returns the lookup's status, and offset and length in the file.
 #[derive(Clone, Copy)]
 pub struct Library {
     pub seal: Seal,
@@ -113,7 +113,7 @@ pub const REFERENCE: Library = Library {
     contents_row: contents::row,
 };
 
-/// What every call begins with, as the test programs read it: op, suite, job and six numbers, most of them lengths.
+/// The first 30 bytes of every call as the test programs read it: op, suite, job and six integers, most of them lengths.
 pub fn head(op: u8, suite: u8, job: u32, numbers: &[usize]) -> Vec<u8> {
     let mut bytes = vec![op, suite];
     let mut six = [0; 6];
@@ -124,21 +124,21 @@ pub fn head(op: u8, suite: u8, job: u32, numbers: &[usize]) -> Vec<u8> {
     bytes
 }
 
-/// A call, or a run of calls.
+/// A call, or a sequence of calls.
 pub trait Case {
     type Outcome: PartialEq;
 
-    /// What the implementation gives, and every byte of what was lent for writing.
+    /// What the implementation returns, and every byte of its output buffers.
     fn answer(&self, by: &Library) -> Self::Outcome;
 
     /// The case as its test program reads it.
     fn record(&self) -> Vec<u8>;
 
-    /// The answer as its test program writes it.
+    /// The outcome as its test program writes it.
     fn lines(&self, by: &Library) -> String;
 }
 
-/// A call of the sealer or the opener. The sealer's `tag` is what its buffer holds before.
+/// A call of the sealer or the opener. The sealer's `tag` is the content of its tag buffer before the call.
 #[derive(Clone)]
 pub struct Call {
     pub opens: bool,
@@ -151,7 +151,7 @@ pub struct Call {
     pub tag: Vec<u8>,
 }
 
-/// The number, and every byte of what was lent for writing (for the opener, `tag` is as it was).
+/// The status (`number`), and every byte of the output buffers (for the opener, `tag` is the input).
 #[derive(PartialEq, Debug)]
 pub struct Outcome {
     pub number: u32,
@@ -173,7 +173,7 @@ impl Call {
         bytes
     }
 
-    /// The call that opens what this one seals, or what the specification gives under a suite that is no longer sealed.
+    /// The call that opens what this one seals; under a retired suite, what the specification's sealer outputs.
     pub fn reopened(&self) -> Call {
         assert!(!self.opens && (self.answer(&REFERENCE).number == 0 || comet::is_retired(self.suite)));
         let (text, tag) = comet::specified(self.suite, &self.key, &self.nonce, &self.ad, &self.text);
@@ -209,7 +209,7 @@ impl Case for Call {
     }
 }
 
-/// The same call, of the sealer and the opener that report the cipher's calls.
+/// The same call, by the sealer and the opener that count the cipher calls.
 #[derive(Clone)]
 pub struct CountedCall(pub Call);
 
@@ -242,7 +242,7 @@ impl Case for CountedCall {
     }
 }
 
-/// What is done with a record where it lies.
+/// What a function does with a record in place.
 #[derive(Clone, Copy, PartialEq, Debug)]
 pub enum Deed {
     Seal,
@@ -250,7 +250,7 @@ pub enum Deed {
     Verify,
 }
 
-/// A call on a record where it lies. The call's output is no part of it.
+/// A call that works on a record in place, without the output of `call`.
 #[derive(Clone)]
 pub struct InPlaceCall {
     pub deed: Deed,
@@ -258,14 +258,14 @@ pub struct InPlaceCall {
 }
 
 impl InPlaceCall {
-    /// A call of the sealer in place, or of the opener both in place and without a message.
+    /// The same call in place: for the sealer one call, for the opener two (open and verify).
     pub fn of(call: &Call) -> Vec<InPlaceCall> {
         let deeds: &[Deed] = if call.opens { &[Deed::Open, Deed::Verify] } else { &[Deed::Seal] };
         deeds.iter().map(|deed| InPlaceCall { deed: *deed, call: call.clone() }).collect()
     }
 }
 
-/// The outcome's `out` is the text afterwards.
+/// The outcome's `out` is the text after the call.
 impl Case for InPlaceCall {
     type Outcome = Outcome;
 
@@ -296,7 +296,7 @@ impl Case for InPlaceCall {
     }
 }
 
-/// A call of the shift file's routines.
+/// One call each of the functions that read a shift file.
 #[derive(Clone)]
 pub struct FileCall {
     pub file: Vec<u8>,
@@ -317,26 +317,26 @@ pub struct FileOutcome {
 }
 
 impl FileCall {
-    /// The call as `test_shift` reads it; op 0 is one answer, op 1 every single-byte damage.
+    /// The call as `test_shift` reads it; op 0 is the file as it is, op 1 every single-byte change of it.
     pub fn record_as(&self, op: u8) -> Vec<u8> {
         let head = head(op, 0, self.job, &[self.file.len(), self.ring.len(), self.out]);
         [&head[..], &self.file, &self.ring].concat()
     }
 
-    /// The lines of op 1: for each place of the file, the fold of the answers to its 255 damages: the numbers and
-    /// rows of check and lookup, the number of opening, and what the opening leaves in its output.
+    /// The lines of op 1: for each byte of the file, the fold of the outcomes for its 255 other values. An outcome is the
+    /// statuses and rows of check and lookup, the status of opening, and the output buffer after opening.
     pub fn damage_lines(&self) -> String {
         let mut damaged = self.clone();
         let mut lines = String::new();
-        for place in 0..self.file.len() {
+        for at in 0..self.file.len() {
             let mut answers = vec![];
             for x in 1..=255 {
-                damaged.file[place] = self.file[place] ^ x;
+                damaged.file[at] = self.file[at] ^ x;
                 let FileOutcome { check, lookup, open, out, .. } = damaged.answer(&REFERENCE);
                 answers.extend([check.0, check.1, lookup.0, lookup.1, open.0].map(|number| number as u8));
                 answers.extend(out);
             }
-            damaged.file[place] = self.file[place];
+            damaged.file[at] = self.file[at];
             lines += &format!("{}\n", fold(&answers));
         }
         lines

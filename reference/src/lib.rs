@@ -1,5 +1,5 @@
 //! The reference implementation of the four block ciphers, COMET versions 1 and 2, the plant's shift file and its tools; the
-//! cases that are made with it; and the comparison of the proved library with it. The README has a map of the modules.
+//! test cases made with it; and the comparison of the proved library with it. The README has a map of the modules.
 //!
 //! The implementation is in `oracle`. It is written separately, from the papers and documents 01 and 02 alone, and shares
 //! nothing with the proved crates.
@@ -10,7 +10,7 @@ pub use oracle::{
     speck, writer,
 };
 
-// The cases: what is put to an implementation, and the data of the test programs.
+// The cases: calls of an implementation, and the data of the test programs.
 pub mod calls;
 pub mod data;
 pub mod plan;

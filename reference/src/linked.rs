@@ -1,12 +1,13 @@
-//! What is linked into this program: the plain C, and the proved library where the archive of this processor was found.
+//! The implementations linked into this program: the plain C, and the proved library if build.rs found its archive for
+//! this processor.
 
 use crate::calls::{Library, REFERENCE};
 
-/// What a number that is lent for writing holds before.
+/// The value of an output integer before the call.
 const UNWRITTEN: u32 = 0xa5a5_a5a5;
 
-/// A sealer, an opener and a check of plain/comet.c with the names given. A slice is passed as its pointer and its length; it
-/// outlives the call, and what is written is borrowed by `&mut`.
+/// The sealer, the opener and the check of plain/comet.c that have these names. A slice is passed as its pointer and its
+/// length. It is borrowed for the whole call, and by `&mut` if the function writes it.
 macro_rules! linked {
     ($seal:ident, $open:ident, $check:ident) => {
         #[rustfmt::skip]
@@ -45,8 +46,8 @@ macro_rules! linked {
         pub fn check(file: &[u8]) -> crate::shift::Answer {
             let mut row = super::UNWRITTEN;
             // SAFETY: see above.
-            let number = unsafe { $check(file.as_ptr(), file.len(), &mut row) };
-            (number, row)
+            let status = unsafe { $check(file.as_ptr(), file.len(), &mut row) };
+            (status, row)
         }
     };
 }
@@ -86,11 +87,10 @@ mod proved {
         Session { suite, y: block(1), z: block(3), held: block(5), ad_total, text_total }
     }
 
-    /// A step: what the call makes of the session's words, its number, and its count.
-    fn step(given: Words, call: impl FnOnce(&mut Words) -> (u32, u32)) -> Step {
-        let mut words = given;
-        let (number, count) = call(&mut words);
-        Step { next: session(&words), number, count: count as usize }
+    /// Applies a call, which returns status and count, to a session's words.
+    fn step(mut words: Words, call: impl FnOnce(&mut Words) -> (u32, u32)) -> Step {
+        let (status, count) = call(&mut words);
+        Step { next: session(&words), number: status, count: count as usize }
     }
 
     pub const PROVED: Library = Library {
@@ -102,12 +102,12 @@ mod proved {
         check: raw::check,
         lookup: raw::lookup,
         associated: |file, job| {
-            let (number, [at, len]) = raw::associated(file, job);
-            (number, at as usize, len as usize)
+            let (status, [at, len]) = raw::associated(file, job);
+            (status, at as usize, len as usize)
         },
         entry: |file, job| {
-            let (answer, places) = raw::entry(file, job);
-            (answer, places.map(|place| place as usize))
+            let (answer, extents) = raw::entry(file, job);
+            (answer, extents.map(|value| value as usize))
         },
         open_job: raw::open_job,
         verified: |file, ring, job| {
@@ -130,25 +130,25 @@ mod proved {
         search: raw::search,
         reseal: raw::reseal,
         compare: |first, second, [one, other, both]| {
-            let (number, [file, row], counts) = raw::compare(first, second, one, other, both);
-            Compared { number, file, row, counts }
+            let (status, [file, row], counts) = raw::compare(first, second, one, other, both);
+            Compared { number: status, file, row, counts }
         },
         moved_length: |file| raw::moved_length(file) as usize,
         to_edition2: raw::to_edition2,
         to_edition1: raw::to_edition1,
         amended: |amendment, day, job| {
-            let (number, [file, row, at, len]) = raw::amended(amendment, day, job);
-            Amended { number, file, row, at: at as usize, length: len as usize }
+            let (status, [file, row, at, len]) = raw::amended(amendment, day, job);
+            Amended { number: status, file, row, at: at as usize, length: len as usize }
         },
         open_current: |amendment, day, ring, job, out| {
-            let (number, [file, row]) = raw::open_amended(amendment, day, ring, job, out);
-            (number, file, row)
+            let (status, [file, row]) = raw::open_amended(amendment, day, ring, job, out);
+            (status, file, row)
         },
         seal_counted: raw::seal_counted,
         open_counted: raw::open_counted,
         report: |file, ring, jobs, numbers| {
-            let ((number, row), count) = raw::report(file, ring, jobs, numbers);
-            Report { number, row, count }
+            let ((status, row), count) = raw::report(file, ring, jobs, numbers);
+            Report { number: status, row, count }
         },
         contents_header: |file| {
             let (status, [edition, count]) = raw::rows(file);
@@ -165,7 +165,7 @@ pub use crate::bridge::PROVED;
 #[cfg(native)]
 pub use proved::PROVED;
 
-/// The plain C has no lookup and opens no job: the reference stands in for those.
+/// The plain C. It has only the sealer, the opener and the check; the rest is the reference implementation's.
 pub const PLAIN: Library = Library { seal: plain::seal, open: plain::open, check: plain::check, ..REFERENCE };
 
 /// The plain C with AES by four tables.

@@ -1,8 +1,8 @@
-//! Shift files in the making: good ones, and ones with chosen faults.
+//! Shift files built entry by entry: good ones, and ones with chosen faults.
 
 use crate::{comet, shift};
 
-/// One job before it is sealed. The associated data is the job number, the unit and what else is given.
+/// One job before it is sealed. The associated data starts with the job number and the unit.
 #[derive(Clone)]
 pub struct Entry {
     pub job: u32,
@@ -15,7 +15,7 @@ pub struct Entry {
 }
 
 impl Entry {
-    /// At station 0. A nonce byte that the suite does not read becomes 0.
+    /// An entry at station 0, without further associated data. Nonce bytes that the suite does not read become 0.
     pub fn new(job: u32, suite: u8, key: u8, unit: u8, mut nonce: [u8; 16], message: &[u8]) -> Entry {
         nonce[comet::nonce_size(suite)..].fill(0);
         let mut ad = job.to_le_bytes().to_vec();
@@ -28,7 +28,7 @@ impl Entry {
         [&self.ad[..], &self.message, &vec![0; comet::block_size(self.suite)]].concat()
     }
 
-    /// The body: associated data, ciphertext, tag. A key number that no ring has is taken modulo 16.
+    /// The sealed body: associated data, ciphertext, tag. A key number above 15, which no ring has, is reduced modulo 16.
     fn body(&self, ring: &[u8]) -> Vec<u8> {
         let key = &ring[16 * (self.key % 16) as usize..][..16];
         let nonce = &self.nonce[..comet::nonce_size(self.suite)];
@@ -37,9 +37,9 @@ impl Entry {
     }
 }
 
-/// A file in the making, laid out as edition 1 or 2. `edition` and `count` replace the header's edition and row count,
-/// `longer` is added to the total length that the header gives, a byte stands before the body of each row that `gaps`
-/// names, and `tail` bytes after the last body.
+/// A file to be built, laid out as edition 1 or 2. The other fields are faults: `edition` and `count` replace the header's
+/// edition and row count, `longer` is added to the header's total length, a zero byte precedes the body of each row in
+/// `gaps`, and `tail` zero bytes follow the last body.
 #[derive(Clone)]
 pub struct Plan {
     pub layout: usize,
@@ -51,7 +51,7 @@ pub struct Plan {
     pub tail: usize,
 }
 
-/// Where a row of edition 1 starts.
+/// The offset of a row in edition 1.
 pub fn row_at(row: usize) -> usize {
     shift::row_at(1, row)
 }
@@ -61,19 +61,19 @@ impl Plan {
         Plan { layout: 1, edition: None, count: None, longer: 0, entries, gaps: vec![], tail: 0 }
     }
 
-    /// The same in another edition.
+    /// The same plan in another edition.
     pub fn in_edition(&self, layout: usize) -> Plan {
         Plan { layout, ..self.clone() }
     }
 
-    /// The same with another suite where a row has this one.
+    /// The same plan with suite `to` in every row of suite `from`.
     pub fn resuited(&self, from: u8, to: u8) -> Plan {
         let mut plan = self.clone();
         plan.entries.iter_mut().filter(|entry| entry.suite == from).for_each(|entry| entry.suite = to);
         plan
     }
 
-    /// The same with no station.
+    /// The same plan with station 0 in every row.
     pub fn without_stations(&self) -> Plan {
         let mut plan = self.clone();
         plan.entries.iter_mut().for_each(|entry| entry.station = 0);
@@ -85,11 +85,12 @@ impl Plan {
         self.lay(self.layout, |entry| entry.body(ring))
     }
 
-    /// The draft of the same (document 02, W4).
+    /// The draft (document 02, W4).
     pub fn draft(&self) -> Vec<u8> {
         self.lay(0, Entry::plain_body)
     }
 
+    /// The bytes of the file in an edition, with each entry's body from `body`.
     fn lay(&self, edition: usize, body: impl Fn(&Entry) -> Vec<u8>) -> Vec<u8> {
         let mut table = vec![];
         let mut bodies = vec![];
@@ -113,7 +114,7 @@ impl Plan {
         self.finish(edition as u16, [table, bodies].concat())
     }
 
-    /// The header before the rest.
+    /// The header, followed by `rest`.
     fn finish(&self, edition: u16, rest: Vec<u8>) -> Vec<u8> {
         let count = self.count.unwrap_or(self.entries.len() as u16);
         let total = ((shift::HEADER + rest.len()) as u32).wrapping_add(self.longer);

@@ -6,7 +6,7 @@ use crate::data::{cases, files, samples};
 use crate::random::Random;
 use crate::shift::{self, fields_at, row_at, EDITIONS};
 
-/// Each pair of lengths from 0 to 3 blocks + 1 under each suite: sealed, opened, and opened with one bit wrong.
+/// Each pair of lengths from 0 to 3 blocks + 1 under each suite: sealed, opened, and opened with one bit inverted.
 pub fn lengths(random: &mut Random, mut each: impl FnMut(&Call)) {
     for suite in SUITES {
         let all = 3 * block_size(suite) + 2;
@@ -20,28 +20,28 @@ pub fn lengths(random: &mut Random, mut each: impl FnMut(&Call)) {
     }
 }
 
-/// One bit wrong, somewhere in the call's inputs.
+/// The call with one random bit of its inputs inverted.
 fn damaged(random: &mut Random, mut call: Call) -> Call {
     let parts = [&mut call.key, &mut call.nonce, &mut call.ad, &mut call.text, &mut call.tag];
     let mut bytes: Vec<&mut u8> = parts.into_iter().flatten().collect();
-    let place = random.below(bytes.len());
-    *bytes[place] ^= 1 << random.below(8);
+    let index = random.below(bytes.len());
+    *bytes[index] ^= 1 << random.below(8);
     call
 }
 
-/// Each number's fault alone and in all pairs, in all kinds, for the sealer and the opener of each suite.
+/// The fault of each status alone and in all pairs, in all kinds, for the sealer and the opener of each suite.
 pub fn faults(random: &mut Random, mut each: impl FnMut(&Call)) {
     for (suite, opens) in SUITES.into_iter().flat_map(|suite| [(suite, false), (suite, true)]) {
-        let numbers = if opens { [1, 2, 3, 4, 5, 6, 7, 8] } else { [1, 10, 2, 3, 4, 5, 6, 7] };
-        let pairs = (0..8).flat_map(|first| (first..8).map(move |second| (numbers[first], numbers[second])));
+        let statuses = if opens { [1, 2, 3, 4, 5, 6, 7, 8] } else { [1, 10, 2, 3, 4, 5, 6, 7] };
+        let pairs = (0..8).flat_map(|first| (first..8).map(move |second| (statuses[first], statuses[second])));
         for (first, second) in pairs {
-            for turn in 0..5 {
+            for kind in 0..5 {
                 let message = 1 + random.below(40);
                 let sealing = cases::sealing(random, suite, 5, message);
                 let mut call = if opens { sealing.reopened() } else { sealing };
-                cases::fault(&mut call, second, turn);
+                cases::fault(&mut call, second, kind);
                 if first != second {
-                    cases::fault(&mut call, first, turn + 1);
+                    cases::fault(&mut call, first, kind + 1);
                 }
                 each(&call);
             }
@@ -49,7 +49,7 @@ pub fn faults(random: &mut Random, mut each: impl FnMut(&Call)) {
     }
 }
 
-/// Lengths around the limit of associated data and message: sealed, opened, and opened with one bit wrong.
+/// Lengths around the limit of associated data and message: sealed, opened, and opened with one bit inverted.
 pub fn limits(random: &mut Random, mut each: impl FnMut(&Call)) {
     let around = [LIMIT - 1, LIMIT, LIMIT + 1];
     for suite in SUITES {
@@ -67,7 +67,7 @@ pub fn limits(random: &mut Random, mut each: impl FnMut(&Call)) {
     }
 }
 
-/// A length: mostly short, often at the border of a block, seldom long.
+/// A random length: mostly short, often at a block boundary, seldom long.
 fn length(random: &mut Random) -> usize {
     match random.below(20) {
         0 => random.below(5_000),
@@ -77,7 +77,7 @@ fn length(random: &mut Random) -> usize {
     }
 }
 
-/// Records of random lengths; half of them opened, of these half damaged; one in eight with a fault or two.
+/// Records of random lengths: half are opened, and half of those are damaged; one in eight has one or two faults.
 pub fn records(random: &mut Random, count: usize, mut each: impl FnMut(&Call)) {
     for _ in 0..count {
         let suite = SUITES[random.below(SUITES.len())];
@@ -90,28 +90,28 @@ pub fn records(random: &mut Random, count: usize, mut each: impl FnMut(&Call)) {
             }
         }
         for _ in 0..[0, 0, 0, 0, 0, 0, 0, 1 + random.below(2)][random.below(8)] {
-            let (number, turn) = ([7, 6, 3, 2, 1][random.below(5)], random.below(7));
-            cases::fault(&mut call, number, turn);
+            let (status, kind) = ([7, 6, 3, 2, 1][random.below(5)], random.below(7));
+            cases::fault(&mut call, status, kind);
         }
         each(&call);
     }
 }
 
-/// The calls whose files are damaged in every byte, each damage a call.
+/// Every single-byte change of the files of `damaged_calls`.
 pub fn single_bytes(mut each: impl FnMut(&FileCall)) {
     for call in files::damaged_calls() {
         let mut damaged = call.clone();
-        for place in 0..call.file.len() {
+        for at in 0..call.file.len() {
             for x in 1..=255 {
-                damaged.file[place] = call.file[place] ^ x;
+                damaged.file[at] = call.file[at] ^ x;
                 each(&damaged);
             }
-            damaged.file[place] = call.file[place];
+            damaged.file[at] = call.file[at];
         }
     }
 }
 
-/// Good files with none to three edits each, a job that may be there, and now and then a wrong ring or output.
+/// Good files with up to three edits each, a job that the file may have, and sometimes a wrong ring or output.
 pub fn shift_files(random: &mut Random, count: usize, mut each: impl FnMut(&FileCall)) {
     for _ in 0..count {
         let (rows, longest) = (random.below(9), [0, 20, 100][random.below(3)]);
@@ -129,7 +129,7 @@ pub fn shift_files(random: &mut Random, count: usize, mut each: impl FnMut(&File
     }
 }
 
-/// One call in eight gets another job, ring or output.
+/// Gives one call in eight another job, ring or output length.
 fn misuse(random: &mut Random, call: &mut FileCall) {
     if random.below(24) == 0 {
         call.job = call.job.wrapping_add(random.below(3) as u32).wrapping_sub(1);
@@ -137,7 +137,7 @@ fn misuse(random: &mut Random, call: &mut FileCall) {
     misuse_ring(random, &mut call.ring, &mut call.out);
 }
 
-/// One call in twelve gets another ring or output.
+/// Gives one call in twelve another ring or output length.
 pub fn misuse_ring(random: &mut Random, ring: &mut Vec<u8>, out: &mut usize) {
     match random.below(24) {
         0 => ring.resize([0, 255, 257, 16][random.below(4)], FILLER),
@@ -146,13 +146,13 @@ pub fn misuse_ring(random: &mut Random, ring: &mut Vec<u8>, out: &mut usize) {
     }
 }
 
-/// One edit of a file: in the header, of a row, of any byte, or of its length.
+/// Edits a file once: its header, a row, any byte, or its length.
 pub fn edit(random: &mut Random, file: &mut Vec<u8>, rows: usize) {
     match random.below(8) {
         0 => edit_header(random, file),
         1 | 2 if !file.is_empty() => {
-            let place = random.below(file.len());
-            file[place] ^= 1 << random.below(8);
+            let at = random.below(file.len());
+            file[at] ^= 1 << random.below(8);
         }
         3 => {
             let length = (file.len() + random.below(40)).max(20) - 20;
@@ -166,7 +166,7 @@ pub fn edit(random: &mut Random, file: &mut Vec<u8>, rows: usize) {
     }
 }
 
-/// Writes bytes where the file has them.
+/// Overwrites bytes of the file, if it is long enough.
 fn put(file: &mut [u8], at: usize, bytes: &[u8]) {
     if at + bytes.len() <= file.len() {
         file[at..at + bytes.len()].copy_from_slice(bytes);
@@ -179,12 +179,12 @@ fn edit_header(random: &mut Random, file: &mut [u8]) {
     put(file, at, &number.to_le_bytes());
 }
 
-/// The number at a place, 0 where the file ends before it.
+/// The 32-bit integer at an offset; 0 if the file ends before it.
 fn u32_at(file: &[u8], at: usize) -> u32 {
     file.get(at..at + 4).map_or(0, |bytes| u32::from_le_bytes(bytes.try_into().unwrap()))
 }
 
-/// A number near what stands at a place, or at an edge of what the check allows.
+/// A number near the one at an offset, or one of `edges`, the limits that the check has for it.
 fn near(random: &mut Random, file: &[u8], at: usize, edges: &[u32]) -> [u8; 4] {
     let old = u32_at(file, at);
     let step = random.below(5) as u32;
@@ -192,7 +192,7 @@ fn near(random: &mut Random, file: &[u8], at: usize, edges: &[u32]) -> [u8; 4] {
     if random.below(2) == 0 { old.wrapping_add(step).wrapping_sub(2) } else { edge }.to_le_bytes()
 }
 
-/// An edit of a field of a row, or of the job number and unit at the start of its body.
+/// Edits a field of a row, or the job number or unit at the start of its body.
 fn edit_row(random: &mut Random, file: &mut [u8], rows: usize) {
     let edition = if file.starts_with(&[2, 0]) { 2 } else { 1 };
     let (i, j) = (random.below(rows), random.below(rows));
@@ -213,20 +213,20 @@ fn edit_row(random: &mut Random, file: &mut [u8], rows: usize) {
             (fields, file.get(other_fields..other_fields + 2).unwrap_or_default().to_vec())
         }
         8 => (fields + 27, vec![random.below(3) as u8]),
-        // the station, where there is one
+        // the station, which only edition 2 has
         9 => (row + 4, near(random, file, row + 4, &[0, 1, u32::MAX])[..fields - row - 4].to_vec()),
         _ => (u32_at(file, fields + 4) as usize + random.below(5), vec![random.below(4) as u8]),
     };
     put(file, at, &bytes);
 }
 
-/// Long files: a table of 512 rows and one of 513 with edits, and files around the longest length.
+/// Long files: tables of 512 and of 513 rows with edits, and files around the greatest length.
 pub fn long_files(random: &mut Random, mut each: impl FnMut(&FileCall)) {
     for (rows, edition) in [(512, 1), (513, 1), (512, 2), (513, 2)] {
         let good = files::many_rows_plan(rows).in_edition(edition).file(&samples::ring());
-        for turn in 0..40 {
+        for trial in 0..40 {
             let mut file = good.clone();
-            if turn > 0 {
+            if trial > 0 {
                 edit_row(random, &mut file, rows);
             }
             let job = 10 * random.below(rows) as u32;

@@ -1,4 +1,4 @@
-//! The table of contents by row number: its cases provoke every status, and on good files it is what the reader gives.
+//! The table of contents by row number: the cases produce every status, and on good files it agrees with the reader.
 
 use reference::calls::{Case, REFERENCE};
 use reference::contents;
@@ -17,7 +17,7 @@ fn contents_provoke_every_status() {
     assert_eq!(rows, [0, 32].into_iter().chain(20..=24).collect());
 }
 
-/// On files that pass the check: the reader's rows in order, and 32 where it has ended.
+/// On files that pass the check: the reader's rows in order, and 32 after the last.
 #[test]
 fn rows_are_the_readers() {
     let mut good = 0;

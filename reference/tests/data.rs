@@ -1,4 +1,4 @@
-//! The data of the test programs: it provokes every number, and the repository's files are what is generated.
+//! The data of the test programs: it produces every status, and the repository's files are what `generate` writes.
 
 use reference::calls::{Case, Deed, REFERENCE};
 use reference::data::{
@@ -79,7 +79,7 @@ fn moving_provokes_every_number() {
     };
     assert_eq!(numbers(2), [0, 6, 34].into_iter().chain(20..=31).collect());
     assert_eq!(numbers(1), [0, 6, 34, 35].into_iter().chain(20..=31).collect());
-    // a move that would be too long is the comparison's alone
+    // only the comparison has a move whose result would be too long
     moving::longest(|_| {});
 }
 
@@ -104,7 +104,7 @@ fn counted_provokes_every_number() {
     assert_eq!(numbers(true), [0, 1, 2, 3, 6, 7, 8].into());
 }
 
-/// But for the number of a long input that each leaves to the comparison.
+/// Every status except those of a long input, which only the comparison has.
 #[test]
 fn in_place_provokes_every_number() {
     let numbers = |deed: Deed| -> BTreeSet<u32> {
@@ -122,7 +122,7 @@ fn reading_provokes_every_number() {
     assert_eq!(numbers, [0, 2, 6, 34].into_iter().chain(20..=31).collect());
 }
 
-/// The first line of what a program prints has every number that it can have, and its entries are shown in every way.
+/// The first lines that the programs print have every possible status, and entries are shown in every way.
 #[test]
 fn printing_provokes_every_number() {
     use printing::PrintCall::{Current, Differ, Inspect, Job};
@@ -150,7 +150,7 @@ fn printing_provokes_every_number() {
     }
 }
 
-/// The random files of the comparison are of all kinds too.
+/// The random files of the comparison produce every status of opening a job.
 #[test]
 fn random_files_provoke_every_number() {
     let mut numbers = BTreeSet::new();
@@ -160,7 +160,7 @@ fn random_files_provoke_every_number() {
     assert_eq!(numbers, [0, 2, 6, 8, 34].into_iter().chain(20..=32).collect());
 }
 
-/// Holds for each folder that is there.
+/// Each folder that exists contains what `generate` writes.
 #[test]
 fn the_repository_has_what_is_generated() {
     for name in FOLDERS {

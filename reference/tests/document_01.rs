@@ -1,4 +1,4 @@
-//! The values of document 01, "Values to test against".
+//! The values in the section "Values to test against" of document 01.
 
 use reference::comet::{double, open, pad, seal, shuffle};
 use reference::data::{files, samples};
@@ -54,7 +54,7 @@ fn a_wrong_tag_leaves_zeros() {
     assert_eq!(back, [0; 40]);
 }
 
-/// Job 7, suite 3, key 0, unit 1, no message, zero nonce; the 8 bytes of the tag are worked out here.
+/// The file with job 7, suite 3, key 0, unit 1, no message and a zero nonce; the test computes the 8 bytes of the tag.
 #[test]
 fn smallest_file() {
     let ring = samples::ring();

@@ -1,4 +1,4 @@
-//! What document 02 says of each request, at its edges.
+//! Each request of document 02 at its edge cases.
 
 use reference::amendment::{amended, current, open_current};
 use reference::comet::{double_120, encipher, open, open_counted, pad, seal, seal_counted, shuffle, specified, LIMIT};
@@ -16,7 +16,7 @@ use reference::writer::{seal_file, unseal_file};
 mod w2 {
     use super::*;
 
-    /// A block's ciphertext comes with the part that completes it; the end gives the rest.
+    /// A block's ciphertext is output with the part that completes it, the rest at the end.
     #[test]
     fn counts() {
         let (mut out, mut tag) = ([0; 64], [0; 16]);
@@ -38,33 +38,34 @@ mod w2 {
 
     #[test]
     fn a_refused_session_answers_9() {
-        for (suite, key, nonce, number) in [(0, 15, 14, 1), (3, 15, 14, 2), (3, 16, 16, 3)] {
+        for (suite, key, nonce, status) in [(0, 15, 14, 1), (3, 15, 14, 2), (3, 16, 16, 3)] {
             let step = start(suite, &vec![0; key], &vec![0; nonce]);
-            assert_eq!((step.number, step.next), (number, OVER));
+            assert_eq!((step.number, step.next), (status, OVER));
             assert_eq!(data(step.next, &[0; 65_537]).number, 9);
             assert_eq!(part(step.next, &[0; 65_537], &mut []).number, 9);
             assert_eq!(end(step.next, &mut [], &mut []).number, 9);
         }
     }
 
-    /// The order in each call, and that a refusal leaves session and buffers as they were.
+    /// The order of the statuses in each call. A refusal leaves session and buffers unchanged.
     #[test]
     fn refusals() {
         let fresh = start(3, &[1; 16], &[2; 15]).next;
         let (mut out, mut tag) = ([7; 8], [7; 8]);
         let step = data(fresh, &[0; 65_537]);
         assert_eq!((step.number, step.next), (4, fresh));
-        for (length, room, number) in [(65_537, 0, 5), (1, 7, 6), (0, 6, 6)] {
-            let step = part(fresh, &vec![0; length], &mut out[..room]);
-            assert_eq!((step.number, step.count, step.next, out), (number, 0, fresh, [7; 8]));
+        for (length, out_len, status) in [(65_537, 0, 5), (1, 7, 6), (0, 6, 6)] {
+            let step = part(fresh, &vec![0; length], &mut out[..out_len]);
+            assert_eq!((step.number, step.count, step.next, out), (status, 0, fresh, [7; 8]));
         }
-        for (room, length, number) in [(7, 7, 6), (8, 7, 7)] {
-            let step = end(fresh, &mut out[..room], &mut tag[..length]);
-            assert_eq!((step.number, step.count, step.next, out, tag), (number, 0, fresh, [7; 8], [7; 8]));
+        for (out_len, length, status) in [(7, 7, 6), (8, 7, 7)] {
+            let step = end(fresh, &mut out[..out_len], &mut tag[..length]);
+            assert_eq!((step.number, step.count, step.next, out, tag), (status, 0, fresh, [7; 8], [7; 8]));
         }
     }
 
-    /// An empty part does not begin the message; a byte does, and associated data then is 9, even an empty part.
+    /// An empty part does not begin the message; one byte does. After that every part of associated data is 9, even an
+    /// empty one.
     #[test]
     fn beginning_the_message() {
         let fresh = start(3, &[1; 16], &[2; 15]).next;
@@ -79,7 +80,7 @@ mod w2 {
 mod w4 {
     use super::*;
 
-    /// The empty draft, and the smallest with a row.
+    /// The empty draft, and the smallest one with a row.
     #[test]
     fn smallest() {
         let (draft, file) = ([0, 0, 0, 0, 8, 0, 0, 0], [1, 0, 0, 0, 8, 0, 0, 0]);
@@ -96,7 +97,7 @@ mod w4 {
         assert_eq!((unseal_file(&file, &samples::ring(), &mut out), &out[..]), ((0, 0), &draft[..]));
     }
 
-    /// 8 leaves nothing, not even what earlier rows gave; 33 stands before 2 and 6, these before 8.
+    /// After 8 the output is zero, also that of earlier rows. 33 comes before 2 and 6, and these before 8.
     #[test]
     fn refusals() {
         let ring = samples::ring();
@@ -121,7 +122,8 @@ mod w4 {
 mod w5 {
     use super::*;
 
-    /// The check's answer on two rows of one nonce but for the sixteenth byte; each is suite, key number, that byte.
+    /// The result of the check of two rows, each given as suite, key number and sixteenth nonce byte; the other nonce bytes
+    /// are equal.
     fn checked(rows: [(u8, u8, u8); 2]) -> (u32, u32) {
         let entry = |(job, (suite, key, last)): (usize, (u8, u8, u8))| {
             let mut entry = Entry::new(job as u32, suite, key, 1, [9; 16], b"");
@@ -142,7 +144,7 @@ mod w5 {
         assert_eq!(checked([(1, 0, 1), (1, 0, 1)]), (29, 1));
     }
 
-    /// The draft's check has the same rule.
+    /// The check of a draft has the same rule.
     #[test]
     fn drafts_too() {
         let mut draft = files::three_rows().draft();
@@ -155,7 +157,7 @@ mod w5 {
 mod w6 {
     use super::*;
 
-    /// Rows from row 0 with jobs 10 i: what is looked at first, and on which side the search goes on.
+    /// In four rows with jobs 10 i: which row the search reads first, and on which side it continues.
     #[test]
     fn halving() {
         let file = files::many_rows(4);
@@ -165,7 +167,7 @@ mod w6 {
         assert_eq!(search(&files::many_rows(0), 0), ((32, 0), 0));
     }
 
-    /// On good files the lookup's answer; 10 rows of 512 at most, 9 of 511.
+    /// On good files the search returns what the lookup returns; it reads at most 10 rows of 512, and 9 of 511.
     #[test]
     fn as_the_lookup() {
         for (rows, most) in [(1, 1), (2, 2), (3, 2), (511, 9), (512, 10)] {
@@ -178,7 +180,7 @@ mod w6 {
         }
     }
 
-    /// Rows that no check would pass, and a refusal at the header.
+    /// Rows that the check refuses, and a header that the search refuses.
     #[test]
     fn any_bytes() {
         let mut file = files::many_rows(4);
@@ -194,7 +196,7 @@ mod w6 {
 mod w7 {
     use super::*;
 
-    /// 10 stands just after 1 and writes nothing; the opener takes suite 4 as before.
+    /// 10 comes just after 1 and writes nothing; the opener accepts suite 4.
     #[test]
     fn sealing_under_suite_4() {
         let (mut out, mut tag) = ([7; 9], [7; 8]);
@@ -207,7 +209,7 @@ mod w7 {
         assert_eq!(open(4, &[1; 15], &[2; 15], b"ad", &text, &tag, &mut out), 2);
     }
 
-    /// A start under suite 4 is 10, and its session over; so is a session of suite 4 that somebody built.
+    /// A start under suite 4 returns 10 and a session that is over. A session value of suite 4 is over too.
     #[test]
     fn sessions() {
         let step = start(4, &[], &[]);
@@ -218,7 +220,7 @@ mod w7 {
         assert_eq!(end(built, &mut [0; 8], &mut [0; 8]).number, 9);
     }
 
-    /// Jobs 10 and 30 of three rows have suites 3 and 4.
+    /// In `three_rows`, row 2 has suite 4.
     #[test]
     fn a_draft() {
         let (ring, mut draft) = (samples::ring(), files::three_rows().draft());
@@ -229,7 +231,7 @@ mod w7 {
         assert_eq!(seal_file(&draft, &ring, &mut out), (33, 2));
     }
 
-    /// Only the entry of suite 4 changes: its suite, its text and its tag; its message stays.
+    /// Only the entry of suite 4 changes: its suite, its text and its tag, but not its message.
     #[test]
     fn resealing() {
         let (ring, file) = (samples::ring(), files::three_rows().file(&samples::ring()));
@@ -271,7 +273,7 @@ mod w8 {
         Plan::new(jobs.iter().map(entry).collect()).file(&samples::ring())
     }
 
-    /// Places behind a count stay; a list that is too short is 36, and nothing is written.
+    /// Elements after a count are unchanged. If a list is too short, the status is 36 and nothing is written.
     #[test]
     fn lists() {
         let (first, second) = (of_jobs(&[1, 2, 3, 5]), of_jobs(&[2, 3, 4]));
@@ -283,7 +285,7 @@ mod w8 {
         assert_eq!((answer.number, answer.file, answer.counts, short), (36, 0, [0; 3], [9]));
     }
 
-    /// A body that lies elsewhere is the same; one bit of a tag is not.
+    /// Entries at other offsets are equal; entries that differ in one bit of the tag are not.
     #[test]
     fn offsets_do_not_count() {
         let (first, mut second) = (of_jobs(&[1, 2, 3]), of_jobs(&[2, 3]));
@@ -306,7 +308,7 @@ mod w8 {
         assert_eq!(printed(&good, &vec![0; PROGRAM_LONGEST + 1]), "refused 2 20 0\n");
     }
 
-    /// 65,280 bytes are taken by the program, one more is 20; the library has the format's own limit.
+    /// The program accepts 65,280 bytes, and one more is 20; the library has the limit of the format.
     #[test]
     fn the_programs_limit() {
         let of_length = |length: usize| {
@@ -331,12 +333,12 @@ mod w9 {
         assert_eq!(double_120(ones), (ones - 1) ^ 0x245);
     }
 
-    /// A block as the paper has it: bits of a number, with byte 0 the least significant.
+    /// A block as the paper writes it: an integer whose least significant byte is byte 0.
     fn number(bytes: &[u8]) -> u128 {
         bytes.iter().rev().fold(0, |number, byte| number << 8 | *byte as u128)
     }
 
-    /// The control sequence of algorithm 7.1, left (version 1) and right (version 2), as its five bits.
+    /// The control sequence of algorithm 7.1, left (version 1) and right (version 2); an element has five bits.
     fn control(version: usize, a: usize, m: usize, is_short: [bool; 2]) -> Vec<u128> {
         let length = a + m;
         let mut delta = vec![0; length + 2];
@@ -357,7 +359,7 @@ mod w9 {
         delta
     }
 
-    /// U: the key's prefix stays (half of it, or a byte), the rest is multiplied by the primitive element.
+    /// U of the paper: keeps a prefix of the key (half of it, or one byte) and doubles the rest.
     fn update(version: usize, z: u128) -> u128 {
         let (bits, polynomial) = if version == 1 { (64, 0x1b) } else { (120, 0x245) };
         let low = z & ((1 << bits) - 1);
@@ -380,8 +382,8 @@ mod w9 {
         }
     }
 
-    /// gCOMET as section 3.2 of source 004 lays it out, with the whole control sequence made first. A block's cipher call
-    /// is under Z_i, the updated key.
+    /// gCOMET as section 3.2 of source 004 defines it, with the whole control sequence computed first. The cipher call of a
+    /// block uses Z_i, the updated key.
     fn gcomet(suite: u8, version: usize, nonce: &[u8], ad: &[u8], msg: &[u8]) -> (Vec<u8>, Vec<u8>) {
         let key: [u8; 16] = [0x3c; 16];
         let size = if [1, 2, 5].contains(&suite) { 16 } else { 8 };
@@ -409,7 +411,7 @@ mod w9 {
         (text, call(z, y).to_le_bytes()[..size].to_vec())
     }
 
-    /// Both versions are what the paper says, at every pair of lengths up to three blocks and a byte.
+    /// Both versions equal the paper's definition at every pair of lengths up to three blocks and a byte.
     #[test]
     fn as_the_paper_has_it() {
         let bytes: Vec<u8> = (0..64u32).map(|i| (7 * i + 1) as u8).collect();
@@ -422,7 +424,7 @@ mod w9 {
         }
     }
 
-    /// Suites 5 and 6 are sealed, opened and checked as the others are; 7 is none.
+    /// Suites 5 and 6 are sealed, opened and checked like the others; there is no suite 7.
     #[test]
     fn numbers() {
         for (suite, nonce, block) in [(5, 16, 16), (6, 15, 8)] {
@@ -469,7 +471,7 @@ mod w10 {
         assert_eq!(back, file[..]);
     }
 
-    /// What edition 1 answers, edition 2 answers too.
+    /// The functions return the same for both editions of a file.
     #[test]
     fn the_same_answers() {
         let [one, two] = [1, 2].map(|edition| files::three_rows().in_edition(edition).file(&samples::ring()));
@@ -482,7 +484,7 @@ mod w10 {
         assert_eq!(printed(&one, &two), "first\nsecond\ndiffer\n20\n30\n");
     }
 
-    /// The writer and the reseal pass take edition 1 alone.
+    /// The writer and resealing accept edition 1 only.
     #[test]
     fn earlier_tools() {
         let ring = samples::ring();
@@ -492,7 +494,7 @@ mod w10 {
         assert_eq!(seal_file(&file, &ring, &mut []), (21, 0));
     }
 
-    /// Editions other than 1 and 2 are 21 before their rows are looked at.
+    /// Editions other than 1 and 2 are 21, before any row is checked.
     #[test]
     fn other_editions() {
         for edition in [[0, 0], [3, 0], [1, 1], [2, 1], [0, 2]] {
@@ -505,17 +507,17 @@ mod w10 {
 mod w11 {
     use super::*;
 
-    /// The place and the bytes of the part are those of the file that holds the entry.
+    /// `current` is a slice of the file that contains the current entry.
     #[test]
     fn whose_entry() {
         let (amendment, day) = (samples::amendment(), samples::day());
         for (job, file, row) in [(4101, 2, 0), (4102, 1, 0), (4110, 1, 1), (4220, 1, 2), (4211, 2, 7)] {
             let answer = amended(&amendment, &day, job);
             assert_eq!((answer.number, answer.file, answer.row), (0, file, row));
-            let holds = if file == 1 { &amendment } else { &day };
+            let source = if file == 1 { &amendment } else { &day };
             let part = current(&amendment, &day, job);
-            assert_eq!(part.as_ptr(), holds[answer.at..].as_ptr());
-            assert_eq!(part, reference::shift::associated(holds, job));
+            assert_eq!(part.as_ptr(), source[answer.at..].as_ptr());
+            assert_eq!(part, reference::shift::associated(source, job));
         }
         let answer = amended(&amendment, &day, 4103 + 1);
         assert_eq!((answer.number, answer.file, answer.row, answer.at, answer.length), (32, 0, 0, 0, 0));
@@ -524,7 +526,8 @@ mod w11 {
         assert!(message.starts_with(b"gearbox 4220"));
     }
 
-    /// The day's file is checked though the amendment has the job; what is handed back then is the amendment's.
+    /// The day's file is checked even if the amendment has the job. On a refusal `current` is an empty slice of the
+    /// amendment.
     #[test]
     fn refusals() {
         let (mut amendment, mut day) = (samples::amendment(), samples::day());
@@ -542,7 +545,7 @@ mod w11 {
 mod w12 {
     use super::*;
 
-    /// Source 000, section 3.2, but that its fourth example is 2 for an empty message.
+    /// The examples of source 000, section 3.2; for an empty message the fourth one is 2.
     #[test]
     fn examples() {
         for (suite, n) in [(1, 16), (2, 16), (3, 8), (5, 16), (6, 8)] {
@@ -569,12 +572,12 @@ mod w12 {
         }
     }
 
-    /// A refusal before the text is worked on reports none; suite 4 is opened, and not sealed.
+    /// A refusal before the text is processed has count 0. Suite 4 is opened but not sealed.
     #[test]
     fn refusals() {
         let mut tag = [0; 8];
-        for (suite, key, number) in [(0, 16, 1), (4, 16, 10), (3, 15, 2)] {
-            assert_eq!(seal_counted(suite, &vec![0; key], &[0; 15], &[], &[], &mut [], &mut tag), (number, 0));
+        for (suite, key, status) in [(0, 16, 1), (4, 16, 10), (3, 15, 2)] {
+            assert_eq!(seal_counted(suite, &vec![0; key], &[0; 15], &[], &[], &mut [], &mut tag), (status, 0));
         }
         assert_eq!(seal_counted(3, &[0; 16], &[0; 15], &[], &[], &mut [], &mut [0; 7]), (7, 0));
         let (text, tag) = specified(4, &[1; 16], &[2; 15], b"ad", b"nine bytes");
@@ -586,7 +589,7 @@ mod w12 {
 mod w14 {
     use super::*;
 
-    /// The table's rows in order, each once; then ended, as often as it is asked.
+    /// The reader returns the rows in order, each once, and then None at every call.
     #[test]
     fn reader() {
         let file = files::three_rows().in_edition(2).file(&samples::ring());
@@ -617,7 +620,7 @@ mod w14 {
         assert_eq!(report::printed(&file, &[]), "refused 26 1\n");
     }
 
-    /// What the writer makes gets 0 on every line.
+    /// The report on a file of the writer has 0 for every entry.
     #[test]
     fn the_writers_files() {
         let (draft, ring) = (samples::draft(), samples::ring());

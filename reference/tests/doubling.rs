@@ -1,14 +1,14 @@
-//! Document 02, W3 and W9: no decision in a doubling, as the proved code's own MIR shows it (`tools/branches`).
-//! Where the Rattle kit is not there, there is no MIR to look at, and the test says so.
+//! Document 02, W3 and W9: doubling has no branch, as the MIR of the proved code shows (`tools/branches`).
+//! Without the Rattle kit there is no MIR: the tests are then skipped with a message.
 
 use std::path::Path;
 use std::process::Command;
 use std::sync::Mutex;
 
-/// The kit works in one folder: it is asked one thing at a time.
+/// Held during a call of the kit: it works in one folder, so calls must not overlap.
 static KIT: Mutex<()> = Mutex::new(());
 
-/// What `tools/branches` counts in a function, or None where there is no kit.
+/// The number of branches that `tools/branches` counts in a function, or None without the kit.
 fn decisions(name: &str, function: &str) -> Option<u32> {
     let _alone = KIT.lock().unwrap();
     Command::new("rt").arg("version").output().ok()?;
@@ -31,7 +31,7 @@ fn a_doubling_decides_nothing() {
     }
 }
 
-/// The count is one that can be other than 0: the suite's block size is a decision.
+/// Shows that the count can be other than 0: the function for a suite's block size branches.
 #[test]
 fn a_decision_is_counted() {
     if let Some(count) = decisions("cipher", "cipher::size_of") {

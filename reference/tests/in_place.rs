@@ -1,4 +1,4 @@
-//! Sealing and opening in place, and verifying: what they give and what they leave, written out.
+//! Sealing and opening in place, and verifying: their statuses, and text and tag after the call.
 
 use reference::calls::FILLER;
 use reference::comet::{
@@ -11,7 +11,7 @@ fn nonce(suite: u8) -> Vec<u8> {
     vec![9; nonce_size(suite)]
 }
 
-/// Lengths around the borders of blocks, and the longest.
+/// Lengths around block boundaries, and the greatest length.
 fn lengths(suite: u8) -> [usize; 8] {
     let n = block_size(suite);
     [0, 1, n - 1, n, n + 1, 3 * n + 2, LIMIT - 1, LIMIT]
@@ -50,7 +50,7 @@ fn opened_and_verified() {
     }
 }
 
-/// A change in the last byte of the text, in the last block of many or the only one, is seen.
+/// A change of the last byte of a text of one or many blocks is detected.
 #[test]
 fn the_last_block_counts() {
     for (suite, length) in
@@ -62,7 +62,7 @@ fn the_last_block_counts() {
     }
 }
 
-/// The numbers in their order, each with every later one beside it; text and tag stay.
+/// The statuses in their order, each together with every later one; text and tag are unchanged.
 #[test]
 fn refusals() {
     let long = vec![3; LIMIT + 1];
@@ -75,19 +75,19 @@ fn refusals() {
         (3, 16, 15, false, true, 9),
         (3, 16, 15, false, false, 9),
     ];
-    for ((suite, key, nonce, long_ad, long_text, tag), number) in all.into_iter().zip([1, 2, 3, 4, 5, 7]) {
+    for ((suite, key, nonce, long_ad, long_text, tag), status) in all.into_iter().zip([1, 2, 3, 4, 5, 7]) {
         let (key, nonce, tag) = (vec![7; key], vec![9; nonce], vec![FILLER; tag]);
         let ad = if long_ad { &long } else { &short };
         let before = if long_text { &long } else { &short };
         let (mut text, mut made) = (before.clone(), tag.clone());
-        assert_eq!(seal_in_place(suite, &key, &nonce, ad, &mut text, &mut made), number);
-        assert_eq!(open_in_place(suite, &key, &nonce, ad, &mut text, &tag), number);
-        assert_eq!(verify(suite, &key, &nonce, ad, &text, &tag), number);
+        assert_eq!(seal_in_place(suite, &key, &nonce, ad, &mut text, &mut made), status);
+        assert_eq!(open_in_place(suite, &key, &nonce, ad, &mut text, &tag), status);
+        assert_eq!(verify(suite, &key, &nonce, ad, &text, &tag), status);
         assert_eq!((&text, made), (before, tag));
     }
 }
 
-/// Suite 4 is opened and verified, and sealed no more: 10 just after 1.
+/// Suite 4 is opened and verified but not sealed: 10 comes just after 1.
 #[test]
 fn the_retired_suite() {
     let (mut text, mut tag) = (message(20), vec![FILLER; 9]);

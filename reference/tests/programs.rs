@@ -1,6 +1,6 @@
-//! The plant's programs on real files, by `./run` and by themselves: what they print, the files that they write, how `./run`
-//! ends, and what is left where a file cannot be read or written. Each test is skipped, and says so, where the programs are
-//! not built from these sources (`./run build`).
+//! The plant's programs on real files, through `./run` and directly: what they print, the files that they write, the exit
+//! status, and the state after a file could not be read or written. If the programs are not built from these sources
+//! (`./run build`), each test prints that it is skipped.
 
 mod folder;
 
@@ -13,7 +13,7 @@ use reference::shift::{self, rows};
 use reference::{difference, editions, report, reseal, writer};
 use std::process::{Command, Output};
 
-/// A built program by itself, by its path.
+/// Runs a built program directly, by its path.
 fn program(folder: &Folder, name: &str, arguments: &[&str]) -> Output {
     let program = root().join(".run/bin").join(name);
     folder.command(&[program.to_str().unwrap()]).args(arguments).output().unwrap()
@@ -23,7 +23,7 @@ fn printed(folder: &Folder, name: &str, arguments: &[&str]) -> String {
     String::from_utf8(program(folder, name, arguments).stdout).unwrap()
 }
 
-/// The data's runs of the printing functions, some of each kind, on files.
+/// Some runs of each kind from the data of `test_shift`, on files.
 #[test]
 fn what_is_printed() {
     if !is_built() {
@@ -48,7 +48,7 @@ fn what_is_printed() {
     }
 }
 
-/// A message as long as it can be, as text and in hex.
+/// A message of the greatest length, as text and in hex.
 #[test]
 fn the_longest_message() {
     if !is_built() {
@@ -64,7 +64,7 @@ fn the_longest_message() {
     }
 }
 
-/// A good file of twenty jobs, 1 to 20, that is so long.
+/// A good file of this length with jobs 1 to 20.
 fn of_length(length: usize) -> Vec<u8> {
     let ring = samples::ring();
     let entry = |job: u32| Entry::new(job, 6, 0, 2, [job as u8; 16], b"");
@@ -78,7 +78,7 @@ fn of_length(length: usize) -> Vec<u8> {
     file
 }
 
-/// Zero bytes stand for a file that is missing, a folder, or one byte longer than a program takes; the longest is taken.
+/// A missing file, a folder, and a file that is one byte too long count as zero bytes; the longest file is accepted.
 #[test]
 fn unreadable_and_oversized() {
     if !is_built() {
@@ -93,7 +93,7 @@ fn unreadable_and_oversized() {
     std::fs::create_dir(folder.0.join("folder")).unwrap();
     assert_eq!(printed(&folder, "job", &["just", "ring", "3"]), reference::printed::job(&folder.get("just"), &ring, 3));
     assert_eq!(printed(&folder, "current", &["day", "just", "ring", "3"])[..6], *"0 2 0\n");
-    // the last opens, and cannot be read
+    // the last one can be opened but not read
     for bad in ["over", "missing", "folder", "", "/proc/self/mem"] {
         assert_eq!(printed(&folder, "job", &[bad, "ring", "3"]), "20 0\n");
         assert_eq!(printed(&folder, "current", &[bad, "day", "ring", "4103"]), "20 1 0\n");
@@ -114,7 +114,7 @@ fn unreadable_and_oversized() {
     assert_eq!(folder.names(), ["day", "folder", "just", "over", "ring"]);
 }
 
-/// `differ` and `inspect` take 65,280 bytes and no more.
+/// `differ` and `inspect` accept 65,280 bytes and no more.
 #[test]
 fn small_files_alone() {
     if !is_built() {
@@ -134,13 +134,13 @@ fn small_files_alone() {
     }
 }
 
-/// What the reference makes of a file.
+/// The result and the output of the reference implementation.
 fn made(length: usize, pass: impl Fn(&mut [u8]) -> shift::Answer) -> (shift::Answer, Vec<u8>) {
     let mut out = vec![0; length];
     (pass(&mut out), out)
 }
 
-/// Every file that is written, byte for byte, over an old one and new; there and back.
+/// Every program that writes a file, byte for byte, to a new OUT and over an old one; in both directions.
 #[test]
 fn what_is_written() {
     if !is_built() {
@@ -184,7 +184,7 @@ fn what_is_written() {
     assert_eq!(folder.names(), ["again", "draft", "empty", "file", "old", "one", "ring", "two"]);
 }
 
-/// A refusal leaves what stands under OUT, and makes nothing.
+/// A refusal leaves an existing OUT unchanged and creates no file.
 #[test]
 fn refused_and_left_alone() {
     if !is_built() {
@@ -215,8 +215,8 @@ fn refused_and_left_alone() {
 
 const NOT_WRITTEN: &str = "OUT cannot be written\n";
 
-/// A missing folder, a folder, an endless name, a full device and a file that may not grow: the program says so first, and
-/// what stood there stands, the input too.
+/// OUT is in a missing folder, is a folder, has too long a name, is on a full device, or may not grow. The program's first
+/// line says so, and the old OUT and the inputs are unchanged.
 #[test]
 fn not_written() {
     if !is_built() {
@@ -237,10 +237,10 @@ fn not_written() {
         assert_eq!((ended, &printed[..]), (3, NOT_WRITTEN));
         assert!(!said.contains("run: 0"));
     }
-    // a device is written to, and stays one
+    // a device is written to, not replaced
     assert_eq!(printed(&folder, "write", &["draft", "ring", "/dev/null"]), "0 0\n");
     assert!(!std::fs::metadata("/dev/null").unwrap().is_file() && !std::fs::metadata("/dev/full").unwrap().is_file());
-    // no file may grow: the signal is ignored, and the write fails
+    // no file may grow: the program ignores the signal, so the write fails
     let program = root().join(".run/bin/write");
     let script = "trap '' XFSZ; ulimit -f 0; exec \"$0\" \"$@\"";
     for (input, out) in [("draft", "draft"), ("draft", "day"), ("draft", "new")] {
@@ -253,7 +253,7 @@ fn not_written() {
     assert_eq!(folder.names(), ["day", "draft", "folder", "ring"]);
 }
 
-/// OUT may be an input.
+/// OUT may be an input file.
 #[test]
 fn over_its_input() {
     if !is_built() {
@@ -276,7 +276,7 @@ fn over_its_input() {
     assert_eq!(folder.names(), ["file", "ring"]);
 }
 
-/// How `./run` ends, and what it says beside a refusal.
+/// The exit status of `./run`, and its message on a refusal.
 #[test]
 fn statuses() {
     if !is_built() {
@@ -333,8 +333,8 @@ fn statuses() {
     }
 }
 
-/// Wrong arguments, no such program, `./run help`: the programs and how they are called, and nothing on the standard output
-/// but help's own lines. What a program says itself is the same.
+/// Wrong arguments, an unknown program, `./run help`: the message lists the programs with their arguments, and only `help`
+/// prints to the standard output. A program called directly prints the same usage.
 #[test]
 fn usage() {
     if !is_built() {
@@ -359,13 +359,13 @@ fn usage() {
     assert!(ended == 0 && printed.contains("unit 2 inch-pounds\n") && said.contains("./run help"));
 }
 
-/// Every number of the shift file and its tools has words, of which `./run` prints the last string of the line.
+/// Every status of the shift file and its tools has a line in library/words.c, whose last string `./run` prints.
 #[test]
 fn every_number_has_a_meaning() {
     let table = std::fs::read_to_string(root().join("library/words.c")).unwrap();
-    for number in [0, 2, 6, 8, 10].into_iter().chain(20..=36) {
-        let starts = [format!("    WORDS({number}, \""), format!("    FILE_WORDS({number}, \"")];
+    for status in [0, 2, 6, 8, 10].into_iter().chain(20..=36) {
+        let starts = [format!("    WORDS({status}, \""), format!("    FILE_WORDS({status}, \"")];
         let is_its = |line: &&str| line.ends_with("\")") && starts.iter().any(|start| line.starts_with(start));
-        assert_eq!(table.lines().filter(is_its).count(), 1, "{number}");
+        assert_eq!(table.lines().filter(is_its).count(), 1, "{status}");
     }
 }

@@ -6,13 +6,13 @@ use reference::{aes, comet};
 
 #[test]
 fn published_vectors() {
-    for (place, suite, key, block, image) in PUBLISHED {
+    for (source, suite, key, block, encrypted) in PUBLISHED {
         let key = unhex(key).try_into().unwrap();
-        assert_eq!(comet::encipher(suite, &key, &unhex(block)), unhex(image), "{place}");
+        assert_eq!(comet::encipher(suite, &key, &unhex(block)), unhex(encrypted), "{source}");
     }
 }
 
-/// The rule at document 01's three entries, and at the five that source 000 prints wrongly.
+/// The S-box at the three entries of document 01, and at the five that source 000 prints wrongly.
 #[test]
 fn sbox_entries() {
     let document_01 = [(0x00, 0x63), (0x3a, 0x80), (0xff, 0x16)];

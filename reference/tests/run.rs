@@ -1,6 +1,6 @@
-//! `./run` on real files, as the people of a plant call it: where OUT is placed and with which mode, what a killed run leaves,
-//! what is said, and the exit status. The prover is never started: each test is skipped, and says so, where the programs are
-//! not built from these sources (`./run build`).
+//! `./run` on real files, as a plant calls it: where OUT is written and with which mode, what a killed run leaves, the
+//! messages, and the exit status. No test starts the prover: if the programs are not built from these sources
+//! (`./run build`), each test prints that it is skipped.
 
 mod folder;
 
@@ -23,7 +23,7 @@ fn is_root() -> bool {
     root
 }
 
-/// The sample files, and what the reference makes of them.
+/// A folder with the sample files, and what the reference implementation makes of them.
 fn plant(name: &str) -> Folder {
     let folder = Folder::new(name);
     folder.put("ring", &samples::ring());
@@ -40,7 +40,7 @@ fn sealed() -> Vec<u8> {
     file
 }
 
-/// A file of edition 1 with 500 jobs and more than 900,000 bytes, and its form in edition 2.
+/// A file of edition 1 with 500 jobs and more than 900,000 bytes, and the same file in edition 2.
 fn large() -> (Vec<u8>, Vec<u8>) {
     let entry = |job: u32| Entry::new(job, 6, 0, 1, nonce(job), &[b'.'; 1800]);
     let one = Plan::new((1..=500).map(entry).collect()).file(&samples::ring());
@@ -70,7 +70,7 @@ fn is_link(path: &Path) -> bool {
 const DONE: &str = "0 0\n";
 const NOT_WRITTEN: &str = "OUT cannot be written\n";
 
-/// A link is followed and stays; so does a link to a file that is not there yet, and a link to a link.
+/// A link is followed and kept, also a link to a file that does not exist yet, and a link to a link.
 #[test]
 fn links_are_followed() {
     if !is_built() {
@@ -92,7 +92,7 @@ fn links_are_followed() {
     assert_eq!(folder.names(), ["day", "draft", "far", "link", "loop", "new", "ring", "stations", "twice"]);
 }
 
-/// As root, `write` once replaced the link /dev/stderr with a file.
+/// Device files and the links to them are written to, never replaced, also as root.
 #[test]
 fn devices_stay() {
     if !is_built() {
@@ -117,7 +117,7 @@ fn devices_stay() {
     assert!(std::fs::metadata("/dev/null").unwrap().file_type().is_char_device());
 }
 
-/// A pipe gets every byte, by name or as the standard output; then the answer is on the standard error.
+/// A pipe as OUT gets every byte, by name or as the standard output; in that case the status goes to the standard error.
 #[test]
 fn pipes_get_every_byte() {
     if !is_built() {
@@ -202,7 +202,7 @@ fn a_draft_is_private_from_the_first_byte() {
     assert_eq!(mode(&folder.0.join("out")), 0o600);
 }
 
-/// OUT may be the input, and never the ring, by whatever name.
+/// OUT may be the input but never the ring, under any name.
 #[test]
 fn the_ring_is_never_overwritten() {
     if !is_built() {
@@ -224,7 +224,7 @@ fn the_ring_is_never_overwritten() {
     assert!(folder.get("draft") == samples::draft());
 }
 
-/// Kills the whole process group of a run after some time; whether it was still running.
+/// Kills the whole process group of a run after some time; returns whether it was still running.
 fn killed_after(folder: &Folder, signal: &str, wait: Duration) -> bool {
     let mut command = folder.command(&["convert", "one", "out"]);
     let mut run = command.process_group(0).stdout(Stdio::null()).stderr(Stdio::null()).spawn().unwrap();
@@ -238,8 +238,8 @@ fn killed_after(folder: &Folder, signal: &str, wait: Duration) -> bool {
     runs
 }
 
-/// Whatever kills a run and whenever, OUT is the old file or the new one. A stopped run leaves nothing; what a killed one
-/// leaves is removed by the next.
+/// Whichever signal ends a run at whatever time, OUT is the old file or the new one. A stopped run removes its temporary
+/// file; the next run removes that of a killed one.
 #[test]
 fn a_killed_run_leaves_nothing() {
     if !is_built() {
@@ -270,7 +270,7 @@ fn a_killed_run_leaves_nothing() {
     assert_eq!(folder.names(), expected);
 }
 
-/// A temporary file of a run that still works is left alone.
+/// The temporary file of a run that still works is not removed.
 #[test]
 fn a_running_neighbour_is_left_alone() {
     if !is_built() {
@@ -283,7 +283,7 @@ fn a_running_neighbour_is_left_alone() {
     assert_eq!(folder.get(&name), b"of a run that works");
 }
 
-/// A full device, a full file system: status 3, the system's reason, and OUT as it was.
+/// A full device and a full file system: exit status 3, the system's reason, and OUT is unchanged.
 #[test]
 fn a_full_disk() {
     if !is_built() {
@@ -336,7 +336,7 @@ fn out_cannot_be_written() {
     assert_eq!(folder.names(), ["day", "draft", "folder", "ring", "stations"]);
 }
 
-/// `./run` as a user who owns nothing here.
+/// Runs `./run` as a user who owns none of the files.
 fn as_nobody(folder: &Folder, arguments: &[&str]) -> (i32, String, String) {
     let mut command = Command::new("setpriv");
     command.args(["--reuid=65534", "--regid=65534", "--clear-groups", "--"]).arg(root().join("run"));
@@ -371,7 +371,7 @@ fn permissions() {
     assert_eq!(folder.names(), ["day", "draft", "out", "ring", "secret", "stations"]);
 }
 
-/// Closed descriptors, and a reader that goes away.
+/// Closed descriptors, and a reader that closes its pipe early.
 #[test]
 fn standard_descriptors() {
     if !is_built() {
@@ -396,7 +396,7 @@ fn standard_descriptors() {
     }
 }
 
-/// Calls that do not fit: status 2, the reason, nothing printed, nothing written. `back` is never taken for a file.
+/// Wrong arguments: exit status 2, the reason, nothing printed, nothing written. `back` is never a file name.
 #[test]
 fn wrong_calls() {
     if !is_built() {
@@ -431,7 +431,7 @@ fn wrong_calls() {
     assert_eq!(folder.run(&["--version"]), (0, version, String::new()));
 }
 
-/// What is said beside a refusal: why a file cannot be read, the call's own limit and edition, row and job, what to do next.
+/// The message on a refusal: why a file cannot be read, the call's own limit and edition, row and job, what to do next.
 #[test]
 fn words() {
     if !is_built() {
@@ -477,7 +477,8 @@ fn words() {
     assert!(!folder.0.join("out").exists());
 }
 
-/// `inspect` keeps document 02's lines and adds how many entries, how many wrong, which jobs. `differ` ends 1 where files differ.
+/// `inspect` prints document 02's lines, and on the standard error how many entries are wrong and which jobs. `differ` exits
+/// with status 1 if the files differ.
 #[test]
 fn verdicts() {
     if !is_built() {
@@ -508,7 +509,7 @@ fn verdicts() {
     assert_eq!((status, &printed[..]), (1, "32 0\n"));
 }
 
-/// `./run` by a link, from anywhere, with CDPATH set, and with a PATH that has neither awk nor rt.
+/// `./run` called through a link, from any folder, with CDPATH set, and with a PATH that has neither awk nor rt.
 #[test]
 fn called_from_anywhere() {
     if !is_built() {

@@ -1,5 +1,5 @@
-//! When `./run` proves and when it does not: a small tree with a stand-in for the prover and for a program, so that neither the
-//! kit nor a proof is needed. The stand-in `rt check` writes each call to a file and builds what the test says.
+//! When `./run` proves and when it does not, in a small tree with a stand-in for the prover and for a program, so that neither
+//! the kit nor a proof is needed. The stand-in `rt check` records each call in a file and builds what the test prescribes.
 
 mod folder;
 
@@ -60,21 +60,21 @@ fn job(folder: &Folder) -> (i32, String, String) {
     ended(command(folder, &["job", "file", "ring", "1"]).output().unwrap())
 }
 
-/// How often the stand-in was called for a proof.
+/// How many proofs the stand-in was called for.
 fn proofs(folder: &Folder) -> usize {
     let calls = std::fs::read_to_string(folder.0.join("kit/calls")).unwrap_or_default();
     calls.lines().filter(|line| line.starts_with("start check")).count()
 }
 
-/// Writes other bytes of the same length, and gives the file its old time again.
+/// Replaces a file's bytes by others of the same length, and restores its old modification time.
 fn change(path: &Path, bytes: &[u8]) {
     let time = std::fs::metadata(path).unwrap().modified().unwrap();
     std::fs::write(path, bytes).unwrap();
     std::fs::File::options().append(true).open(path).unwrap().set_modified(time).unwrap();
 }
 
-/// A program is proved once, and again after any change below it: a byte with the same length and time, a new file, the kit,
-/// the built program itself. A new time alone and a change beside it need no proof.
+/// A program is proved once, and again after any change of what it depends on: a byte with the same length and time, a new
+/// file, the kit, the built program itself. A new time alone and a change of another crate need no proof.
 #[test]
 fn a_changed_source_is_proved_again() {
     let folder = tree("changed");
@@ -95,7 +95,7 @@ fn a_changed_source_is_proved_again() {
     assert_eq!((status, &printed[..], &said[..], proofs(&folder)), (0, "0 0\ntwo\n", "", 5));
 }
 
-/// A proof that fails: status 3, the prover's lines, and the old program does not run.
+/// If a proof fails, the exit status is 3, the prover's lines are printed, and the old program does not run.
 #[test]
 fn what_is_not_proved_does_not_run() {
     let folder = tree("unproved");
@@ -110,8 +110,8 @@ fn what_is_not_proved_does_not_run() {
     assert!(said.contains("rt: cannot write: Permission denied") && said.contains("job is not proved"), "{said}");
 }
 
-/// Another user with a changed source and a tree that he cannot write: status 3 and the system's reason. The prover is not
-/// even called, and the old program does not run.
+/// A changed source in a tree that the user cannot write: exit status 3 and the system's reason. The prover is not called,
+/// and the old program does not run.
 #[test]
 fn a_tree_that_cannot_be_written() {
     let folder = tree("readonly");
@@ -136,7 +136,7 @@ fn a_tree_that_cannot_be_written() {
     );
 }
 
-/// Calls of the stand-in never overlap: a second `./run` waits for the first, and says so.
+/// Calls of the stand-in never overlap: a second `./run` waits for the first and prints a message.
 #[test]
 fn two_runs_prove_one_after_the_other() {
     let folder = tree("two");
@@ -155,7 +155,7 @@ fn two_runs_prove_one_after_the_other() {
     assert!(calls.lines().skip(1).step_by(2).all(|line| line == "end"), "{calls}");
 }
 
-/// `./run` waits for an `rt` that somebody else started in this tree, and gives way to one that starts during its proof.
+/// `./run` waits for an `rt` that somebody else started in this tree, and stops its own proof if one starts meanwhile.
 #[test]
 fn another_rt_goes_first() {
     let folder = tree("first");

@@ -1,4 +1,4 @@
-//! The folder vectors/: its files are what the generator writes, and what they cite stands in docs/FORMAT.md.
+//! The folder vectors/: its files are what the generator writes, and the sections that they cite exist in docs/FORMAT.md.
 
 use reference::vectors::answer::answer;
 use reference::vectors::json::{Object, Value};
@@ -31,7 +31,7 @@ fn rules_stand_in_the_format() {
     }
 }
 
-/// Whether some case gets another answer with the mistake.
+/// Whether the mistake changes the answer to some case.
 fn is_found(tests: &[Test], mistake: Mistake) -> bool {
     let records = tests.iter().filter(|test| ["seal", "open"].contains(&test.case.text_of("call")));
     records.into_iter().any(|test| answer(&test.case, mistake).as_ref() != Some(&test.answer))

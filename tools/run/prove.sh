@@ -1,11 +1,12 @@
-# Proving and building a program, once. Sourced by ./run.
+# Proves and builds a program unless that is already done. Sourced by ./run.
 #
-# A proved program is kept as .run/bin/NAME with a stamp that holds the kit, a quick fingerprint of every source below it
-# (names, sizes, times, inodes) and a hash of their contents. If neither fits, the program is proved again before it runs.
-# The gate (`rt ci`) removes target/ and not .run/. Where another `rt` works in this repository, ./run waits for it, and
+# A proved program is kept as .run/bin/NAME. Its stamp contains the kit, a quick fingerprint of every source that it depends
+# on (names, sizes, times, inodes) and a hash of their contents. If neither matches, ./run proves the program again before it
+# runs it. The gate (`rt ci`) removes target/ but not .run/. If another `rt` works in this repository, ./run waits for it, and
 # stops its own proof if one starts meanwhile.
 
-# What a program for x86-64 runs under: the kit's loader and C library and, on another processor, the kit's emulator.
+# Sets $kit, and $under: the command under which a program for x86-64 runs, which is the kit's loader with its C library and,
+# on another processor, the kit's emulator.
 use_kit() { # KIT
     local tools=$1/on/$(uname -m)/toolchain
     kit=$1
@@ -16,11 +17,11 @@ use_kit() { # KIT
 
 find_kit() {
     local doc
-    doc=$(rt doc 2>/dev/null) || { say "the Rattle kit is not there: no \`rt\`"; exit 3; }
+    doc=$(rt doc 2>/dev/null) || { say "the Rattle kit is missing: there is no command rt"; exit 3; }
     use_kit "${doc%/docs/*}"
 }
 
-# The crates that programs stand on, themselves included.
+# Prints the crates that programs depend on, including the programs themselves.
 below() { # NAME ..
     local -A needs=() seen=()
     local line name todo=("$@")
@@ -37,17 +38,17 @@ below() { # NAME ..
     printf '%s\n' "${!seen[@]}"
 }
 
-# A fingerprint of the sources below a program and of the built program, without reading them.
+# Prints a fingerprint of a program's sources and of the built program, without reading them.
 quick_print() { # NAME CRATES
     (cd "$root" && find crates.txt ${2//$'\n'/ } .run/bin/"$1" "$kit/KIT-ID" -type f -printf '%p %s %T@ %C@ %i\n') | sha256sum
 }
 
-# A hash of the same files' contents.
+# Prints a hash of the contents of a program's sources.
 whole_print() { # NAME CRATES
     (cd "$root" && find crates.txt ${2//$'\n'/ } "$kit/KIT-ID" -type f -print0 | LC_ALL=C sort -z | xargs -0 sha256sum) | sha256sum
 }
 
-# Whether a program is built from exactly these sources; then $program names it.
+# Whether a program is built from exactly these sources. Sets $program to its path.
 is_built() { # NAME CRATES
     local stamp=$root/.run/$1.stamp was quick whole bin
     program=$root/.run/bin/$1
@@ -61,17 +62,18 @@ is_built() { # NAME CRATES
     return 0
 }
 
-# Keeps a proved program, and what it was built from.
+# Writes the stamp of a proved program: what it was built from.
 stamp() { # NAME CRATES WHOLE
     printf '%s\n' "$kit" "$(quick_print "$1" "$2")" "$3" "$(sha256sum <"$root/.run/bin/$1")" >"$root/.run/$1.stamp.$$" &&
         mv -f "$root/.run/$1.stamp.$$" "$root/.run/$1.stamp"
 }
 
+# Copies a proved program to .run/ and stamps it.
 keep() { # NAME CRATES WHOLE
     cp -f "$root/target/bin/$1" "$root/.run/bin/$1.$$" && mv -f "$root/.run/bin/$1.$$" "$root/.run/bin/$1" && stamp "$@"
 }
 
-# Prints the number of a process of another `rt` that works in this repository. Nothing is forked: this is called often.
+# Prints the ID of a process of another `rt` that works in this repository. It forks nothing, since it is called often.
 other_rt() { # OUR_SESSION
     local process words stat
     for process in /proc/[0-9]*; do
@@ -92,7 +94,7 @@ wait_for_others() {
     while [ -n "$(other_rt 0)" ]; do sleep 1; done
 }
 
-# Stops with the system's reason where the results of a proof cannot be written.
+# Exits with the system's reason if the results of a proof could not be written.
 need_folders() {
     local said
     said=$(LC_ALL=C mkdir -p "$root/target" "$root/.run/bin" 2>&1 && LC_ALL=C touch "$root/target/.written" "$root/.run/.written" 2>&1) || {
@@ -102,8 +104,8 @@ need_folders() {
     rm -f "$root/target/.written" "$root/.run/.written"
 }
 
-# Seconds of one processor that a proof takes, measured over the whole repository: so many for a crate, and for a million
-# bytes of its sources.
+# The seconds that a proof takes on one processor, measured over the whole repository: for each crate, and for each million
+# bytes of sources.
 SECONDS_A_CRATE=8
 SECONDS_A_MILLION=160
 
@@ -111,12 +113,13 @@ size_of() { # CRATES
     (cd "$root" && find ${1//$'\n'/ } \( -name '*.rt' -o -name '*.antt' \) -printf '%s\n' 2>/dev/null) | { local n sum=0; while read -r n; do sum=$((sum + n)); done; echo $sum; }
 }
 
+# Prints the time that a proof of so many crates and bytes takes, in words.
 left() { # CRATES BYTES
     local seconds=$((($1 * SECONDS_A_CRATE + $2 / 1000 * SECONDS_A_MILLION / 1000) / jobs))
     if [ $seconds -lt 90 ]; then echo "$seconds seconds"; else echo "$(((seconds + 30) / 60)) minutes"; fi
 }
 
-# Passes on rt's lines, but for what was proved before and the prover's own notes, and says how far it is.
+# Passes on rt's lines, except those on unchanged crates and the prover's own notes, and prints the progress.
 progress() { # CRATES
     local line name done=0 all bytes
     all=$(printf '%s\n' "$1" | grep -c .)
@@ -135,7 +138,7 @@ progress() { # CRATES
     done
 }
 
-# Runs `rt check`; stops it, and starts again, where another `rt` begins to work here.
+# Runs `rt check`. If another `rt` starts in this repository, stops it, waits, and runs it again.
 check() { # CRATES NAME ..
     local crates=$1 ours other
     shift
@@ -158,7 +161,7 @@ check() { # CRATES NAME ..
     done
 }
 
-# Proves and builds programs, one run at a time.
+# Proves and builds programs. A lock ensures that only one ./run does so at a time.
 prove_all() { # CRATES NAME ..
     local crates=$1 before name
     shift
@@ -174,25 +177,25 @@ prove_all() { # CRATES NAME ..
     check "$crates" "$@" || { say "$* is not proved; see: rt check $*"; exit 3; }
     [ "$(whole_print x "$crates")" = "$before" ] || { say "a source changed while it was being proved; call again"; exit 3; }
     for name; do
-        keep "$name" "$(folders "$name")" "$(whole_print x "$(folders "$name")")" || { say "$name is proved, and cannot be kept in .run/"; exit 3; }
+        keep "$name" "$(folders "$name")" "$(whole_print x "$(folders "$name")")" || { say "$name is proved, but cannot be copied to .run/"; exit 3; }
     done
     exec 9<&-
 }
 
-# The source folders below a program.
+# Prints the source folders of all crates that programs depend on.
 folders() { # NAME ..
     local name
     for name in $(below "$@"); do printf 'crates/%s\n' "$name"; done | LC_ALL=C sort
 }
 
-# How long a proof of these crates takes where none is proved yet.
+# Prints how long a proof of these crates takes if none is proved yet. Sets $jobs.
 estimate() { # CRATES
     jobs=$(nproc 2>/dev/null || echo 1)
     [ "$jobs" -le 4 ] || jobs=4
     left "$(printf '%s\n' "$1" | grep -c .)" "$(size_of "$1")"
 }
 
-# Sets $program and $under for a program, proving it first where that is needed.
+# Sets $program and $under for a program, and proves it first if necessary.
 prove() { # NAME
     local crates
     crates=$(folders "$1")

@@ -1,12 +1,12 @@
-# Running a program, and placing its OUT safely. Sourced by ./run.
+# Runs a program and writes its OUT safely. Sourced by ./run.
 #
-# A program that writes gets a temporary file in OUT's folder (mode 0600). If it succeeds, ./run gives the file the mode
-# of the OUT that it replaces and renames it; a link is resolved first, and a device or a pipe is opened once and written
-# whole. A stopped run removes its temporary file; a file that a killed run left is removed by the next run of its owner.
+# A program that writes gets a temporary file in OUT's folder (mode 0600). If it succeeds, ./run gives the file the mode of
+# the OUT that it replaces and renames it. A link is resolved first. A device or a pipe is opened once and written whole. A
+# stopped run removes its temporary file; the next run of the same user removes one that a killed run left.
 
 MARK=.snoekeldraf-
 
-# Removes our own temporary files whose runs no longer exist.
+# Removes temporary files of this user whose processes no longer exist.
 clean_up() { # FOLDER
     local file process
     for file in "$1$MARK"*; do
@@ -35,12 +35,12 @@ find_descriptor() { # PATH
     esac
 }
 
-# Whether a path is written to as a stream: a device, a pipe, or an open descriptor by its name.
+# Whether a path is written as a stream: a device, a pipe, or the name of an open descriptor.
 is_stream() { # PATH
     [ -n "$descriptor" ] || { [ -e "$1" ] && [ ! -f "$1" ]; }
 }
 
-# Creates the temporary file beside OUT, and sets $temporary, $stream (yes or no) and $place (the file that is replaced).
+# Creates the temporary file in OUT's folder, and sets $temporary, $stream (yes or no) and $place (the file to replace).
 prepare_out() { # OUT RING
     local said folder=${TMPDIR:-/tmp}/
     [ "$1" -ef "$2" ] && { say "OUT is the ring: nothing is written"; exit 2; }
@@ -83,7 +83,7 @@ keep_mode() { # FROM TO
     [ $group = yes ] || chmod g= -- "$2"
 }
 
-# Gives the finished file its mode and puts it at OUT.
+# Gives the finished file its mode and moves it to OUT.
 place_out() { # OUT PLAIN
     local said
     [ $stream = no ] || { write_stream "$1"; return; }
@@ -96,8 +96,8 @@ place_out() { # OUT PLAIN
     said=$(LC_ALL=C mv -T -f -- "$temporary" "$place" 2>&1) || cannot_write "$1" "${said##*: }"
 }
 
-# Prints the program's output. A reader that went away (| head) is no error; a full disk is. If OUT is the standard output,
-# the text goes to the standard error.
+# Prints the program's output. A reader that has closed the pipe (| head) is no error; a full disk is. If OUT is the standard
+# output, the text goes to the standard error.
 print_out() { # TEXT
     local said to=1
     [ -n "$1" ] || return 0
@@ -107,7 +107,7 @@ print_out() { # TEXT
     case $said in '' | *"Broken pipe"*) ;; *) say "the standard output cannot be written: ${said##*: }"; exit 3 ;; esac
 }
 
-# The report of `inspect` in one line: how many entries, how many wrong, which jobs.
+# Summarises the output of `inspect`: how many entries, how many wrong, which jobs. Fails if a tag is wrong.
 sum_up() { # TEXT
     local line all=0 wrong=()
     while IFS= read -r line; do
@@ -124,7 +124,7 @@ sum_up() { # TEXT
     return 1
 }
 
-# The exit status of a program, by its first line, and its words.
+# Returns the exit status for a program's output, by its first line, and explains a refusal.
 judge() { # NAME TEXT ARGS ..
     local name=$1 text=$2 first
     shift 2
@@ -158,7 +158,7 @@ refuse_current() { # STATUS FILE ROW AMENDMENT DAY RING JOB
     esac
 }
 
-# Runs $program, and sets $text to what it prints; its errors go to the descriptor ERRORS (1: into the text).
+# Runs $program and sets $text to its output; its standard error goes to the descriptor ERRORS (1: into the text).
 call_program() { # ERRORS NAME ARGS ..
     local errors=$1 name=$2 code
     shift 2
@@ -183,7 +183,7 @@ run_writer() { # NAME ARGS ..
     esac
 }
 
-# Runs a program with its arguments, prints what it says, and ends with its status.
+# Runs a program with its arguments, prints its output, and exits with its status.
 run_program() { # NAME ARGS ..
     local text
     case $1 in
@@ -195,7 +195,7 @@ run_program() { # NAME ARGS ..
     exit $?
 }
 
-# Runs a built program by its path, as it is: nobody looks whether it is proved, and it writes OUT itself.
+# Runs a built program by its path, without checking that it is proved; the program writes OUT itself.
 run_path() { # PATH ARGS ..
     local name=${1##*/} text
     program=$1

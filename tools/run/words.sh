@@ -1,6 +1,6 @@
-# What ./run says about a status: the library's words, the row with its job, and what to do next. Sourced by ./run.
+# Explains a status: the library's words, the row with its job, and what to do next. Sourced by ./run.
 
-# The words of a status: the last string of its line in library/words.c.
+# Prints the words of a status: the last string of its line in library/words.c.
 words_of() { # STATUS
     local line
     while IFS= read -r line; do
@@ -14,7 +14,7 @@ words_of() { # STATUS
     printf 'status %s has no words' "$1"
 }
 
-# " (job N)" for a row of a shift file, as the file's table has it; nothing where the row cannot be read.
+# Prints " (job N)" for a row of a shift file, from the file's table; nothing if the row cannot be read.
 job_of() { # FILE ROW
     local edition job
     [ -f "$1" ] || return 0
@@ -23,7 +23,7 @@ job_of() { # FILE ROW
     [ -z "${job// /}" ] || printf ' (job %s)' "${job// /}"
 }
 
-# Why a file could not be read, by the system's words; nothing where it can be.
+# Prints the system's reason why a file cannot be read; nothing if it can be.
 reason() { # FILE
     if [ -d "$1" ]; then echo "it is a folder"; return; fi
     if [ -e "$1" ] && [ ! -f "$1" ]; then return; fi
@@ -31,12 +31,12 @@ reason() { # FILE
     said=$(LC_ALL=C head -c 1 -- "$1" 2>&1 >/dev/null) || echo "${said##*: }"
 }
 
-# How many bytes a program takes: document 02 limits two of them.
+# Prints the greatest length of a file that a program accepts; document 02 has a lower limit for two of them.
 limit_of() { # NAME
     case $1 in differ | inspect) echo 65,280 ;; *) echo 1,048,576 ;; esac
 }
 
-# Which editions a call takes.
+# Prints which editions a call accepts.
 editions_of() { # NAME FIRST_ARGUMENT
     case $1,$2 in
     write,back | write,reseal) echo "edition 1" ;;
@@ -47,7 +47,7 @@ editions_of() { # NAME FIRST_ARGUMENT
     esac
 }
 
-# Says a status in words, with row, job and file.
+# Explains a status in words, with row, job and file.
 means() { # NAME FIRST_ARGUMENT STATUS ROW FILE WHOSE
     local words
     words=$(words_of "$3")

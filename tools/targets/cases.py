@@ -1,6 +1,6 @@
-"""The gate's test data as the test driver runs it: what goes in, and the lines that have to come out.
+"""The gate's test data for the test driver: its input, and the expected lines.
 
-reference/README.md has the format. Lines that no C function gives are left out of the expectation: those of test_shift's ops
+reference/README.md has the format. The expectation leaves out lines that no C function produces: those of test_shift's ops
 6 to 9 (what the plant's programs print) and the reader's in op 5.
 """
 import collections
@@ -16,7 +16,7 @@ PRINTED = {6, 7, 8, 9}
 
 
 def bytes_after(kind, c):
-    """How many bytes follow the head of a call."""
+    """How many bytes follow the first 30 bytes of a call."""
     n = c.n
     if kind == "comet":
         return sum(n[:4]) + (n[5] if c.op in (1, 3, 5, 6) else 0)
@@ -39,7 +39,7 @@ def calls_of(kind, data):
 
 
 def lines_of(c):
-    """How many lines a call of test_shift writes, and which of them a C function gives."""
+    """How many lines a call of test_shift writes, and which of them a C function produces."""
     if c.op in (0, 3, 4):
         return [True]
     if c.op == 1:
@@ -54,7 +54,8 @@ def lines_of(c):
 
 
 def shift_lines(calls, lines):
-    """The calls that print stand together: what is before them is counted from the front, what is after them from the end."""
+    """The lines without those of the printing calls, whose number is unknown. These calls are consecutive: lines before them
+    are counted from the start, lines after them from the end."""
     printed = [i for i, c in enumerate(calls) if c.op in PRINTED]
     first, last = (printed[0], printed[-1] + 1) if printed else (len(calls), len(calls))
     if len(printed) != last - first:
@@ -66,7 +67,7 @@ def shift_lines(calls, lines):
 
 
 def session_lines(calls, lines, suite):
-    """In a small build of one suite a session of another is skipped, from its start or forging to the next start."""
+    """The lines of a small build of one suite: calls on a session of another suite, started or forged, are `skipped`."""
     foreign, kept, left = False, [], iter(lines)
     for c in calls:
         if c.op == 0:
@@ -80,7 +81,7 @@ def session_lines(calls, lines, suite):
 
 
 def load(root, kind, suite=None):
-    """The data of one test program; with a suite, as a small build of that suite answers it."""
+    """The data of one test program; with a suite, the lines are those of a small build of that suite."""
     folder = pathlib.Path(root) / "crates" / f"test_{kind}"
     data, lines = (folder / "stdin").read_bytes(), (folder / "stdout").read_text().splitlines()
     calls = calls_of(kind, data)

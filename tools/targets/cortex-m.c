@@ -13,7 +13,7 @@ void reset(void) {
     uint32_t *to = &data_start, *from = &data_load;
     while (to < &data_end) *to++ = *from++;
     for (to = &bss_start; to < &bss_end;) *to++ = 0;
-    /* An ARMv6-M processor has no unaligned access; one that runs its code in a test is told to have none either. */
+    /* An ARMv6-M processor traps on unaligned access; make the emulated processor that runs its code trap as well. */
 #if __ARM_ARCH == 6
     CONFIGURATION |= UNALIGNED_TRAPS;
 #endif

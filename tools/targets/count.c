@@ -1,6 +1,7 @@
-/* Instructions of one call on Cortex-M4: QEMU runs one instruction a nanosecond (-icount shift=0), and SysTick counts at
- * 25 MHz, so a tick is 40 instructions. Prints `maker suite bytes instructions`; a call is repeated where it is short.
- * With -DSUITE=n the small build of suite n is counted, in place and to another buffer, else the archive and plain C by both compilers.
+/* Counts the instructions of one call on Cortex-M4. QEMU runs one instruction per nanosecond (-icount shift=0), and SysTick
+ * counts at 25 MHz, so a tick is 40 instructions. Prints `maker suite bytes instructions`; short calls are repeated.
+ * With -DSUITE=n it counts the small build of suite n, in place and to another buffer; otherwise the archive, and plain C by
+ * both compilers.
  */
 #include "one.h"
 #include <stdio.h>

@@ -1,13 +1,13 @@
 /* Runs the gate's test data through the C functions of a target's library, and writes the lines of the test programs.
  *
  * The input is one byte, 'c', 's', 'f' or 'w', and then the stdin of test_comet, test_session, test_shift or test_writer.
- * reference/README.md has the format of calls and lines. The lines of the calls that have a C function are written; those
- * of test_shift's ops 6 to 9, which print what the plant's programs print, and of the reader in op 5 are left out.
+ * reference/README.md has the format of calls and lines. The driver leaves out lines that no C function produces: those of
+ * test_shift's ops 6 to 9, which are what the plant's programs print, and the reader's in op 5.
  *
- * What the lines do not show is checked here, and a fault is a line of its own, `fault ..`, which no expectation has:
- * bytes before and after every output buffer, the inputs, values that are documented in terms of another function.
+ * It also checks what the lines do not show: the bytes before and after every output buffer, the inputs, and values that are
+ * documented in terms of another function. A fault is a line `fault ..`, which no expectation contains.
  *
- * With -DSUITE=n the calls go to a small build of suite n (small.c); a call of another suite is the line `skipped`.
+ * With -DSUITE=n the driver calls a small build of suite n (small.c) and writes `skipped` for calls of another suite.
  * Input and output are take() and put(): files.c has them for a C library, run-wasm.mjs for WebAssembly.
  */
 #include "driver.h"
@@ -16,8 +16,8 @@
 
 enum { GUARD = 16, FILL = 0xa5, MOST_OUTPUTS = 4 };
 
-static uint8_t input_room[300000], output_room[140000];
-static uint32_t list_room[3][520 + 2 * GUARD];
+static uint8_t input_buffer[300000], output_buffer[140000];
+static uint32_t list_buffer[3][520 + 2 * GUARD];
 static size_t input_used, output_used;
 static bytes outputs[MOST_OUTPUTS];
 static int output_count;
@@ -33,7 +33,7 @@ static int filled(const uint8_t *at, size_t len) {
     return 1;
 }
 
-/* Buffers start at every alignment in turn: bytes may lie anywhere. */
+/* Starts a call. Its buffers begin at another alignment than those of the last call: the functions accept any. */
 static void begin(void) {
     call_count++;
     input_used = call_count % 8;
@@ -41,41 +41,40 @@ static void begin(void) {
     output_count = 0;
 }
 
-static bytes room(uint32_t len) {
-    bytes b = {input_room + input_used, len};
-    if (len > sizeof input_room - input_used) stop("input is too long");
+static bytes reserve(uint32_t len) {
+    bytes b = {input_buffer + input_used, len};
+    if (len > sizeof input_buffer - input_used) stop("input is too long");
     input_used += len;
     return b;
 }
 
-bytes given(uint32_t len) {
-    bytes b = room(len);
+bytes input(uint32_t len) {
+    bytes b = reserve(len);
     if (take(b.at, len) != len) stop("input ends early");
     return b;
 }
 
 bytes output(uint32_t len) {
-    bytes b = {output_room + output_used + GUARD, len};
-    if (len + 2 * GUARD > sizeof output_room - output_used) stop("output is too long");
-    fill(output_room + output_used, len + 2 * GUARD, FILL);
+    bytes b = {output_buffer + output_used + GUARD, len};
+    if (len + 2 * GUARD > sizeof output_buffer - output_used) stop("output is too long");
+    fill(output_buffer + output_used, len + 2 * GUARD, FILL);
     output_used += len + 2 * GUARD;
     return outputs[output_count++] = b;
 }
 
 list output_list(int which, uint32_t len) {
-    list l = {list_room[which] + GUARD, len};
+    list l = {list_buffer[which] + GUARD, len};
     if (len > 520) stop("list is too long");
-    fill((uint8_t *)list_room[which], sizeof list_room[which], FILL);
+    fill((uint8_t *)list_buffer[which], sizeof list_buffer[which], FILL);
     return l;
 }
 
 uint32_t sum_of_inputs(void) {
     uint32_t sum = 0;
-    for (size_t i = 0; i < input_used; i++) sum = sum * 31 + input_room[i];
+    for (size_t i = 0; i < input_used; i++) sum = sum * 31 + input_buffer[i];
     return sum;
 }
 
-/* Whether only the buffers themselves were written. */
 void check_guards(uint32_t sum) {
     for (int i = 0; i < output_count; i++) {
         bytes b = outputs[i];
@@ -85,8 +84,7 @@ void check_guards(uint32_t sum) {
 }
 
 void check_list(int which, list l) {
-    const uint32_t *room_of = list_room[which];
-    if (!filled((const uint8_t *)room_of, 4 * GUARD)) fault("wrote before a list");
+    if (!filled((const uint8_t *)list_buffer[which], 4 * GUARD)) fault("wrote before a list");
     if (!filled((const uint8_t *)(l.at + l.len), 4 * GUARD)) fault("wrote after a list");
 }
 
@@ -128,7 +126,7 @@ void hex_digits(uint32_t n, int digits) {
     while (digits-- > 0) letter("0123456789abcdef"[n >> 4 * digits & 15]);
 }
 
-enum { PRIME = 5 }; /* the fold's modulus is 2^32 less 5, so 2^32 counts as 5 */
+enum { PRIME = 5 }; /* the fold's modulus is 2^32 - 5, so 2^32 is congruent to 5 */
 
 uint32_t folded(uint32_t fold, uint8_t byte) {
     uint64_t x = (uint64_t)fold * 257 + byte + 1;
@@ -190,7 +188,7 @@ static int next_call(call *c) {
     return 1;
 }
 
-/* The plain C functions beside the proved ones; a small build has none of them. */
+/* Checks the library's functions that are plain C, not proved; a small build does not contain them. */
 static void check_plain(void) {
 #ifndef SUITE
     if (snoekeldraf_version() != SNOEKELDRAF_VERSION) fault("snoekeldraf_version");

@@ -1,4 +1,4 @@
-/* What the parts of the test driver share; driver.c says what it does. */
+/* The declarations that the parts of the test driver share; driver.c says what it does. */
 #ifndef DRIVER_H
 #define DRIVER_H
 
@@ -15,31 +15,31 @@ typedef struct {
     uint32_t len;
 } list;
 
-/* A call of the test data; n are its six numbers. */
+/* A call of the test data; n are its six integers. */
 typedef struct {
     uint8_t op, suite;
     uint32_t job, n[6];
 } call;
 
-/* A slice or a list as the functions take it. */
+/* A byte string or a list as two arguments: pointer and length. */
 #define SLICE(b) (b).at, (b).len
 
-/* From the host: up to len bytes of the input, output, and the end of the program. */
+/* Functions of the host: read up to len bytes of the input, write output, and end the program. */
 size_t take(void *to, size_t len);
 void put(const void *from, size_t len);
 void leave(int status);
 
-/* Bytes of the input; a buffer to be written, every byte 0xa5. */
-bytes given(uint32_t len);
+/* The next len bytes of the input; output buffers, in which every byte is 0xa5. */
+bytes input(uint32_t len);
 bytes output(uint32_t len);
 list output_list(int which, uint32_t len);
 
-/* Faults where bytes beside the outputs, or inputs, were written; sum is sum_of_inputs() from before the call. */
+/* Report a fault if bytes next to the outputs, or the inputs, were written; sum is sum_of_inputs() from before the call. */
 uint32_t sum_of_inputs(void);
 void check_guards(uint32_t sum);
 void check_list(int which, list l);
 
-/* Parts of a line. */
+/* Write parts of a line; and_ writes a space first. */
 void letter(char c);
 void word(const char *s);
 void number(uint64_t n);
@@ -51,7 +51,7 @@ void end_line(void);
 uint32_t folded(uint32_t fold, uint8_t byte);
 uint32_t folded_bytes(uint32_t fold, bytes b);
 
-/* A fault is a line that no expectation has. */
+/* Write a fault as a line that no expectation contains; stop then ends the program. */
 void fault(const char *what);
 void stop(const char *what);
 

@@ -1,9 +1,10 @@
-/* The calls of test_shift and test_writer: every C function that takes a shift file. */
+/* Runs the calls of test_shift and test_writer: every C function that takes a shift file. */
 #include "driver.h"
 
 enum { UNWRITTEN = 0xa5a5a5a5 };
 
-/* shift_verified gives shift_open_job's number and row with an output of the message's length, and places on 0 alone. */
+/* Checks that shift_verified returns status and row of shift_open_job with an output of the message's length, and offset and
+ * length only with status 0. */
 static void check_verified(bytes file, bytes ring, uint32_t job, uint32_t text_len) {
     uint32_t row = UNWRITTEN, at = UNWRITTEN, len = UNWRITTEN, row_opened, ad_at, ad_len;
     uint32_t status = shift_verified(SLICE(file), SLICE(ring), job, &row, &at, &len);
@@ -11,19 +12,19 @@ static void check_verified(bytes file, bytes ring, uint32_t job, uint32_t text_l
     if (status != shift_open_job(SLICE(file), SLICE(ring), job, SLICE(out), &row_opened)) fault("shift_verified: status");
     if (row != row_opened) fault("shift_verified: row");
     if (shift_associated(SLICE(file), job, &ad_at, &ad_len) != 0) ad_at = ad_len = 0;
-    if (at != (status == 0 ? ad_at : 0) || len != (status == 0 ? ad_len : 0)) fault("shift_verified: place");
+    if (at != (status == 0 ? ad_at : 0) || len != (status == 0 ? ad_len : 0)) fault("shift_verified: offset and length");
 }
 
-/* shift_associated and shift_lookup give what shift_entry gives. */
+/* Checks that shift_associated and shift_lookup return what shift_entry returns. */
 static void check_entry(bytes file, uint32_t job, uint32_t status, uint32_t row, uint32_t at, uint32_t len) {
     uint32_t row_found = UNWRITTEN, ad_at = UNWRITTEN, ad_len = UNWRITTEN;
     if (shift_lookup(SLICE(file), job, &row_found) != status || row_found != row) fault("shift_lookup");
     if (shift_associated(SLICE(file), job, &ad_at, &ad_len) != status) fault("shift_associated: status");
-    if (ad_at != at || ad_len != len) fault("shift_associated: place");
+    if (ad_at != at || ad_len != len) fault("shift_associated: offset and length");
 }
 
 static void run_opening(const call *c) {
-    bytes file = given(c->n[0]), ring = given(c->n[1]), out = output(c->n[2]);
+    bytes file = input(c->n[0]), ring = input(c->n[1]), out = output(c->n[2]);
     uint32_t row = UNWRITTEN, at = UNWRITTEN, len = UNWRITTEN, text_at = UNWRITTEN, text_len = UNWRITTEN;
     uint32_t sum = sum_of_inputs(), status = shift_check(SLICE(file), &row);
     number(status);
@@ -35,7 +36,7 @@ static void run_opening(const call *c) {
     and_number(len);
     and_bytes((bytes){file.at + at, len});
     check_entry(file, c->job, status, row, at, len);
-    if (text_at != (status == 0 ? at + len : 0)) fault("shift_entry: the text's place");
+    if (text_at != (status == 0 ? at + len : 0)) fault("shift_entry: offset of the text");
     row = UNWRITTEN;
     and_number(shift_open_job(SLICE(file), SLICE(ring), c->job, SLICE(out), &row));
     and_number(row);
@@ -45,7 +46,7 @@ static void run_opening(const call *c) {
     check_guards(sum);
 }
 
-/* The fold with the answers to the file as it is. */
+/* The fold continued with the results of check, lookup and opening. */
 static uint32_t folded_answers(uint32_t fold, bytes file, bytes ring, uint32_t job, bytes out) {
     uint32_t row = UNWRITTEN;
     fold = folded(fold, (uint8_t)shift_check(SLICE(file), &row));
@@ -57,9 +58,9 @@ static uint32_t folded_answers(uint32_t fold, bytes file, bytes ring, uint32_t j
     return folded_bytes(fold, out);
 }
 
-/* Every byte of the file is changed to each of its 255 other values. */
+/* Changes every byte of the file to each of its 255 other values, and writes the fold of the results for each byte. */
 static void run_damage(const call *c) {
-    bytes file = given(c->n[0]), ring = given(c->n[1]), out = output(c->n[2]);
+    bytes file = input(c->n[0]), ring = input(c->n[1]), out = output(c->n[2]);
     uint32_t sum = sum_of_inputs();
     for (uint32_t p = 0; p < file.len; p++) {
         uint8_t old = file.at[p];
@@ -76,7 +77,7 @@ static void run_damage(const call *c) {
 }
 
 static void run_search(const call *c) {
-    bytes file = given(c->n[0]);
+    bytes file = input(c->n[0]);
     uint32_t sum = sum_of_inputs(), left = c->n[1];
     for (uint32_t job = c->job; left-- > 0; job++) {
         uint32_t row = UNWRITTEN, looked = UNWRITTEN;
@@ -90,7 +91,7 @@ static void run_search(const call *c) {
 }
 
 static void run_amended(const call *c) {
-    bytes amendment = given(c->n[0]), day = given(c->n[1]), ring = given(c->n[2]), out = output(c->n[3]);
+    bytes amendment = input(c->n[0]), day = input(c->n[1]), ring = input(c->n[2]), out = output(c->n[3]);
     uint32_t which = UNWRITTEN, row = UNWRITTEN, at = UNWRITTEN, len = UNWRITTEN, sum = sum_of_inputs();
     number(shift_amended(SLICE(amendment), SLICE(day), c->job, &which, &row, &at, &len));
     and_number(which);
@@ -108,7 +109,7 @@ static void run_amended(const call *c) {
 }
 
 static void run_compare(const call *c) {
-    bytes first = given(c->n[0]), second = given(c->n[1]);
+    bytes first = input(c->n[0]), second = input(c->n[1]);
     list l[3];
     uint32_t counts[3] = {UNWRITTEN, UNWRITTEN, UNWRITTEN}, which = UNWRITTEN, row = UNWRITTEN, sum = sum_of_inputs();
     for (int i = 0; i < 3; i++) l[i] = output_list(i, c->n[2 + i]);
@@ -124,7 +125,7 @@ static void run_compare(const call *c) {
 }
 
 static void run_report(const call *c) {
-    bytes file = given(c->n[0]), ring = given(c->n[1]), numbers = output(c->n[3]);
+    bytes file = input(c->n[0]), ring = input(c->n[1]), numbers = output(c->n[3]);
     list jobs = output_list(0, c->n[2]);
     uint32_t count = UNWRITTEN, row = UNWRITTEN, sum = sum_of_inputs();
     number(shift_report(SLICE(file), SLICE(ring), SLICE(jobs), SLICE(numbers), &count, &row));
@@ -137,7 +138,7 @@ static void run_report(const call *c) {
     check_guards(sum);
 }
 
-/* One row of the table of contents; its nine fields are always written. */
+/* Writes one row of the table of contents; shift_row always writes all nine fields. */
 static void show_row(bytes file, uint32_t row) {
     shift_fields f;
     uint8_t *at = (uint8_t *)&f;
@@ -149,7 +150,7 @@ static void show_row(bytes file, uint32_t row) {
 }
 
 static void run_contents(const call *c) {
-    bytes file = given(c->n[0]);
+    bytes file = input(c->n[0]);
     uint32_t edition = UNWRITTEN, count = UNWRITTEN, sum = sum_of_inputs(), left = c->n[1];
     number(shift_rows(SLICE(file), &edition, &count));
     and_number(edition);
@@ -162,11 +163,11 @@ static void run_contents(const call *c) {
     check_guards(sum);
 }
 
-/* What the plant's programs print: their bytes are passed over. */
+/* Skips a call whose lines are what the plant's programs print. */
 static void pass_over(const call *c) {
-    given(c->n[0]);
-    given(c->n[1]);
-    if (c->op == 7) given(c->n[2]);
+    input(c->n[0]);
+    input(c->n[1]);
+    if (c->op == 7) input(c->n[2]);
 }
 
 void run_file(const call *c) {
@@ -183,7 +184,7 @@ void run_file(const call *c) {
     }
 }
 
-/* The length that a moved file has, by the header's words: 20 to 24 give 0. */
+/* The length of the moved file as the header defines it; 0 if the check returns 20 to 24. */
 static uint64_t moved_length(bytes file) {
     uint32_t row, status = shift_check(SLICE(file), &row);
     uint32_t rows = file.len < 4 ? 0 : file.at[2] | (uint32_t)file.at[3] << 8;
@@ -192,7 +193,7 @@ static uint64_t moved_length(bytes file) {
 }
 
 void run_writer(const call *c) {
-    bytes file = given(c->n[0]), ring = given(c->n[1]), out = output(c->n[2]);
+    bytes file = input(c->n[0]), ring = input(c->n[1]), out = output(c->n[2]);
     uint32_t row = UNWRITTEN, sum = sum_of_inputs();
     switch (c->op) {
     case 0: number(shift_seal_file(SLICE(file), SLICE(ring), SLICE(out), &row)); break;

@@ -1,4 +1,4 @@
-/* The driver's input and output by a C library: files in the current folder, also on bare metal, by semihosting. */
+/* The driver's input and output through a C library: files in the current folder, on bare metal by semihosting. */
 #include "driver.h"
 #ifdef PAINTED_DRIVER
 #include "painted.h"

@@ -1,4 +1,4 @@
-/* The functions under test by one set of names: those of the archive or, with -DSUITE=n, those of a small build of suite n,
+/* One set of names for the functions under test: those of the archive or, with -DSUITE=n, those of a small build of suite n,
  * which take no suite. */
 #ifndef LIBRARY_H
 #define LIBRARY_H

@@ -1,4 +1,4 @@
-/* A small build of suite SUITE with its lengths as constants, for tools/figures: what a device that has one suite builds.
+/* A small build of suite SUITE with constant lengths, as a device with one suite would have it; tools/figures measures it.
  * figures writes a file that defines SUITE and includes this one, and keeps the functions that it measures.
  */
 #include "one.h"

@@ -1,4 +1,4 @@
-/* How far down the stack was written, by function. painted.h says how it is measured. */
+/* The stack that each function used; painted.h says how it is measured. */
 #include "painted.h"
 #include <stdio.h>
 #include <string.h>

@@ -1,7 +1,7 @@
-/* The stack that a call takes: the stack below the caller is filled with a pattern, and after the call the deepest word that
- * was overwritten is looked for. What the call's arguments take on the stack is included.
+/* Measures the stack that a call uses: fills the stack below the caller with a pattern, and after the call finds the deepest
+ * word that was overwritten. Arguments passed on the stack are included.
  *
- * PAINTED(f, ..) is the call f(..), measured under the name f; print_stacks() prints the most that each name took.
+ * PAINTED(f, ..) is the call f(..), measured under the name f; print_stacks() prints the most that each name used.
  */
 #ifndef PAINTED_H
 #define PAINTED_H
@@ -21,7 +21,7 @@ static inline __attribute__((always_inline)) volatile uint32_t *stack_pointer(vo
     return at;
 }
 
-/* Inlined, so that it has no frame of its own below the caller's. */
+/* Inlined, since a frame of its own would lie in the stack that it fills. */
 static inline __attribute__((always_inline)) void paint(void) {
     volatile uint32_t *top = stack_pointer();
     for (volatile uint32_t *p = top - PAINTED_WORDS; p != top; p++) *p = PAINT;

@@ -1,4 +1,4 @@
-"""How programs for the targets of tools/library are linked, and how they run: under QEMU, node or on this machine."""
+"""Links programs for the targets of tools/library and runs them: under QEMU, under node or on this machine."""
 import os
 import pathlib
 import shutil
@@ -34,7 +34,7 @@ class Target:
         self.start, self.command = start, command
 
     def missing(self):
-        """Whether a package is not there: its compiler, its C library or what runs the program."""
+        """Whether a package is missing: the compiler, the C library or the emulator."""
         if not shutil.which(self.compiler) or self.command and not shutil.which(self.command[0]):
             return True
         specs = [w.split("=")[1] for w in self.words if w.startswith("--specs=")]
@@ -70,7 +70,7 @@ def cortex(name, board, program, data):
 
 
 def linux(name, machine, compiler, emulator, packages):
-    """A Linux program; on its own machine nothing is emulated."""
+    """The target of a Linux processor; on a machine with that processor no emulator is used."""
     if MACHINE == machine and not emulator[1:]:
         return Target(name, "gcc", "gcc", ["-static"], [], [])
     own = "gcc" if MACHINE == machine else compiler

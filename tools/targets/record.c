@@ -1,4 +1,4 @@
-/* The calls of test_comet. */
+/* Runs the calls of test_comet. */
 #include "library.h"
 
 #ifdef SUITE
@@ -12,7 +12,7 @@ static void skipped(void) {
     end_line();
 }
 
-/* The count of cipher calls, which is written always. */
+/* The number of cipher calls; the counted functions always write it. */
 static uint64_t calls_made;
 
 static uint32_t sealed(const call *c, bytes key, bytes nonce, bytes ad, bytes text, bytes out, bytes tag) {
@@ -46,7 +46,7 @@ static void run_seal(const call *c, bytes key, bytes nonce, bytes ad, bytes text
 }
 
 static void run_open(const call *c, bytes key, bytes nonce, bytes ad, bytes text) {
-    bytes tag = given(c->n[5]), out = output(c->n[4]);
+    bytes tag = input(c->n[5]), out = output(c->n[4]);
     uint32_t sum = sum_of_inputs();
     if (others(c)) return skipped();
     status_of(c, opened(c, key, nonce, ad, text, tag, out));
@@ -55,15 +55,15 @@ static void run_open(const call *c, bytes key, bytes nonce, bytes ad, bytes text
     check_guards(sum);
 }
 
-/* An output that holds a part of the input: the text of the functions in place. */
-static bytes given_output(uint32_t len) {
+/* An output buffer with the next len bytes of the input: the text of the functions that work in place. */
+static bytes input_output(uint32_t len) {
     bytes b = output(len);
     if (take(b.at, len) != len) stop("input ends early");
     return b;
 }
 
 static void run_in_place(const call *c, bytes key, bytes nonce, bytes ad) {
-    bytes text = given_output(c->n[3]), tag = c->op == 4 ? output(c->n[5]) : given(c->n[5]);
+    bytes text = input_output(c->n[3]), tag = c->op == 4 ? output(c->n[5]) : input(c->n[5]);
     uint32_t sum = sum_of_inputs(), status;
     if (others(c)) return skipped();
     if (c->op == 4)
@@ -78,7 +78,7 @@ static void run_in_place(const call *c, bytes key, bytes nonce, bytes ad) {
 }
 
 static void run_verify(const call *c, bytes key, bytes nonce, bytes ad) {
-    bytes text = given(c->n[3]), tag = given(c->n[5]);
+    bytes text = input(c->n[3]), tag = input(c->n[5]);
     uint32_t sum = sum_of_inputs();
     if (others(c)) return skipped();
     number(VERIFY(c->suite, SLICE(key), SLICE(nonce), SLICE(ad), SLICE(text), SLICE(tag)));
@@ -87,11 +87,11 @@ static void run_verify(const call *c, bytes key, bytes nonce, bytes ad) {
 }
 
 void run_record(const call *c) {
-    bytes key = given(c->n[0]), nonce = given(c->n[1]), ad = given(c->n[2]);
+    bytes key = input(c->n[0]), nonce = input(c->n[1]), ad = input(c->n[2]);
     calls_made = 0xa5a5a5a5a5a5a5a5u;
     switch (c->op) {
-    case 0: case 2: run_seal(c, key, nonce, ad, given(c->n[3])); break;
-    case 1: case 3: run_open(c, key, nonce, ad, given(c->n[3])); break;
+    case 0: case 2: run_seal(c, key, nonce, ad, input(c->n[3])); break;
+    case 1: case 3: run_open(c, key, nonce, ad, input(c->n[3])); break;
     case 4: case 5: run_in_place(c, key, nonce, ad); break;
     case 6: run_verify(c, key, nonce, ad); break;
     default: stop("test_comet has an op that is unknown here");

@@ -1,5 +1,5 @@
-/* The calls of test_session, on one session. With -DSUITE=n, a call is skipped from where another suite that seals is started
- * or forged to the next start of suite n. */
+/* Runs the calls of test_session, on one session. With -DSUITE=n, calls are skipped from the start or forging of a session of
+ * another suite that seals to the next start of suite n. */
 #include "library.h"
 
 static comet_session session;
@@ -12,7 +12,7 @@ static int same_words(const comet_session *a, const comet_session *b) {
 
 static const comet_session over;
 
-/* After a refusal a session is as it was; after a refused start and after an end it is nine zeros. */
+/* Checks that a refusal left the session unchanged; after a refused start and after an end, that it is nine zeros. */
 static void check_session(const comet_session *before, uint32_t status, int zeros) {
     if (zeros && !same_words(&session, &over)) fault("the session is not nine zeros");
     if (!zeros && status != 0 && !same_words(&session, before)) fault("a refusal changed the session");
@@ -21,7 +21,7 @@ static void check_session(const comet_session *before, uint32_t status, int zero
     if (!same_words(&copy, &over)) fault("a wiped session is not nine zeros");
 }
 
-static int foreign; /* whether the session that the calls are about is of a suite that is not built */
+static int foreign; /* whether the current session is of a suite that is not built */
 
 static int is_foreign(uint8_t suite) {
 #ifdef SUITE
@@ -39,7 +39,7 @@ static int skipped(void) {
 }
 
 static void run_start(const call *c) {
-    bytes key = given(c->n[0]), nonce = given(c->n[1]);
+    bytes key = input(c->n[0]), nonce = input(c->n[1]);
     uint32_t sum = sum_of_inputs(), status;
     for (int i = 0; i < 9; i++) session.word[i] = 0xa5a5a5a5a5a5a5a5u;
     foreign = is_foreign(c->suite);
@@ -53,7 +53,7 @@ static void run_start(const call *c) {
 }
 
 static void run_data(const call *c) {
-    bytes ad = given(c->n[0]);
+    bytes ad = input(c->n[0]);
     comet_session before = session;
     uint32_t sum = sum_of_inputs(), status;
     if (skipped()) return;
@@ -66,7 +66,7 @@ static void run_data(const call *c) {
 }
 
 static void run_part(const call *c) {
-    bytes msg = given(c->n[0]), out = output(c->n[1]);
+    bytes msg = input(c->n[0]), out = output(c->n[1]);
     comet_session before = session;
     uint32_t sum = sum_of_inputs(), count = 0xa5a5a5a5u, status;
     if (skipped()) return;

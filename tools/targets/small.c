@@ -1,4 +1,4 @@
-/* A small build of suite SUITE, for tools/test-targets: every function of a record and of a session, for any lengths.
+/* A small build of suite SUITE, for tools/test-targets: every function on records and sessions, for any lengths.
  * test-targets writes a file that defines SUITE and includes this one, and builds it with tools/library --with.
  */
 #include "small.h"

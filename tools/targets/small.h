@@ -1,5 +1,5 @@
-/* The functions of a small build of one suite: those of snoekeldraf.h without the argument suite. small.c has them.
- * A session of another suite gets 9, as one that was refused. */
+/* The functions of a small build of one suite (small.c): those of snoekeldraf.h without the argument suite.
+ * On a session of another suite they return 9, as on one that was refused. */
 #ifndef SMALL_H
 #define SMALL_H
 

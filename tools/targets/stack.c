@@ -1,4 +1,4 @@
-/* Stack of the functions of a small build (one.c), on a record of 1,000 bytes. Prints `function bytes`. */
+/* Measures the stack of the functions of a small build (one.c) on a record of 1,000 bytes. Prints `function bytes`. */
 #include "one.h"
 #include "painted.h"
 #include <stdio.h>
@@ -12,7 +12,7 @@ static uint32_t records(void) {
     return status | PAINTED(one_open, key, nonce, ad, AD, text, TEXT, tag);
 }
 
-/* Parts of every length up to two blocks, so that every way through the functions is taken. */
+/* Passes parts of every length from 0 to 40, more than two blocks, so that every path through the functions is taken. */
 static uint32_t sessions(void) {
     comet_session session;
     uint32_t count, status = PAINTED(one_start, &session, key, nonce);

@@ -1,5 +1,5 @@
-/* The proved library behind the protocol of vectors/README.md: one case a line from the standard input, one answer a line to
- * the standard output. Link it with the archive of tools/library:
+/* Answers the cases of the conformance vectors with the proved library: reads one case per line from the standard input and
+ * writes one answer per line to the standard output (vectors/README.md). Link it with the archive of tools/library:
  *
  *     cc -Iinclude vectors/adapters/archive.c target/aarch64/libsnoekeldraf.a -o target/adapter
  *
@@ -12,7 +12,7 @@
 
 #include "snoekeldraf.h"
 
-#define BEFORE 0xa5 /* what every output holds before a call */
+#define BEFORE 0xa5 /* every byte of an output before a call */
 #define BUFFERS_MAX 16
 
 typedef struct {
@@ -30,7 +30,7 @@ static void fail(const char *words, const char *name)
     exit(1);
 }
 
-/* A buffer that lives until the case is answered. Its length is exact, so that a checker of memory sees every overrun. */
+/* A buffer that is freed once the case is answered. Its length is exact, so that a memory checker sees every overrun. */
 static void *allocate(size_t size)
 {
     void *buffer = malloc(size + (size == 0));
@@ -51,7 +51,7 @@ static const char *after_spaces(const char *at)
     return at + strspn(at, " \t");
 }
 
-/* After a value: a string, or a number. */
+/* The text after a value, which is a string or a number. */
 static const char *after_value(const char *at)
 {
     if (*at == '"') {
@@ -62,7 +62,7 @@ static const char *after_value(const char *at)
     return at + strcspn(at, ",}");
 }
 
-/* The value of a field of the case. */
+/* The text of a field's value in the case; ends the program if there is no such field. */
 static const char *value_of(const char *name)
 {
     const char *at = strchr(line, '{');
@@ -146,7 +146,7 @@ static void open_record(void)
     put_hex("out", out.at, out.len);
 }
 
-/* What the calls of a session have given. */
+/* The results of a session's calls so far. */
 static struct {
     comet_session session;
     bytes ad, msg, out, tag;
@@ -162,14 +162,14 @@ static void note(uint32_t status, uint32_t count)
     run.counts[run.calls++] = count;
 }
 
-/* Appends the ciphertext that a call gave. */
+/* Appends the ciphertext that a call output. */
 static void keep(const bytes *out, uint32_t count)
 {
     memcpy(run.out.at + run.out.len, out->at, count);
     run.out.len += count;
 }
 
-/* One word of `steps`: aLEN, mLEN:OUT_LEN or eOUT_LEN:TAG_LEN. Returns what follows it. */
+/* Makes the call of one word of `steps`: aLEN, mLEN:OUT_LEN or eOUT_LEN:TAG_LEN. Returns the text after the word. */
 static char *step(char *word)
 {
     uint32_t status, count = 0;

@@ -1,5 +1,5 @@
-//! The reference implementation behind the protocol of vectors/README.md: one case a line from the standard input, one
-//! answer a line to the standard output.
+//! Answers the cases of the conformance vectors with the reference implementation: reads one case per line from the standard
+//! input and writes one answer per line to the standard output (vectors/README.md).
 //!
 //! ```text
 //! adapter                    answers as the reference implementation does
@@ -32,7 +32,7 @@ fn chosen(arguments: &[String]) -> Mistake {
     }
 }
 
-/// The line of an answer: the case's id first.
+/// The answer to a line, as a line that begins with the case's id.
 fn answered(line: &str, mistake: Mistake) -> String {
     let case = Object::parse(line).unwrap_or_else(|| panic!("not a flat JSON object: {line}"));
     let id = ("id".to_string(), Value::Number(case.number_of("id")));

@@ -1,9 +1,10 @@
-// The WebAssembly module of the proved library behind the protocol of vectors/README.md: node wasm.mjs MODULE. One case a line
-// from the standard input, one answer a line to the standard output. `build-wasm` makes the module.
+// Answers the cases of the conformance vectors with the WebAssembly module of the proved library: node wasm.mjs MODULE. Reads
+// one case per line from the standard input and writes one answer per line to the standard output (vectors/README.md).
+// `build-wasm` makes the module.
 import fs from 'fs';
 import readline from 'readline';
 
-const BEFORE = 0xa5; // what every output holds before a call
+const BEFORE = 0xa5; // every byte of an output before a call
 const PAGE = 65536;
 
 const { instance } = await WebAssembly.instantiate(fs.readFileSync(process.argv[2]), {});
@@ -12,7 +13,7 @@ const memory = library.memory;
 const heap = library.__heap_base.value;
 let free = heap;
 
-// An area of the module's memory that lives until the case is answered.
+// An area of the module's memory that is reused once the case is answered.
 function allocate(len) {
     const at = (free + 15) & ~15;
     free = at + len;
@@ -37,7 +38,7 @@ function output(len) {
     return area;
 }
 
-// A number of 32 bits that a function writes, or a list of them.
+// An area for 32-bit integers that a function writes.
 function words(count = 1) {
     return allocate(4 * count);
 }
@@ -49,11 +50,11 @@ function read(area, count = 1) {
 const one = (area) => read(area)[0];
 const hex = (area) => Buffer.from(view(area)).toString('hex');
 const list = (area, count) => read(area, count).join(' ');
-// Pointer and length, as C passes them: a length has 64 bits.
+// Pointer and length as arguments of a C function: a length has 64 bits.
 const pair = (area) => [area.at, BigInt(area.len)];
 const inputs = (c, ...names) => names.flatMap((name) => pair(given(c[name])));
 const at = (...areas) => areas.map((area) => area.at);
-// A status as an unsigned number.
+// Calls a function; its status as an unsigned number.
 const call = (name, ...values) => library[name](...values) >>> 0;
 
 // ---- records
@@ -71,7 +72,7 @@ function open(c) {
     return { status, out: hex(out) };
 }
 
-// One word of `steps`: aLEN, mLEN:OUT_LEN or eOUT_LEN:TAG_LEN.
+// Makes the call of one word of `steps`: aLEN, mLEN:OUT_LEN or eOUT_LEN:TAG_LEN.
 function step(run, word) {
     const kind = word[0];
     const [first, second] = word.slice(1).split(':').map(Number);
@@ -133,7 +134,7 @@ function verified(c) {
     return { status, row: one(row), at: one(offset), len: one(len) };
 }
 
-// A function that reads these files and writes one.
+// The answer of a function that reads these files and writes one.
 const writing = (name, ...files) => (c) => {
     const [row, out] = [words(), output(c.out_len)];
     const status = call(name, ...inputs(c, ...files), ...pair(out), row.at);

@@ -1,4 +1,4 @@
-// A day's file with its amendment: which entries stand, and what the amendment replaces.
+// A day's file with its amendment: which entries are current, and what the amendment replaces.
 import { blankReport, count, countsOf, inspect, refusalLine, verdictOf, wordsOf } from './inspect.mjs';
 
 // Opens the current entry of a job: { status, words, message }; the message is null unless the status is 0.

@@ -3,7 +3,7 @@ import { $, el, heading, icon, noteItems, unitMark, verdictMark, warningItems } 
 import { state, viewed, viewedReport } from './state.mjs';
 
 const TABS = ['entries', 'comparison'];
-const OPEN_MAX = 8; // so many differences are shown open
+const OPEN_MAX = 8; // up to this many differences are shown open
 
 function fieldCell(field, value, verdict) {
   const shows = { unit: () => unitMark(value, verdict), verdict: () => verdictMark(value) };
@@ -18,7 +18,7 @@ const equalRow = (fields) => el('tr', { class: 'equal' }, el('th', { scope: 'row
   el('td', { colspan: '2' }, el('ul', { class: 'equal-list' },
     fields.map((f) => el('li', {}, el('span', {}, f.name), ' ', el('span', { class: `kind-${f.kind}` }, f.first))))));
 
-// Unit, verdict and what differs side by side, and in one row what is the same.
+// A table of unit, verdict and the fields that differ, side by side, with one row that names the equal fields.
 function besideTable(d) {
   const beside = d.fields.filter((f) => !f.same || f.kind === 'unit' || f.kind === 'verdict');
   const equal = d.fields.filter((f) => !beside.includes(f));
@@ -27,7 +27,7 @@ function besideTable(d) {
     el('tbody', {}, beside.map((f) => fieldRow(d, f)), equal.length ? equalRow(equal) : null));
 }
 
-// One job that differs. Its table is made when it is first opened.
+// One job that differs. Its table is built when it is first opened.
 function differenceBlock(d, open) {
   const names = d.fields.filter((f) => !f.same).map((f) => f.name.toLowerCase());
   const flag = (is, words) => (is ? el('span', { class: 'flag' }, words) : null);

@@ -17,7 +17,7 @@ function opened(entry) {
   }
 }
 
-// Writes to the clipboard, by the old way if the browser does not allow the new one.
+// Copies text to the clipboard; by the deprecated command if the browser does not allow the clipboard interface.
 async function written(text) {
   try {
     await navigator.clipboard.writeText(text);

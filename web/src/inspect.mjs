@@ -29,7 +29,7 @@ export const refusalLine = (library, { status, row }) => `${wordsOf(library, sta
 const rowAt = (library, bytes, index) => library.rowsAt(bytes, [index])[0];
 const bodyEnd = (row) => row.dataAt + row.dataLength + row.textLength + SUITES[row.suite].tag;
 
-// 20 to 24: the library gives no rows of such a file.
+// Notes for 20 to 24: the library returns no rows of such a file.
 function headNotes(status, size) {
   const own = `The file has ${bytesWord(size)}.`;
   const more = {
@@ -92,7 +92,7 @@ function rowNotes(library, bytes, { status, row }, size) {
   }
 }
 
-// Sentences on what a refused file has where it was refused, to help whoever made it. They decide nothing.
+// Sentences on the bytes for which a file was refused, to help whoever made it. No verdict depends on them.
 export function refusalNotes(library, bytes, refusal, size) {
   if (refusal.status === 31) return endNotes(library, bytes, size);
   if (ROW_STATUSES.includes(refusal.status)) return rowNotes(library, bytes, refusal, size);
@@ -103,7 +103,7 @@ export function refusalNotes(library, bytes, refusal, size) {
 
 const dataOf = (bytes, at, length) => ({ unit: bytes[at + UNIT_AT], data: bytes.subarray(at + OWN_DATA_AT, at + length) });
 
-// The entries of a file that passed the check, as it claims them.
+// The entries of a file that passed the check, with the values that the file claims.
 function claimedEntries(library, bytes) {
   const { status, edition, count } = library.rows(bytes);
   if (status !== 0) throw new Error(`shift_rows returned ${status} for a checked file`);

@@ -1,4 +1,4 @@
-// Reports to keep, as JSON and CSV. They contain no message and no key.
+// Saved reports, as JSON and CSV. They contain no message and no key.
 import { TRUST, UNITS, hex, onOneLine, suiteName } from './text.mjs';
 
 function plainEntry(e) {
@@ -45,7 +45,7 @@ export function toJson(files, context) {
   return JSON.stringify(out, null, 2) + '\n';
 }
 
-// A cell of a CSV line. A spreadsheet would take a text that begins like a formula for one: it gets an apostrophe.
+// A cell of a CSV line. Text that begins like a formula gets an apostrophe, since a spreadsheet would evaluate it.
 function csvCell(value) {
   const text = value === null || value === undefined ? '' : String(value);
   const safe = typeof value === 'string' && /^[=+\-@\t\r]/.test(text) ? `'${text}` : text;
@@ -63,14 +63,14 @@ function entryLine({ name, sha256 }, headline, entry) {
 
 const fileLine = ({ name, sha256 }, { headline, verdict, status }) => [name, sha256, headline, ...Array(10).fill(''), verdict, status, ''];
 
-// A line for each entry; one line for a file that is refused or empty.
+// The CSV lines of a file: one for each entry; one for a file that is refused or empty.
 function fileLines(file) {
   const { report } = file;
   if (report.entries.length === 0) return [fileLine(file, report)];
   return report.entries.map((e) => entryLine(file, report.headline, e));
 }
 
-// The entries of both files with their standing; if there are none, the day's file alone and why there are none.
+// The CSV lines of both files with each entry's standing; if there are no entries, the day's file alone and the reason.
 function amendedLines(day, { amendment, amended }) {
   if (amended.entries.length === 0) return [...fileLines(day), fileLine(amendment, amended)];
   return amended.entries.map((e) => entryLine(e.file === 'day' ? day : amendment, amended.headline, e));

@@ -1,4 +1,4 @@
-// SHA-256 of FIPS 180-4, in JavaScript: browsers offer their own only on pages from disk or over https.
+// SHA-256 of FIPS 180-4, in JavaScript: browsers provide their own only to pages from disk or over https.
 
 const unhex32 = (text) => Uint32Array.from(text.match(/[0-9a-f]{8}/g), (word) => parseInt(word, 16));
 
@@ -11,7 +11,7 @@ const SHA_ROUND = unhex32('428a2f9871374491b5c0fbcfe9b5dba53956c25b59f111f1923f8
 
 const rotated = (x, n) => (x >>> n) | (x << (32 - n));
 
-// The message schedule of the 64 bytes at `at`.
+// Writes the message schedule of the 64 bytes at `at` to `w`.
 function schedule(view, at, w) {
   for (let i = 0; i < 16; i++) w[i] = view.getUint32(at + 4 * i);
   for (let i = 16; i < 64; i++) {
@@ -22,7 +22,7 @@ function schedule(view, at, w) {
   }
 }
 
-// Adds one block, as its schedule, to the state.
+// Updates the state with one block, given as its message schedule.
 function compress(state, w) {
   let [a, b, c, d, e, f, g, h] = state;
   for (let i = 0; i < 64; i++) {

@@ -25,14 +25,14 @@ export const viewed = () => state.files[state.viewedIndex];
 export const ringBytes = () => state.ring?.bytes ?? null;
 export const viewedReport = () => state.amended ?? viewed()?.report;
 
-// Reads a file. If it is longer than any shift file, only as much as the library needs to refuse it.
+// Reads a file; of one that is longer than any shift file, only as much as the library needs to refuse it.
 async function readFile(file) {
   const whole = file.size <= READ_BYTES_MAX;
   const bytes = new Uint8Array(await (whole ? file : file.slice(0, READ_BYTES_MAX)).arrayBuffer());
   return { name: file.name, size: file.size, bytes, sha256: whole ? sha256(bytes) : null };
 }
 
-// The result of the work, or a report without a verdict: an error is never taken for one.
+// The result of `work`; after an error a report without a verdict.
 function guarded(work) {
   try {
     return work();
@@ -61,13 +61,13 @@ function inspectAll() {
   inspectViewed();
 }
 
-// A ring that is replaced or removed is overwritten.
+// Sets the key ring, or removes it (null), and overwrites the old one.
 function setRing(ring) {
   state.ring?.bytes.fill(0);
   state.ring = ring;
 }
 
-// Shift files and, among them, key rings. Returns sentences for the notice.
+// Takes shift files, and key rings among them. Returns sentences for the notice.
 function takeFiles(read) {
   const rings = read.filter((f) => looksLikeRing(state.library, f.bytes));
   const files = read.filter((f) => !rings.includes(f));

@@ -99,7 +99,7 @@ export function showTable() {
   arrange();
 }
 
-// Rising, then falling, then as in the file.
+// Sorts by a column: ascending, then descending, then in the order of the file.
 function sortBy(id) {
   if (sort.column !== id) Object.assign(sort, { column: id, down: false });
   else if (!sort.down) sort.down = true;
@@ -128,7 +128,7 @@ function place() {
   $('sort-by').value = sort.down ? `${sort.column} down` : sort.column;
 }
 
-// Why no row is shown. If the search is a whole job number, the library is asked for it.
+// Why no row is shown. If the search text is a whole job number, the library looks it up.
 function nothingWords(wanted) {
   const job = /^\d{1,10}$/.test(wanted) ? Number(wanted) : null;
   if (job === null || job > 0xffffffff) return 'No entry fits.';
@@ -137,7 +137,7 @@ function nothingWords(wanted) {
   return status === 32 ? `Job ${job}: ${library.words(32)} (32).` : 'No entry fits.';
 }
 
-// Hides the rows that search and filters leave out.
+// Hides the rows that the search and the filters exclude.
 function arrange() {
   const wanted = $('search').value.trim();
   const tests = Object.keys(FILTERS).filter((id) => $(id).checked).map((id) => FILTERS[id]);
@@ -152,7 +152,7 @@ function arrange() {
   if (visible.length === 0) $('nothing-words').textContent = nothingWords(wanted);
 }
 
-// Up and down go from job to job.
+// Moves the focus from job to job by the keys Up and Down.
 function moveFocus(event) {
   const by = { ArrowDown: 1, ArrowUp: -1 }[event.key];
   if (!by) return;

@@ -35,7 +35,7 @@ export function jobsWord(jobs, most = 4) {
 const byteHex = (b) => b.toString(16).padStart(2, '0');
 export const hex = (bytes, between = '') => Array.from(bytes, byteHex).join(between);
 
-// Characters that are not shown as they are: controls (but for a line break), and those that turn or hide others.
+// Characters that are not shown as themselves: controls (except a line break), and those that reverse or hide others.
 const HIDDEN = /[^\P{C}\n]|\p{Zl}|\p{Zp}/u;
 
 function decoded(bytes) {
@@ -47,7 +47,7 @@ function decoded(bytes) {
   }
 }
 
-// Offset, bytes in hex, and the same bytes as ASCII, in lines.
+// A hex dump: lines of offset, bytes in hex, and the same bytes as ASCII.
 export function hexDump(bytes, perLine = 16) {
   const lines = [];
   for (let at = 0; at < bytes.length; at += perLine) {

@@ -78,7 +78,7 @@ function factsOfFile(file, { edition }) {
   ]);
 }
 
-// How many entries have each unit, by what is known of it. Replaced entries do not count.
+// How many entries have each unit, by what is known of it. Replaced entries are not counted.
 function unitCounts(report) {
   const current = report.entries.filter((e) => e.standing !== 'replaced');
   return ['genuine', 'unverified', 'forged'].flatMap((verdict) => [1, 2].map((unit) => {

@@ -155,7 +155,7 @@ def picture(name):
     (SHOTS / f"{name}.png").write_bytes(base64.b64decode(got["data"]))
 
 
-# Texts with less contrast than WCAG AA asks for.
+# Texts with less contrast than WCAG AA requires.
 CONTRAST = r"""
 const parse = (s) => { const m = s.match(/[\d.]+/g).map(Number); return s.startsWith('color(') ? [m[0]*255, m[1]*255, m[2]*255, m[3] ?? 1] : [m[0], m[1], m[2], m[3] ?? 1]; };
 const lum = (c) => { const [r, g, b] = c.slice(0, 3).map((v) => { v /= 255; return v <= .03928 ? v / 12.92 : ((v + .055) / 1.055) ** 2.4; }); return .2126 * r + .7152 * g + .0722 * b; };
@@ -174,7 +174,7 @@ while (walker.nextNode()) {
 return [...new Set(low)];
 """
 
-# Parts that run out of their box.
+# Elements that overflow their box.
 SPILLS = r"""
 return [...document.querySelectorAll('.unit, .mark, .button, .suite, .retired, h2, h3, dd, pre.text')].filter((n) => n.checkVisibility()).filter((n) => {
   const box = n.closest('td, li, dl, .slot, .units, .actions, .unit-banner, .entry-head, .block, .summary-file, section');
@@ -185,7 +185,7 @@ return [...document.querySelectorAll('.unit, .mark, .button, .suite, .retired, h
 }).map((n) => `${n.className || n.tagName}: ${n.textContent.trim().slice(0, 40)}`).slice(0, 5);
 """
 
-# "do not use" and "claimed" that are struck through.
+# How many of the words "do not use" and "claimed" are struck through.
 STRUCK = """
 const struck = (n) => n && (getComputedStyle(n).textDecorationLine.includes('line-through') || struck(n.parentElement));
 return [...document.querySelectorAll('.unit-trust')].filter((n) => n.checkVisibility() && struck(n)).length"""
@@ -196,7 +196,7 @@ return [...document.querySelectorAll('body *')].filter(n => n.getBoundingClientR
 
 
 def look(name):
-    """At every width, light and dark: nothing runs out of the window or its box, and every text has contrast."""
+    """Checks at every width, light and dark: nothing overflows the window or its box, and every text has contrast."""
     for width, height, dark in WIDTHS:
         screen(width, height, dark)
         where = f"{name}-{width}-{'dark' if dark else 'light'}"
@@ -228,7 +228,7 @@ def paper(name):
 
 
 def named():
-    """Every control that a screen reader reaches has a name."""
+    """Checks that every control that a screen reader reaches has a name."""
     tree = driver.execute_cdp_cmd("Accessibility.getFullAXTree", {})["nodes"]
     roles = {"button", "checkbox", "searchbox", "combobox", "tab", "textbox", "link", "dialog", "columnheader", "table"}
     nameless = [n["role"]["value"] for n in tree if not n.get("ignored") and n.get("role", {}).get("value") in roles and not n.get("name", {}).get("value")]
@@ -691,7 +691,7 @@ def no_request_and_nothing_stored():
     equal(driver.execute_async_script("indexedDB.databases().then(d => arguments[0](d.length))"), 0, "databases")
 
 
-# Ways in which a script could send something out; each is tried with an address of its own.
+# Ways in which a script could send data out; each is tried with an address of its own.
 WAYS = """
 const [base, done] = arguments;
 const make = (name, set) => { const n = document.createElement(name); set(n); document.body.append(n); return n; };

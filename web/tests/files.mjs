@@ -90,7 +90,7 @@ export function rowAt(i) { return 8 + 32 * i; }
 export const bodyAt = (file, i) => new DataView(file.buffer).getUint32(rowAt(i) + 8, true);
 export const bodyOf = (i) => bodyAt(day, i);
 
-// For each status of the full check, files that get it: [status, row, file].
+// Files for each status of the full check: [status, row, file].
 export const refused = [
   [20, 0, new Uint8Array(0)],
   [20, 0, day.slice(0, 7)],
@@ -120,7 +120,7 @@ export const refused = [
 
 export const refusedWith = (status) => refused.find(([s]) => s === status)[2];
 
-// A unit that is exchanged (job 4103: inch-pounds to newton-metres), and one that an amendment changes.
+// A changed unit (job 4103: inch-pounds to newton-metres), and one that an amendment changes.
 export const exchanged = altered(day, { [bodyOf(2) + 4]: 1 });
 export const changing = sealed([
   { job: 4103, suite: 3, key: 9, unit: 1, data: 'quality', message: 'gearbox 4103 bolt 1/4-28 count 6 torque 12.0' },

@@ -1,7 +1,7 @@
-// The gate's data of the shift file: crates/test_shift/stdin and stdout, worked out by reference/.
+// The gate's test data for shift files: crates/test_shift/stdin and stdout, computed by reference/.
 import { read, text } from './files.mjs';
 
-const HEAD = 30; // op, suite, job and six numbers
+const HEAD = 30; // op, suite, job and six integers
 
 // How many files follow the head of a call.
 const FILES = { 0: 2, 1: 2, 2: 1, 3: 3, 4: 2, 5: 2, 6: 2, 7: 3, 8: 2, 9: 2, 10: 1 };
@@ -49,8 +49,8 @@ export function gateCalls() {
   return calls.filter((call) => call.lines);
 }
 
-// The fold of long outputs in the gate's lines: s becomes (257 s + b + 1) modulo 4294967291 for each byte b.
+// The fold of long outputs in the gate's lines: from 0, each byte b maps s to (257 s + b + 1) modulo 4294967291.
 const fold = (bytes) => bytes.reduce((s, b) => (s * 257 + b + 1) % 4294967291, 0).toString(16).padStart(8, '0');
 
-// Bytes as the gate's lines have them: hex up to 64 bytes, else length and fold.
+// Bytes as the gate's lines write them: up to 64 bytes in hex, more as length and fold.
 export const inLine = (bytes, hex) => (bytes.length <= 64 ? hex(bytes) : `${bytes.length}:${fold(bytes)}`);

@@ -28,7 +28,7 @@ const long = longest();
 write('longest.shift', long);
 write('longest-forged.shift', altered(long, { [bodyAt(long, 300) + 20]: flip }));
 
-// Data and message that would be markup, a message that is no text, one in UTF-8, and the highest job number.
+// Data and message that look like markup, a message that is not text, one in UTF-8, and the highest job number.
 const html = '<img src=x onerror=document.title=1>';
 write('<b>markup.shift', sealed([
   { job: 1, suite: 1, data: html, message: html },

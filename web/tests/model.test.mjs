@@ -1,4 +1,4 @@
-// The model under node: bytes in, report out. web/test runs it; target/web/{page,whole}.wasm are there then.
+// Tests of the model under node: from bytes to a report. web/test runs them after it has built target/web/{page,whole}.wasm.
 import test from 'node:test';
 import assert from 'node:assert/strict';
 import { inspect, looksLikeRing, openEntry, summaryOf } from '../src/inspect.mjs';
@@ -113,7 +113,7 @@ test('a file without entries is not called genuine', () => {
 
 // ---- statuses
 
-// 33 is of drafts, 35 of moves to edition 1; the page's module has neither function. 36: lists of 512 places are never too short.
+// 33 is for drafts, 35 for moves to edition 1; the page's module has neither function. 36: lists of 512 elements always suffice.
 const UNREACHABLE = [33, 35, 36];
 
 test('every status of the check is a refusal in words, with its row', () => {

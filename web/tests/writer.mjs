@@ -1,4 +1,4 @@
-// The C functions that write files, and the report. The page does not have them; the tests make files with them.
+// The C functions that write files, and the report. The page's module does not contain them; the tests make files with them.
 import { Library } from '../src/library.mjs';
 
 export class Writer extends Library {

@@ -1,5 +1,5 @@
-//! The yardstick: throughput of the proved library as a ratio to the reference and to the plain C, on the same
-//! buffers in one run. A ratio above 1 says that the proved library is the faster.
+//! Benchmark: throughput of the proved library as a ratio to the reference implementation and to the plain C, on the same
+//! buffers in one run. A ratio above 1 means that the proved library is faster.
 //!
 //! ```text
 //! bench [REPETITIONS]
@@ -17,15 +17,16 @@ use std::time::{Duration, Instant};
 
 const SIZES: [usize; 4] = [0, 64, 1_024, 65_536];
 const BATCH: Duration = Duration::from_micros(300);
-/// The proved library, the reference and the plain C; for suites 1 and 5 the plain C also with AES by four tables.
+/// The proved library, the reference implementation and the plain C; `BY_TABLES` is for suites 1 and 5 and has AES by four
+/// tables.
 const LIBRARIES: [Library; 3] = [PROVED, REFERENCE, PLAIN];
 const BY_TABLES: [Library; 3] = [PROVED, REFERENCE, COLUMNS];
 
-/// Nanoseconds of one turn, over a batch of them.
-fn time(turns: usize, turn: &mut dyn FnMut()) -> f64 {
+/// Nanoseconds of one run, as the mean over `count` of them.
+fn time(count: usize, run: &mut dyn FnMut()) -> f64 {
     let start = Instant::now();
-    (0..turns).for_each(|_| turn());
-    start.elapsed().as_nanos() as f64 / turns as f64
+    (0..count).for_each(|_| run());
+    start.elapsed().as_nanos() as f64 / count as f64
 }
 
 fn median(mut values: Vec<f64>) -> f64 {
@@ -33,7 +34,7 @@ fn median(mut values: Vec<f64>) -> f64 {
     values[values.len() / 2]
 }
 
-/// What a measurement gives: nanoseconds of the proved library, and its throughput as a ratio to each other.
+/// Nanoseconds of the proved library, and its throughput as a ratio to that of each of the others.
 #[derive(Clone, Copy)]
 struct Measured {
     ours: f64,
@@ -42,20 +43,20 @@ struct Measured {
 }
 
 impl Measured {
-    /// The ratio to the better of the two, as it is printed.
+    /// The ratio to the faster of the two, rounded as it is printed.
     fn ratio(&self) -> f64 {
         (100.0 * self.to_reference.min(self.to_plain)).round() / 100.0
     }
 }
 
-/// Medians over repetitions in which the three take turns; each goes first equally often.
+/// Medians over repetitions in which the three libraries alternate; each goes first equally often.
 fn measure(repetitions: usize, run: &mut dyn FnMut(usize)) -> Measured {
     let once = time(3, &mut || run(2)).max(1.0);
-    let turns = (BATCH.as_nanos() as f64 / once).ceil() as usize;
+    let count = (BATCH.as_nanos() as f64 / once).ceil() as usize;
     let mut times: [Vec<f64>; 3] = Default::default();
     for repetition in 0..repetitions + 3 {
         for which in (0..3).map(|i| (i + repetition) % 3) {
-            let nanoseconds = time(turns, &mut || run(which));
+            let nanoseconds = time(count, &mut || run(which));
             if repetition >= 3 {
                 times[which].push(nanoseconds);
             }
@@ -65,35 +66,35 @@ fn measure(repetitions: usize, run: &mut dyn FnMut(usize)) -> Measured {
     Measured { to_reference: ratio(1), to_plain: ratio(2), ours: median(times[0].clone()) }
 }
 
-/// Sealing or opening one record with the shift file's shortest associated data.
+/// Measures sealing or opening one record with the shift file's shortest associated data.
 fn measure_record(repetitions: usize, call: &Call, libraries: &[Library; 3]) -> Measured {
     let (mut out, mut tag) = (vec![0; call.out], call.tag.clone());
     let Call { suite, key, nonce, ad, text, .. } = call;
     measure(repetitions, &mut |which| {
         let by = &libraries[which];
-        let number = if call.opens {
+        let status = if call.opens {
             (by.open)(*suite, key, nonce, ad, black_box(text), &call.tag, &mut out)
         } else {
             (by.seal)(*suite, key, nonce, ad, black_box(text), &mut out, &mut tag)
         };
-        assert_eq!(number, 0);
+        assert_eq!(status, 0);
         black_box((&out, &tag));
     })
 }
 
-/// What a byte of the proved library's costs in the longer call over what it costs in the shorter: the median over
-/// repetitions in which the two take turns, so that both see the same machine.
+/// The proved library's time per byte in the longer call divided by that in the shorter one: the median over repetitions in
+/// which the two alternate, so that both run under the same load.
 fn growth(repetitions: usize, shorter: &Call, longer: &Call) -> f64 {
     let (mut out, mut tag) = (vec![0; longer.out], longer.tag.clone());
     let mut once = |call: &Call| {
         let Call { suite, key, nonce, ad, text, .. } = call;
         let out = &mut out[..call.out];
-        let number = if call.opens {
+        let status = if call.opens {
             (PROVED.open)(*suite, key, nonce, ad, black_box(text), &call.tag, out)
         } else {
             (PROVED.seal)(*suite, key, nonce, ad, black_box(text), out, &mut tag)
         };
-        assert_eq!(number, 0);
+        assert_eq!(status, 0);
     };
     let fold = longer.text.len() / shorter.text.len();
     let ratios = (0..repetitions).map(|_| {
@@ -103,14 +104,14 @@ fn growth(repetitions: usize, shorter: &Call, longer: &Call) -> f64 {
     median(ratios.collect())
 }
 
-/// As many messages of a size under one suite as a file has room for, at most 512.
+/// A plan of messages of one size under one suite, as many as fit into a file.
 fn plan(random: &mut Random, suite: u8, size: usize) -> Plan {
     let rows = ((shift::LONGEST - shift::HEADER) / (shift::row_size(1) + 5 + size + 16)).min(shift::MOST_ROWS);
     let entry = |job| Entry::new(job as u32, suite, 0, 1, random.array(), &vec![0; size]);
     Plan::new((0..rows).map(entry).collect())
 }
 
-/// Throughput of the writer on a draft over that of the sealer on its bodies alone, both in turns.
+/// Throughput of the writer on a draft divided by that of the sealer on its bodies alone, measured alternately.
 fn writer_ratio(repetitions: usize, draft: &[u8]) -> f64 {
     let (ring, mut out) = (samples::ring(), draft.to_vec());
     let rows = shift::rows(draft);
@@ -119,7 +120,7 @@ fn writer_ratio(repetitions: usize, draft: &[u8]) -> f64 {
         let bodies = time(1, &mut || {
             for row in &rows {
                 let (text, tag) = out[row.text().start..row.tag().end].split_at_mut(row.message);
-                let [ad, message] = [row.associated(), row.text()].map(|place| &black_box(draft)[place]);
+                let [ad, message] = [row.associated(), row.text()].map(|range| &black_box(draft)[range]);
                 assert_eq!((PROVED.seal)(row.suite, row.key(&ring), row.nonce(), ad, message, text, tag), 0);
             }
         });
@@ -132,7 +133,7 @@ fn measure_check(repetitions: usize, file: &[u8]) -> Measured {
     measure(repetitions, &mut |which| assert_eq!((LIBRARIES[which].check)(black_box(file)).0, 0))
 }
 
-/// A record sealed by a session, its message in parts of one length.
+/// Seals a record by a session, with the message in parts of one length.
 fn seal_in_parts(call: &Call, length: usize, out: &mut [u8], tag: &mut [u8]) {
     let step = (PROVED.session_start)(call.suite, &call.key, &call.nonce);
     let mut step = (PROVED.session_data)(step.next, &call.ad);
@@ -144,7 +145,7 @@ fn seal_in_parts(call: &Call, length: usize, out: &mut [u8], tag: &mut [u8]) {
     assert_eq!((PROVED.session_end)(step.next, &mut out[at..], tag).number, 0);
 }
 
-/// Throughput of a session with parts of one length over that of the one-call sealer, both in turns.
+/// Throughput of a session with parts of one length divided by that of the one-call sealer, measured alternately.
 fn session_ratio(repetitions: usize, call: &Call, length: usize) -> f64 {
     let (mut out, mut tag) = (vec![0; call.out + 32], call.tag.clone());
     let ratios = (0..repetitions).map(|_| {
@@ -158,7 +159,7 @@ fn session_ratio(repetitions: usize, call: &Call, length: usize) -> f64 {
     median(ratios.collect())
 }
 
-/// Nanoseconds of the search and of the full lookup for the last job of a file of 512 rows, in turns.
+/// Nanoseconds of the search and of the full lookup for the last job of a file of 512 rows, measured alternately.
 fn search_times(repetitions: usize, file: &[u8]) -> [f64; 2] {
     let job = shift::rows(file).last().unwrap().job;
     let times = (0..repetitions).map(|_| {
@@ -175,7 +176,7 @@ fn line(suite: u8, what: &str, size: usize, m: Measured) {
     println!("| {suite} | {what} | {size} | {:.0} | {per_byte} | {:.2} | {:.2} |", m.ours, m.to_reference, m.to_plain);
 }
 
-/// The targets for sealing and opening; gives what is missed.
+/// A message for each target of sealing or opening that is missed.
 fn misses(suite: u8, what: &str, measured: &[Measured; 4], targets: &[(usize, f64)]) -> Vec<String> {
     let missed = targets.iter().filter(|(i, target)| measured[*i].ratio() < *target);
     let miss = |(i, target): &(usize, f64)| {
@@ -184,7 +185,7 @@ fn misses(suite: u8, what: &str, measured: &[Measured; 4], targets: &[(usize, f6
     missed.map(miss).collect()
 }
 
-/// Sealing or opening at each size, with a line for each; gives the targets missed.
+/// Measures sealing or opening at each size and prints a line for each; returns the missed targets.
 fn measure_sizes(
     repetitions: usize,
     what: &str,
@@ -203,7 +204,7 @@ fn main() {
         eprintln!("bench: no archive of this processor is linked, and a time under emulation means nothing");
         std::process::exit(1);
     }
-    let repetitions = std::env::args().nth(1).map_or(101, |count| count.parse().expect("REPETITIONS is a number"));
+    let repetitions = std::env::args().nth(1).map_or(101, |count| count.parse().expect("REPETITIONS is a status"));
     let mut random = Random::new(1);
     let (mut missed, mut growths) = (vec![], vec![]);
     println!("| suite | what | message bytes | ours, ns | ns a byte | ours / reference | ours / plain C |");

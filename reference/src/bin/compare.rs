@@ -1,12 +1,12 @@
-//! Compares the proved library, and the plain C of the yardstick, with the reference: every answer and every
-//! byte of what is lent, over random and edge inputs. Ends with status 1 where anything differs.
+//! Compares the proved library, and the plain C of the benchmark, with the reference implementation: every status and every
+//! byte of every output buffer, on random and edge inputs. Exit status: 0 all equal, 1 something differs.
 //!
 //! ```text
 //! compare [SEED]
 //! ```
 //!
-//! The library is compared as its archives are there: the one of this processor, linked into this program, and the one for
-//! x86-64, called by a C program.
+//! Every archive of the library that build.rs found is compared: the one of this processor, linked into this program, and
+//! the one for x86-64, called through a C program.
 
 #[cfg(bridged)]
 use reference::bridge;
@@ -39,7 +39,7 @@ struct Tally {
 }
 
 impl Tally {
-    /// Counts a difference, and writes the first few: who, the call, its answer and the reference's.
+    /// Counts a difference, and prints the first few: the implementation, the call, its result and the expected one.
     fn differs(&mut self, by: &str, record: &[u8], got: String, expected: String) {
         self.differences += 1;
         if self.differences <= SHOWN_DIFFERENCES {
@@ -47,12 +47,12 @@ impl Tally {
         }
     }
 
-    /// A case that the plain C knows too.
+    /// Compares a case that the plain C implements too.
     fn all<C: Case>(&mut self, case: &C) {
         self.put(case, &[PROVED, PLAIN].concat());
     }
 
-    /// A case that the proved library alone knows.
+    /// Compares a case that only the proved library implements.
     fn proved<C: Case>(&mut self, case: &C) {
         self.put(case, PROVED);
     }
@@ -67,7 +67,7 @@ impl Tally {
         }
     }
 
-    /// One line for the cases since the last one.
+    /// Prints one line for the cases since the last call.
     fn report(&mut self, group: &str) {
         println!("{:>7} cases: {group}", self.cases - self.reported);
         self.reported = self.cases;
@@ -173,7 +173,7 @@ fn compare_counts(tally: &mut Tally, random: &mut Random) {
     tally.report("counts of random records, good, damaged and faulty");
 }
 
-/// The sealer's calls sealed in place; the opener's opened in place, and verified.
+/// Compares in place: each call of the sealer sealed, each call of the opener opened and verified.
 fn compare_in_place(tally: &mut Tally, random: &mut Random) {
     let each = |tally: &mut Tally, call: &Call| InPlaceCall::of(call).iter().for_each(|call| tally.proved(call));
     in_place::calls().iter().for_each(|call| tally.proved(call));

@@ -18,7 +18,7 @@ fn write(folder: &Path, parts: &[Part]) {
     }
 }
 
-/// The repository that is named, or the one that this is run in: here or one folder above.
+/// The named repository, or the one around the current folder: this folder or its parent.
 fn root(named: Option<&String>) -> PathBuf {
     let candidates = named.map_or(vec![".", ".."], |path| vec![path]);
     let found = candidates.into_iter().map(PathBuf::from).find(|path| path.join("crates.txt").exists());

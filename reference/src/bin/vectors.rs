@@ -7,7 +7,7 @@
 use reference::vectors::parts;
 use std::path::PathBuf;
 
-/// The folder that is named, or vectors/ of the repository that this is run in: here or one folder above.
+/// The named folder, or vectors/ of the repository around the current folder: this folder or its parent.
 fn folder(named: Option<String>) -> PathBuf {
     let of_repository = || ["vectors", "../vectors"].into_iter().find(|path| PathBuf::from(path).is_dir());
     let found = named.or_else(|| of_repository().map(String::from));

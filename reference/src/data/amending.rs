@@ -1,4 +1,4 @@
-//! For `test_shift`: the current entry of an amendment and a day's file.
+//! Cases for `test_shift`: the current entry of an amendment and a day's file.
 
 use super::writing::all_suites;
 use super::{files, samples};
@@ -45,11 +45,11 @@ impl Case for AmendCall {
     }
 
     fn lines(&self, by: &Library) -> String {
-        let AmendOutcome { amended: Amended { number, file, row, at, length }, opened, out } = self.answer(by);
-        let holds = if file == 2 && number == 0 { &self.day } else { &self.amendment };
-        let part = shown(&holds[at..at + length]);
+        let AmendOutcome { amended: Amended { number: status, file, row, at, length }, opened, out } = self.answer(by);
+        let source = if file == 2 && status == 0 { &self.day } else { &self.amendment };
+        let part = shown(&source[at..at + length]);
         let (opens, of_file, of_row) = opened;
-        format!("{number} {file} {row} {at} {length} {part} {opens} {of_file} {of_row} {}\n", shown(&out))
+        format!("{status} {file} {row} {at} {length} {part} {opens} {of_file} {of_row} {}\n", shown(&out))
     }
 }
 
@@ -58,24 +58,24 @@ fn call(job: u32, amendment: &Plan, day: &Plan, out: usize) -> AmendCall {
     AmendCall { job, amendment, day, ring: samples::ring(), out }
 }
 
-/// The call, once the call beside and the opening are seen to give the numbers, files and rows that it was made for.
-fn expected(call: AmendCall, beside: (u32, u32, u32), opened: (u32, u32, u32)) -> AmendCall {
+/// The call, after a check that `amended` and `open_current` return the expected statuses, files and rows.
+fn expected(call: AmendCall, found: (u32, u32, u32), opened: (u32, u32, u32)) -> AmendCall {
     let AmendOutcome { amended, opened: got, .. } = call.answer(&REFERENCE);
-    assert_eq!(((amended.number, amended.file, amended.row), got), (beside, opened));
-    if beside.0 == 0 {
-        let holds = if beside.1 == 1 { &call.amendment } else { &call.day };
+    assert_eq!(((amended.number, amended.file, amended.row), got), (found, opened));
+    if found.0 == 0 {
+        let source = if found.1 == 1 { &call.amendment } else { &call.day };
         let part = current(&call.amendment, &call.day, call.job);
-        assert!(part == &holds[amended.at..amended.at + amended.length] && part[..4] == call.job.to_le_bytes());
+        assert!(part == &source[amended.at..amended.at + amended.length] && part[..4] == call.job.to_le_bytes());
     }
     call
 }
 
-/// A refusal of the call beside, which opening gives too.
-fn refused(call: AmendCall, number: u32, file: u32, row: u32) -> AmendCall {
-    expected(call, (number, file, row), (number, file, row))
+/// The call, after a check that both functions refuse it with this status, file and row.
+fn refused(call: AmendCall, status: u32, file: u32, row: u32) -> AmendCall {
+    expected(call, (status, file, row), (status, file, row))
 }
 
-/// An entry whose message and associated data tell whose it is.
+/// An entry whose message and associated data name the file that it is in.
 fn entry(job: u32, suite: u8, whose: &str) -> Entry {
     let mut nonce = [job as u8; 16];
     nonce[0] ^= whose.len() as u8;
@@ -85,7 +85,7 @@ fn entry(job: u32, suite: u8, whose: &str) -> Entry {
     entry
 }
 
-/// The day's jobs are 10, 20, 30, 40 and 50; the amendment has 20 and 50 anew, and 25 and 60.
+/// The day has jobs 10, 20, 30, 40 and 50; the amendment replaces 20 and 50 and adds 25 and 60.
 fn day() -> Plan {
     Plan::new([(10, 3), (20, 1), (30, 4), (40, 5), (50, 6)].map(|(job, suite)| entry(job, suite, "day")).to_vec())
 }
@@ -94,7 +94,7 @@ fn amendment() -> Plan {
     Plan::new([(20, 3), (25, 2), (50, 4), (60, 6)].map(|(job, suite)| entry(job, suite, "quality")).to_vec())
 }
 
-/// Jobs of one file, of the other, of both, of none; in all editions of the two.
+/// Jobs of one file, of the other, of both and of neither, in every combination of editions.
 fn good(_: &mut Random) -> Vec<AmendCall> {
     let mut calls = vec![];
     let jobs: [(u32, u32, u32); 7] =
@@ -117,33 +117,33 @@ fn good(_: &mut Random) -> Vec<AmendCall> {
     calls
 }
 
-/// A plan's file with the fault of one number of the check, in row 1 where the number has one.
-fn faulty(plan: &Plan, number: u32) -> Vec<u8> {
+/// A plan's file with the fault of one status of the check, in row 1 if the status has a row.
+fn faulty(plan: &Plan, status: u32) -> Vec<u8> {
     let mut plan = plan.clone();
-    if number > 20 {
-        files::fault(&mut plan, number, 1);
+    if status > 20 {
+        files::fault(&mut plan, status, 1);
     }
     let mut file = plan.file(&samples::ring());
-    if number == 20 {
+    if status == 20 {
         file.truncate(7);
     }
     file
 }
 
-/// Each number of the check in the amendment, in the day's file though the amendment has the job, and in both; beside
-/// all that comes after.
+/// Each status of the check in the amendment, in the day's file although the amendment has the job, and in both, each
+/// together with every later fault.
 fn refused_checks(_: &mut Random) -> Vec<AmendCall> {
     let mut calls = vec![];
     let numbers = [20].into_iter().chain(files::ORDER);
-    for (number, other) in numbers.clone().zip(numbers.cycle().skip(4)) {
-        let row = |number: u32| files::OF_ROWS.contains(&number) as u32;
-        let (one, two) = (faulty(&amendment(), number), faulty(&day(), number));
+    for (status, other) in numbers.clone().zip(numbers.cycle().skip(4)) {
+        let row = |status: u32| files::OF_ROWS.contains(&status) as u32;
+        let (one, two) = (faulty(&amendment(), status), faulty(&day(), status));
         let good = call(20, &amendment(), &day(), 10);
-        calls.push(refused(AmendCall { amendment: one.clone(), ..good.clone() }, number, 1, row(number)));
-        calls.push(refused(AmendCall { day: two.clone(), ..good.clone() }, number, 2, row(number)));
+        calls.push(refused(AmendCall { amendment: one.clone(), ..good.clone() }, status, 1, row(status)));
+        calls.push(refused(AmendCall { day: two.clone(), ..good.clone() }, status, 2, row(status)));
         let both = AmendCall { amendment: one, day: faulty(&day(), other), job: 21, ring: vec![], out: 3 };
-        calls.push(refused(both, number, 1, row(number)));
-        calls.push(refused(AmendCall { day: two, job: 21, ring: vec![], out: 3, ..good }, number, 2, row(number)));
+        calls.push(refused(both, status, 1, row(status)));
+        calls.push(refused(AmendCall { day: two, job: 21, ring: vec![], out: 3, ..good }, status, 2, row(status)));
     }
     let good = call(20, &amendment(), &day(), 10);
     calls.push(refused(AmendCall { amendment: day().draft(), ..good.clone() }, 21, 1, 0));
@@ -152,7 +152,7 @@ fn refused_checks(_: &mut Random) -> Vec<AmendCall> {
     calls
 }
 
-/// 32, 2, 6 and 8 of opening in all their pairs, of an entry of either file.
+/// 32, 2, 6 and 8 of opening in all pairs, for an entry of either file.
 fn openings(_: &mut Random) -> Vec<AmendCall> {
     let mut calls = vec![];
     for (job, file, length) in [(20, 1, 10), (30, 2, 6)] {
@@ -162,25 +162,25 @@ fn openings(_: &mut Random) -> Vec<AmendCall> {
             call.job += faults & 1;
             call.ring.truncate(if faults & 2 != 0 { 255 } else { 256 });
             call.out += if faults & 4 != 0 { 1 } else { 0 };
-            let holds = if file == 1 { &mut call.amendment } else { &mut call.day };
-            let row = rows(holds).into_iter().find(|row| row.job == job).unwrap();
-            holds[row.tag().start] ^= if faults & 8 != 0 { 1 } else { 0 };
-            let number = match faults {
+            let source = if file == 1 { &mut call.amendment } else { &mut call.day };
+            let row = rows(source).into_iter().find(|row| row.job == job).unwrap();
+            source[row.tag().start] ^= if faults & 8 != 0 { 1 } else { 0 };
+            let status = match faults {
                 0 => 0,
                 _ if faults & 1 != 0 => 32,
                 _ if faults & 2 != 0 => 2,
                 _ if faults & 4 != 0 => 6,
                 _ => 8,
             };
-            let file = if number == 32 { 0 } else { file };
-            let beside = call.answer(&REFERENCE).amended;
-            calls.push(expected(call, (beside.number, beside.file, beside.row), (number, file, 0)));
+            let file = if status == 32 { 0 } else { file };
+            let found = call.answer(&REFERENCE).amended;
+            calls.push(expected(call, (found.number, found.file, found.row), (status, file, 0)));
         }
     }
     calls
 }
 
-/// Wrong tags of other entries, of the one that is replaced too, are not looked at.
+/// Wrong tags of other entries, also of the replaced one, change nothing.
 fn elsewhere(_: &mut Random) -> Vec<AmendCall> {
     let mut calls = vec![];
     for (job, file, length) in [(20, 1, 10), (30, 2, 6)] {
@@ -190,13 +190,13 @@ fn elsewhere(_: &mut Random) -> Vec<AmendCall> {
                 bytes[row.tag().start] ^= 0x40;
             }
         }
-        let beside = call.answer(&REFERENCE).amended;
-        calls.push(expected(call, (0, file, beside.row), (0, file, 0)));
+        let found = call.answer(&REFERENCE).amended;
+        calls.push(expected(call, (0, file, found.row), (0, file, 0)));
     }
     calls
 }
 
-/// Full tables, and a row of each suite on either side.
+/// Full tables, and a row of each suite in either file.
 fn tables(_: &mut Random) -> Vec<AmendCall> {
     let full = files::many_rows_plan(512);
     let mut calls = vec![];
@@ -234,14 +234,14 @@ fn random_files(random: &mut Random) -> Vec<AmendCall> {
     (0..30).map(|_| random_call(random)).collect()
 }
 
-/// All calls.
+/// All calls of the test data.
 pub fn calls() -> Vec<AmendCall> {
     let mut random = Random::new(15);
     let groups = [good, refused_checks, openings, elsewhere, tables, random_files];
     groups.into_iter().flat_map(|group| group(&mut random)).collect()
 }
 
-/// Random amendments, good and edited, with now and then a wrong ring or output.
+/// Random amendments, good and edited, sometimes with a wrong ring or output.
 pub fn trials(random: &mut Random, count: usize, mut each: impl FnMut(&AmendCall)) {
     for _ in 0..count {
         let mut call = random_call(random);
@@ -256,7 +256,7 @@ pub fn trials(random: &mut Random, count: usize, mut each: impl FnMut(&AmendCall
     }
 }
 
-/// The longest files on either side.
+/// The longest file, and one that is a byte longer, as the amendment and as the day's file.
 pub fn longest(mut each: impl FnMut(&AmendCall)) {
     let (longest, small) = (files::longest(), amendment().file(&samples::ring()));
     let mut longer = longest.clone();

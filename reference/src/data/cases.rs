@@ -1,10 +1,10 @@
-//! For `test_comet`: calls of the sealer and the opener.
+//! Cases for `test_comet`: calls of the sealer and the opener.
 
 use crate::calls::{Call, Case, FILLER, REFERENCE};
 use crate::comet::{block_size, fitting_tag, is_retired, made_up, nonce_size, LIMIT, SEALED, SUITES};
 use crate::random::Random;
 
-/// A call that seals, with every length right. Under a retired suite it is refused.
+/// A sealing call with right lengths. A retired suite refuses it.
 pub fn sealing(random: &mut Random, suite: u8, ad: usize, message: usize) -> Call {
     Call {
         opens: false,
@@ -18,8 +18,9 @@ pub fn sealing(random: &mut Random, suite: u8, ad: usize, message: usize) -> Cal
     }
 }
 
-/// Pairs of lengths: each of 0 to 3 blocks + 1 alone and with one of the other that walks through all;
-/// and, of one suite for each block size and version, all pairs up to a block + 1 (of suite 5 some of them).
+/// Pairs of lengths of associated data and message. Each length from 0 to 3 blocks + 1 comes alone and with one other length,
+/// which runs through all of them. One suite of each block size and version also has all pairs up to a block + 1 (suite 5
+/// some of them).
 fn lengths(suite: u8) -> Vec<(usize, usize)> {
     let block = block_size(suite);
     let all = 3 * block + 2;
@@ -34,7 +35,7 @@ fn lengths(suite: u8) -> Vec<(usize, usize)> {
     alone.chain(walks).chain(pairs).collect()
 }
 
-/// Every length, sealed and opened; under a retired suite the specification's pairs are opened.
+/// Every pair of lengths, sealed and opened; under a retired suite, records of the specification opened.
 pub fn by_length(random: &mut Random) -> Vec<Call> {
     let mut calls = vec![];
     for suite in SUITES {
@@ -56,8 +57,8 @@ pub fn retired(random: &mut Random) -> Vec<Call> {
     lengths.map(|(ad, message)| expected(sealing(random, 4, ad, message), 10)).to_vec()
 }
 
-/// Opening with one bit wrong, in each byte of tag, text, associated data, nonce and key; and with the
-/// border between associated data and text moved.
+/// Opening with one bit inverted in each byte of tag, text, associated data, nonce and key, and with the boundary between
+/// associated data and text moved.
 pub fn damaged(random: &mut Random) -> Vec<Call> {
     let mut calls = vec![];
     for suite in SUITES {
@@ -66,9 +67,9 @@ pub fn damaged(random: &mut Random) -> Vec<Call> {
         let parts: [fn(&mut Call) -> &mut Vec<u8>; 5] =
             [|c| &mut c.tag, |c| &mut c.text, |c| &mut c.ad, |c| &mut c.nonce, |c| &mut c.key];
         for part in parts {
-            for place in 0..part(&mut good.clone()).len() {
+            for index in 0..part(&mut good.clone()).len() {
                 let mut call = good.clone();
-                part(&mut call)[place] ^= 1 << random.below(8);
+                part(&mut call)[index] ^= 1 << random.below(8);
                 calls.push(call);
             }
         }
@@ -84,16 +85,16 @@ pub fn damaged(random: &mut Random) -> Vec<Call> {
     calls
 }
 
-/// Puts the fault of one number into a call; `turn` chooses among its kinds.
-pub fn fault(call: &mut Call, number: u32, turn: usize) {
+/// Gives a call the fault of one status; `kind` chooses among its variants.
+pub fn fault(call: &mut Call, status: u32, kind: usize) {
     let other = |length: usize, lengths: &[usize]| {
         let others: Vec<usize> = lengths.iter().copied().filter(|other| *other != length).collect();
-        others[turn % others.len()]
+        others[kind % others.len()]
     };
     let resize = |bytes: &mut Vec<u8>, lengths: &[usize]| bytes.resize(other(bytes.len(), lengths), FILLER);
     let block = block_size(call.suite);
-    match number {
-        1 => call.suite = [0, 7, 255, 8, 128][turn % 5],
+    match status {
+        1 => call.suite = [0, 7, 255, 8, 128][kind % 5],
         2 => resize(&mut call.key, &[15, 17, 0, 1, 8, 32, 40]),
         3 => resize(&mut call.nonce, &[15, 16, 14, 17, 0, 8, 40]),
         4 => call.ad = vec![0; LIMIT + 1],
@@ -105,13 +106,13 @@ pub fn fault(call: &mut Call, number: u32, turn: usize) {
         }
         6 => call.out = other(call.out, &[call.out + 1, call.out.max(1) - 1, 0, LIMIT, LIMIT + 4]),
         7 => resize(&mut call.tag, &[8, 16, 0, block.max(1) - 1, block + 1, 40]),
-        8 => call.tag[turn % block] ^= 0x80,
+        8 => call.tag[kind % block] ^= 0x80,
         10 => call.suite = 4,
-        _ => unreachable!("no fault {number}"),
+        _ => unreachable!("no fault {status}"),
     }
 }
 
-/// A call for faults: sealing or opening, with a message that is not empty.
+/// A sealing or opening call with a nonempty message, to which faults are added.
 fn subject(random: &mut Random, suite: u8, opens: bool) -> Call {
     let message = 3 + random.below(20);
     let call = sealing(random, suite, 5, message);
@@ -122,32 +123,32 @@ fn subject(random: &mut Random, suite: u8, opens: bool) -> Call {
     }
 }
 
-/// The call, once it is seen to give the number that it was made for.
-fn expected(call: Call, number: u32) -> Call {
-    assert_eq!(call.answer(&REFERENCE).number, number);
+/// The call, after a check that it returns the expected status.
+fn expected(call: Call, status: u32) -> Call {
+    assert_eq!(call.answer(&REFERENCE).number, status);
     call
 }
 
-/// The sealer's numbers and the opener's in their order, but for those of a long input.
+/// The statuses of the sealer and of the opener in their order, except those of a long input.
 const FAULTS: [[u32; 6]; 2] = [[1, 10, 2, 3, 6, 7], [1, 2, 3, 6, 7, 8]];
 
-/// Each number alone in all its kinds, and in pairs with each other; but for those of a long input.
+/// Each status alone in all variants, and in pairs with each later one, except those of a long input.
 pub fn refused(random: &mut Random) -> Vec<Call> {
     let mut calls = vec![];
     for suite in SUITES {
         for opens in [false, true].into_iter().filter(|opens| *opens || !is_retired(suite)) {
             let faults = FAULTS[opens as usize];
             for (i, first) in faults.iter().enumerate() {
-                for turn in 0..6 {
+                for kind in 0..6 {
                     let mut call = subject(random, suite, opens);
-                    fault(&mut call, *first, turn);
+                    fault(&mut call, *first, kind);
                     calls.push(expected(call, *first));
                 }
                 for later in &faults[i + 1..] {
                     let mut call = subject(random, suite, opens);
-                    let turn = random.below(5);
-                    fault(&mut call, *later, turn);
-                    fault(&mut call, *first, turn);
+                    let kind = random.below(5);
+                    fault(&mut call, *later, kind);
+                    fault(&mut call, *first, kind);
                     calls.push(expected(call, *first));
                 }
             }
@@ -156,8 +157,8 @@ pub fn refused(random: &mut Random) -> Vec<Call> {
     calls
 }
 
-/// Over the limits by one byte: 4 and 5 alone, with each earlier number, and with all later ones at once
-/// (a long input is costly here, and who looks at any later one first gives that).
+/// One byte over the limits: 4 and 5 alone, with each earlier status, and with all later ones at once. Long inputs are
+/// costly here, and one call is enough: an implementation that checks any later condition first returns another status.
 pub fn too_long(random: &mut Random) -> Vec<Call> {
     let groups: [(bool, &[u32]); 12] = [
         (false, &[4]),
@@ -174,22 +175,22 @@ pub fn too_long(random: &mut Random) -> Vec<Call> {
         (false, &[10, 5]),
     ];
     let mut calls = vec![];
-    for (turn, (opens, faults)) in groups.into_iter().enumerate() {
-        let suite = if opens { SUITES[turn % SUITES.len()] } else { SEALED[turn % SEALED.len()] };
+    for (index, (opens, faults)) in groups.into_iter().enumerate() {
+        let suite = if opens { SUITES[index % SUITES.len()] } else { SEALED[index % SEALED.len()] };
         let mut call = sealing(random, suite, 5, 0);
         if opens {
             call = call.reopened();
         }
-        for number in faults.iter().rev() {
-            fault(&mut call, *number, turn);
+        for status in faults.iter().rev() {
+            fault(&mut call, *status, index);
         }
         calls.push(expected(call, faults[0]));
     }
     calls
 }
 
-/// Two blocks of associated data changed, one tag: demand 3 promises nothing of it. Both are sealed, and the
-/// first record opens with the second one's associated data.
+/// Two records whose associated data differ in two blocks and whose tags are equal: demand 3 does not cover such changes.
+/// Both are sealed, and the first one is opened with the associated data of the second.
 pub fn two_blocks(random: &mut Random) -> Vec<Call> {
     let mut calls = vec![];
     for suite in SUITES {
@@ -207,13 +208,13 @@ pub fn two_blocks(random: &mut Random) -> Vec<Call> {
     calls
 }
 
-/// A string that is long and easily packed.
+/// A long byte string that compresses well.
 fn pattern(length: usize) -> Vec<u8> {
     (0..length).map(|i| (i % 251) as u8).collect()
 }
 
-/// At the limits: 65,536 bytes of message sealed under each suite, 65,536 of ciphertext opened (all zeros,
-/// under the tag that fits them), 65,536 of associated data.
+/// At the limits: 65,536 bytes of message sealed under each suite, 65,536 zero bytes of ciphertext opened under their tag,
+/// 65,536 bytes of associated data.
 pub fn longest(random: &mut Random) -> Vec<Call> {
     let mut calls = vec![];
     for suite in SUITES {
@@ -233,7 +234,7 @@ pub fn longest(random: &mut Random) -> Vec<Call> {
     calls
 }
 
-/// All calls.
+/// All calls of the test data.
 pub fn calls() -> Vec<Call> {
     let mut random = Random::new(2);
     let groups = [by_length, damaged, retired, refused, too_long, two_blocks, longest];

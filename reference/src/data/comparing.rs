@@ -1,4 +1,4 @@
-//! For `test_shift` and `differ`: two shift files compared.
+//! Cases for `test_shift` and `differ`: the comparison of two shift files.
 
 use super::{files, samples, Part};
 use crate::calls::{head, Case, Library, FILLER_NUMBER, REFERENCE};
@@ -8,7 +8,7 @@ use crate::random::Random;
 use crate::show::list;
 use crate::trials::edit;
 
-/// Two files, and how many places each of the three lists has.
+/// Two files, and the length of each of the three lists.
 #[derive(Clone)]
 pub struct CompareCall {
     pub files: [Vec<u8>; 2],
@@ -39,8 +39,8 @@ impl Case for CompareCall {
     }
 
     fn lines(&self, by: &Library) -> String {
-        let CompareOutcome { answer: Compared { number, file, row, counts }, lists } = self.answer(by);
-        format!("{number} {file} {row}{}{}\n", list(&counts), lists.map(|places| list(&places)).concat())
+        let CompareOutcome { answer: Compared { number: status, file, row, counts }, lists } = self.answer(by);
+        format!("{status} {file} {row}{}{}\n", list(&counts), lists.map(|jobs| list(&jobs)).concat())
     }
 }
 
@@ -48,14 +48,14 @@ fn call(first: Vec<u8>, second: Vec<u8>, places: [usize; 3]) -> CompareCall {
     CompareCall { files: [first, second], places }
 }
 
-/// The call, once it is seen to give the number, the file and the row that it was made for.
-fn expected(call: CompareCall, number: u32, file: u32, row: u32) -> CompareCall {
-    assert_eq!(call.answer(&REFERENCE).answer, Compared { number, file, row, counts: [0; 3] });
+/// The call, after a check that it returns the expected status, file and row.
+fn expected(call: CompareCall, status: u32, file: u32, row: u32) -> CompareCall {
+    assert_eq!(call.answer(&REFERENCE).answer, Compared { number: status, file, row, counts: [0; 3] });
     call
 }
 
-/// The comparison of two plans' files, once its lists are seen to be these, under lists that just hold them, that have
-/// some places more, and that lack one.
+/// The comparison of two plans' files, after a check that its lists are these: with buffers of exactly their lengths, with
+/// longer ones, and with ones that are an element too short.
 fn listed(first: &Plan, second: &Plan, lists: [&[u32]; 3]) -> Vec<CompareCall> {
     let places = lists.map(|list| list.len());
     let just = call(first.file(&samples::ring()), second.file(&samples::ring()), places);
@@ -72,7 +72,7 @@ fn listed(first: &Plan, second: &Plan, lists: [&[u32]; 3]) -> Vec<CompareCall> {
     calls
 }
 
-/// An entry of a job and nothing else of its own.
+/// An entry whose fields all follow from its job number.
 fn entry(job: u32) -> Entry {
     Entry::new(job, 1 + (job % 3) as u8, (job % 16) as u8, 1, [job as u8; 16], b"message")
 }
@@ -81,10 +81,10 @@ fn of_jobs(jobs: &[u32]) -> Plan {
     Plan::new(jobs.iter().map(|job| entry(*job)).collect())
 }
 
-/// The jobs of two files, and the three lists.
+/// The jobs of two files, and the three lists of their comparison.
 type Pair<'a> = (&'a [u32], &'a [u32], [&'a [u32]; 3]);
 
-/// Jobs in one file, in the other, in both; at the ends, between, at the edges of 32 bits.
+/// Jobs in one file, in the other and in both; at the ends, in between, and at the limits of 32 bits.
 fn jobs(_: &mut Random) -> Vec<CompareCall> {
     let pairs: [Pair; 10] = [
         (&[], &[], [&[], &[], &[]]),
@@ -101,10 +101,10 @@ fn jobs(_: &mut Random) -> Vec<CompareCall> {
     pairs.iter().flat_map(|(first, second, lists)| listed(&of_jobs(first), &of_jobs(second), *lists)).collect()
 }
 
-/// A way in which an entry can differ.
+/// A change of one field of an entry.
 type Change = fn(&mut Entry);
 
-/// Each by itself: suite, key number, associated data (its length too), nonce, message (its length too).
+/// Changes of suite, key number, associated data (also its length), nonce, message (also its length).
 const CHANGES: [Change; 9] = [
     |entry| entry.suite = 1 + entry.suite % 3,
     |entry| entry.key ^= 8,
@@ -117,7 +117,7 @@ const CHANGES: [Change; 9] = [
     |entry| entry.message.clear(),
 ];
 
-/// Jobs in both files that differ, in every way; those before and behind have other offsets and do not differ.
+/// Jobs in both files that differ by each change; the jobs before and after have other offsets and do not differ.
 fn differing(_: &mut Random) -> Vec<CompareCall> {
     let base = of_jobs(&[10, 11, 12, 13, 14]);
     let mut calls = vec![];
@@ -139,14 +139,14 @@ fn differing(_: &mut Random) -> Vec<CompareCall> {
     calls
 }
 
-/// A byte of a body changed, of the tag too: what is not opened is compared.
+/// A byte of a body changed, also in the tag: bodies are compared without being opened.
 fn bodies(_: &mut Random) -> Vec<CompareCall> {
     let file = of_jobs(&[10, 11, 12]).file(&samples::ring());
     let mut calls = vec![];
     for row in crate::shift::rows(&file) {
-        for place in [row.text().start, row.text().end - 1, row.tag().start, row.tag().end - 1] {
+        for offset in [row.text().start, row.text().end - 1, row.tag().start, row.tag().end - 1] {
             let mut other = file.clone();
-            other[place] ^= 0x20;
+            other[offset] ^= 0x20;
             let call = call(file.clone(), other, [0, 0, 1]);
             assert_eq!(call.answer(&REFERENCE).lists[2], [row.job]);
             calls.push(call);
@@ -155,7 +155,7 @@ fn bodies(_: &mut Random) -> Vec<CompareCall> {
     calls
 }
 
-/// The editions beside each other: edition 1 has station 0, and a station that differs is told.
+/// Files of different editions: an entry of edition 1 has station 0, and a job whose stations differ is listed.
 fn stations(_: &mut Random) -> Vec<CompareCall> {
     let plain = of_jobs(&[10, 11, 12]);
     let (one, mut other) = (plain.in_edition(2), plain.in_edition(2));
@@ -175,7 +175,7 @@ fn stations(_: &mut Random) -> Vec<CompareCall> {
     pairs.iter().flat_map(|(first, second, jobs)| listed(first, second, [&[], &[], jobs])).collect()
 }
 
-/// As many rows as there can be: the same, interleaved, and all different.
+/// Full tables: equal ones, with interleaved jobs, and with all entries different.
 fn full_tables(_: &mut Random) -> Vec<CompareCall> {
     let plan = files::many_rows_plan(512);
     let (mut interleaved, mut different) = (plan.clone(), plan.clone());
@@ -199,29 +199,29 @@ fn full_tables(_: &mut Random) -> Vec<CompareCall> {
     calls.to_vec()
 }
 
-/// A file with the fault of one number of the check, in row 1 where the number has one.
-fn faulty(edition: usize, number: u32) -> Vec<u8> {
+/// A file with the fault of one status of the check, in row 1 if the status has a row.
+fn faulty(edition: usize, status: u32) -> Vec<u8> {
     let mut plan = files::three_rows().in_edition(edition);
-    if number > 20 {
-        files::fault(&mut plan, number, 1);
+    if status > 20 {
+        files::fault(&mut plan, status, 1);
     }
     let mut file = plan.file(&samples::ring());
-    if number == 20 {
+    if status == 20 {
         file.truncate(7);
     }
     file
 }
 
-/// Each number of the check in the first file, in the second, and in both; with lists that would be too short.
+/// Each status of the check in the first file, in the second and in both, with lists that are too short.
 fn refused(_: &mut Random) -> Vec<CompareCall> {
     let good = files::three_rows().file(&samples::ring());
     let numbers = [20].into_iter().chain(files::ORDER);
     let mut calls = vec![];
-    for (number, other) in numbers.clone().zip(numbers.cycle().skip(5)) {
-        let row = |number: u32| files::OF_ROWS.contains(&number) as u32;
-        calls.push(expected(call(faulty(1, number), good.clone(), [2, 1, 0]), number, 1, row(number)));
-        calls.push(expected(call(good.clone(), faulty(1, number), [0, 0, 3]), number, 2, row(number)));
-        calls.push(expected(call(faulty(2, number), faulty(1, other), [1, 1, 1]), number, 1, row(number)));
+    for (status, other) in numbers.clone().zip(numbers.cycle().skip(5)) {
+        let row = |status: u32| files::OF_ROWS.contains(&status) as u32;
+        calls.push(expected(call(faulty(1, status), good.clone(), [2, 1, 0]), status, 1, row(status)));
+        calls.push(expected(call(good.clone(), faulty(1, status), [0, 0, 3]), status, 2, row(status)));
+        calls.push(expected(call(faulty(2, status), faulty(1, other), [1, 1, 1]), status, 1, row(status)));
     }
     let draft = files::three_rows().draft();
     calls.push(expected(call(draft.clone(), vec![], [1, 1, 1]), 21, 1, 0));
@@ -229,8 +229,8 @@ fn refused(_: &mut Random) -> Vec<CompareCall> {
     calls
 }
 
-/// A plan that differs from another in some of its entries, and the same with some taken out and some more.
-fn neighbour(random: &mut Random, plan: &Plan) -> Plan {
+/// A variant of a plan: some entries changed, some removed and some added.
+fn variant(random: &mut Random, plan: &Plan) -> Plan {
     let mut other = plan.clone();
     for entry in &mut other.entries {
         if random.below(3) == 0 {
@@ -241,12 +241,12 @@ fn neighbour(random: &mut Random, plan: &Plan) -> Plan {
     }
     for _ in 0..random.below(4) {
         if !other.entries.is_empty() {
-            let place = random.below(other.entries.len());
-            let mut extra = other.entries.remove(place);
+            let index = random.below(other.entries.len());
+            let mut extra = other.entries.remove(index);
             if random.below(2) == 0 {
                 extra.job += 1 + random.below(3) as u32;
                 extra.ad[..4].copy_from_slice(&extra.job.to_le_bytes());
-                other.entries.insert(place, extra);
+                other.entries.insert(index, extra);
             }
         }
     }
@@ -254,16 +254,16 @@ fn neighbour(random: &mut Random, plan: &Plan) -> Plan {
     other
 }
 
-/// Random files and their neighbours.
+/// Random files compared with variants of them.
 fn random_files(random: &mut Random) -> Vec<CompareCall> {
     (0..24).map(|_| random_call(random)).collect()
 }
 
-/// A random file, a neighbour or another, and lists that mostly have room.
+/// A random file, a variant of it or another file, and lists that are mostly long enough.
 fn random_call(random: &mut Random) -> CompareCall {
     let rows = random.below(9);
     let first = files::random_plan(random, rows, 30);
-    let second = if random.below(6) == 0 { files::random_plan(random, rows, 30) } else { neighbour(random, &first) };
+    let second = if random.below(6) == 0 { files::random_plan(random, rows, 30) } else { variant(random, &first) };
     let places = [0; 3].map(|_| if random.below(6) == 0 { random.below(3) } else { 3 + random.below(8) });
     let mut files = [first, second].map(|plan| plan.in_edition(1 + random.below(2)).file(&samples::ring()));
     if random.below(2) == 0 {
@@ -272,14 +272,14 @@ fn random_call(random: &mut Random) -> CompareCall {
     CompareCall { files, places }
 }
 
-/// All calls.
+/// All calls of the test data.
 pub fn calls() -> Vec<CompareCall> {
     let mut random = Random::new(13);
     let groups = [jobs, differing, bodies, stations, full_tables, refused, random_files];
     groups.into_iter().flat_map(|group| group(&mut random)).collect()
 }
 
-/// Random files and their neighbours, good and edited.
+/// Random files compared with variants of them, good and edited.
 pub fn trials(random: &mut Random, count: usize, mut each: impl FnMut(&CompareCall)) {
     for _ in 0..count {
         let mut call = random_call(random);
@@ -293,7 +293,7 @@ pub fn trials(random: &mut Random, count: usize, mut each: impl FnMut(&CompareCa
     }
 }
 
-/// The longest file beside itself, with one body changed, and beside one that is too long.
+/// The longest file compared with itself, with one body changed, and with a file that is too long.
 pub fn longest(mut each: impl FnMut(&CompareCall)) {
     let longest = files::longest();
     let (mut other, mut longer) = (longest.clone(), longest.clone());
@@ -305,7 +305,7 @@ pub fn longest(mut each: impl FnMut(&CompareCall)) {
     }
 }
 
-/// The folder of the program `differ`: the sample's day, and the same day as it was sent later.
+/// The files of the program `differ`: the sample day, and a later version of it.
 pub fn differ_parts() -> [Part; 4] {
     let (first, second) = (samples::day(), samples::later_day());
     let stdout = printed(&first, &second);

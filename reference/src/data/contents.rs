@@ -1,4 +1,4 @@
-//! For `test_shift`: the table of contents by row number.
+//! Cases for `test_shift`: the table of contents by row number.
 
 use super::{files, samples};
 use crate::calls::{head, Case, Library, REFERENCE};
@@ -9,7 +9,7 @@ use crate::shift::{self, fields_at, row_at, EDITIONS};
 use crate::show::list;
 use crate::trials::edit;
 
-/// So many rows of a file, one after the other from the first; none after row 2^32 - 1.
+/// Reads `count` rows of a file from row `first` on, up to row 2^32 - 1.
 #[derive(Clone)]
 pub struct ContentsCall {
     pub first: u32,
@@ -54,7 +54,7 @@ fn of_plan(plan: &Plan, edition: usize) -> Vec<u8> {
     plan.in_edition(edition).file(&samples::ring())
 }
 
-/// All rows and two more of good files; where a row's associated data and text lie is what its job's entry says.
+/// All rows and two more of good files, after a check that offsets and lengths are those of the job's entry.
 fn good(random: &mut Random) -> Vec<ContentsCall> {
     let mut plans = vec![Plan::new(vec![]), files::smallest_plan(), files::three_rows()];
     plans.extend((1..7).map(|rows| files::random_plan(random, rows, 60)));
@@ -76,7 +76,7 @@ fn good(random: &mut Random) -> Vec<ContentsCall> {
     calls
 }
 
-/// The last row and the first that is none, in tables of no row, of one, of 511 and of 512; and far beyond.
+/// The last row, the row after it and rows far beyond, in tables of 0, 1, 511 and 512 rows.
 fn edges(_: &mut Random) -> Vec<ContentsCall> {
     let mut calls = vec![];
     for edition in EDITIONS {
@@ -94,7 +94,7 @@ fn edges(_: &mut Random) -> Vec<ContentsCall> {
     calls
 }
 
-/// 20 to 24, each alone and beside all later ones; asked for a row that is there and for one that is not.
+/// 20 to 24, each alone and together with all later ones, for a row that the table has and for one that it has not.
 fn refused(_: &mut Random) -> Vec<ContentsCall> {
     let mut calls = vec![];
     let mut add = |file: Vec<u8>, status: u32| {
@@ -108,11 +108,11 @@ fn refused(_: &mut Random) -> Vec<ContentsCall> {
         for length in 0..8 {
             add(good.file(&samples::ring())[..length].to_vec(), 20);
         }
-        for (place, number) in files::ORDER[..4].iter().enumerate() {
-            for faults in [&files::ORDER[place..place + 1], &files::ORDER[place..4], &files::ORDER[place..]] {
+        for (index, status) in files::ORDER[..4].iter().enumerate() {
+            for faults in [&files::ORDER[index..index + 1], &files::ORDER[index..4], &files::ORDER[index..]] {
                 let mut plan = good.clone();
                 faults.iter().for_each(|fault| files::fault(&mut plan, *fault, 1));
-                add(plan.file(&samples::ring()), *number);
+                add(plan.file(&samples::ring()), *status);
             }
         }
     }
@@ -127,26 +127,26 @@ fn refused(_: &mut Random) -> Vec<ContentsCall> {
     calls
 }
 
-/// Bytes of a row from a place of its fields on: associated data of the largest length at the largest offset, one whose end
-/// is 2^32, the longest text, and ones alone.
+/// Bytes to write at an offset of a row's fields: associated data of the greatest length at the greatest offset, associated
+/// data that ends at 2^32, the longest text, and all ones.
 const PATCHES: [(usize, &[u8]); 4] =
     [(2, &[0xff; 6]), (2, &[4, 0, 0xfc, 0xff, 0xff, 0xff]), (8, &[0xff; 4]), (0, &[0xff; 28])];
 
-/// Each fault of a row stands in the table and refuses nothing here; then rows of ones alone, whose text's offset wraps.
+/// Each fault of a row, none of which is refused here; then rows of all ones, whose text offset wraps modulo 2^32.
 fn damaged(_: &mut Random) -> Vec<ContentsCall> {
     let mut calls = vec![];
     for edition in EDITIONS {
-        for number in &files::ORDER[4..] {
+        for status in &files::ORDER[4..] {
             let mut plan = files::three_rows().in_edition(edition);
-            files::fault(&mut plan, *number, 1);
+            files::fault(&mut plan, *status, 1);
             let call = call(0, 4, plan.file(&samples::ring()));
-            assert_eq!((shift::check(&call.file).0, call.answer(&REFERENCE).header.0), (*number, 0));
+            assert_eq!((shift::check(&call.file).0, call.answer(&REFERENCE).header.0), (*status, 0));
             calls.push(call);
         }
         let good = of_plan(&files::three_rows(), edition);
-        for (place, bytes) in PATCHES {
+        for (offset, bytes) in PATCHES {
             let mut file = good.clone();
-            file[fields_at(edition, 1) + place..][..bytes.len()].copy_from_slice(bytes);
+            file[fields_at(edition, 1) + offset..][..bytes.len()].copy_from_slice(bytes);
             calls.push(call(1, 1, file));
         }
         let mut ones = good;
@@ -158,7 +158,7 @@ fn damaged(_: &mut Random) -> Vec<ContentsCall> {
     calls
 }
 
-/// All calls.
+/// All calls of the test data.
 pub fn calls() -> Vec<ContentsCall> {
     let mut random = Random::new(20);
     let groups = [good, edges, refused, damaged];
@@ -178,7 +178,7 @@ pub fn trials(random: &mut Random, count: usize, mut each: impl FnMut(&ContentsC
     }
 }
 
-/// Around the longest file: the longest is read, one byte more is 20.
+/// Around the greatest length: the longest file is read, one byte more is 20.
 pub fn longest(mut each: impl FnMut(&ContentsCall)) {
     for edition in EDITIONS {
         let longest = files::long_file(edition, shift::LONGEST);

@@ -1,38 +1,38 @@
-//! For `test_comet`: how often the cipher is called.
+//! Cases for `test_comet`: the number of cipher calls.
 
 use super::cases;
 use crate::calls::{Call, Case, CountedCall, REFERENCE};
 use crate::comet::{block_size, fitting_tag, is_retired, LIMIT, SUITES};
 use crate::random::Random;
 
-/// The call, once it is seen to give the number and the count that it was made for.
-fn expected(call: Call, number: u32, calls: u64) -> CountedCall {
+/// The call, after a check that it returns the expected status and count.
+fn expected(call: Call, status: u32, calls: u64) -> CountedCall {
     let call = CountedCall(call);
     let (got, outcome) = call.answer(&REFERENCE);
-    assert_eq!((outcome.number, got), (number, calls));
+    assert_eq!((outcome.number, got), (status, calls));
     call
 }
 
-/// a + m + 2, of the lengths of associated data and text.
+/// a + m + 2, for associated data of a blocks and a text of m blocks.
 fn sum(suite: u8, ad: usize, text: usize) -> u64 {
     let block = block_size(suite);
     (ad.div_ceil(block) + text.div_ceil(block) + 2) as u64
 }
 
-/// A record sealed (under a retired suite refused), opened, and opened with a wrong tag.
+/// A record sealed (a retired suite refuses it), opened, and opened with a wrong tag.
 fn three_ways(random: &mut Random, suite: u8, ad: usize, text: usize) -> [CountedCall; 3] {
     let sealing = cases::sealing(random, suite, ad, text);
     let opening = sealing.reopened();
     let mut wrong = opening.clone();
-    let place = random.below(block_size(suite));
-    wrong.tag[place] ^= 1 << random.below(8);
+    let index = random.below(block_size(suite));
+    wrong.tag[index] ^= 1 << random.below(8);
     let calls = sum(suite, ad, text);
     let sealed = if is_retired(suite) { (10, 0) } else { (0, calls) };
     [expected(sealing, sealed.0, sealed.1), expected(opening, 0, calls), expected(wrong, 8, calls)]
 }
 
-/// The seven examples of source 000, section 3.2, at both ends of their lengths. The fourth says 3 for a message of at
-/// most a block; for an empty one it is 2.
+/// The seven examples of source 000, section 3.2, at the least and the greatest length of each. The fourth says 3 for a
+/// message of at most one block; for an empty message it is 2.
 fn examples(random: &mut Random) -> Vec<CountedCall> {
     let mut calls = vec![];
     for suite in SUITES {
@@ -57,7 +57,7 @@ fn examples(random: &mut Random) -> Vec<CountedCall> {
     calls
 }
 
-/// Lengths around the borders of blocks.
+/// Lengths around block boundaries.
 fn lengths(random: &mut Random) -> Vec<CountedCall> {
     let mut calls = vec![];
     for suite in SUITES {
@@ -70,7 +70,7 @@ fn lengths(random: &mut Random) -> Vec<CountedCall> {
     calls
 }
 
-/// Every refusal before the text is worked on: none was called.
+/// Every refusal that comes before the text is processed: the count is 0.
 fn refused(random: &mut Random) -> Vec<CountedCall> {
     let refused = |call: &Call| !call.opens || call.answer(&REFERENCE).number != 8;
     let calls = cases::refused(random).into_iter().chain(cases::retired(random));
@@ -78,7 +78,7 @@ fn refused(random: &mut Random) -> Vec<CountedCall> {
     calls.map(|call| expected(call.clone(), call.answer(&REFERENCE).number, 0)).collect()
 }
 
-/// As long as a text can be, and one byte more.
+/// The longest text, and one byte more.
 fn longest(random: &mut Random) -> Vec<CountedCall> {
     let mut opening = cases::sealing(random, 6, 9, 0);
     (opening.opens, opening.text, opening.out) = (true, vec![0; LIMIT], LIMIT);
@@ -89,7 +89,7 @@ fn longest(random: &mut Random) -> Vec<CountedCall> {
     vec![expected(opening, 0, 8192 + 4), expected(sealing, 0, 4096 + 3), expected(over, 4, 0)]
 }
 
-/// All calls.
+/// All calls of the test data.
 pub fn calls() -> Vec<CountedCall> {
     let mut random = Random::new(17);
     let groups = [examples, lengths, refused, longest];

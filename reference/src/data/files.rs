@@ -1,4 +1,4 @@
-//! For `test_shift`: calls of the shift file's routines.
+//! Cases for `test_shift`: calls of the functions that read a shift file.
 
 use super::{parts_of, samples, Part};
 use crate::calls::{Case, FileCall, REFERENCE};
@@ -11,11 +11,11 @@ fn call(file: Vec<u8>, job: u32, out: usize) -> FileCall {
     FileCall { file, ring: samples::ring(), job, out }
 }
 
-/// The call, once its full check is seen to give the number and the row that it was made for.
-/// It comes with no ring and an output of no job's length: the check's number stands before theirs.
-fn expected(file: Vec<u8>, number: u32, row: usize) -> FileCall {
+/// The call on a file, after a check that the full check returns the expected status and row. The call has no ring and an
+/// output of a wrong length, so that an implementation that checks those first returns another status.
+fn expected(file: Vec<u8>, status: u32, row: usize) -> FileCall {
     let call = FileCall { file, ring: vec![], job: 20, out: 2 };
-    assert_eq!(call.answer(&REFERENCE).check, (number, row as u32));
+    assert_eq!(call.answer(&REFERENCE).check, (status, row as u32));
     call
 }
 
@@ -40,7 +40,7 @@ pub fn three_rows() -> Plan {
     plan
 }
 
-/// The worked values, and the lengths 0 to 8 of a file.
+/// The files of document 01 and three rows, in both editions, and files of 0 to 8 bytes.
 fn worked(_: &mut Random) -> Vec<FileCall> {
     let empty = Plan::new(vec![]).file(&[]);
     assert_eq!(empty, [1, 0, 0, 0, 8, 0, 0, 0]);
@@ -57,7 +57,7 @@ fn worked(_: &mut Random) -> Vec<FileCall> {
     calls
 }
 
-/// Many rows without messages, job 10 i and station i in row i.
+/// A plan of many rows without messages; row i has job 10 i and station i.
 pub fn many_rows_plan(rows: usize) -> Plan {
     let entry = |i: usize| {
         let mut nonce = [0; 16];
@@ -72,7 +72,7 @@ pub fn many_rows(rows: usize) -> Vec<u8> {
     many_rows_plan(rows).file(&samples::ring())
 }
 
-/// 512 rows pass and 513 do not; a row is compared with every earlier one.
+/// 512 rows pass and 513 do not; each row's nonce is compared with every earlier one.
 fn full_tables(_: &mut Random) -> Vec<FileCall> {
     let mut clash = many_rows(40);
     clash.copy_within(row_at(1) + 16..row_at(1) + 32, row_at(33) + 16);
@@ -86,12 +86,12 @@ fn full_tables(_: &mut Random) -> Vec<FileCall> {
     ]
 }
 
-/// A good file of exactly the longest length, job i + 1 in row i, whose ciphertexts are zeros.
+/// A good file of the greatest length, with job i + 1 in row i and ciphertexts of zeros.
 pub fn longest() -> Vec<u8> {
     long_file(1, shift::LONGEST)
 }
 
-/// The same of another edition (no row has a station), or a little shorter.
+/// The same in an edition, with station 0 everywhere, and of a length that may be a little smaller.
 pub fn long_file(edition: usize, length: usize) -> Vec<u8> {
     let rows = 16;
     let ring = samples::ring();
@@ -101,8 +101,8 @@ pub fn long_file(edition: usize, length: usize) -> Vec<u8> {
         let (job, suite, key) = (i as u32 + 1, SUITES[i % SUITES.len()], i as u8);
         let Entry { ad, nonce, .. } = Entry::new(job, suite, key, 2, [key; 16], b"");
         let offset = shift::row_at(edition, rows) + bodies.len();
-        let room = length - offset - ad.len() - block_size(suite);
-        let text = vec![0; if i + 1 < rows { LIMIT } else { room }];
+        let rest = length - offset - ad.len() - block_size(suite);
+        let text = vec![0; if i + 1 < rows { LIMIT } else { rest }];
         table.extend(job.to_le_bytes());
         table.resize(fields_at(edition, i) - shift::HEADER, 0);
         table.extend([suite, key, ad.len() as u8, 0]);
@@ -128,18 +128,18 @@ fn longest_files(_: &mut Random) -> Vec<FileCall> {
     vec![good, expected(longer, 20, 0)]
 }
 
-/// The check's numbers, but for 20, in their order.
+/// The statuses of the check, except 20, in their order.
 pub const ORDER: [u32; 12] = [21, 22, 23, 24, 25, 26, 27, 28, 34, 29, 30, 31];
 
-/// Those that carry a row.
+/// The statuses of the check that have a row.
 pub const OF_ROWS: [u32; 7] = [25, 26, 27, 28, 34, 29, 30];
 
-/// Puts the fault of one number into a plan, in the row where the number has one.
-pub fn fault(plan: &mut Plan, number: u32, row: usize) {
+/// Gives a plan the fault of one status, in `row` if the status has a row.
+pub fn fault(plan: &mut Plan, status: u32, row: usize) {
     let previous = plan.entries[row.max(1) - 1].job;
     let Entry { suite, key, nonce, .. } = plan.entries[0];
     let entry = &mut plan.entries[row];
-    match number {
+    match status {
         21 => plan.edition = Some(3),
         22 => plan.count = Some(513),
         23 => plan.longer = 1,
@@ -161,45 +161,45 @@ pub fn fault(plan: &mut Plan, number: u32, row: usize) {
         30 => entry.ad[3] ^= 1,
         31 => plan.tail = 1,
         34 => (entry.suite, entry.nonce[15]) = (3, 1),
-        _ => unreachable!("no fault {number}"),
+        _ => unreachable!("no fault {status}"),
     }
 }
 
-/// Whether a number's fault can stand in a row: row 0 has no row before it.
-fn fits(number: u32, row: usize) -> bool {
-    row > 0 || ![25, 29].contains(&number)
+/// Whether the fault of a status is possible in a row: row 0 has no row before it.
+fn fits(status: u32, row: usize) -> bool {
+    row > 0 || ![25, 29].contains(&status)
 }
 
-/// Each number alone in each row, beside each later one in the same row, and beside each in a later row.
+/// Each status alone in each row, with each later one in the same row, and with each one in a later row.
 fn refused(_: &mut Random) -> Vec<FileCall> {
     let ring = samples::ring();
     let mut calls = vec![];
-    let mut add = |faults: &[(u32, usize)], number: u32, row: usize| {
+    let mut add = |faults: &[(u32, usize)], status: u32, row: usize| {
         let mut plan = three_rows();
-        for (number, row) in faults {
-            fault(&mut plan, *number, *row);
+        for (status, row) in faults {
+            fault(&mut plan, *status, *row);
         }
         for edition in EDITIONS {
             let file = plan.in_edition(edition).file(&ring);
-            calls.push(expected(file, number, if OF_ROWS.contains(&number) { row } else { 0 }));
+            calls.push(expected(file, status, if OF_ROWS.contains(&status) { row } else { 0 }));
         }
     };
-    for number in [21, 23, 31] {
-        add(&[(number, 0)], number, 0);
+    for status in [21, 23, 31] {
+        add(&[(status, 0)], status, 0);
     }
-    for number in OF_ROWS {
-        for row in (0..3).filter(|row| fits(number, *row)) {
-            add(&[(number, row)], number, row);
+    for status in OF_ROWS {
+        for row in (0..3).filter(|row| fits(status, *row)) {
+            add(&[(status, row)], status, row);
         }
     }
-    for (place, number) in ORDER.into_iter().enumerate() {
-        for later in &ORDER[place + 1..] {
-            add(&[(number, 1), (*later, 1)], number, 1);
+    for (index, status) in ORDER.into_iter().enumerate() {
+        for later in &ORDER[index + 1..] {
+            add(&[(status, 1), (*later, 1)], status, 1);
         }
     }
-    for number in OF_ROWS.into_iter().filter(|number| fits(*number, 0)) {
+    for status in OF_ROWS.into_iter().filter(|status| fits(*status, 0)) {
         for other in OF_ROWS {
-            add(&[(number, 0), (other, 1)], number, 0);
+            add(&[(status, 0), (other, 1)], status, 0);
         }
     }
     calls
@@ -212,7 +212,7 @@ fn patched(file: &[u8], at: usize, bytes: &[u8]) -> Vec<u8> {
     file
 }
 
-/// The kinds of the header's numbers that `fault` does not choose; and each edition's file under the other's name.
+/// The variants of the header's statuses that `fault` does not produce, and each edition's file with the other's number.
 fn header_kinds(_: &mut Random) -> Vec<FileCall> {
     let mut calls = vec![];
     for edition in EDITIONS {
@@ -235,10 +235,10 @@ fn headers(file: Vec<u8>) -> Vec<FileCall> {
         (23, 7, &[1]),
         (24, 2, &[100]),
     ];
-    kinds.map(|(number, at, bytes)| expected(patched(&file, at, bytes), number, 0)).to_vec()
+    kinds.map(|(status, at, bytes)| expected(patched(&file, at, bytes), status, 0)).to_vec()
 }
 
-/// The kinds of a row's numbers that `fault` does not choose, in row 1 and in its body.
+/// The variants of a row's statuses that `fault` does not produce, in row 1 and in its body.
 fn row_kinds(_: &mut Random) -> Vec<FileCall> {
     EDITIONS.into_iter().flat_map(row_kinds_in).collect()
 }
@@ -247,13 +247,13 @@ fn row_kinds_in(edition: usize) -> Vec<FileCall> {
     let file = three_rows().in_edition(edition).file(&samples::ring());
     let (row, at) = (shift::row_at(edition, 1), fields_at(edition, 1));
     let body = u32::from_le_bytes(file[at + 4..at + 8].try_into().unwrap());
-    let numbers = |number: u32, place: usize, values: &[u32]| -> Vec<FileCall> {
-        let width = if place == at + 2 { 2 } else { 4 };
-        let patch = |value: &u32| expected(patched(&file, place, &value.to_le_bytes()[..width]), number, 1);
+    let numbers = |status: u32, offset: usize, values: &[u32]| -> Vec<FileCall> {
+        let width = if offset == at + 2 { 2 } else { 4 };
+        let patch = |value: &u32| expected(patched(&file, offset, &value.to_le_bytes()[..width]), status, 1);
         values.iter().map(patch).collect()
     };
-    let bytes = |number: u32, at: usize, values: &[u8]| -> Vec<FileCall> {
-        values.iter().map(|value| expected(patched(&file, at, &[*value]), number, 1)).collect()
+    let bytes = |status: u32, at: usize, values: &[u8]| -> Vec<FileCall> {
+        values.iter().map(|value| expected(patched(&file, at, &[*value]), status, 1)).collect()
     };
     [
         numbers(25, row, &[0, 9]),
@@ -265,13 +265,13 @@ fn row_kinds_in(edition: usize) -> Vec<FileCall> {
         numbers(28, at + 4, &[0, body - 1, body + 1, u32::MAX]),
         numbers(28, at + 8, &[LIMIT as u32]),
         numbers(30, row, &[21, 20 + (1 << 31)]),
-        (0..4).flat_map(|place| bytes(30, body as usize + place, &[21])).collect(),
+        (0..4).flat_map(|offset| bytes(30, body as usize + offset, &[21])).collect(),
         bytes(30, body as usize + 4, &[0, 3, 255]),
     ]
     .concat()
 }
 
-/// Associated data too long, a last body and a table that are cut short, and bytes after the end.
+/// Associated data that is too long, a truncated last body, a truncated table, and bytes after the end.
 fn ends(_: &mut Random) -> Vec<FileCall> {
     let mut long = three_rows();
     long.entries[1].ad.resize(1025, 0);
@@ -297,7 +297,7 @@ fn ends(_: &mut Random) -> Vec<FileCall> {
     calls
 }
 
-/// What just passes: job numbers 0 and 2^32 - 1 and one above 2^31, associated data of 1,024 bytes, one nonce under
+/// Files that just pass: job numbers 0, 2^32 - 1 and one above 2^31, associated data of 1,024 bytes, one nonce under
 /// different suites.
 fn just_good(_: &mut Random) -> Vec<FileCall> {
     let mut entries = vec![];
@@ -311,8 +311,8 @@ fn just_good(_: &mut Random) -> Vec<FileCall> {
     files.iter().flat_map(|file| jobs.map(|job| call(file.clone(), job, 4))).collect()
 }
 
-/// Two rows, each of suite, key number, sixteenth nonce byte, with fifteen equal nonce bytes before it, and number and row of
-/// the check.
+/// Two rows, each as suite, key number and sixteenth nonce byte, and the status and row of the check. The other fifteen
+/// nonce bytes are equal.
 type RowPair = ([(u8, u8, u8); 2], u32, usize);
 
 /// The pairs of document 02, W5. The first is the auditor's file.
@@ -343,7 +343,7 @@ const PAIRS: [RowPair; 21] = [
 /// The nonce rule on pairs of rows, and with a row between them.
 fn nonces(_: &mut Random) -> Vec<FileCall> {
     let mut calls = vec![];
-    for (rows, number, row) in PAIRS {
+    for (rows, status, row) in PAIRS {
         let entry = |job: u32, (suite, key, last): (u8, u8, u8)| {
             let mut entry = Entry::new(job, suite, key, 1, [9; 16], b"nonce");
             entry.nonce[15] = last;
@@ -353,15 +353,15 @@ fn nonces(_: &mut Random) -> Vec<FileCall> {
         let between = Entry::new(15, 3, 0, 1, [8; 16], b"between");
         let apart = [one.clone(), between, two.clone()];
         let wide = Plan::new(vec![one.clone(), two.clone()]).in_edition(2);
-        calls.push(expected(wide.file(&samples::ring()), number, row));
-        calls.push(expected(Plan::new(vec![one, two]).file(&samples::ring()), number, row));
-        calls.push(expected(Plan::new(apart.to_vec()).file(&samples::ring()), number, 2 * row));
+        calls.push(expected(wide.file(&samples::ring()), status, row));
+        calls.push(expected(Plan::new(vec![one, two]).file(&samples::ring()), status, row));
+        calls.push(expected(Plan::new(apart.to_vec()).file(&samples::ring()), status, 2 * row));
         calls.push(call(calls[calls.len() - 2].file.clone(), 20, 5));
     }
     calls
 }
 
-/// Opening: 32, 2, 6 and 8 in all their pairs, the earlier wins; and each thing that a tag covers.
+/// Opening: 32, 2, 6 and 8 in all pairs, of which the earlier applies; and a change of each field that the tag covers.
 fn openings(_: &mut Random) -> Vec<FileCall> {
     EDITIONS.into_iter().flat_map(openings_in).collect()
 }
@@ -387,9 +387,9 @@ fn openings_in(edition: usize) -> Vec<FileCall> {
     for length in [0, 2, 65_540] {
         calls.push(FileCall { out: length, ..good.clone() });
     }
-    for place in [nonce, nonce + 15, body + 4, body + 5, body + 7, body + 23] {
+    for offset in [nonce, nonce + 15, body + 4, body + 5, body + 7, body + 23] {
         let mut call = good.clone();
-        call.file[place] ^= 3;
+        call.file[offset] ^= 3;
         calls.push(call);
     }
     let mut other_key = good.clone();
@@ -439,7 +439,7 @@ fn good_files(random: &mut Random) -> Vec<FileCall> {
     calls
 }
 
-/// All calls of the program that are one answer each.
+/// All calls of the test data with op 0.
 pub fn calls() -> Vec<FileCall> {
     let mut random = Random::new(3);
     #[rustfmt::skip]
@@ -449,16 +449,16 @@ pub fn calls() -> Vec<FileCall> {
     groups.into_iter().flat_map(|group| group(&mut random)).collect()
 }
 
-/// The calls whose files are damaged in every byte.
+/// The calls whose files are changed in every single byte (op 1).
 pub fn damaged_calls() -> [FileCall; 3] {
     let wide = smallest_plan().in_edition(2).file(&samples::ring());
     [call(smallest(), 7, 0), call(three_rows().file(&samples::ring()), 20, 3), call(wide, 7, 0)]
 }
 
-/// What `test_shift` reads and writes of these.
+/// The input and the output of `test_shift` for these calls.
 pub fn parts() -> [Part; 2] {
     let (mut calls, damaged) = (calls(), damaged_calls());
-    // the comparison runs the longer ones
+    // only the comparison runs longer files
     calls.retain(|call| call.file.len() <= 524_288);
     let [mut stdin, mut stdout] = parts_of(&calls);
     for call in damaged {

@@ -1,41 +1,40 @@
-//! For `test_comet`: records sealed and opened in place, and verified.
+//! Cases for `test_comet`: records sealed and opened in place, and verified.
 
 use super::cases;
 use crate::calls::{Call, Case, Deed, InPlaceCall, REFERENCE};
 use crate::comet::{block_size, fitting_tag, is_retired, LIMIT, SUITES};
 use crate::random::Random;
 
-/// The call, once it is seen to give the number that it was made for, and to leave text and tag as that number says: as
-/// they were after a refusal and after verifying, the text all zero after 8 of opening, and else what goes from buffer to
-/// buffer.
-fn expected(deed: Deed, call: Call, number: u32) -> InPlaceCall {
-    let given = call.clone();
+/// The call, after a check that it returns the expected status and leaves the right text and tag. Both are unchanged after a
+/// refusal and after verifying; the text is zero after 8 of opening; otherwise both are what `seal` and `open` output.
+fn expected(deed: Deed, call: Call, status: u32) -> InPlaceCall {
+    let before = call.clone();
     let case = InPlaceCall { deed, call };
     let outcome = case.answer(&REFERENCE);
-    assert_eq!(outcome.number, number);
-    let (text, tag) = match (deed, number) {
+    assert_eq!(outcome.number, status);
+    let (text, tag) = match (deed, status) {
         (Deed::Seal | Deed::Open, 0) => {
-            let apart = Call { out: given.text.len(), ..given }.answer(&REFERENCE);
+            let apart = Call { out: before.text.len(), ..before }.answer(&REFERENCE);
             (apart.out, apart.tag)
         }
-        (Deed::Open, 8) => (vec![0; given.text.len()], given.tag),
-        _ => (given.text, given.tag),
+        (Deed::Open, 8) => (vec![0; before.text.len()], before.tag),
+        _ => (before.text, before.tag),
     };
     assert_eq!((outcome.out, outcome.tag), (text, tag));
     case
 }
 
-/// One bit wrong in a part of the call.
+/// The call with one random bit of one argument inverted.
 fn damaged(random: &mut Random, call: &Call, part: fn(&mut Call) -> &mut Vec<u8>) -> Call {
     let mut call = call.clone();
     let bytes = part(&mut call);
-    let place = random.below(bytes.len());
-    bytes[place] ^= 1 << random.below(8);
+    let index = random.below(bytes.len());
+    bytes[index] ^= 1 << random.below(8);
     call
 }
 
-/// Lengths around the borders of blocks: sealed (under a retired suite refused), opened and verified, good and with one
-/// bit of the tag wrong and, where there is a text, one bit of it.
+/// Lengths around block boundaries: sealed (a retired suite refuses), opened and verified; good, with one bit of the tag
+/// inverted, and with one bit of a nonempty text inverted.
 fn lengths(random: &mut Random) -> Vec<InPlaceCall> {
     let mut calls = vec![];
     for suite in SUITES {
@@ -56,21 +55,21 @@ fn lengths(random: &mut Random) -> Vec<InPlaceCall> {
     calls
 }
 
-/// The tag wrong in each of its bytes: who compares only some of them accepts one of these.
+/// A wrong tag in each of its bytes: an opener that compares only some of them accepts one of these.
 fn wrong_tags(random: &mut Random) -> Vec<InPlaceCall> {
     let mut calls = vec![];
     for suite in SUITES {
         let opening = cases::sealing(random, suite, 5, 2 * block_size(suite) + 1).reopened();
-        for (place, deed) in (0..opening.tag.len()).flat_map(|place| [(place, Deed::Open), (place, Deed::Verify)]) {
+        for (index, deed) in (0..opening.tag.len()).flat_map(|index| [(index, Deed::Open), (index, Deed::Verify)]) {
             let mut call = opening.clone();
-            call.tag[place] ^= 1 << random.below(8);
+            call.tag[index] ^= 1 << random.below(8);
             calls.push(expected(deed, call, 8));
         }
     }
     calls
 }
 
-/// The numbers in their order, but for those of a long input: there is no 6.
+/// The statuses in their order, except those of a long input; 6 cannot occur in place.
 fn faults(deed: Deed) -> [u32; 5] {
     if deed == Deed::Seal {
         [1, 10, 2, 3, 7]
@@ -79,7 +78,7 @@ fn faults(deed: Deed) -> [u32; 5] {
     }
 }
 
-/// Each number alone, and beside each later one.
+/// Each status alone, and together with each later one.
 fn refused(random: &mut Random) -> Vec<InPlaceCall> {
     let mut calls = vec![];
     for (suite, deed) in SUITES.into_iter().flat_map(|s| [Deed::Seal, Deed::Open, Deed::Verify].map(|deed| (s, deed))) {
@@ -87,19 +86,19 @@ fn refused(random: &mut Random) -> Vec<InPlaceCall> {
         for (first, later) in (0..5).flat_map(|first| (first..5).map(move |later| (faults[first], faults[later]))) {
             let sealing = cases::sealing(random, suite, 5, 11);
             let mut call = if deed == Deed::Seal { sealing } else { sealing.reopened() };
-            let turn = random.below(7);
-            cases::fault(&mut call, later, turn);
+            let kind = random.below(7);
+            cases::fault(&mut call, later, kind);
             if first != later {
-                cases::fault(&mut call, first, turn);
+                cases::fault(&mut call, first, kind);
             }
-            let number = if deed == Deed::Seal && is_retired(suite) && first != 1 { 10 } else { first };
-            calls.push(expected(deed, call, number));
+            let status = if deed == Deed::Seal && is_retired(suite) && first != 1 { 10 } else { first };
+            calls.push(expected(deed, call, status));
         }
     }
     calls
 }
 
-/// As long as a text can be, and one byte more; over the limit beside a wrong tag length too.
+/// The longest text, and one byte more, also together with a wrong tag length.
 fn longest(random: &mut Random) -> Vec<InPlaceCall> {
     let mut of = |deed: Deed, suite: u8, length: usize| {
         let mut call = cases::sealing(random, suite, 9, 0);
@@ -121,7 +120,7 @@ fn longest(random: &mut Random) -> Vec<InPlaceCall> {
     ]
 }
 
-/// All calls.
+/// All calls of the test data.
 pub fn calls() -> Vec<InPlaceCall> {
     let mut random = Random::new(31);
     let groups = [lengths, wrong_tags, refused, longest];

@@ -19,10 +19,10 @@ pub mod writing;
 
 use crate::calls::{Case, REFERENCE};
 
-/// A file: its name in its folder and its bytes.
+/// A file of a folder: its name and its bytes.
 pub type Part = (&'static str, Vec<u8>);
 
-/// The folders of the repository that are written.
+/// The folders of the repository that `generate` writes.
 pub const FOLDERS: [&str; 12] = [
     "samples",
     "crates/test_ciphers",
@@ -38,20 +38,20 @@ pub const FOLDERS: [&str; 12] = [
     "crates/inspect",
 ];
 
-/// What a test program reads and writes.
+/// The input and the output of a test program for these cases.
 pub fn parts_of<C: Case>(cases: &[C]) -> [Part; 2] {
     let stdin = cases.iter().flat_map(C::record).collect();
     let stdout: String = cases.iter().map(|case| case.lines(&REFERENCE)).collect();
     [("stdin", stdin), ("stdout", stdout.into_bytes())]
 }
 
-/// The inputs and the outputs of one test program, one after the other.
+/// The inputs of several groups of cases joined, and their outputs joined.
 fn joined<const N: usize>(groups: [[Part; 2]; N]) -> Vec<Part> {
     let of = |i: usize| groups.iter().flat_map(|group| group[i].1.clone()).collect();
     vec![("stdin", of(0)), ("stdout", of(1))]
 }
 
-/// What stands in a folder.
+/// The files of a folder.
 pub fn parts(folder: &str) -> Vec<Part> {
     match folder {
         "samples" => samples::parts().to_vec(),

@@ -1,4 +1,4 @@
-//! For `test_writer` and `convert`: files moved from one edition to the other.
+//! Cases for `test_writer` and `convert`: files moved from one edition to the other.
 
 use super::writing::all_suites;
 use super::{files, samples, Part};
@@ -9,7 +9,7 @@ use crate::shift::{self, fields_at, row_at, rows};
 use crate::show::shown;
 use crate::trials::edit;
 
-/// A file moved to an edition; its length there is asked, too.
+/// A call of `to_edition1` or `to_edition2`, together with one of `moved_length`.
 #[derive(Clone)]
 pub struct MoveCall {
     pub to: usize,
@@ -39,24 +39,24 @@ impl Case for MoveCall {
     }
 
     fn lines(&self, by: &Library) -> String {
-        let MoveOutcome { answer: (number, row), out, .. } = self.answer(by);
-        format!("{number} {row} {}\n", shown(&out))
+        let MoveOutcome { answer: (status, row), out, .. } = self.answer(by);
+        format!("{status} {row} {}\n", shown(&out))
     }
 }
 
-/// The call, once it is seen to give the number and the row that it was made for.
-fn expected(call: MoveCall, number: u32, row: usize) -> MoveCall {
-    assert_eq!(call.answer(&REFERENCE).answer, (number, row as u32));
+/// The call, after a check that it returns the expected status and row.
+fn expected(call: MoveCall, status: u32, row: usize) -> MoveCall {
+    assert_eq!(call.answer(&REFERENCE).answer, (status, row as u32));
     call
 }
 
-/// A file of as many rows, with an output that is as long as it has to be.
+/// A call on a file of `rows` rows with an output of the right length.
 fn call(to: usize, rows: usize, file: Vec<u8>) -> MoveCall {
     let out = if to == 2 { file.len() + 4 * rows } else { file.len().max(4 * rows) - 4 * rows };
     MoveCall { to, file, out }
 }
 
-/// A plan's file of either edition, moved to the other: there and back.
+/// A plan's file moved from edition 1 to 2 and from 2 to 1, after a check that each outputs the other.
 fn both_ways(plan: &Plan) -> [MoveCall; 2] {
     let plan = plan.without_stations();
     let [one, two] = [1, 2].map(|edition| plan.in_edition(edition).file(&samples::ring()));
@@ -67,7 +67,7 @@ fn both_ways(plan: &Plan) -> [MoveCall; 2] {
     [there, back]
 }
 
-/// No rows, one, three, one of each suite, as many as there can be; and random ones.
+/// Files of no row, one, three, one of each suite, and a full table; and random files.
 fn good(random: &mut Random) -> Vec<MoveCall> {
     let mut plans = vec![Plan::new(vec![]), files::smallest_plan(), files::three_rows(), all_suites()];
     plans.push(files::many_rows_plan(512));
@@ -75,14 +75,14 @@ fn good(random: &mut Random) -> Vec<MoveCall> {
     plans.iter().flat_map(both_ways).collect()
 }
 
-/// No tag is looked at: what is wrong in a body goes along.
+/// Files with faulty bodies: a move checks no tag and copies the bodies unchanged.
 fn bodies(_: &mut Random) -> Vec<MoveCall> {
     let mut calls = vec![];
     for good in both_ways(&files::three_rows()) {
         for row in rows(&good.file) {
-            for place in [row.text().start, row.tag().start, row.tag().end - 1] {
+            for offset in [row.text().start, row.tag().start, row.tag().end - 1] {
                 let mut wrong = good.clone();
-                wrong.file[place] ^= 0x11;
+                wrong.file[offset] ^= 0x11;
                 calls.push(expected(wrong, 0, 0));
             }
         }
@@ -90,28 +90,28 @@ fn bodies(_: &mut Random) -> Vec<MoveCall> {
     calls
 }
 
-/// The source's plan for a move.
+/// A plan of the edition from which a move starts.
 fn source(to: usize) -> Plan {
     files::three_rows().without_stations().in_edition(3 - to)
 }
 
-/// Each number of the source's check, alone and beside all that comes after it; every edition but its own is 21.
+/// Each status of the check of the source's edition, alone and together with every later fault; every other edition is 21.
 fn refused_checks(_: &mut Random) -> Vec<MoveCall> {
     let mut calls = vec![];
     for to in [1, 2] {
-        for number in [20].into_iter().chain(files::ORDER) {
-            let (mut plan, row) = (source(to), files::OF_ROWS.contains(&number) as usize);
-            if number > 20 {
-                files::fault(&mut plan, number, 1);
+        for status in [20].into_iter().chain(files::ORDER) {
+            let (mut plan, row) = (source(to), files::OF_ROWS.contains(&status) as usize);
+            if status > 20 {
+                files::fault(&mut plan, status, 1);
             }
             let stations = Plan { entries: plan.entries.iter().map(at_station).collect(), ..plan.clone() };
             let [mut file, mut other] = [plan, stations].map(|plan| plan.file(&samples::ring()));
-            if number == 20 {
+            if status == 20 {
                 file.truncate(7);
                 other.truncate(0);
             }
-            calls.push(expected(call(to, 3, file), number, row));
-            calls.push(expected(MoveCall { to, file: other, out: 5 }, number, row));
+            calls.push(expected(call(to, 3, file), status, row));
+            calls.push(expected(MoveCall { to, file: other, out: 5 }, status, row));
         }
         for edition in [0, 3, 4, 0x0100, 0x0200, 0xffff] {
             let plan = Plan { edition: Some(edition), ..source(to) };
@@ -128,15 +128,15 @@ fn at_station(entry: &Entry) -> Entry {
     Entry { station: 9, ..entry.clone() }
 }
 
-/// 35 with the first row that has a station, in each of its bytes, before 6.
+/// 35 with the first row that has a station, nonzero in each of its bytes; it comes before 6.
 fn refused_stations(_: &mut Random) -> Vec<MoveCall> {
     let mut calls = vec![];
     let good = call(1, 3, source(1).file(&samples::ring()));
-    for (row, place) in (0..3).flat_map(|row| (4..8).map(move |place| (row, place))) {
+    for (row, offset) in (0..3).flat_map(|row| (4..8).map(move |offset| (row, offset))) {
         let mut stationed = good.clone();
-        stationed.file[row_at(2, row) + place] = [1, 0x80, 0xff][row];
+        stationed.file[row_at(2, row) + offset] = [1, 0x80, 0xff][row];
         calls.push(expected(stationed.clone(), 35, row));
-        if place == 7 {
+        if offset == 7 {
             calls.push(expected(MoveCall { out: 0, ..stationed.clone() }, 35, row));
             stationed.file[row_at(2, 2) + 4] = 1;
             calls.push(expected(stationed, 35, row));
@@ -145,7 +145,7 @@ fn refused_stations(_: &mut Random) -> Vec<MoveCall> {
     calls
 }
 
-/// 6: outputs too short and too long, the source's own length among them.
+/// 6: outputs that are too short or too long, the length of the source included.
 fn refused_lengths(_: &mut Random) -> Vec<MoveCall> {
     let mut calls = vec![];
     for to in [1, 2] {
@@ -162,14 +162,14 @@ fn refused_lengths(_: &mut Random) -> Vec<MoveCall> {
     calls
 }
 
-/// All calls.
+/// All calls of the test data.
 pub fn calls() -> Vec<MoveCall> {
     let mut random = Random::new(14);
     let groups = [good, bodies, refused_checks, refused_stations, refused_lengths];
     groups.into_iter().flat_map(|group| group(&mut random)).collect()
 }
 
-/// Random files, good and edited, most of them with no station, and now and then with another output.
+/// Random files, good and edited, most of them without stations, sometimes with a wrong output length.
 pub fn trials(random: &mut Random, count: usize, mut each: impl FnMut(&MoveCall)) {
     for _ in 0..count {
         let (to, row_count) = (1 + random.below(2), random.below(9));
@@ -189,7 +189,8 @@ pub fn trials(random: &mut Random, count: usize, mut each: impl FnMut(&MoveCall)
     }
 }
 
-/// Around the longest file: what just fits, what would be too long, before 6 and behind the check; and back.
+/// Around the greatest length: a file that just fits after the move, and one that would be too long, which comes after the
+/// check and before 6; and the way back.
 pub fn longest(mut each: impl FnMut(&MoveCall)) {
     let rows = 16;
     let most = shift::LONGEST - 4 * rows;
@@ -216,13 +217,13 @@ pub fn longest(mut each: impl FnMut(&MoveCall)) {
     }
 }
 
-/// The folder of the program `convert`: the sample's day becomes edition 2.
+/// The files of the program `convert`: it moves the sample day to edition 2.
 pub fn convert_parts() -> [Part; 3] {
     let file = samples::day();
-    let (number, row) = call(2, rows(&file).len(), file.clone()).answer(&REFERENCE).answer;
+    let (status, row) = call(2, rows(&file).len(), file.clone()).answer(&REFERENCE).answer;
     [
         ("args", b"day.shift\nstations.shift\n".to_vec()),
         ("data/day.shift", file),
-        ("stdout", format!("{number} {row}\n").into_bytes()),
+        ("stdout", format!("{status} {row}\n").into_bytes()),
     ]
 }

@@ -1,4 +1,4 @@
-//! For `test_shift`: what the plant's programs print.
+//! Cases for `test_shift`: what the plant's programs print.
 
 use super::{amending, comparing, files, reading, samples, Part};
 use crate::calls::head;
@@ -55,19 +55,19 @@ fn inspect(file: &[u8]) -> PrintCall {
     Inspect { file: file.to_vec(), ring: samples::ring() }
 }
 
-/// A good file, and one for each number of the check.
+/// A good file, and one for each status of the check.
 fn checked() -> Vec<Vec<u8>> {
     let ring = samples::ring();
     let mut all = vec![files::three_rows().file(&ring), vec![], vec![1; 7], files::three_rows().draft()];
-    for number in files::ORDER {
+    for status in files::ORDER {
         let mut plan = files::three_rows();
-        files::fault(&mut plan, number, 1);
+        files::fault(&mut plan, status, 1);
         all.push(plan.file(&ring));
     }
     all
 }
 
-/// Messages and data that are shown as text or in hex, and none at all.
+/// Messages and associated data that are shown as text, in hex, and as empty.
 fn shown() -> Plan {
     let pieces: [&[u8]; 9] =
         [b"", b" ", b"~", b"\x1f", b"\x7f", b"a line\n", "48,5 N\u{b7}m".as_bytes(), b"\0", b"\"text\" hex 00"];
@@ -81,7 +81,7 @@ fn shown() -> Plan {
     Plan::new(pieces.iter().enumerate().map(entry).collect())
 }
 
-/// A job whose message is as long as it can be.
+/// A file with one job, whose message has the greatest length.
 fn longest(byte: u8) -> Vec<u8> {
     let mut entry = Entry::new(u32::MAX, 6, 15, 2, [9; 16], &vec![byte; 65_536]);
     entry.ad.resize(1024, byte);
@@ -89,7 +89,7 @@ fn longest(byte: u8) -> Vec<u8> {
     Plan::new(vec![entry]).in_edition(2).file(&samples::ring())
 }
 
-/// Text of a plant, and both sides of every border of what is shown as text: sequences of one to four bytes, control
+/// Ordinary text, and both sides of every limit of what is shown as text: sequences of one to four bytes, control
 /// characters, characters that set the direction of writing or end a line, the byte order mark.
 const TEXTS: [&str; 32] = [
     "48,5 N\u{b7}m \u{b1} 0,2",
@@ -126,8 +126,8 @@ const TEXTS: [&str; 32] = [
     "\u{9b}2J",
 ];
 
-/// Bytes that are no UTF-8: following bytes alone, cut and broken sequences, overlong forms, surrogates, what is over the last
-/// code point, first bytes that do not exist.
+/// Bytes that are not UTF-8: continuation bytes alone, truncated and broken sequences, overlong forms, surrogates, values
+/// above the last code point, invalid first bytes.
 const NO_TEXTS: [&[u8]; 30] = [
     b"\x80",
     b"48 N\xb7m",
@@ -161,7 +161,7 @@ const NO_TEXTS: [&[u8]; 30] = [
     b"\xc3\xa9\xa9",
 ];
 
-/// A job for each of these: its message, and the one before it as data.
+/// One job for each of these byte strings as its message, with the previous one as its associated data.
 fn characters() -> Vec<PrintCall> {
     let pieces: Vec<&[u8]> = TEXTS.iter().map(|text| text.as_bytes()).chain(NO_TEXTS).collect();
     let call = |i: usize| {
@@ -256,13 +256,13 @@ fn random_runs(random: &mut Random) -> Vec<PrintCall> {
     calls
 }
 
-/// All runs.
+/// All runs of the test data.
 pub fn calls() -> Vec<PrintCall> {
     let mut random = Random::new(19);
     [jobs(), currents(), compared(), inspected(), random_runs(&mut random), characters()].concat()
 }
 
-/// What `test_shift` reads and writes of these.
+/// The input and the output of `test_shift` for these runs.
 pub fn parts() -> [Part; 2] {
     let calls = calls();
     let stdout: String = calls.iter().map(PrintCall::printed).collect();

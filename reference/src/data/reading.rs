@@ -1,4 +1,4 @@
-//! For `test_shift` and `inspect`: suppliers' files reported and read.
+//! Cases for `test_shift` and `inspect`: the report and the reader on suppliers' files.
 
 use super::writing::all_suites;
 use super::{files, samples, Part};
@@ -12,7 +12,7 @@ use crate::shift::{self, edition, row_at, rows, EDITIONS};
 use crate::show::{list, shown};
 use crate::trials::{edit, misuse_ring};
 
-/// A file and a ring, how many places the two lists have, and how often the reader is asked.
+/// A file and a ring, the lengths of the report's two lists, and how often the reader is called.
 #[derive(Clone)]
 pub struct ReadCall {
     pub file: Vec<u8>,
@@ -29,7 +29,7 @@ pub struct ReadOutcome {
 }
 
 impl ReadCall {
-    /// The reader's line: what each ask gives.
+    /// The reader's line: the result of each of its calls.
     fn reader_line(&self) -> String {
         let mut reader = Reader::new(&self.file);
         let mut line = "reader".to_string();
@@ -43,7 +43,7 @@ impl ReadCall {
     }
 }
 
-/// The report is asked of any implementation, the reader of this one alone: C has no reader.
+/// The report is the given implementation's; the reader is always the reference implementation's, since C has no reader.
 impl Case for ReadCall {
     type Outcome = ReadOutcome;
 
@@ -60,12 +60,12 @@ impl Case for ReadCall {
     }
 
     fn lines(&self, by: &Library) -> String {
-        let ReadOutcome { report: Report { number, row, count }, jobs, numbers } = self.answer(by);
-        format!("{number} {row} {count}{} {}\n{}", list(&jobs), shown(&numbers), self.reader_line())
+        let ReadOutcome { report: Report { number: status, row, count }, jobs, numbers } = self.answer(by);
+        format!("{status} {row} {count}{} {}\n{}", list(&jobs), shown(&numbers), self.reader_line())
     }
 }
 
-/// A call with the samples' ring, a place for each row, and two asks more than there are rows.
+/// A call with the samples' ring, lists of exactly `rows` elements, and two reader calls more than there are rows.
 fn call(rows: usize, file: Vec<u8>) -> ReadCall {
     ReadCall { file, ring: samples::ring(), places: [rows; 2], asks: rows + 2 }
 }
@@ -74,13 +74,13 @@ fn of_plan(plan: &Plan) -> ReadCall {
     call(plan.entries.len(), plan.file(&samples::ring()))
 }
 
-/// The call, once it is seen to be refused with the number and the row that it was made for.
-fn refused(call: ReadCall, number: u32, row: u32) -> ReadCall {
-    assert_eq!(call.answer(&REFERENCE).report, Report { number, row, count: 0 });
+/// The call, after a check that it is refused with the expected status and row.
+fn refused(call: ReadCall, status: u32, row: u32) -> ReadCall {
+    assert_eq!(call.answer(&REFERENCE).report, Report { number: status, row, count: 0 });
     call
 }
 
-/// A good file of both editions: every entry is 0. Then with lists that are longer.
+/// Good files of both editions, whose entries all have status 0; then with longer lists.
 fn good(random: &mut Random) -> Vec<ReadCall> {
     let mut plans = vec![Plan::new(vec![]), files::smallest_plan(), files::three_rows(), all_suites()];
     plans.extend((1..9).map(|rows| files::random_plan(random, rows, 60)));
@@ -98,7 +98,7 @@ fn good(random: &mut Random) -> Vec<ReadCall> {
     calls
 }
 
-/// Wrong tags: in each row alone, in two, in all; one does not stop the rest. The reader gives all entries.
+/// Wrong tags in one row, in two and in all: the report goes on after each. The reader returns every entry.
 fn wrong_tags(_: &mut Random) -> Vec<ReadCall> {
     let mut calls = vec![];
     for edition in EDITIONS {
@@ -124,30 +124,30 @@ fn wrong_tags(_: &mut Random) -> Vec<ReadCall> {
     calls
 }
 
-/// Each number of the check, alone and beside all that comes after it; the reader has ended at once.
+/// Each status of the check, alone and together with every later fault; the reader returns no entry.
 fn refused_checks(_: &mut Random) -> Vec<ReadCall> {
     let mut calls = vec![];
-    for (edition, number) in EDITIONS
+    for (edition, status) in EDITIONS
         .into_iter()
-        .flat_map(|edition| [20].into_iter().chain(files::ORDER).map(move |number| (edition, number)))
+        .flat_map(|edition| [20].into_iter().chain(files::ORDER).map(move |status| (edition, status)))
     {
-        let (mut plan, row) = (files::three_rows().in_edition(edition), files::OF_ROWS.contains(&number) as u32);
-        if number > 20 {
-            files::fault(&mut plan, number, 1);
+        let (mut plan, row) = (files::three_rows().in_edition(edition), files::OF_ROWS.contains(&status) as u32);
+        if status > 20 {
+            files::fault(&mut plan, status, 1);
         }
         let mut file = plan.file(&samples::ring());
-        if number == 20 {
+        if status == 20 {
             file.truncate(7);
         }
-        calls.push(refused(call(3, file.clone()), number, row));
-        calls.push(refused(ReadCall { file, ring: vec![], places: [0, 2], asks: 2 }, number, row));
+        calls.push(refused(call(3, file.clone()), status, row));
+        calls.push(refused(ReadCall { file, ring: vec![], places: [0, 2], asks: 2 }, status, row));
     }
     calls.push(refused(call(3, files::three_rows().draft()), 21, 0));
     calls.push(refused(call(3, vec![]), 20, 0));
     calls
 }
 
-/// 2 and 6: each alone and both.
+/// 2 and 6, each alone and both together.
 fn refused_lengths(_: &mut Random) -> Vec<ReadCall> {
     let mut calls = vec![];
     for plan in [files::three_rows(), Plan::new(vec![])] {
@@ -164,7 +164,7 @@ fn refused_lengths(_: &mut Random) -> Vec<ReadCall> {
     calls
 }
 
-/// A file of two rows that is so long, its ciphertexts zeros.
+/// A file of two rows with this length, whose ciphertexts are zeros.
 fn of_length(length: usize) -> Vec<u8> {
     let empty = [Entry::new(7, 3, 1, 1, [1; 16], b""), Entry::new(9, 6, 2, 2, [2; 16], b"")];
     let short = Plan::new(empty.to_vec()).file(&samples::ring()).len();
@@ -179,7 +179,7 @@ fn of_length(length: usize) -> Vec<u8> {
     file
 }
 
-/// 65,280 bytes are reported; one more is 20, before all else, and the reader still reads it.
+/// A file of 65,280 bytes is reported; one more byte is 20, before every other status, and the reader still reads it.
 fn longest(_: &mut Random) -> Vec<ReadCall> {
     let just = call(2, of_length(PROGRAM_LONGEST));
     assert_eq!(just.answer(&REFERENCE).numbers, [0, 0]);
@@ -188,14 +188,14 @@ fn longest(_: &mut Random) -> Vec<ReadCall> {
     vec![just, refused(longer.clone(), 20, 0), refused(ReadCall { ring: vec![], places: [0, 0], ..longer }, 20, 0)]
 }
 
-/// All calls.
+/// All calls of the test data.
 pub fn calls() -> Vec<ReadCall> {
     let mut random = Random::new(18);
     let groups = [good, wrong_tags, refused_checks, refused_lengths, longest];
     groups.into_iter().flat_map(|group| group(&mut random)).collect()
 }
 
-/// Random files, good and edited, with now and then a wrong ring or other lists.
+/// Random files, good and edited, sometimes with a wrong ring or lists of another length.
 pub fn trials(random: &mut Random, count: usize, mut each: impl FnMut(&ReadCall)) {
     for _ in 0..count {
         let row_count = random.below(9);
@@ -211,7 +211,7 @@ pub fn trials(random: &mut Random, count: usize, mut each: impl FnMut(&ReadCall)
     }
 }
 
-/// Files around the program's longest and the format's longest.
+/// Files around the greatest length of the program and around that of the format.
 pub fn long_files(mut each: impl FnMut(&ReadCall)) {
     for length in [PROGRAM_LONGEST - 1, PROGRAM_LONGEST, PROGRAM_LONGEST + 1] {
         each(&call(2, of_length(length)));
@@ -223,7 +223,7 @@ pub fn long_files(mut each: impl FnMut(&ReadCall)) {
     }
 }
 
-/// The folder of the program `inspect`: the sample's day in edition 2, with a wrong tag and a text that was altered.
+/// The files of the program `inspect`: the sample day in edition 2, with one wrong tag and one altered text.
 pub fn inspect_parts() -> [Part; 4] {
     let mut file = samples::stations();
     let of_file = rows(&file);

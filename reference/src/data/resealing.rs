@@ -1,4 +1,4 @@
-//! For `test_writer`: files whose entries of suite 4 become suite 3.
+//! Cases for `test_writer`: files whose entries of suite 4 are resealed as suite 3.
 
 use super::writing::{all_suites, call, expected, Pass, RewriteCall, RewriteOutcome};
 use super::{files, samples};
@@ -12,14 +12,14 @@ fn reseal(plan: &Plan) -> RewriteCall {
     call(Pass::Reseal, plan.file(&samples::ring()))
 }
 
-/// A plan's file resealed: it is the file of the same plan under suite 3.
+/// The call on a plan's file, after a check that it outputs the file of the same plan under suite 3.
 fn good_call(plan: &Plan) -> RewriteCall {
     let (call, out) = (reseal(plan), plan.resuited(4, 3).file(&samples::ring()));
     assert!(call.answer(&REFERENCE) == RewriteOutcome { answer: (0, 0), out });
     call
 }
 
-/// A file of these suites, of key number i in row i, with messages around a block's length.
+/// A plan with a row of each of these suites, key number i in row i, and messages around a block's length.
 fn of_suites(suites: &[u8]) -> Plan {
     let mut random = Random::new(12);
     let entry = |(i, suite): (usize, &u8)| {
@@ -31,7 +31,7 @@ fn of_suites(suites: &[u8]) -> Plan {
     Plan::new(suites.iter().enumerate().map(entry).collect())
 }
 
-/// No rows, none of suite 4, some, all; as many rows as there can be; and random ones.
+/// Files with no rows, with no, some and only rows of suite 4, with a full table; and random files.
 fn good(random: &mut Random) -> Vec<RewriteCall> {
     let suites: [&[u8]; 7] = [&[], &[3], &[4], &[1, 2, 3, 1], &[4, 1, 4, 3, 4], &[4; 9], &[3, 4, 3, 4, 2, 4]];
     let mut plans: Vec<Plan> = suites.map(of_suites).to_vec();
@@ -40,17 +40,17 @@ fn good(random: &mut Random) -> Vec<RewriteCall> {
     plans.iter().map(good_call).collect()
 }
 
-/// What is wrong in entries of other suites is copied as it stands.
+/// Wrong tags in entries of other suites: they are copied unchanged.
 fn unchecked(_: &mut Random) -> Vec<RewriteCall> {
     let plan = of_suites(&[1, 4, 3, 2, 4]);
     let good = good_call(&plan);
     let mut calls = vec![];
     for row in rows(&good.file).iter().filter(|row| row.suite != 4) {
-        for place in [row.tag().start, row.tag().end - 1, row.offset + 4, row.text().start] {
+        for offset in [row.tag().start, row.tag().end - 1, row.offset + 4, row.text().start] {
             let mut damaged = good.clone();
-            damaged.file[place] ^= if place == row.offset + 4 { 3 } else { 0x40 };
+            damaged.file[offset] ^= if offset == row.offset + 4 { 3 } else { 0x40 };
             let mut out = good.answer(&REFERENCE).out;
-            out[place] = damaged.file[place];
+            out[offset] = damaged.file[offset];
             assert!(damaged.answer(&REFERENCE) == RewriteOutcome { answer: (0, 0), out });
             calls.push(damaged);
         }
@@ -58,10 +58,10 @@ fn unchecked(_: &mut Random) -> Vec<RewriteCall> {
     calls
 }
 
-/// Rows, each of suite, key number and first nonce byte, and number and row of the pass.
+/// Rows, each as suite, key number and first nonce byte, and the status and row of resealing them.
 type Clash = (&'static [(u8, u8, u8)], u32, usize);
 
-/// Rows that clash get 29 with the lowest later row.
+/// Rows that would clash after resealing are refused with 29 and the lowest later row.
 const CLASHES: [Clash; 12] = [
     (&[(3, 0, 1), (4, 0, 1)], 29, 1),
     (&[(4, 0, 1), (3, 0, 1)], 29, 1),
@@ -86,43 +86,43 @@ fn of_nonces(rows: &[(u8, u8, u8)]) -> Plan {
     Plan::new(rows.iter().enumerate().map(entry).collect())
 }
 
-/// Where resealing would make two rows clash, alone and beside wrong tags, ring and output.
+/// Files in which two rows would clash after resealing, alone and together with wrong tags, ring and output.
 fn clashes(_: &mut Random) -> Vec<RewriteCall> {
     let mut calls = vec![];
-    for (of_rows, number, row) in CLASHES {
+    for (of_rows, status, row) in CLASHES {
         let one = reseal(&of_nonces(of_rows));
-        calls.push(expected(one.clone(), number, row));
+        calls.push(expected(one.clone(), status, row));
         let mut wrong = one.clone();
         for row in rows(&one.file) {
             wrong.file[row.tag().start] ^= 1;
         }
         let first = of_rows.iter().position(|row| row.0 == 4).unwrap();
-        let (ring, out) = if number == 29 { (29, 29) } else { (2, 6) };
-        calls.push(expected(wrong.clone(), number.max(8), if number == 29 { row } else { first }));
+        let (ring, out) = if status == 29 { (29, 29) } else { (2, 6) };
+        calls.push(expected(wrong.clone(), status.max(8), if status == 29 { row } else { first }));
         calls.push(expected(RewriteCall { ring: vec![0; 255], out: 1, ..wrong.clone() }, ring, row));
         calls.push(expected(RewriteCall { out: 1, ..wrong }, out, row));
     }
     calls
 }
 
-/// Each number of the check, alone and beside all that comes after it; a draft and a later edition are 21.
+/// Each status of the check, alone and together with every later fault; a draft and a later edition are 21.
 fn refused_checks(_: &mut Random) -> Vec<RewriteCall> {
     let mut calls = vec![];
-    for number in [20].into_iter().chain(files::ORDER) {
-        let (mut plan, row) = (files::three_rows(), files::OF_ROWS.contains(&number) as usize);
+    for status in [20].into_iter().chain(files::ORDER) {
+        let (mut plan, row) = (files::three_rows(), files::OF_ROWS.contains(&status) as usize);
         plan.entries[0].suite = 4;
-        if number > 20 {
-            files::fault(&mut plan, number, 1);
+        if status > 20 {
+            files::fault(&mut plan, status, 1);
         }
         let mut file = plan.file(&samples::ring());
-        if number == 20 {
+        if status == 20 {
             file.truncate(7);
         }
-        calls.push(expected(call(Pass::Reseal, file.clone()), number, row));
-        if number >= 25 {
+        calls.push(expected(call(Pass::Reseal, file.clone()), status, row));
+        if status >= 25 {
             *file.last_mut().unwrap() ^= 1;
         }
-        calls.push(expected(RewriteCall { pass: Pass::Reseal, file, ring: vec![0; 255], out: 3 }, number, row));
+        calls.push(expected(RewriteCall { pass: Pass::Reseal, file, ring: vec![0; 255], out: 3 }, status, row));
     }
     for edition in [0, 3, 0x0100] {
         let plan = Plan { edition: Some(edition), ..files::three_rows() };
@@ -132,7 +132,7 @@ fn refused_checks(_: &mut Random) -> Vec<RewriteCall> {
     calls
 }
 
-/// 2, 6 and 8: each alone and in pairs; 8 with the first entry of suite 4 whose tag is wrong.
+/// 2, 6 and 8, each alone and in pairs; 8 has the first row of suite 4 whose tag is wrong.
 fn refused(_: &mut Random) -> Vec<RewriteCall> {
     let good = good_call(&of_suites(&[3, 4, 1, 4, 4]));
     let length = good.file.len();
@@ -150,11 +150,11 @@ fn refused(_: &mut Random) -> Vec<RewriteCall> {
     for i in [1, 3, 4] {
         let row = rows(&good.file)[i];
         let at = row_at(i);
-        let mut places = vec![(row.tag().start, 1), (row.tag().end - 1, 0x80), (row.offset + 4, 3), (at + 16, 1)];
-        places.extend([(row.text().start, 1), (row.text().end - 1, 0x10), (at + 5, 8)]);
-        for (place, x) in places {
+        let mut changes = vec![(row.tag().start, 1), (row.tag().end - 1, 0x80), (row.offset + 4, 3), (at + 16, 1)];
+        changes.extend([(row.text().start, 1), (row.text().end - 1, 0x10), (at + 5, 8)]);
+        for (offset, x) in changes {
             let mut wrong = good.clone();
-            wrong.file[place] ^= x;
+            wrong.file[offset] ^= x;
             calls.push(expected(wrong.clone(), 8, i));
             calls.push(expected(RewriteCall { out: length - 1, ..wrong.clone() }, 6, 0));
             calls.push(expected(RewriteCall { ring: vec![], ..wrong }, 2, 0));
@@ -173,14 +173,14 @@ fn refused(_: &mut Random) -> Vec<RewriteCall> {
     calls
 }
 
-/// All calls.
+/// All calls of the test data.
 pub fn calls() -> Vec<RewriteCall> {
     let mut random = Random::new(11);
     let groups = [good, unchecked, clashes, refused_checks, refused];
     groups.into_iter().flat_map(|group| group(&mut random)).collect()
 }
 
-/// Random files, good and edited, some with few different nonces, and now and then a wrong ring or output.
+/// Random files, good and edited, some with few different nonces, sometimes with a wrong ring or output.
 pub fn trials(random: &mut Random, count: usize, mut each: impl FnMut(&RewriteCall)) {
     for _ in 0..count {
         let row_count = random.below(9);
@@ -205,9 +205,9 @@ pub fn trials(random: &mut Random, count: usize, mut each: impl FnMut(&RewriteCa
 /// Single-byte changes of a file of three rows, one of suite 4.
 pub fn single_bytes(mut each: impl FnMut(&RewriteCall)) {
     let good = good_call(&files::three_rows());
-    for (place, x) in (0..good.file.len()).flat_map(|place| [1, 2, 4, 0x80, 0xff].map(|x| (place, x))) {
+    for (offset, x) in (0..good.file.len()).flat_map(|offset| [1, 2, 4, 0x80, 0xff].map(|x| (offset, x))) {
         let mut changed = good.clone();
-        changed.file[place] ^= x;
+        changed.file[offset] ^= x;
         each(&changed);
     }
 }

@@ -1,4 +1,4 @@
-//! A day's file, an amendment and a ring to try, and the runs of the programs `job` and `current` on them.
+//! The sample files (a day's file, an amendment, a ring), and the runs of `job` and `current` on them.
 
 use super::Part;
 use crate::plan::{Entry, Plan};
@@ -10,7 +10,7 @@ pub fn ring() -> Vec<u8> {
     Random::new(4).bytes(shift::RING)
 }
 
-/// The jobs of a day: job, suite, key, unit, and the torque record that is sealed.
+/// The jobs of the day: job, suite, key number, unit and torque record.
 const DAY: [(u32, u8, u8, u8, &str); 8] = [
     (
         4101,
@@ -28,23 +28,23 @@ const DAY: [(u32, u8, u8, u8, &str); 8] = [
     (4211, 6, 5, 2, "gearbox 4211 bolt 5/16-24 count 3 torque 210 212 211"),
 ];
 
-/// The stations of the day, in its file of edition 2.
+/// The stations of these jobs, in the file of edition 2.
 const STATIONS: [u32; 8] = [207, 207, 207, 208, 0, 311, 207, 208];
 
-/// What stands in the associated data after the unit, where a station adds its name.
+/// The associated data after the unit, in the jobs of a station that adds its name.
 const STATION: &[u8] = b"line 2 station 7";
 
-/// What quality sent, job, suite and record: jobs 4102 and 4110 anew, and a job that the day did not have.
+/// The jobs of the amendment, as job, suite and record: it replaces 4102 and 4110 and adds one.
 const AMENDMENT: [(u32, u8, &str); 3] = [
     (4102, 2, "gearbox 4102 bolt M8x40 count 8 torque 25.0 25.1 25.0 25.2 25.0 25.0 25.1 25.0, bolts 1 5 8 retorqued"),
     (4110, 3, "gearbox 4110 bolt M6x20 count 2 torque 9.8 9.9, entered by hand"),
     (4220, 5, "gearbox 4220 plug M22 count 1 torque 60.2"),
 ];
 
-/// The job that the program `job` is run on.
+/// The job that the program `job` opens.
 const OPENED: u32 = 4103;
 
-/// The job that the program `current` is run on: the day has it too.
+/// The job that the program `current` opens; the day has it too.
 const AMENDED: u32 = 4102;
 
 fn entries() -> Vec<Entry> {
@@ -70,7 +70,7 @@ pub fn stations() -> Vec<u8> {
     Plan::new(entries()).in_edition(2).file(&ring())
 }
 
-/// The day as it was sent later: job 4105 is gone, 4111 and 4300 have come, 4102 has another record and 4200 another key.
+/// A later version of the day: without job 4105, with 4111 and 4300, with another record of 4102 and another key of 4200.
 pub fn later_day() -> Vec<u8> {
     let mut entries = entries();
     entries[1].message.extend(b" retorqued");
@@ -97,7 +97,7 @@ pub fn amendment() -> Vec<u8> {
     Plan::new(AMENDMENT.into_iter().map(entry).collect()).file(&ring())
 }
 
-/// The day before it was sealed, but for the job of suite 4.
+/// The draft of the day, without the job of suite 4.
 pub fn draft() -> Vec<u8> {
     Plan::new(entries().into_iter().filter(|entry| entry.suite != 4).collect()).draft()
 }
@@ -112,7 +112,7 @@ pub fn parts() -> [Part; 5] {
     ]
 }
 
-/// The folder of the program `job`.
+/// The files of the program `job`.
 pub fn job_parts() -> [Part; 4] {
     let message = DAY.iter().find(|entry| entry.0 == OPENED).unwrap().4;
     let stdout = printed::job(&day(), &ring(), OPENED);
@@ -125,7 +125,7 @@ pub fn job_parts() -> [Part; 4] {
     ]
 }
 
-/// The folder of the program `current`.
+/// The files of the program `current`.
 pub fn current_parts() -> [Part; 5] {
     let message = AMENDMENT.iter().find(|entry| entry.0 == AMENDED).unwrap().2;
     let stdout = printed::current(&amendment(), &day(), &ring(), AMENDED);

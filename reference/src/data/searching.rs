@@ -1,4 +1,4 @@
-//! For `test_shift`: jobs looked for by halving.
+//! Cases for `test_shift`: jobs found by binary search.
 
 use super::{files, samples};
 use crate::calls::{head, Case, Library, REFERENCE};
@@ -6,7 +6,7 @@ use crate::random::Random;
 use crate::shift::{self, row_at, Answer};
 use crate::trials::edit;
 
-/// So many jobs, one after the other from the first, are looked for in a file.
+/// Searches a file for `count` consecutive job numbers from `first` on.
 #[derive(Clone)]
 pub struct SearchCall {
     pub first: u32,
@@ -27,12 +27,12 @@ impl Case for SearchCall {
     }
 
     fn lines(&self, by: &Library) -> String {
-        let line = |((number, row), looked): (Answer, u32)| format!("{number} {row} {looked}\n");
+        let line = |((status, row), looked): (Answer, u32)| format!("{status} {row} {looked}\n");
         self.answer(by).into_iter().map(line).collect()
     }
 }
 
-/// A file that is a header and a table with these jobs: it passes 20 to 24, and the search asks no more.
+/// A file of a header and a table with these jobs. It passes 20 to 24, and the search checks nothing else.
 fn table(jobs: &[u32]) -> Vec<u8> {
     table_in(1, jobs)
 }
@@ -48,7 +48,7 @@ fn table_in(edition: usize, jobs: &[u32]) -> Vec<u8> {
     file
 }
 
-/// The odd numbers, so many of them.
+/// The first `count` odd numbers.
 fn odd(count: u32) -> Vec<u32> {
     (0..count).map(|i| 2 * i + 1).collect()
 }
@@ -72,7 +72,7 @@ fn edges(_: &mut Random) -> Vec<SearchCall> {
         .to_vec()
 }
 
-/// Tables that do not rise: falling, repeated, of random jobs.
+/// Tables that are not sorted: descending, with repeated jobs, with random jobs.
 fn unsorted(random: &mut Random) -> Vec<SearchCall> {
     let mut tables: Vec<Vec<u32>> = vec![(0..20).rev().collect(), vec![5; 12], [odd(6), odd(6)].concat()];
     for count in [3, 10, 50] {
@@ -81,11 +81,11 @@ fn unsorted(random: &mut Random) -> Vec<SearchCall> {
     tables.iter().map(|jobs| call(0, 40, table(jobs))).collect()
 }
 
-/// 20 to 24, each alone and beside all later ones; a refusal reports none looked at.
+/// 20 to 24, each alone and together with all later ones; a refused search reads no row.
 fn refused(_: &mut Random) -> Vec<SearchCall> {
     let mut calls = refused_of(table(&odd(5)));
     calls.extend(refused_of(table_in(2, &odd(5))));
-    // a table that an edition with shorter rows would have
+    // a table whose rows are too short for its edition
     let mut narrow = table(&odd(9));
     narrow[0] = 2;
     calls.push(call(5, 1, narrow));
@@ -96,21 +96,21 @@ fn refused_of(good: Vec<u8>) -> Vec<SearchCall> {
     let mut calls: Vec<SearchCall> = (0..=8).map(|length| call(5, 1, good[..length].to_vec())).collect();
     let faults: [(u32, usize, &[u8]); 4] =
         [(21, 0, &[3, 0]), (22, 2, &[1, 2]), (23, 4, &[7, 0, 0, 0]), (24, 2, &[6, 0])];
-    for (i, (number, _, _)) in faults.iter().enumerate() {
+    for (i, (status, _, _)) in faults.iter().enumerate() {
         for others in [&faults[i..i + 1], &faults[i..]] {
             let mut file = good.clone();
             for (_, at, bytes) in others.iter().rev() {
                 file[*at..*at + bytes.len()].copy_from_slice(bytes);
             }
             let call = call(5, 1, file);
-            assert_eq!(call.answer(&REFERENCE), [((*number, 0), 0)]);
+            assert_eq!(call.answer(&REFERENCE), [((*status, 0), 0)]);
             calls.push(call);
         }
     }
     calls
 }
 
-/// Good files, where the answer is the full lookup's; and the same with other bodies and rows that pass no check.
+/// Good files, on which the search returns what the lookup returns; and the same files with faulty bodies and rows.
 fn whole_files(random: &mut Random) -> Vec<SearchCall> {
     let mut calls = vec![];
     for (edition, rows) in [(1, 1), (1, 3), (1, 6), (2, 2), (2, 5)] {
@@ -129,19 +129,19 @@ fn whole_files(random: &mut Random) -> Vec<SearchCall> {
     calls
 }
 
-/// All calls.
+/// All calls of the test data.
 pub fn calls() -> Vec<SearchCall> {
     let mut random = Random::new(10);
     let groups = [sizes, edges, unsorted, refused, whole_files];
     groups.into_iter().flat_map(|group| group(&mut random)).collect()
 }
 
-/// Random files, good and edited, and random tables; every job that is there and its neighbours.
+/// Random files, good and edited, and random tables; for each every job that it has and the adjacent numbers.
 pub fn trials(random: &mut Random, count: usize, mut each: impl FnMut(&SearchCall)) {
-    for turn in 0..count {
+    for trial in 0..count {
         let (rows, edition) = (random.below(12), 1 + random.below(2));
         let mut file = files::random_plan(random, rows, 10).in_edition(edition).file(&samples::ring());
-        if turn % 2 == 0 {
+        if trial % 2 == 0 {
             let most = 1 + random.below(40);
             let jobs: Vec<u32> = (0..random.below(40)).map(|_| random.below(most) as u32).collect();
             file = table_in(edition, &jobs);
@@ -159,7 +159,7 @@ pub fn trials(random: &mut Random, count: usize, mut each: impl FnMut(&SearchCal
     }
 }
 
-/// Around the longest file: the longest is searched, one byte more is 20.
+/// Around the greatest length: the longest file is searched, one byte more is 20.
 pub fn longest(mut each: impl FnMut(&SearchCall)) {
     for edition in shift::EDITIONS {
         let longest = files::long_file(edition, shift::LONGEST);

@@ -1,4 +1,4 @@
-//! The program `test_session`: runs of a session's calls.
+//! Cases for `test_session`: sequences of calls on one session.
 
 use super::{parts_of, Part};
 use crate::calls::{head, Case, Library, FILLER, REFERENCE};
@@ -7,7 +7,7 @@ use crate::random::Random;
 use crate::session::{Session, Step, OVER};
 use crate::show::shown;
 
-/// A call of a session. `Forge` puts another suite and other totals into the session's value.
+/// A call on a session. `Forge` overwrites the suite and the totals in the session's value.
 #[derive(Clone)]
 pub enum SessionCall {
     Start { suite: u8, key: Vec<u8>, nonce: Vec<u8> },
@@ -19,7 +19,7 @@ pub enum SessionCall {
 
 use SessionCall::{Data, End, Forge, Start};
 
-/// What a call gives. `next` is settled: what no later call can see is zero in it. `wiped` is what wiping makes of it.
+/// The result of a call. `next` is normalised: bytes that no later call reads are zero. `wiped` is the session after a wipe.
 #[derive(PartialEq)]
 pub struct StepOutcome {
     pub number: u32,
@@ -31,7 +31,7 @@ pub struct StepOutcome {
     pub tag: Vec<u8>,
 }
 
-/// Zeros behind Y and behind the held bytes.
+/// The session with zeros after Y and after the held bytes.
 fn settled(mut session: Session) -> Session {
     let block = block_size(session.suite);
     if block > 0 {
@@ -45,7 +45,7 @@ fn settled(mut session: Session) -> Session {
 impl SessionCall {
     fn answer(&self, session: Session, by: &Library) -> (Session, StepOutcome) {
         let (mut out, mut tag) = (vec![], vec![]);
-        let Step { next, number, count } = match self {
+        let Step { next, number: status, count } = match self {
             Start { suite, key, nonce } => (by.session_start)(*suite, key, nonce),
             Data(ad) => (by.session_data)(session, ad),
             SessionCall::Part { msg, out: length } => {
@@ -64,7 +64,7 @@ impl SessionCall {
         };
         let is_as_it_was = next == session;
         let wiped = (by.session_wipe)(next);
-        (next, StepOutcome { number, count, next: settled(next), wiped, is_as_it_was, out, tag })
+        (next, StepOutcome { number: status, count, next: settled(next), wiped, is_as_it_was, out, tag })
     }
 
     fn record(&self) -> Vec<u8> {
@@ -79,17 +79,17 @@ impl SessionCall {
     }
 
     fn line(&self, outcome: &StepOutcome) -> String {
-        let StepOutcome { number, count, out, tag, .. } = outcome;
+        let StepOutcome { number: status, count, out, tag, .. } = outcome;
         match self {
-            Start { .. } | Data(_) => format!("{number} {count}\n"),
-            SessionCall::Part { .. } => format!("{number} {count} {}\n", shown(out)),
-            End { .. } => format!("{number} {count} {} {}\n", shown(out), shown(tag)),
+            Start { .. } | Data(_) => format!("{status} {count}\n"),
+            SessionCall::Part { .. } => format!("{status} {count} {}\n", shown(out)),
+            End { .. } => format!("{status} {count} {} {}\n", shown(out), shown(tag)),
             Forge { .. } => String::new(),
         }
     }
 }
 
-/// Calls on one session, one after the other. Before the first the session is over.
+/// Calls on one session in sequence. Before the first call the session is over.
 #[derive(Clone)]
 pub struct Run(pub Vec<SessionCall>);
 
@@ -119,7 +119,7 @@ fn start(random: &mut Random, suite: u8) -> SessionCall {
     Start { suite, key: random.bytes(16), nonce: random.bytes(nonce_size(suite)) }
 }
 
-/// A part of the message with just the room that it needs.
+/// A part of the message with an output of exactly the length that it needs.
 fn part(suite: u8, msg: &[u8]) -> SessionCall {
     SessionCall::Part { msg: msg.to_vec(), out: msg.len() + block_size(suite) - 1 }
 }
@@ -128,7 +128,7 @@ fn end(suite: u8) -> SessionCall {
     End { out: block_size(suite), tag: block_size(suite) }
 }
 
-/// A run that seals a record in these parts. Its ciphertext and its tag are seen to be the one-call sealer's.
+/// A run that seals a record in these parts, after a check that ciphertext and tag are those of `seal`.
 pub fn cut(random: &mut Random, suite: u8, ad: &[&[u8]], msg: &[&[u8]]) -> Run {
     let start = start(random, suite);
     let Start { key, nonce, .. } = &start else { unreachable!() };
@@ -146,7 +146,7 @@ pub fn cut(random: &mut Random, suite: u8, ad: &[&[u8]], msg: &[&[u8]]) -> Run {
     run
 }
 
-/// Bytes cut at random into so many pieces, empty ones among them.
+/// The bytes cut at random into `count` pieces, some of them empty.
 fn pieces<'a>(random: &mut Random, bytes: &'a [u8], count: usize) -> Vec<&'a [u8]> {
     let mut cuts: Vec<usize> = (1..count).map(|_| random.below(bytes.len() + 1)).collect();
     cuts.extend([0, bytes.len()]);
@@ -154,7 +154,7 @@ fn pieces<'a>(random: &mut Random, bytes: &'a [u8], count: usize) -> Vec<&'a [u8
     cuts.windows(2).map(|pair| &bytes[pair[0]..pair[1]]).collect()
 }
 
-/// Lengths around the blocks' borders, cut at random into up to four parts; no part at all where nothing comes.
+/// Lengths around block boundaries, cut at random into up to four parts; an empty text may have no part.
 fn cuttings(random: &mut Random) -> Vec<Run> {
     let mut runs = vec![];
     for suite in SEALED {
@@ -171,15 +171,15 @@ fn cuttings(random: &mut Random) -> Vec<Run> {
     runs
 }
 
-/// Byte by byte, and every cut of a text of two blocks and a byte in two.
+/// Parts of one byte each, and every cut of a text of two blocks and a byte into two parts.
 fn small_parts(random: &mut Random) -> Vec<Run> {
     let mut runs = vec![];
     for suite in [1, 3, 5, 6] {
         let bytes = random.bytes(2 * block_size(suite) + 1);
         let single: Vec<&[u8]> = bytes.chunks(1).collect();
         runs.push(cut(random, suite, &single, &single));
-        for place in 0..=bytes.len() {
-            let (one, two) = bytes.split_at(place);
+        for at in 0..=bytes.len() {
+            let (one, two) = bytes.split_at(at);
             runs.push(cut(random, suite, &[one, two], &[b"message"]));
             runs.push(cut(random, suite, &[b"data"], &[one, two]));
         }
@@ -187,7 +187,7 @@ fn small_parts(random: &mut Random) -> Vec<Run> {
     runs
 }
 
-/// Each refusal of start alone and beside later ones; the session so refused answers 9 to every call.
+/// Each refusal of the start, alone and together with later ones; afterwards every call returns 9.
 fn refused_starts(random: &mut Random) -> Vec<Run> {
     let mut runs = vec![];
     for faults in 1..16 {
@@ -206,7 +206,7 @@ fn refused_starts(random: &mut Random) -> Vec<Run> {
     runs
 }
 
-/// Calls that are good or refused as the phase is, for a suite: each number alone and beside later ones.
+/// Calls for a suite that are good or refused, depending on the phase: each status alone and together with later ones.
 fn probes(suite: u8) -> Vec<SessionCall> {
     let block = block_size(suite);
     let part = |length: usize, out: usize| SessionCall::Part { msg: vec![7; length], out };
@@ -228,7 +228,7 @@ fn probes(suite: u8) -> Vec<SessionCall> {
     ]
 }
 
-/// Each probe in each phase, and then the run goes on to its end, so that what a refusal leaves is seen.
+/// Each probe in each phase. The run then continues to its end, so that it shows in which state a refusal leaves the session.
 fn phases(random: &mut Random) -> Vec<Run> {
     let mut runs = vec![];
     for suite in [1, 3, 2, 5, 6] {
@@ -251,7 +251,7 @@ fn phases(random: &mut Random) -> Vec<Run> {
     runs
 }
 
-/// The running totals at their limits, from a session whose totals were raised by whole blocks; 5 before 6.
+/// The running totals at their limits, from a session whose totals were increased by whole blocks; 5 comes before 6.
 fn limits(random: &mut Random) -> Vec<Run> {
     let mut runs = vec![];
     for suite in [1, 3, 6] {
@@ -299,7 +299,8 @@ fn longest(random: &mut Random) -> Vec<Run> {
     vec![run]
 }
 
-/// Values that no run gives: no suite, one that no start takes, totals over the limits. Every call is 9; then the old value goes on.
+/// Values that no call returns: no suite, a suite that cannot be started, totals over the limits. Every call returns 9; then
+/// the run continues with the old value.
 fn forged(random: &mut Random) -> Vec<Run> {
     let mut runs = vec![];
     for suite in [1, 3, 5] {
@@ -326,7 +327,7 @@ fn forged(random: &mut Random) -> Vec<Run> {
     runs
 }
 
-/// All runs of the program.
+/// All runs of the test data.
 pub fn runs() -> Vec<Run> {
     let mut random = Random::new(7);
     let groups = [cuttings, small_parts, refused_starts, phases, limits, longest, forged];
@@ -337,8 +338,8 @@ pub fn parts() -> [Part; 2] {
     parts_of(&runs())
 }
 
-/// Every cutting into three parts, empty ones among them, of a text of up to three blocks: of the associated data,
-/// and of the message.
+/// Every cut of a text of up to three blocks into three parts, which may be empty: of the associated data, and of the
+/// message.
 pub fn all_cuttings(random: &mut Random, mut each: impl FnMut(&Run)) {
     for suite in SEALED {
         let bytes = random.bytes(3 * block_size(suite));
@@ -352,7 +353,7 @@ pub fn all_cuttings(random: &mut Random, mut each: impl FnMut(&Run)) {
     }
 }
 
-/// Runs with long texts in many parts, and among their calls some that are refused.
+/// Runs with long texts in many parts, in which some calls are refused.
 pub fn long_runs(random: &mut Random, count: usize, mut each: impl FnMut(&Run)) {
     for _ in 0..count {
         let suite = SEALED[random.below(SEALED.len())];
@@ -362,8 +363,8 @@ pub fn long_runs(random: &mut Random, count: usize, mut each: impl FnMut(&Run)) 
         let (ad, msg) = (pieces(random, &ad, counts[0]), pieces(random, &msg, counts[1]));
         let mut run = cut(random, suite, &ad, &msg);
         for _ in 0..random.below(3) {
-            let (place, probes) = (random.below(run.0.len() + 1), probes(suite));
-            run.0.insert(place, probes[random.below(probes.len())].clone());
+            let (index, probes) = (random.below(run.0.len() + 1), probes(suite));
+            run.0.insert(index, probes[random.below(probes.len())].clone());
         }
         each(&run);
     }
@@ -388,7 +389,7 @@ impl Case for Forged {
     }
 }
 
-/// Values with random states and held bytes, a suite that may be none, and totals at and over their limits.
+/// Values with random state and held bytes, a suite that may not exist, and totals at and over their limits.
 pub fn forged_values(random: &mut Random, count: usize, mut each: impl FnMut(&Forged)) {
     for _ in 0..count {
         let total = |random: &mut Random| match random.below(6) {

@@ -1,12 +1,12 @@
-//! The program `test_ciphers`: blocks and their images.
+//! Cases for `test_ciphers`: blocks and their encryptions.
 
 use super::Part;
 use crate::comet;
 use crate::random::Random;
 use crate::show::{hex, unhex};
 
-/// The vectors that the ciphers' papers print: where, suite, key, block, image. The words of the Speck
-/// and CHAM papers are written little-endian, word 0 first.
+/// The vectors that the ciphers' papers print: source, suite, key, block, encryption. The words of the Speck and CHAM papers
+/// are written here little-endian, word 0 first.
 pub const PUBLISHED: [(&str, u8, &str, &str, &str); 5] = [
     (
         "FIPS 197, appendix B",
@@ -64,7 +64,7 @@ pub fn parts() -> [Part; 2] {
         stdin.push(suite);
         stdin.extend(key);
         stdin.extend(block);
-        // suite 1 by both engines: the plain one and the one by columns
+        // the program encrypts suite 1 with both AES implementations: the plain one and the one by columns
         stdout += &format!("{}\n", hex(&image)).repeat(if suite == 1 { 2 } else { 1 });
     }
     [("stdin", stdin), ("stdout", stdout.into_bytes())]

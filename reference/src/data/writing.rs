@@ -1,4 +1,4 @@
-//! For `test_writer` and `write`: drafts sealed, and files unsealed.
+//! Cases for `test_writer` and `write`: drafts sealed, and files unsealed.
 
 use super::{files, samples, Part};
 use crate::calls::{head, Case, Library, FILLER, REFERENCE};
@@ -9,7 +9,7 @@ use crate::shift::{self, rows};
 use crate::show::shown;
 use crate::trials::{edit, misuse_ring};
 
-/// What takes a file and a ring and writes a file.
+/// A function that reads a file and a ring and writes a file.
 #[derive(Clone, Copy, PartialEq)]
 pub enum Pass {
     Seal,
@@ -55,8 +55,8 @@ impl Case for RewriteCall {
     }
 
     fn lines(&self, by: &Library) -> String {
-        let RewriteOutcome { answer: (number, row), out } = self.answer(by);
-        format!("{number} {row} {}\n", shown(&out))
+        let RewriteOutcome { answer: (status, row), out } = self.answer(by);
+        format!("{status} {row} {}\n", shown(&out))
     }
 }
 
@@ -65,13 +65,13 @@ pub fn call(pass: Pass, file: Vec<u8>) -> RewriteCall {
     RewriteCall { pass, out: file.len(), file, ring: samples::ring() }
 }
 
-/// The call, once it is seen to give the number and the row that it was made for.
-pub fn expected(call: RewriteCall, number: u32, row: usize) -> RewriteCall {
-    assert_eq!(call.answer(&REFERENCE).answer, (number, row as u32));
+/// The call, after a check that it returns the expected status and row.
+pub fn expected(call: RewriteCall, status: u32, row: usize) -> RewriteCall {
+    assert_eq!(call.answer(&REFERENCE).answer, (status, row as u32));
     call
 }
 
-/// A draft sealed and its file unsealed; the one gives the other, but that a draft with suite 4 is not sealed.
+/// A plan's draft sealed and its file unsealed, after a check that each outputs the other. A draft with suite 4 is refused.
 fn both_ways(plan: &Plan) -> [RewriteCall; 2] {
     let (draft, file) = (plan.draft(), plan.file(&samples::ring()));
     let (seal, unseal) = (call(Pass::Seal, draft.clone()), call(Pass::Unseal, file.clone()));
@@ -84,7 +84,7 @@ fn both_ways(plan: &Plan) -> [RewriteCall; 2] {
     [seal, unseal]
 }
 
-/// The plan with suite 3 where it has suite 4: its draft can be sealed.
+/// The plan with suite 3 in offset of suite 4, so that its draft can be sealed.
 fn sealable(plan: &Plan) -> Plan {
     plan.resuited(4, 3)
 }
@@ -99,7 +99,7 @@ pub fn all_suites() -> Plan {
     Plan::new((0..comet::SUITES.len() as u32).map(entry).collect())
 }
 
-/// No rows, one, three, one of each suite, as many as there can be; and random ones. Then those with suite 4 among them.
+/// Plans of no row, one, three, one of each suite, and a full table; and random ones. Then plans with rows of suite 4.
 fn good(random: &mut Random) -> Vec<RewriteCall> {
     let smallest = Plan::new(vec![Entry::new(7, 3, 0, 1, [0; 16], b"")]);
     let mut plans = vec![files::three_rows(), all_suites(), files::many_rows_plan(512)];
@@ -110,7 +110,7 @@ fn good(random: &mut Random) -> Vec<RewriteCall> {
     [current, plans.iter().flat_map(both_ways).collect()].concat()
 }
 
-/// A plan's input of a pass.
+/// The input of a pass for a plan: its draft or its file.
 fn input(pass: Pass, plan: &Plan) -> Vec<u8> {
     if pass == Pass::Seal {
         plan.draft()
@@ -119,24 +119,24 @@ fn input(pass: Pass, plan: &Plan) -> Vec<u8> {
     }
 }
 
-/// Each number of the check, alone and beside all that comes after the check.
+/// Each status of the check, alone and together with every later fault.
 fn refused_checks(_: &mut Random) -> Vec<RewriteCall> {
     let mut calls = vec![];
     for pass in [Pass::Seal, Pass::Unseal] {
-        for number in [20].into_iter().chain(files::ORDER) {
-            let (mut plan, row) = (files::three_rows(), files::OF_ROWS.contains(&number) as usize);
-            if number > 20 {
-                files::fault(&mut plan, number, 1);
+        for status in [20].into_iter().chain(files::ORDER) {
+            let (mut plan, row) = (files::three_rows(), files::OF_ROWS.contains(&status) as usize);
+            if status > 20 {
+                files::fault(&mut plan, status, 1);
             }
             let mut file = input(pass, &plan);
-            if number == 20 {
+            if status == 20 {
                 file.truncate(7);
             }
-            calls.push(expected(call(pass, file.clone()), number, row));
-            if number >= 25 {
+            calls.push(expected(call(pass, file.clone()), status, row));
+            if status >= 25 {
                 *file.last_mut().unwrap() ^= 1;
             }
-            calls.push(expected(RewriteCall { pass, file, ring: vec![0; 255], out: 3 }, number, row));
+            calls.push(expected(RewriteCall { pass, file, ring: vec![0; 255], out: 3 }, status, row));
         }
         let other = if pass == Pass::Seal { files::three_rows().file(&samples::ring()) } else { all_suites().draft() };
         calls.push(expected(call(pass, other), 21, 0));
@@ -145,7 +145,7 @@ fn refused_checks(_: &mut Random) -> Vec<RewriteCall> {
     calls
 }
 
-/// 33, 2 and 6 of sealing, and 2, 6 and 8 of unsealing: each alone and in pairs, in all their kinds.
+/// 33, 2 and 6 of sealing, and 2, 6 and 8 of unsealing: each alone and in pairs, in all variants.
 fn refused(_: &mut Random) -> Vec<RewriteCall> {
     let mut calls = vec![];
     for pass in [Pass::Seal, Pass::Unseal] {
@@ -163,12 +163,12 @@ fn refused(_: &mut Random) -> Vec<RewriteCall> {
         for out in [0, length - 1, length + 1, 2 * length] {
             calls.push(expected(with(256, out), 6, 0));
         }
-        let number = if pass == Pass::Seal { 33 } else { 8 };
+        let status = if pass == Pass::Seal { 33 } else { 8 };
         for (i, row) in rows(&good.file).iter().enumerate() {
-            for place in [row.tag().start, row.tag().end - 1] {
+            for offset in [row.tag().start, row.tag().end - 1] {
                 let mut damaged = good.clone();
-                damaged.file[place] ^= 0x80;
-                calls.push(expected(damaged.clone(), number, i));
+                damaged.file[offset] ^= 0x80;
+                calls.push(expected(damaged.clone(), status, i));
                 let others =
                     [RewriteCall { ring: vec![], out: 0, ..damaged.clone() }, RewriteCall { out: 0, ..damaged }];
                 let [ring, out] = if pass == Pass::Seal { [(33, i), (33, i)] } else { [(2, 0), (6, 0)] };
@@ -180,12 +180,12 @@ fn refused(_: &mut Random) -> Vec<RewriteCall> {
         for row in &rows(&good.file)[2..] {
             two.file[row.tag().start] ^= 1;
         }
-        calls.push(expected(two, number, 2));
+        calls.push(expected(two, status, 2));
     }
     calls
 }
 
-/// 10 of a draft: the first row of suite 4, before 2 and 6; and behind 33, in whatever row that is.
+/// 10 of a draft, with the first row of suite 4: it comes before 2 and 6, and after 33 in any row.
 fn retired(_: &mut Random) -> Vec<RewriteCall> {
     let mut calls = vec![];
     for (suites, row) in [([4, 1, 3, 2], 0), ([1, 4, 4, 3], 1), ([3, 1, 2, 4], 3), ([4, 4, 4, 4], 0)] {
@@ -207,19 +207,19 @@ fn retired(_: &mut Random) -> Vec<RewriteCall> {
     calls
 }
 
-/// Files with a byte altered that a tag covers: in the associated data, the text, the nonce, the key number, and in
-/// the ring. In a draft the same bytes are no fault.
+/// Files with one byte changed that a tag covers: in the associated data, the text, the nonce, the key number, and the
+/// ring. In a draft the same change is no fault.
 fn altered(_: &mut Random) -> Vec<RewriteCall> {
     let mut calls = vec![];
     for i in 1..comet::SUITES.len() {
         let file = all_suites().file(&samples::ring());
         let row = &rows(&file)[i];
         let at = row_at(i);
-        let places =
+        let changes =
             [(row.offset + 4, 3), (row.text().start, 1), (row.text().end - 1, 0x80), (at + 16, 1), (at + 5, 1)];
-        for (place, x) in places {
+        for (offset, x) in changes {
             let mut altered = call(Pass::Unseal, file.clone());
-            altered.file[place] ^= x;
+            altered.file[offset] ^= x;
             calls.push(expected(altered, 8, i));
         }
         let mut other_ring = call(Pass::Unseal, file.clone());
@@ -233,14 +233,14 @@ fn altered(_: &mut Random) -> Vec<RewriteCall> {
     calls
 }
 
-/// All calls.
+/// All calls of the test data.
 pub fn calls() -> Vec<RewriteCall> {
     let mut random = Random::new(8);
     let groups = [good, refused_checks, refused, retired, altered];
     groups.into_iter().flat_map(|group| group(&mut random)).collect()
 }
 
-/// Random drafts and files, good and edited, with now and then a wrong ring or output.
+/// Random drafts and files, good and edited, sometimes with a wrong ring or output.
 pub fn trials(random: &mut Random, count: usize, mut each: impl FnMut(&RewriteCall)) {
     for _ in 0..count {
         let pass = [Pass::Seal, Pass::Unseal][random.below(2)];
@@ -259,26 +259,25 @@ pub fn trials(random: &mut Random, count: usize, mut each: impl FnMut(&RewriteCa
     }
 }
 
-/// Whether each byte of a file's table and of its tags matters as it should: every single-byte change of a draft and
-/// of a file.
+/// Five changes of every byte of drafts and of files.
 pub fn single_bytes(mut each: impl FnMut(&RewriteCall)) {
     for call in [sealable(&files::three_rows()), files::three_rows()].iter().flat_map(both_ways) {
-        for (place, x) in (0..call.file.len()).flat_map(|place| [1, 2, 4, 0x80, 0xff].map(|x| (place, x))) {
+        for (offset, x) in (0..call.file.len()).flat_map(|offset| [1, 2, 4, 0x80, 0xff].map(|x| (offset, x))) {
             let mut changed = call.clone();
-            changed.file[place] ^= x;
+            changed.file[offset] ^= x;
             each(&changed);
         }
     }
 }
 
-/// The folder of the program `write`: it seals the sample's draft.
+/// The files of the program `write`: it seals the sample draft.
 pub fn write_parts() -> [Part; 4] {
     let draft = samples::draft();
-    let (number, row) = call(Pass::Seal, draft.clone()).answer(&REFERENCE).answer;
+    let (status, row) = call(Pass::Seal, draft.clone()).answer(&REFERENCE).answer;
     [
         ("args", b"day.draft\nring.keys\nday.shift\n".to_vec()),
         ("data/day.draft", draft),
         ("data/ring.keys", samples::ring()),
-        ("stdout", format!("{number} {row}\n").into_bytes()),
+        ("stdout", format!("{status} {row}\n").into_bytes()),
     ]
 }

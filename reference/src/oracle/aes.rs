@@ -18,13 +18,13 @@ const fn times(mut a: u8, mut b: u8) -> u8 {
     product
 }
 
-/// The inverse in GF(2^8), and 0 for 0: the power 254, since every a that is not 0 has a^255 = 1.
+/// The inverse of a in GF(2^8), and 0 for 0. It is a^254, since a^255 = 1 for every a other than 0.
 const fn inverse(a: u8) -> u8 {
     let mut power = 1;
-    let mut turn = 0;
-    while turn < 254 {
+    let mut step = 0;
+    while step < 254 {
         power = times(power, a);
-        turn += 1;
+        step += 1;
     }
     power
 }
@@ -44,19 +44,19 @@ const fn sbox() -> [u8; 256] {
     table
 }
 
-/// The S-box, by its rule: the inverse, then the affine map.
+/// The S-box, computed from its definition: the inverse, then the affine map.
 pub static SBOX: [u8; 256] = sbox();
 
 fn sub_bytes(s: &[u8; 16]) -> [u8; 16] {
     std::array::from_fn(|i| SBOX[s[i] as usize])
 }
 
-/// Row r moves left by r places.
+/// Rotates row r left by r bytes.
 fn shift_rows(s: &[u8; 16]) -> [u8; 16] {
     std::array::from_fn(|i| s[(i + 4 * (i % 4)) % 16])
 }
 
-/// Each column times the matrix with the rows 2 3 1 1, 1 2 3 1, 1 1 2 3 and 3 1 1 2.
+/// Multiplies each column by the matrix with the rows 2 3 1 1, 1 2 3 1, 1 1 2 3 and 3 1 1 2.
 fn mix_columns(s: &[u8; 16]) -> [u8; 16] {
     std::array::from_fn(|i| {
         let column = i - i % 4;

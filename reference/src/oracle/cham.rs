@@ -2,17 +2,17 @@
 
 const ROUNDS: usize = 80;
 
-/// CHAM with words of the type `$word`, which has `$size` bytes.
+/// Defines the module of CHAM with words of the type `$word`, which has `$size` bytes.
 macro_rules! cham {
     ($name:ident, $word:ident, $size:expr) => {
         pub mod $name {
             use super::ROUNDS;
 
             const SIZE: usize = $size;
-            /// k/w: the number of words of the key.
+            /// k/w in the paper: the number of words of the key.
             const KEY_WORDS: usize = 16 / SIZE;
 
-            /// Word i of a string of bytes, little-endian.
+            /// Word i of a byte string, little-endian.
             fn word(bytes: &[u8], i: usize) -> $word {
                 $word::from_le_bytes(bytes[SIZE * i..SIZE * (i + 1)].try_into().unwrap())
             }

@@ -1,21 +1,21 @@
-//! COMET versions 1 and 2 over the ciphers: the sealer and the opener, with document 01's numbers.
+//! COMET versions 1 and 2 over the four ciphers: the sealer and the opener, with the statuses of document 01.
 
 use std::cell::Cell;
 
-/// The longest associated data, message and ciphertext.
+/// The greatest length of associated data, message and ciphertext.
 pub const LIMIT: usize = 65_536;
 
 pub const SUITES: [u8; 6] = [1, 2, 3, 4, 5, 6];
 
-/// The suites that records are still sealed under: suite 4 is retired (document 02, W7) and is opened alone.
+/// The suites that the sealer accepts. Suite 4 is retired (document 02, W7): its records can only be opened.
 pub const SEALED: [u8; 5] = [1, 2, 3, 5, 6];
 
-/// A suite whose records are opened and no longer sealed.
+/// Whether records of the suite are opened but no longer sealed.
 pub fn is_retired(suite: u8) -> bool {
     SUITES.contains(&suite) && !SEALED.contains(&suite)
 }
 
-/// Bytes of a block, which are also those of the tag; 0 for a suite that is none.
+/// The number of bytes of a block and of a tag; 0 if there is no such suite.
 pub fn block_size(suite: u8) -> usize {
     match suite {
         1 | 2 | 5 => 16,
@@ -24,8 +24,8 @@ pub fn block_size(suite: u8) -> usize {
     }
 }
 
-/// Version 2 (source 004, section 7.2) differs from version 1 in two things: how the next block key is made (Psi), and
-/// when the marks come (Delta).
+/// Version 2 (source 004, section 7.2) differs from version 1 in two things: how the next block key is computed (Psi), and
+/// when the marks are added (Delta).
 #[derive(Clone, Copy, PartialEq)]
 pub enum Version {
     One,
@@ -49,17 +49,17 @@ pub fn nonce_size(suite: u8) -> usize {
     }
 }
 
-/// Doubling in GF(2^64): a plain left shift; where the dropped bit was 1, XOR 0x1b.
+/// Doubling in GF(2^64): a left shift, then XOR 0x1b if the bit shifted out was 1.
 pub fn double(x: u64) -> u64 {
     (x << 1) ^ ((x >> 63) * 0x1b)
 }
 
-/// Doubling in GF(2^120) modulo x^120 + x^9 + x^6 + x^2 + 1, for numbers below 2^120.
+/// Doubling in GF(2^120) modulo x^120 + x^9 + x^6 + x^2 + 1, for x below 2^120.
 pub fn double_120(x: u128) -> u128 {
     ((x << 1) & ((1 << 120) - 1)) ^ ((x >> 119) * 0x245)
 }
 
-/// A short block gets byte 01 and then zero bytes; a full block gets nothing.
+/// The piece padded to a block: a short one is followed by byte 01 and zero bytes, a full one is unchanged.
 pub fn pad<const N: usize>(piece: &[u8]) -> [u8; N] {
     let mut block = [0; N];
     block[..piece.len()].copy_from_slice(piece);
@@ -69,7 +69,7 @@ pub fn pad<const N: usize>(piece: &[u8]) -> [u8; N] {
     block
 }
 
-/// (X3, X2, X1, X0) gives (X1, X0, X2 rotated right by 1, X3); a word is a quarter of the block.
+/// Maps (X3, X2, X1, X0) to (X1, X0, X2 rotated right by 1, X3); a word is a quarter of the block.
 pub fn shuffle<const N: usize>(x: &[u8; N]) -> [u8; N] {
     let size = N / 4;
     let word = |i: usize| &x[size * i..size * (i + 1)];
@@ -87,7 +87,7 @@ fn xor<const N: usize>(a: [u8; N], b: [u8; N]) -> [u8; N] {
     std::array::from_fn(|i| a[i] ^ b[i])
 }
 
-/// Whose text is worked on: the sealer's message, or the opener's ciphertext.
+/// What the text of a call is: the sealer's message, or the opener's ciphertext.
 #[derive(Clone, Copy, PartialEq)]
 pub(crate) enum Text {
     Message,
@@ -99,7 +99,7 @@ pub(crate) trait Cipher<const N: usize>: Fn(&[u8; 16], &[u8; N]) -> [u8; N] {}
 
 impl<const N: usize, E: Fn(&[u8; 16], &[u8; N]) -> [u8; N]> Cipher<N> for E {}
 
-/// A function on the suite's cipher and what else is given.
+/// Calls a function with the suite's cipher and the other arguments.
 macro_rules! by_suite {
     ($suite:expr, $function:ident($($argument:expr),*)) => {
         match $suite {
@@ -114,7 +114,7 @@ macro_rules! by_suite {
 
 pub(crate) use by_suite;
 
-/// Y, Z, the version and the cipher.
+/// The state of the mode: Y, Z, the version and the cipher.
 pub(crate) struct State<const N: usize, E> {
     pub y: [u8; N],
     pub z: [u8; 16],
@@ -123,12 +123,13 @@ pub(crate) struct State<const N: usize, E> {
 }
 
 impl<const N: usize, E: Cipher<N>> State<N, E> {
-    /// COMET-128: Y is the key and Z the nonce's image. COMET-64: Y is the image of zeros and Z the key XOR the nonce.
+    /// The initial state. COMET-128: Y is the key, Z the encryption of the nonce. COMET-64: Y is the encryption of the zero
+    /// block, Z the key XOR the nonce.
     pub fn start(encrypt: E, version: Version, key: &[u8], nonce: &[u8]) -> Self {
         let mut z: [u8; 16] = key.try_into().unwrap();
         if N == 16 {
-            let image = encrypt(&z, nonce.try_into().unwrap());
-            return State { y: key.try_into().unwrap(), z: image[..].try_into().unwrap(), version, encrypt };
+            let encrypted = encrypt(&z, nonce.try_into().unwrap());
+            return State { y: key.try_into().unwrap(), z: encrypted[..].try_into().unwrap(), version, encrypt };
         }
         let y = encrypt(&z, &[0; N]);
         for (byte, n) in z.iter_mut().zip(nonce) {
@@ -137,7 +138,7 @@ impl<const N: usize, E: Cipher<N>> State<N, E> {
         State { y, z, version, encrypt }
     }
 
-    /// The next block key: version 1 doubles the low half of Z, version 2 all but byte 15. The new Z is kept.
+    /// Replaces Z by the next block key: version 1 doubles the low half of Z, version 2 all but byte 15.
     fn next_key(&mut self) {
         match self.version {
             Version::One => {
@@ -152,36 +153,36 @@ impl<const N: usize, E: Cipher<N>> State<N, E> {
         }
     }
 
-    /// One cipher call: the mark into byte 15 of Z, the next block key, then E(Z, Y).
+    /// One cipher call: adds the mark to byte 15 of Z, computes the next block key, and returns E(Z, Y).
     fn call(&mut self, mark: u8) -> [u8; N] {
         self.z[15] ^= mark;
         self.next_key();
         (self.encrypt)(&self.z, &self.y)
     }
 
-    /// The call of a block that has a mark: in version 1 the mark comes before this call, in version 2 behind it, so that
-    /// the next call is the first under it.
+    /// The cipher call of a block with a mark. Version 1 adds the mark before this call, version 2 after it, so that it
+    /// takes effect with the next call.
     fn marked_call(&mut self, mark: u8) -> [u8; N] {
-        let (before, behind) = if self.version == Version::One { (mark, 0) } else { (0, mark) };
+        let (before, after) = if self.version == Version::One { (mark, 0) } else { (0, mark) };
         let x = self.call(before);
-        self.z[15] ^= behind;
+        self.z[15] ^= after;
         x
     }
 
-    /// Blocks of associated data; `begins` where the first of them is the first of all.
+    /// Absorbs blocks of associated data; `begins` if they start with the record's first block.
     pub fn absorb(&mut self, begins: bool, ad: &[u8]) {
-        for (place, piece) in ad.chunks(N).enumerate() {
-            let first = if begins && place == 0 { 0x08 } else { 0 };
+        for (index, piece) in ad.chunks(N).enumerate() {
+            let first = if begins && index == 0 { 0x08 } else { 0 };
             let short = if piece.len() < N { 0x10 } else { 0 };
             let x = self.marked_call(first ^ short);
             self.y = xor(x, pad(piece));
         }
     }
 
-    /// Blocks of text in the same way. Y takes in the message in either direction.
+    /// Encrypts or decrypts blocks of text into `out` in the same way. Both directions absorb the message.
     pub fn crypt(&mut self, kind: Text, begins: bool, text: &[u8], out: &mut [u8]) {
-        for (place, (piece, to)) in text.chunks(N).zip(out.chunks_mut(N)).enumerate() {
-            let first = if begins && place == 0 { 0x20 } else { 0 };
+        for (index, (piece, to)) in text.chunks(N).zip(out.chunks_mut(N)).enumerate() {
+            let first = if begins && index == 0 { 0x20 } else { 0 };
             let short = if piece.len() < N { 0x40 } else { 0 };
             let x = self.marked_call(first ^ short);
             let stream = shuffle(&x);
@@ -198,7 +199,7 @@ impl<const N: usize, E: Cipher<N>> State<N, E> {
     }
 }
 
-/// The cipher, with a count of its calls.
+/// The same cipher, which also adds 1 to `calls` at each call.
 fn counting<'a, const N: usize>(encrypt: impl Cipher<N> + 'a, calls: &'a Cell<u64>) -> impl Cipher<N> + 'a {
     move |key: &[u8; 16], block: &[u8; N]| {
         calls.set(calls.get() + 1);
@@ -206,7 +207,7 @@ fn counting<'a, const N: usize>(encrypt: impl Cipher<N> + 'a, calls: &'a Cell<u6
     }
 }
 
-/// The whole of a record; gives its tag, and how often the cipher was called.
+/// Seals or opens a whole record over a cipher; returns its tag and the number of cipher calls.
 #[rustfmt::skip]
 fn record<const N: usize>(
     encrypt: impl Cipher<N>, (version, kind): (Version, Text), key: &[u8], nonce: &[u8], ad: &[u8], text: &[u8], out: &mut [u8],
@@ -219,12 +220,12 @@ fn record<const N: usize>(
     (tag, calls.get())
 }
 
-/// Works on a record whose lengths were checked; gives the tag, and how often the cipher was called.
+/// Seals or opens a record whose lengths were checked; returns its tag and the number of cipher calls.
 fn run(suite: u8, kind: Text, key: &[u8], nonce: &[u8], ad: &[u8], text: &[u8], out: &mut [u8]) -> (Vec<u8>, u64) {
     by_suite!(suite, record((version_of(suite), kind), key, nonce, ad, text, out))
 }
 
-/// The lengths of a call, as the table of numbers looks at them.
+/// The lengths of a call's arguments.
 struct Lengths {
     key: usize,
     nonce: usize,
@@ -234,12 +235,12 @@ struct Lengths {
     tag: usize,
 }
 
-/// The first number that applies, and 0 where none does.
+/// The first status of the table whose condition holds, or 0.
 pub fn first(table: &[(u32, bool)]) -> u32 {
-    table.iter().find(|(_, applies)| *applies).map_or(0, |(number, _)| *number)
+    table.iter().find(|(_, applies)| *applies).map_or(0, |(status, _)| *status)
 }
 
-/// Numbers 1 to 7; for the sealer 10 too, just after 1.
+/// The first of statuses 1 to 7 that applies, or 0; the sealer also has 10, just after 1.
 fn refusal(kind: Text, suite: u8, l: Lengths) -> u32 {
     first(&[
         (1, block_size(suite) == 0),
@@ -253,23 +254,23 @@ fn refusal(kind: Text, suite: u8, l: Lengths) -> u32 {
     ])
 }
 
-/// Seals a message: the ciphertext into `out`, the tag into `tag`. On a refusal both are unchanged.
+/// Seals a message: writes the ciphertext to `out` and the tag to `tag`. On a refusal both are unchanged.
 pub fn seal(suite: u8, key: &[u8], nonce: &[u8], ad: &[u8], msg: &[u8], out: &mut [u8], tag: &mut [u8]) -> u32 {
     seal_counted(suite, key, nonce, ad, msg, out, tag).0
 }
 
-/// The same, and how often the cipher was called (document 02, W12): 0 on a refusal.
+/// The same, and the number of cipher calls (document 02, W12), 0 on a refusal.
 #[rustfmt::skip]
 pub fn seal_counted(
     suite: u8, key: &[u8], nonce: &[u8], ad: &[u8], msg: &[u8], out: &mut [u8], tag: &mut [u8],
 ) -> (u32, u64) {
-    let number = refusal(
+    let status = refusal(
         Text::Message,
         suite,
         Lengths { key: key.len(), nonce: nonce.len(), ad: ad.len(), text: msg.len(), out: out.len(), tag: tag.len() },
     );
-    if number != 0 {
-        return (number, 0);
+    if status != 0 {
+        return (status, 0);
     }
     let (made, calls) = run(suite, Text::Message, key, nonce, ad, msg, out);
     tag.copy_from_slice(&made);
@@ -281,18 +282,18 @@ pub fn open(suite: u8, key: &[u8], nonce: &[u8], ad: &[u8], text: &[u8], tag: &[
     open_counted(suite, key, nonce, ad, text, tag, out).0
 }
 
-/// The same, and how often the cipher was called: on 8 as on 0, and 0 on another refusal.
+/// The same, and the number of cipher calls: after 8 the same as after 0, after another refusal 0.
 #[rustfmt::skip]
 pub fn open_counted(
     suite: u8, key: &[u8], nonce: &[u8], ad: &[u8], text: &[u8], tag: &[u8], out: &mut [u8],
 ) -> (u32, u64) {
-    let number = refusal(
+    let status = refusal(
         Text::Ciphertext,
         suite,
         Lengths { key: key.len(), nonce: nonce.len(), ad: ad.len(), text: text.len(), out: out.len(), tag: tag.len() },
     );
-    if number != 0 {
-        return (number, 0);
+    if status != 0 {
+        return (status, 0);
     }
     let (made, calls) = run(suite, Text::Ciphertext, key, nonce, ad, text, out);
     if made != tag {
@@ -302,43 +303,43 @@ pub fn open_counted(
     (0, calls)
 }
 
-/// Seals a text in its place: the sealer with an output of the text's length, so that there is no 6. On a refusal text
-/// and tag are unchanged.
+/// Seals a text in place: `seal` with an output of the text's length, so 6 cannot occur. On a refusal text and tag are
+/// unchanged.
 pub fn seal_in_place(suite: u8, key: &[u8], nonce: &[u8], ad: &[u8], text: &mut [u8], tag: &mut [u8]) -> u32 {
     let msg = text.to_vec();
     seal(suite, key, nonce, ad, &msg, text, tag)
 }
 
-/// Opens a text in its place in the same way. On 8 every byte of it is 0; on another refusal it is unchanged.
+/// Opens a text in place in the same way. On 8 every byte of it is 0; on another refusal it is unchanged.
 pub fn open_in_place(suite: u8, key: &[u8], nonce: &[u8], ad: &[u8], text: &mut [u8], tag: &[u8]) -> u32 {
     let sealed = text.to_vec();
     open(suite, key, nonce, ad, &sealed, tag, text)
 }
 
-/// Whether a record is genuine: the opener's number with an output of the text's length, and no message comes out.
+/// The status that `open` returns with an output of the text's length; the message is discarded.
 pub fn verify(suite: u8, key: &[u8], nonce: &[u8], ad: &[u8], text: &[u8], tag: &[u8]) -> u32 {
     open(suite, key, nonce, ad, text, tag, &mut vec![0; text.len()])
 }
 
-/// The specification's ciphertext and tag of a message, under a retired suite too. Every length is right.
+/// The specification's ciphertext and tag of a message, also under a retired suite. Every length must be right.
 pub fn specified(suite: u8, key: &[u8], nonce: &[u8], ad: &[u8], msg: &[u8]) -> (Vec<u8>, Vec<u8>) {
     let mut text = vec![0; msg.len()];
     let (tag, _) = run(suite, Text::Message, key, nonce, ad, msg, &mut text);
     (text, tag)
 }
 
-/// The tag that fits a ciphertext, whatever the message behind it. Every length is right.
+/// The tag under which a ciphertext opens. Every length must be right.
 pub fn fitting_tag(suite: u8, key: &[u8], nonce: &[u8], ad: &[u8], text: &[u8]) -> Vec<u8> {
     run(suite, Text::Ciphertext, key, nonce, ad, text, &mut vec![0; text.len()]).0
 }
 
-/// Associated data of two full blocks with another first block and one tag: the second block makes up for
-/// the change. Who knows the key can do this, so nothing is promised of changes in two blocks.
+/// Other associated data of two full blocks with the same tag: the first block differs, and the second compensates for it.
+/// Whoever knows the key can compute this, so no detection is claimed for changes in two blocks.
 pub fn made_up(suite: u8, key: &[u8], nonce: &[u8], ad: &[u8]) -> Vec<u8> {
     by_suite!(suite, made_up_with(version_of(suite), key, nonce, ad))
 }
 
-/// The first block changed in one bit, and the second so that Y is the same after it.
+/// Inverts one bit of the first block, and changes the second so that Y is the same after it.
 fn made_up_with<const N: usize>(
     encrypt: impl Cipher<N>,
     version: Version,
@@ -364,7 +365,7 @@ fn image<const N: usize>(encrypt: impl Cipher<N>, key: &[u8; 16], block: &[u8]) 
     encrypt(key, block.try_into().unwrap()).to_vec()
 }
 
-/// The suite's cipher on one block.
+/// The encryption of one block under the suite's cipher.
 pub fn encipher(suite: u8, key: &[u8; 16], block: &[u8]) -> Vec<u8> {
     by_suite!(suite, image(key, block))
 }
@@ -374,7 +375,7 @@ mod tests {
     use super::*;
     use std::cell::RefCell;
 
-    /// What each cipher call finds in byte 15 of Z, under a cipher whose images are zeros.
+    /// The mark that is added before each cipher call, under a cipher that returns zeros: the change of byte 15 of Z.
     fn marks<const N: usize>(version: Version, ad: usize, message: usize) -> Vec<u8> {
         let seen = RefCell::new(vec![]);
         let encrypt = |z: &[u8; 16], _: &[u8; N]| {
@@ -400,7 +401,7 @@ mod tests {
         assert_eq!(marks_64(24, 17), [0x08, 0, 0, 0x20, 0, 0x40, 0x80]);
     }
 
-    /// Version 2: each mark but the tag's one call later.
+    /// In version 2 each mark except the tag's comes one call later.
     #[test]
     fn marks_of_version_2() {
         let marks_128 = |ad, message| marks::<16>(Version::Two, ad, message);
@@ -414,8 +415,8 @@ mod tests {
         assert_eq!(marks_64(24, 17), [0, 0x08, 0, 0, 0x20, 0, 0xc0]);
     }
 
-    /// The cipher outputs of an opening's message blocks, and its tag, under a cipher that does nothing: what is changed
-    /// then goes on unmixed, and slips (document 02, W13) can be made at will.
+    /// The cipher outputs of an opening's message blocks, and its tag, under the identity as the cipher. A change then
+    /// propagates unmixed, so that undetected changes (document 02, W13) can be constructed.
     fn opened(ad: &[u8], text: &[u8]) -> (Vec<[u8; 8]>, [u8; 8]) {
         let seen = RefCell::new(vec![]);
         let encrypt = |_: &[u8; 16], y: &[u8; 8]| {
@@ -432,9 +433,9 @@ mod tests {
         (outputs, tag)
     }
 
-    /// Shuffle XOR identity takes two blocks to zero: all zeros and all ones. It is linear; so the blocks that it takes to
-    /// a given one, if any, are one and its complement.
-    fn taken_to(block: u64) -> Option<u64> {
+    /// A preimage of a block under shuffle XOR identity, if it has one. The map is linear and its kernel is all zeros and
+    /// all ones, so the only other preimage is the complement.
+    fn preimage(block: u64) -> Option<u64> {
         let image = |x: u64| x ^ u64::from_le_bytes(shuffle(&x.to_le_bytes()));
         let mut rows: Vec<(u64, u64)> = vec![];
         let reduced = |rows: &[(u64, u64)], pair: (u64, u64)| {
@@ -454,26 +455,26 @@ mod tests {
         (rest == 0).then_some(x)
     }
 
-    /// A change inside one block of associated data or of ciphertext, with full message blocks behind it, is accepted
-    /// exactly if the cipher's outputs of the two openings are complements at some message block behind it.
+    /// A change inside one block of associated data or of ciphertext, followed by full message blocks only, is accepted
+    /// exactly if the cipher outputs of the two openings are complements at some later message block.
     #[test]
     fn when_a_change_slips_through() {
         let mut changes = vec![1, 0x8000_0000_0000_0000, 0x0123_4567_89ab_cdef, u64::MAX];
-        while let Some(before) = taken_to(*changes.last().unwrap()) {
+        while let Some(before) = preimage(*changes.last().unwrap()) {
             changes.push(before);
         }
         let (ad, text): (Vec<u8>, Vec<u8>) = ((0..16).collect(), (100..140).collect());
         let (outputs, tag) = opened(&ad, &text);
         let mut accepted = 0;
-        for (change, place) in changes.iter().flat_map(|change| (0..7).map(move |place| (change, place))) {
+        for (change, index) in changes.iter().flat_map(|change| (0..7).map(move |index| (change, index))) {
             let (mut other_ad, mut other_text) = (ad.clone(), text.clone());
             let block =
-                if place < 2 { &mut other_ad[8 * place..][..8] } else { &mut other_text[8 * (place - 2)..][..8] };
+                if index < 2 { &mut other_ad[8 * index..][..8] } else { &mut other_text[8 * (index - 2)..][..8] };
             block.iter_mut().zip(change.to_le_bytes()).for_each(|(byte, x)| *byte ^= x);
             let (others, other_tag) = opened(&other_ad, &other_text);
-            let behind = if place < 2 { 0 } else { place - 1 };
+            let later = if index < 2 { 0 } else { index - 1 };
             let are_complements = |t: usize| outputs[t].iter().zip(&others[t]).all(|(x, other)| *x == !*other);
-            assert_eq!(other_tag == tag, (behind..5).any(are_complements));
+            assert_eq!(other_tag == tag, (later..5).any(are_complements));
             accepted += (other_tag == tag) as u32;
         }
         assert!(accepted >= 6);

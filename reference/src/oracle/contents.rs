@@ -1,8 +1,8 @@
-//! The table of contents by row number: what the header says, and one row's fields. Both check 20 to 24 alone.
+//! The table of contents by row number: the header's counts and one row's fields. Both functions check only 20 to 24.
 
 use super::shift::{check_header, count, edition, fields_at, rows, EDITIONS};
 
-/// Status, edition and row count; both are 0 after every status but 0.
+/// Status, edition and row count; edition and count are 0 unless the status is 0.
 pub type Header = (u32, u32, u32);
 
 /// Job, station, suite, key number, offset of the nonce, offset and length of the associated data, offset and length of
@@ -16,8 +16,8 @@ pub fn header(file: &[u8]) -> Header {
     }
 }
 
-/// Status and fields of a row; 32 where there is no such row. The fields are 0 after every status but 0. No row is checked:
-/// its fields are what the table holds, and the offset of the text is a sum of 32 bits that wraps.
+/// Status and fields of a row; 32 if there is no such row. The fields are 0 unless the status is 0. No row is checked:
+/// the fields are what the table contains, and the offset of the text is a sum modulo 2^32.
 pub fn row(file: &[u8], index: u32) -> (u32, Fields) {
     let status = check_header(file, &EDITIONS);
     if status != 0 {

@@ -1,9 +1,9 @@
-//! Comparing two shift files (document 02, W8).
+//! The comparison of two shift files (document 02, W8).
 
 use super::shift::{check, rows, Row};
 use std::collections::BTreeMap;
 
-/// The number, the file and the row that it speaks of, and how many job numbers were written into each list.
+/// The status (`number`), the file and the row that it is about, and how many jobs were written to each list.
 #[derive(Clone, Copy, PartialEq, Debug)]
 pub struct Compared {
     pub number: u32,
@@ -12,12 +12,12 @@ pub struct Compared {
     pub counts: [u32; 3],
 }
 
-fn refused(number: u32, file: u32, row: u32) -> Compared {
-    Compared { number, file, row, counts: [0; 3] }
+fn refused(status: u32, file: u32, row: u32) -> Compared {
+    Compared { number: status, file, row, counts: [0; 3] }
 }
 
 /// Whether two entries of one job differ in station (document 02, W10), suite, key number, associated data length, nonce
-/// or body. Offsets do not count.
+/// or body. Offsets are not compared.
 fn differ((first, one): (&[u8], &Row), (second, other): (&[u8], &Row)) -> bool {
     let facts = |row: &Row| (row.station, row.suite, row.key, row.ad, row.nonce);
     facts(one) != facts(other) || first[one.body()] != second[other.body()]
@@ -35,29 +35,29 @@ fn lists(first: &[u8], second: &[u8]) -> [Vec<u32>; 3] {
     [only(&ones, &others), only(&others, &ones), differing.map(|(job, _, _)| job).collect()]
 }
 
-/// Checks the first file, then the second; then 36 where a list is longer than what is lent for it. The job numbers of
-/// each list are written in rising order; places behind them, and all on a refusal, are as they were.
-pub fn compare(first: &[u8], second: &[u8], lent: [&mut [u32]; 3]) -> Compared {
+/// Compares two files and writes the three lists of jobs to `out`, in ascending order. Refusals: the check of the first
+/// file, that of the second, 36 if a list does not fit. Elements after a list's end, and all on a refusal, are unchanged.
+pub fn compare(first: &[u8], second: &[u8], out: [&mut [u32]; 3]) -> Compared {
     for (file, bytes) in [(1, first), (2, second)] {
-        let (number, row) = check(bytes);
-        if number != 0 {
-            return refused(number, file, row);
+        let (status, row) = check(bytes);
+        if status != 0 {
+            return refused(status, file, row);
         }
     }
     let lists = lists(first, second);
-    if lists.iter().zip(&lent).any(|(list, lent)| list.len() > lent.len()) {
+    if lists.iter().zip(&out).any(|(list, to)| list.len() > to.len()) {
         return refused(36, 0, 0);
     }
-    for (list, lent) in lists.iter().zip(lent) {
-        lent[..list.len()].copy_from_slice(list);
+    for (list, to) in lists.iter().zip(out) {
+        to[..list.len()].copy_from_slice(list);
     }
     Compared { counts: lists.map(|list| list.len() as u32), ..refused(0, 0, 0) }
 }
 
-/// The longest file that the programs take.
+/// The greatest length of a file that `differ` and `inspect` accept.
 pub const PROGRAM_LONGEST: usize = 65_280;
 
-/// What the program prints.
+/// What `differ` prints.
 pub fn printed(first: &[u8], second: &[u8]) -> String {
     let mut lists = [[0; 512]; 3];
     let [one, other, both] = &mut lists;

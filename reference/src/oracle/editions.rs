@@ -2,12 +2,12 @@
 
 use super::shift::{check_as, check_header, count, edition, fields_at, row_at, rows, Answer, EDITIONS, LONGEST};
 
-/// How much longer a file is in edition 2.
+/// How many bytes longer the file is in edition 2 than in edition 1.
 fn growth(file: &[u8]) -> usize {
     4 * count(file)
 }
 
-/// How long the file is once it is moved, from edition 1 to 2 or from 2 to 1; 0 where one of 20 to 24 applies.
+/// The length of the file after a move from edition 1 to 2 or from 2 to 1; 0 if one of 20 to 24 applies.
 pub fn moved_length(file: &[u8]) -> usize {
     match check_header(file, &EDITIONS) {
         0 if edition(file) == 1 => file.len() + growth(file),
@@ -16,7 +16,7 @@ pub fn moved_length(file: &[u8]) -> usize {
     }
 }
 
-/// The file in another edition, with no station: each row's own bytes, with its offset as it becomes, and the bodies.
+/// Writes the file in another edition with station 0 everywhere: each row with its new offset, then the bodies.
 fn moved(file: &[u8], from: usize, to: usize, out: &mut [u8]) {
     let n = count(file);
     let (old_table, new_table) = (row_at(from, n), row_at(to, n));
@@ -36,12 +36,12 @@ fn moved(file: &[u8], from: usize, to: usize, out: &mut [u8]) {
     out[new_table..].copy_from_slice(&file[old_table..]);
 }
 
-/// From edition 1 to 2, station 0 everywhere: the checks of a file of edition 1, 20 where it would be too long, 6. On a
-/// refusal `out` is unchanged.
+/// Moves a file from edition 1 to 2, with station 0 everywhere. Refusals: the check of edition 1, 20 if the result would be
+/// too long, 6. On a refusal `out` is unchanged.
 pub fn to_edition2(file: &[u8], out: &mut [u8]) -> Answer {
-    let (number, row) = check_as(file, &[1]);
-    if number != 0 {
-        return (number, row);
+    let (status, row) = check_as(file, &[1]);
+    if status != 0 {
+        return (status, row);
     }
     let length = file.len() + growth(file);
     if length > LONGEST {
@@ -54,12 +54,12 @@ pub fn to_edition2(file: &[u8], out: &mut [u8]) -> Answer {
     (0, 0)
 }
 
-/// From edition 2 to 1: the checks of a file of edition 2, 35 with the first row whose station is not 0, 6. A file that
-/// is no longer than it may be gets shorter, so 20 cannot come again. On a refusal `out` is unchanged.
+/// Moves a file from edition 2 to 1. Refusals: the check of edition 2, 35 with the first row whose station is not 0, 6. The
+/// result is no longer than the file, so it is never too long. On a refusal `out` is unchanged.
 pub fn to_edition1(file: &[u8], out: &mut [u8]) -> Answer {
-    let (number, row) = check_as(file, &[2]);
-    if number != 0 {
-        return (number, row);
+    let (status, row) = check_as(file, &[2]);
+    if status != 0 {
+        return (status, row);
     }
     if let Some(i) = rows(file).iter().position(|row| row.station != 0) {
         return (35, i as u32);

@@ -1,4 +1,4 @@
-//! The implementation itself, from the papers and documents 01 and 02 alone. Outside this folder it uses `show::hex` alone.
+//! The implementation itself, from the papers and documents 01 and 02 alone. From outside this folder it uses only `show::hex`.
 
 pub mod aes;
 pub mod amendment;

@@ -1,13 +1,13 @@
-//! Finding a job by halving (document 02, W6).
+//! Finding a job by binary search (document 02, W6).
 
 use super::shift::{check_header, rows, Answer, EDITIONS};
 
-/// Number and row, and how many rows were looked at: 20 to 24 with none, then the halving over the table, whatever
-/// stands in it.
+/// Status and row of a job, and how many rows the search read: 20 to 24 with none, else the result of a binary search over
+/// the table, whether or not it is sorted.
 pub fn search(file: &[u8], job: u32) -> (Answer, u32) {
-    let number = check_header(file, &EDITIONS);
-    if number != 0 {
-        return ((number, 0), 0);
+    let status = check_header(file, &EDITIONS);
+    if status != 0 {
+        return ((status, 0), 0);
     }
     let rows = rows(file);
     let (mut start, mut count) = (0, rows.len());

@@ -4,8 +4,8 @@ use super::comet::{
     block_size, by_suite, first, is_retired, nonce_size, version_of, Cipher, State, Text, LIMIT, SEALED,
 };
 
-/// Y and Z (Y in the first bytes), the bytes that are in no whole block yet, and how many bytes of associated data
-/// and of message have come. The message has begun once a byte of it has come.
+/// A session: Y (in the first bytes of `y`) and Z, the bytes that do not yet fill a block, and how many bytes of associated
+/// data and of message were passed so far. The message has begun once `text_total` is not 0.
 #[derive(Clone, Copy, PartialEq, Debug)]
 pub struct Session {
     pub suite: u8,
@@ -16,10 +16,10 @@ pub struct Session {
     pub text_total: usize,
 }
 
-/// A session that was refused or has ended: it answers 9 to every call.
+/// A session that was refused or has ended: every call returns 9.
 pub const OVER: Session = Session { suite: 0, y: [0; 16], z: [0; 16], held: [0; 16], ad_total: 0, text_total: 0 };
 
-/// What a call gives: the next session, the number, and how many bytes stand at the output's start.
+/// The result of a call: the next session, the status (`number`), and how many bytes it wrote to the start of the output.
 #[derive(Clone, Copy)]
 pub struct Step {
     pub next: Session,
@@ -27,7 +27,7 @@ pub struct Step {
     pub count: usize,
 }
 
-/// Bytes, and zeros behind them.
+/// The bytes, followed by zeros.
 fn filled(bytes: &[u8]) -> [u8; 16] {
     let mut all = [0; 16];
     all[..bytes.len()].copy_from_slice(bytes);
@@ -35,8 +35,8 @@ fn filled(bytes: &[u8]) -> [u8; 16] {
 }
 
 impl Session {
-    /// Any value may arrive. One that names no suite that can be started, or totals over the limits, is over; any other
-    /// is taken at its word.
+    /// Whether every call on the value returns 9: it has a suite that cannot be started, or a total above its limit. A
+    /// caller may pass any value; every other one is accepted as a session.
     fn is_over(&self) -> bool {
         !SEALED.contains(&self.suite) || self.ad_total > LIMIT || self.text_total > LIMIT
     }
@@ -55,12 +55,12 @@ impl Session {
         Session { y: filled(&state.y), z: state.z, held: filled(held), ..self }
     }
 
-    fn refused(self, number: u32) -> Step {
-        Step { next: self, number, count: 0 }
+    fn refused(self, status: u32) -> Step {
+        Step { next: self, number: status, count: 0 }
     }
 }
 
-/// How many of these bytes stand in whole blocks.
+/// How many of these bytes are in whole blocks.
 fn whole<const N: usize>(bytes: &[u8]) -> usize {
     bytes.len() / N * N
 }
@@ -77,7 +77,7 @@ fn take_data<const N: usize>(encrypt: impl Cipher<N>, session: Session, ad: &[u8
     Session { ad_total: session.ad_total + ad.len(), ..session.with(state, rest) }
 }
 
-/// The state with all associated data in, its short last block too, and the bytes held back of the message.
+/// The state after all associated data, its short last block included, and the bytes of the message that are held back.
 fn begun<const N: usize, E: Cipher<N>>(encrypt: E, session: &Session) -> (State<N, E>, &[u8]) {
     let mut state = session.state(encrypt);
     if session.text_total > 0 {
@@ -87,7 +87,7 @@ fn begun<const N: usize, E: Cipher<N>>(encrypt: E, session: &Session) -> (State<
     (state, &[])
 }
 
-/// Takes in a part of the message that is not empty; gives the next session and how many bytes went out.
+/// Absorbs a nonempty part of the message; returns the next session and how many bytes of ciphertext were output.
 fn take_text<const N: usize>(
     encrypt: impl Cipher<N>,
     session: Session,
@@ -101,7 +101,7 @@ fn take_text<const N: usize>(
     (Session { text_total: session.text_total + msg.len(), ..session.with(state, rest) }, blocks.len())
 }
 
-/// The rest of the ciphertext and the tag; gives how many bytes went out.
+/// Writes the rest of the ciphertext and the tag; returns how many bytes of ciphertext were output.
 fn finish<const N: usize>(encrypt: impl Cipher<N>, session: Session, out: &mut [u8], tag: &mut [u8]) -> usize {
     let (mut state, held) = begun(encrypt, &session);
     state.crypt(Text::Message, session.text_total < N, held, &mut out[..held.len()]);
@@ -111,42 +111,42 @@ fn finish<const N: usize>(encrypt: impl Cipher<N>, session: Session, out: &mut [
 
 pub fn start(suite: u8, key: &[u8], nonce: &[u8]) -> Step {
     let (key_fits, nonce_fits) = (key.len() == 16, nonce.len() == nonce_size(suite));
-    let number = first(&[(1, block_size(suite) == 0), (10, is_retired(suite)), (2, !key_fits), (3, !nonce_fits)]);
-    if number != 0 {
-        return OVER.refused(number);
+    let status = first(&[(1, block_size(suite) == 0), (10, is_retired(suite)), (2, !key_fits), (3, !nonce_fits)]);
+    if status != 0 {
+        return OVER.refused(status);
     }
     Step { next: by_suite!(suite, fresh(suite, key, nonce)), number: 0, count: 0 }
 }
 
-/// A part of the associated data. 9 also where the message has begun, even for an empty part.
+/// Absorbs a part of the associated data. 9 also if the message has begun, even for an empty part.
 pub fn data(session: Session, ad: &[u8]) -> Step {
-    let room = LIMIT.saturating_sub(session.ad_total);
-    let number = first(&[(9, session.is_over() || session.text_total > 0), (4, ad.len() > room)]);
-    if number != 0 {
-        return session.refused(number);
+    let left = LIMIT.saturating_sub(session.ad_total);
+    let status = first(&[(9, session.is_over() || session.text_total > 0), (4, ad.len() > left)]);
+    if status != 0 {
+        return session.refused(status);
     }
     Step { next: by_suite!(session.suite, take_data(session, ad)), number: 0, count: 0 }
 }
 
-/// A part of the message. The ciphertext of the blocks that it completes goes to the output's start; an empty part
-/// changes nothing.
+/// Absorbs a part of the message, and writes the ciphertext of the blocks that it completes to the start of `out`. An empty
+/// part changes nothing.
 pub fn part(session: Session, msg: &[u8], out: &mut [u8]) -> Step {
-    let room = LIMIT.saturating_sub(session.text_total);
+    let left = LIMIT.saturating_sub(session.text_total);
     let is_narrow = out.len() + 1 < msg.len() + block_size(session.suite);
-    let number = first(&[(9, session.is_over()), (5, msg.len() > room), (6, is_narrow)]);
-    if number != 0 || msg.is_empty() {
-        return session.refused(number);
+    let status = first(&[(9, session.is_over()), (5, msg.len() > left), (6, is_narrow)]);
+    if status != 0 || msg.is_empty() {
+        return session.refused(status);
     }
     let (next, count) = by_suite!(session.suite, take_text(session, msg, out));
     Step { next, number: 0, count }
 }
 
-/// The end: the ciphertext that is still to come, at the output's start, and the tag.
+/// Ends the session: writes the rest of the ciphertext to the start of `out`, and the tag.
 pub fn end(session: Session, out: &mut [u8], tag: &mut [u8]) -> Step {
     let block = block_size(session.suite);
-    let number = first(&[(9, session.is_over()), (6, out.len() < block), (7, tag.len() != block)]);
-    if number != 0 {
-        return session.refused(number);
+    let status = first(&[(9, session.is_over()), (6, out.len() < block), (7, tag.len() != block)]);
+    if status != 0 {
+        return session.refused(status);
     }
     Step { next: OVER, number: 0, count: by_suite!(session.suite, finish(session, out, tag)) }
 }

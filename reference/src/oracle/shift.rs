@@ -8,7 +8,7 @@ pub const MOST_ROWS: usize = 512;
 pub const LONGEST: usize = 1_048_576;
 pub const RING: usize = 256;
 
-/// A number of document 01 and the row that it carries.
+/// A status of document 01 and the row that it is about.
 pub type Answer = (u32, u32);
 
 pub(crate) fn u16_at(file: &[u8], at: usize) -> usize {
@@ -19,7 +19,7 @@ fn u32_at(file: &[u8], at: usize) -> u32 {
     u32::from_le_bytes([file[at], file[at + 1], file[at + 2], file[at + 3]])
 }
 
-/// Bytes of a row: in edition 2 a station number of 4 bytes follows the job number (document 02, W10).
+/// The number of bytes of a row: in edition 2 a station number of 4 bytes follows the job number (document 02, W10).
 pub fn row_size(edition: usize) -> usize {
     if edition == 2 {
         36
@@ -28,17 +28,17 @@ pub fn row_size(edition: usize) -> usize {
     }
 }
 
-/// Where a row starts.
+/// The offset of row i.
 pub fn row_at(edition: usize, i: usize) -> usize {
     HEADER + row_size(edition) * i
 }
 
-/// Where the fields start that follow job number and station: suite, key number, lengths, offset, nonce.
+/// The offset of row i's fields after job number and station: suite, key number, lengths, offset, nonce.
 pub fn fields_at(edition: usize, i: usize) -> usize {
     row_at(edition, i + 1) - 28
 }
 
-/// The editions that files are of; a draft has edition 0.
+/// The editions of sealed files; a draft has edition 0.
 pub const EDITIONS: [usize; 2] = [1, 2];
 
 pub fn edition(file: &[u8]) -> usize {
@@ -73,7 +73,7 @@ fn row(file: &[u8], i: usize) -> Row {
 }
 
 impl Row {
-    /// Where the body ends: associated data, ciphertext, tag.
+    /// The offset of the end of the body, which is associated data, ciphertext and tag.
     fn end(&self) -> usize {
         self.offset + self.ad + self.message + comet::block_size(self.suite)
     }
@@ -104,14 +104,14 @@ impl Row {
         (self.suite, self.key, self.nonce()) == (other.suite, other.key, other.nonce())
     }
 
-    /// The key of a ring.
+    /// The row's key in a ring.
     pub fn key<'a>(&self, ring: &'a [u8]) -> &'a [u8] {
         &ring[16 * self.key as usize..][..16]
     }
 
-    /// The opener on the entry of a file that has passed the check: 0, 6 or 8.
+    /// Opens the entry in a file that passes the check: 0, 6 or 8.
     pub fn open(&self, file: &[u8], ring: &[u8], out: &mut [u8]) -> u32 {
-        let [ad, text, tag] = [self.associated(), self.text(), self.tag()].map(|place| &file[place]);
+        let [ad, text, tag] = [self.associated(), self.text(), self.tag()].map(|range| &file[range]);
         comet::open(self.suite, self.key(ring), self.nonce(), ad, text, tag, out)
     }
 }
@@ -120,12 +120,12 @@ pub fn count(file: &[u8]) -> usize {
     u16_at(file, 2)
 }
 
-/// The rows of a file whose table of contents lies inside it.
+/// The rows of a file that contains its whole table of contents.
 pub fn rows(file: &[u8]) -> Vec<Row> {
     (0..count(file)).map(|i| row(file, i)).collect()
 }
 
-/// Numbers 20 to 24, and 0 where none applies.
+/// The first of statuses 20 to 24 that applies to a file of these editions, or 0.
 pub fn check_header(file: &[u8], editions: &[usize]) -> u32 {
     if file.len() < HEADER || file.len() > LONGEST {
         20
@@ -142,7 +142,7 @@ pub fn check_header(file: &[u8], editions: &[usize]) -> u32 {
     }
 }
 
-/// Numbers 25 to 28, 34, 29 and 30 of row i, and 0 where none applies. The rows before it have passed.
+/// The first of statuses 25 to 28, 34, 29 and 30 that applies to row i, or 0. The rows before it must have passed.
 fn check_row(file: &[u8], i: usize) -> u32 {
     let this = row(file, i);
     let start = if i == 0 { row_at(edition(file), count(file)) } else { row(file, i - 1).end() };
@@ -165,33 +165,33 @@ fn check_row(file: &[u8], i: usize) -> u32 {
     }
 }
 
-/// The full check.
+/// The full check of a file of edition 1 or 2.
 pub fn check(file: &[u8]) -> Answer {
     check_as(file, &EDITIONS)
 }
 
-/// The full check of a file that may be of these editions.
+/// The full check of a file of one of these editions.
 pub fn check_as(file: &[u8], editions: &[usize]) -> Answer {
-    let number = check_header(file, editions);
-    if number != 0 {
-        return (number, 0);
+    let status = check_header(file, editions);
+    if status != 0 {
+        return (status, 0);
     }
     let n = count(file);
     for i in 0..n {
-        let number = check_row(file, i);
-        if number != 0 {
-            return (number, i as u32);
+        let status = check_row(file, i);
+        if status != 0 {
+            return (status, i as u32);
         }
     }
     let end = if n == 0 { HEADER } else { row(file, n - 1).end() };
     (if end == file.len() { 0 } else { 31 }, 0)
 }
 
-/// The full check, then the row that has the job, or 32.
+/// The full check, then the row of the job, or 32.
 pub fn lookup(file: &[u8], job: u32) -> Answer {
-    let (number, at) = check(file);
-    if number != 0 {
-        return (number, at);
+    let (status, at) = check(file);
+    if status != 0 {
+        return (status, at);
     }
     match rows(file).iter().position(|row| row.job == job) {
         Some(i) => (0, i as u32),
@@ -199,13 +199,13 @@ pub fn lookup(file: &[u8], job: u32) -> Answer {
     }
 }
 
-/// The associated data of the job, as a part of the file; the file's first zero bytes where the lookup refuses.
+/// The associated data of the job, as a slice of the file; an empty slice if the lookup refuses.
 pub fn associated(file: &[u8], job: u32) -> &[u8] {
     let (at, length) = associated_place(file, job);
     &file[at..at + length]
 }
 
-/// Where the associated data lies in the file: place and length, both 0 where the lookup refuses.
+/// Offset and length of the job's associated data in the file, both 0 if the lookup refuses.
 pub fn associated_place(file: &[u8], job: u32) -> (usize, usize) {
     match lookup(file, job) {
         (0, i) => {
@@ -216,10 +216,10 @@ pub fn associated_place(file: &[u8], job: u32) -> (usize, usize) {
     }
 }
 
-/// Where a job's entry lies: place and length of its associated data, place and length of its text.
+/// The extent of an entry: offset and length of its associated data, offset and length of its text.
 pub type Places = [usize; 4];
 
-/// The lookup, and where the job's entry lies in the file; four times 0 where the lookup refuses.
+/// The result of the lookup, and the extent of the job's entry in the file; four zeros if the lookup refuses.
 pub fn entry(file: &[u8], job: u32) -> (Answer, Places) {
     let answer = lookup(file, job);
     if answer.0 != 0 {
@@ -229,12 +229,12 @@ pub fn entry(file: &[u8], job: u32) -> (Answer, Places) {
     (answer, [found.offset, found.ad, found.offset + found.ad, found.message])
 }
 
-/// Opens one job: the full check, 32, then 2 (the ring's length), 6 and 8. The message goes into `out`;
-/// on 8 every byte of `out` is 0, on another refusal it is unchanged.
+/// Opens one job and writes its message to `out`. Refusals: the full check, 32, 2 (the ring's length), 6, 8. On 8 every
+/// byte of `out` is 0, on another refusal it is unchanged.
 pub fn open_job(file: &[u8], ring: &[u8], job: u32, out: &mut [u8]) -> Answer {
-    let (number, i) = lookup(file, job);
-    if number != 0 {
-        return (number, i);
+    let (status, i) = lookup(file, job);
+    if status != 0 {
+        return (status, i);
     }
     if ring.len() != RING {
         return (2, 0);
@@ -242,8 +242,8 @@ pub fn open_job(file: &[u8], ring: &[u8], job: u32, out: &mut [u8]) -> Answer {
     (row(file, i as usize).open(file, ring, out), 0)
 }
 
-/// Where the associated data of a job lies whose tag is right under the ring: number and row, offset and length. The full
-/// check, 32, 2, 8; offset and length are 0 on a refusal.
+/// Verifies one job: status and row, offset and length of its associated data. Refusals: the full check, 32, 2, 8 if the
+/// tag is wrong under the ring. Offset and length are 0 on a refusal.
 pub fn verified(file: &[u8], ring: &[u8], job: u32) -> (Answer, usize, usize) {
     let (answer, [at, length, _, message]) = entry(file, job);
     if answer.0 != 0 {

@@ -6,14 +6,14 @@ fn word(bytes: &[u8], i: usize) -> u32 {
     u32::from_le_bytes(bytes[4 * i..4 * i + 4].try_into().unwrap())
 }
 
-/// ((x1 rotated right 8) + x0) XOR r, and (x0 rotated left 3) XOR that.
+/// One round: s = ((x1 rotated right by 8) + x0) XOR r, and (x0 rotated left by 3) XOR s.
 fn round(x1: u32, x0: u32, r: u32) -> (u32, u32) {
     let s = x1.rotate_right(8).wrapping_add(x0) ^ r;
     (s, x0.rotate_left(3) ^ s)
 }
 
-/// The key's words are K0 to K3, byte 0 in K0. At the start R = K0 and L = (K1, K2, K3); the next L
-/// and R are a round on (L, R) with the turn's number as the key.
+/// The encryption of a block. The key's words are K0 to K3, byte 0 in K0. Initially R = K0 and L = (K1, K2, K3); the next L
+/// and R are a round on (L, R) with the index of the round as its key.
 pub fn encrypt(key: &[u8; 16], block: &[u8; 8]) -> [u8; 8] {
     let mut r = word(key, 0);
     let mut l = [word(key, 1), word(key, 2), word(key, 3)];

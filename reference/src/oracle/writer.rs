@@ -1,18 +1,19 @@
-//! The writer of shift files (document 02, W4): a draft is sealed, and a file gives its draft back.
+//! The writer of shift files (document 02, W4): it seals a draft, and restores the draft of a file.
 
 use super::comet;
 use super::shift::{check_as, rows, Answer, RING};
 
-/// Numbers 2 and 6: the ring's length, and that of an output that must be as long as the input.
+/// Status 2 if the ring has a wrong length, 6 if `out` is not as long as `input`, else 0.
 pub(crate) fn refuse_lengths(ring: &[u8], input: &[u8], out: &[u8]) -> u32 {
     comet::first(&[(2, ring.len() != RING), (6, out.len() != input.len())])
 }
 
-/// Seals a draft: the checks with edition 0, 33, 10 with the first row of a retired suite, 2, 6. On a refusal `out` is unchanged.
+/// Seals a draft into `out`. Refusals: the check of edition 0, 33, 10 with the first row of a retired suite, 2, 6. On a
+/// refusal `out` is unchanged.
 pub fn seal_file(draft: &[u8], ring: &[u8], out: &mut [u8]) -> Answer {
-    let (number, row) = check_as(draft, &[0]);
-    if number != 0 {
-        return (number, row);
+    let (status, row) = check_as(draft, &[0]);
+    if status != 0 {
+        return (status, row);
     }
     let rows = rows(draft);
     if let Some(i) = rows.iter().position(|row| draft[row.tag()].iter().any(|byte| *byte != 0)) {
@@ -21,30 +22,30 @@ pub fn seal_file(draft: &[u8], ring: &[u8], out: &mut [u8]) -> Answer {
     if let Some(i) = rows.iter().position(|row| comet::is_retired(row.suite)) {
         return (10, i as u32);
     }
-    let number = refuse_lengths(ring, draft, out);
-    if number != 0 {
-        return (number, 0);
+    let status = refuse_lengths(ring, draft, out);
+    if status != 0 {
+        return (status, 0);
     }
     out.copy_from_slice(draft);
     out[0] = 1;
     for row in rows {
-        let [ad, message] = [row.associated(), row.text()].map(|place| &draft[place]);
+        let [ad, message] = [row.associated(), row.text()].map(|range| &draft[range]);
         let (text, tag) = out[row.text().start..row.tag().end].split_at_mut(row.message);
         assert_eq!(comet::seal(row.suite, row.key(ring), row.nonce(), ad, message, text, tag), 0);
     }
     (0, 0)
 }
 
-/// Gives the draft of a file back: the checks with edition 1, 2, 6, 8 with the first row whose tag is wrong. On 8
-/// every byte of `out` is 0, on another refusal it is unchanged.
+/// Restores the draft of a file into `out`. Refusals: the check of edition 1, 2, 6, 8 with the first row whose tag is
+/// wrong. On 8 every byte of `out` is 0, on another refusal it is unchanged.
 pub fn unseal_file(file: &[u8], ring: &[u8], out: &mut [u8]) -> Answer {
-    let (number, row) = check_as(file, &[1]);
-    if number != 0 {
-        return (number, row);
+    let (status, row) = check_as(file, &[1]);
+    if status != 0 {
+        return (status, row);
     }
-    let number = refuse_lengths(ring, file, out);
-    if number != 0 {
-        return (number, 0);
+    let status = refuse_lengths(ring, file, out);
+    if status != 0 {
+        return (status, 0);
     }
     out.copy_from_slice(file);
     out[0] = 0;

@@ -1,4 +1,4 @@
-//! The reference implementation's answer to a case of the vectors, by the protocol of vectors/README.md.
+//! The reference implementation's answer to a case of the vectors, in the protocol of vectors/README.md.
 
 use super::json::Object;
 use super::mistakes::{self, Mistake};
@@ -8,10 +8,10 @@ use crate::shift::Answer;
 use crate::show::hex;
 use crate::{amendment, difference, editions, report, reseal, search, shift, writer};
 
-/// What every output holds before a call.
+/// Every byte of an output buffer before a call.
 pub const BEFORE: u8 = 0xa5;
 
-/// The answer; None where the call is not known. A mistake changes how records are sealed and opened.
+/// The answer to a case; None if the call is unknown. A mistake changes how records are sealed and opened.
 pub fn answer(case: &Object, mistake: Mistake) -> Option<Object> {
     Some(match case.text_of("call") {
         "cipher" => cipher(case),
@@ -44,7 +44,7 @@ fn of_row((status, row): Answer) -> Object {
     of_status(status).number("row", row)
 }
 
-/// An output of the case's length, as it is before the call.
+/// An output buffer before the call, with the length that the case gives in the field `len`.
 fn output(case: &Object, len: &str) -> Vec<u8> {
     vec![BEFORE; case.number_of(len) as usize]
 }
@@ -82,7 +82,7 @@ fn open(case: &Object, mistake: Mistake) -> Object {
     of_status(status).text("out", hex(&out))
 }
 
-/// A session and what its calls have given.
+/// A session and the results of its calls so far.
 struct Run {
     session: Session,
     statuses: Vec<String>,
@@ -100,7 +100,7 @@ impl Run {
         self.counts.push(step.count.to_string());
     }
 
-    /// One word of `steps`: a part of the associated data, a part of the message, or the end.
+    /// Makes the call of one word of `steps`: a part of the associated data, a part of the message, or the end.
     fn call(&mut self, word: &str) {
         let (kind, numbers) = word.split_at(1);
         let numbers: Vec<usize> = numbers.split(':').map(|n| n.parse().expect("a number")).collect();
@@ -183,7 +183,7 @@ fn open_amended(case: &Object) -> Object {
     of_status(status).number("file", file).number("row", row).text("out", hex(&out))
 }
 
-/// Numbers with one space between.
+/// The numbers separated by single spaces.
 fn listed<T: ToString>(list: &[T]) -> String {
     list.iter().map(T::to_string).collect::<Vec<_>>().join(" ")
 }

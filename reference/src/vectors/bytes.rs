@@ -1,26 +1,26 @@
 //! Byte strings as the vectors write them: parts joined by `+`. A part is hex digits, `LEN*BB` (LEN times the byte BB) or
-//! `LEN@SEED` (LEN bytes by the rule of `ruled`). An answer may also be `LEN#DIGEST`, its SHA-256.
+//! `LEN@SEED` (the LEN bytes of `ruled`). An answer may also be `LEN#DIGEST`, its length and SHA-256.
 
 use super::sha256::sha256;
 use crate::show::{hex, unhex};
 
-/// A run of this many equal bytes is written as `LEN*BB`.
+/// A run of at least this many equal bytes is written as `LEN*BB`.
 const LONG_RUN: usize = 40;
 
 /// An answer whose text would be longer is written as its digest.
 const LONGEST_TEXT: usize = 2048;
 
-/// Byte i is the lowest byte of seed + 31 i + i / 256, rounded down.
+/// The bytes by the rule of vectors/README.md: byte i is the lowest byte of seed + 31 i + i / 256, rounded down.
 pub fn ruled(len: usize, seed: usize) -> Vec<u8> {
     (0..len).map(|i| (seed + 31 * i + i / 256) as u8).collect()
 }
 
-/// The text of `ruled`.
+/// The text that stands for the bytes of `ruled`.
 pub fn ruled_text(len: usize, seed: usize) -> String {
     format!("{len}@{seed}")
 }
 
-/// The text of a byte string, with long runs shortened.
+/// The text of a byte string, with long runs of one byte shortened.
 pub fn text_of(bytes: &[u8]) -> String {
     let mut parts: Vec<String> = vec![];
     let mut plain = String::new();
@@ -36,7 +36,7 @@ pub fn text_of(bytes: &[u8]) -> String {
     parts.join("+")
 }
 
-/// The text of a byte string of an answer: its digest where it is long.
+/// The text of a byte string of an answer; a long one is written as its digest.
 pub fn answer_text(bytes: &[u8]) -> String {
     let text = text_of(bytes);
     if text.len() > LONGEST_TEXT {
@@ -45,7 +45,7 @@ pub fn answer_text(bytes: &[u8]) -> String {
     text
 }
 
-/// The byte string that a text stands for; a digest stands for none.
+/// The byte string that a text stands for. Panics on a digest.
 pub fn bytes_of(text: &str) -> Vec<u8> {
     text.split('+').flat_map(part_of).collect()
 }

@@ -8,7 +8,7 @@ use crate::data::samples;
 use crate::plan::{Entry, Plan};
 use crate::shift::{fields_at, row_at, EDITIONS, LONGEST};
 
-/// The rule of a status of the full check.
+/// The name of the rule that a status of the full check reports.
 pub fn rule_of(status: u32) -> &'static str {
     let name = format!("status {status}");
     super::rules::RULES.iter().find(|rule| rule.0 == name).expect("a rule").0
@@ -26,12 +26,12 @@ pub fn patched(file: &[u8], at: usize, bytes: &[u8]) -> Vec<u8> {
     file
 }
 
-/// A file cut to a length that its header gives.
+/// A file cut to a length, with that length in its header.
 fn cut(file: &[u8], len: usize) -> Vec<u8> {
     patched(&file[..len], 4, &(len as u32).to_le_bytes())
 }
 
-/// The three rows with faults, in an edition.
+/// The file `three_rows` of an edition, with faults given as (status, row).
 fn faulty(edition: usize, faults: &[(u32, usize)]) -> Vec<u8> {
     let mut plan = three_rows();
     faults.iter().for_each(|(status, row)| fault(&mut plan, *status, *row));
@@ -58,7 +58,7 @@ fn good_files() -> Vec<Test> {
     tests
 }
 
-/// What just passes: the lowest and highest job, one nonce under other suites and keys, the longest associated data.
+/// Files that just pass: the lowest and highest job, one nonce under other suites and keys, the longest associated data.
 fn edges() -> Vec<Test> {
     let nonce = [7; 16];
     let mut entries = vec![
@@ -73,7 +73,7 @@ fn edges() -> Vec<Test> {
     vec![check("one nonce under other suites and key numbers; jobs 0 and 4,294,967,295; 1,024 bytes of data", &file, 0)]
 }
 
-/// Each status alone in each row, and beside each later one.
+/// Each status alone in each row, and together with each later one.
 fn refused(edition: usize) -> Vec<Test> {
     let mut tests = vec![];
     let rows_of = |status: u32| if OF_ROWS.contains(&status) { 0..3 } else { 0..1 };
@@ -84,8 +84,8 @@ fn refused(edition: usize) -> Vec<Test> {
             tests.push(check(comment, &faulty(edition, &[(status, row)]), status));
         }
     }
-    for (place, status) in ORDER.into_iter().enumerate() {
-        for later in &ORDER[place + 1..] {
+    for (index, status) in ORDER.into_iter().enumerate() {
+        for later in &ORDER[index + 1..] {
             let comment = format!("edition {edition}: {status} beside {later}, row 1");
             tests.push(check(comment, &faulty(edition, &[(status, 1), (*later, 1)]), status));
         }
@@ -97,7 +97,7 @@ fn refused(edition: usize) -> Vec<Test> {
     tests
 }
 
-/// The kinds of the header's statuses.
+/// The variants of the header's statuses.
 fn header_kinds(edition: usize) -> Vec<Test> {
     let file = faulty(edition, &[]);
     let small = smallest_plan().in_edition(edition).file(&samples::ring());
@@ -126,7 +126,7 @@ fn header_kinds(edition: usize) -> Vec<Test> {
     kinds.iter().map(kind).collect()
 }
 
-/// The kinds of a row's statuses, in row 1 and its body.
+/// The variants of a row's statuses, in row 1 and its body.
 fn row_kinds(edition: usize) -> Vec<Test> {
     let file = faulty(edition, &[]);
     let (row, at) = (row_at(edition, 1), fields_at(edition, 1));
@@ -229,7 +229,7 @@ fn lookups(edition: usize) -> Vec<Test> {
     tests
 }
 
-/// The search over 512 rows, and what it refuses.
+/// The search in 512 rows, and its refusals.
 fn searches() -> Vec<Test> {
     let file = many_rows_plan(512).file(&samples::ring());
     let mut tests = vec![];
@@ -266,7 +266,7 @@ fn openings(edition: usize) -> Vec<Test> {
     tests
 }
 
-/// 32, 2, 6 and 8 of opening, alone and beside later ones; and the job whose tag was compared.
+/// 32, 2, 6 and 8 of opening and of verifying a job, alone and together with later ones.
 fn opening_order() -> Vec<Test> {
     let (ring, file) = (samples::ring(), samples::day());
     let row = crate::shift::rows(&file)[2];

@@ -1,4 +1,4 @@
-//! Flat JSON objects: the lines of the protocol. Values are strings without escapes and whole numbers.
+//! Flat JSON objects, the lines of the protocol. Values are strings without escapes and whole numbers.
 
 use super::bytes::{bytes_of, text_of};
 use std::fmt;
@@ -13,7 +13,7 @@ pub enum Value {
 pub struct Object(pub Vec<(String, Value)>);
 
 impl Object {
-    /// A case of this call.
+    /// A case of the call with this name.
     pub fn call(name: &str) -> Object {
         Object::default().text("call", name)
     }
@@ -31,12 +31,12 @@ impl Object {
         self
     }
 
-    /// A byte string, with long runs shortened.
+    /// Appends a byte string, with long runs shortened.
     pub fn bytes(self, name: &str, bytes: &[u8]) -> Object {
         self.text(name, text_of(bytes))
     }
 
-    /// The same with another value of a field, which it has.
+    /// The object with another value of a field that it has.
     pub fn changed(mut self, name: &str, value: Value) -> Object {
         self.0.iter_mut().find(|field| field.0 == name).unwrap_or_else(|| panic!("no field {name}")).1 = value;
         self
@@ -64,7 +64,7 @@ impl Object {
         bytes_of(self.text_of(name))
     }
 
-    /// Reads one line.
+    /// The object of one line; None if it is malformed.
     pub fn parse(line: &str) -> Option<Object> {
         let mut object = Object::default();
         let mut rest = line.trim().strip_prefix('{')?.trim_start();

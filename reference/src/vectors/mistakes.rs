@@ -1,5 +1,5 @@
 //! The mode with one deliberate mistake: document 01's "errors a trainee will make", each as a variant that seals and opens.
-//! The vectors take wrong ciphertexts and tags from it, and `adapter --mistake NAME` answers by it, to show that the runner
+//! The vectors contain wrong ciphertexts and tags from it. `adapter --mistake NAME` answers with it, to show that the runner
 //! finds each mistake. Without a mistake it is the mode of `comet`; a test compares the two.
 
 use crate::comet::{block_size, double, double_120, encipher, pad, shuffle, version_of, Version};
@@ -19,8 +19,8 @@ pub enum Mistake {
     OtherVersion,
 }
 
-/// Each mistake with its name and what it does. The first nine are document 01's; the last one takes version 1's rules for
-/// version 2 or the other way.
+/// Each mistake with its name and what it does. The first nine are document 01's; the last one swaps the rules of versions 1
+/// and 2.
 pub const MISTAKES: [(Mistake, &str, &str); 10] = [
     (Mistake::RotatedDoubling, "rotated-doubling", "the doubling rotates: the dropped bit comes back as bit 0"),
     (Mistake::DoubledHighHalf, "doubled-high-half", "the doubling takes the high half of Z (version 2: bytes 1 to 15)"),
@@ -34,7 +34,7 @@ pub const MISTAKES: [(Mistake, &str, &str); 10] = [
     (Mistake::OtherVersion, "other-version", "the suite's cipher is used with the other version of COMET"),
 ];
 
-/// The mistake of this name.
+/// The mistake with this name.
 pub fn named(name: &str) -> Option<Mistake> {
     MISTAKES.iter().find(|entry| entry.1 == name).map(|entry| entry.0)
 }
@@ -167,12 +167,12 @@ fn run(mistake: Mistake, suite: u8, key: &[u8], nonce: &[u8], ad: &[u8], text: (
     (out, mode.tag())
 }
 
-/// The ciphertext and the tag of a sealer with this mistake. Every length is right.
+/// The ciphertext and the tag of a sealer with this mistake. Every length must be right.
 pub fn seal(mistake: Mistake, suite: u8, key: &[u8], nonce: &[u8], ad: &[u8], msg: &[u8]) -> (Vec<u8>, Vec<u8>) {
     run(mistake, suite, key, nonce, ad, (msg, true))
 }
 
-/// The status, 0 or 8, and the output of an opener with this mistake. Every length is right.
+/// The status, 0 or 8, and the output of an opener with this mistake. Every length must be right.
 #[rustfmt::skip]
 pub fn open(
     mistake: Mistake, suite: u8, key: &[u8], nonce: &[u8], ad: &[u8], text: &[u8], tag: &[u8],

@@ -1,4 +1,4 @@
-//! The conformance vectors of the folder vectors/: cases, and the answers that this implementation gives to them.
+//! The conformance vectors of the folder vectors/: cases, and the answers of the reference implementation to them.
 
 pub mod answer;
 pub mod bytes;
@@ -22,7 +22,7 @@ use std::collections::BTreeSet;
 /// The version of the schema, which vectors/README.md describes.
 pub const SCHEMA: &str = "snoekeldraf-vectors-1";
 
-/// One case: what it tries, the rule that it looks at, what the program reads, and what it has to answer.
+/// One case: what it tests, the rule that it tests, what the program reads, and the right answer.
 #[derive(Clone)]
 pub struct Test {
     pub comment: String,
@@ -31,7 +31,7 @@ pub struct Test {
     pub answer: Object,
 }
 
-/// The case, once its status is seen to be the one that it was made for.
+/// The case with its answer, after a check that its status is the expected one.
 pub fn test(comment: impl Into<String>, rule: &'static str, case: Object, status: u32) -> Test {
     let comment = comment.into();
     let answer = answer(&case, Mistake::None).expect("a call");
@@ -51,7 +51,7 @@ impl Test {
         }
     }
 
-    /// The answer as the file has it, with long byte strings as digests.
+    /// The answer as the file contains it, with long byte strings as digests.
     fn shortened(&self) -> Object {
         let shorten = |(name, value): &(String, Value)| match value {
             Value::Text(text) if ["out", "tag"].contains(&&name[..]) => {
@@ -71,7 +71,7 @@ impl Test {
     }
 }
 
-/// The text of one file: what it is about, the rules that it looks at, and its cases.
+/// The text of one file: its subject, the rules that it tests, and its cases.
 fn written(about: &str, tests: &[Test]) -> String {
     let names: BTreeSet<&str> = tests.iter().map(|test| test.rule).collect();
     let rule = |name: &str| {
@@ -89,7 +89,7 @@ pub fn mistake_tests() -> Vec<Test> {
     records::mistakes()
 }
 
-/// Every file of vectors/: its name and its text.
+/// Every file of vectors/, as its name and its text.
 pub fn parts() -> Vec<(&'static str, String)> {
     let file = |name, about: &str, tests: Vec<Test>| (name, written(about, &tests));
     vec![

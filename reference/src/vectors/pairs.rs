@@ -1,4 +1,4 @@
-//! Two files, and suppliers' files: amendments.json, comparisons.json and reports.json.
+//! Cases on two files and on suppliers' files: amendments.json, comparisons.json and reports.json.
 
 use super::files::patched;
 use super::json::{Object, Value};
@@ -18,7 +18,7 @@ fn opening(amendment: &[u8], day: &[u8], job: u32, out: usize) -> Object {
     of_files("open_amended", amendment, day, job).bytes("ring", &samples::ring()).number("out_len", out as u64)
 }
 
-/// The three rows with a fault.
+/// The file `three_rows` with the fault of one status in a row.
 fn faulty(status: u32, row: usize) -> Vec<u8> {
     let mut plan = three_rows();
     fault(&mut plan, status, row);
@@ -82,10 +82,10 @@ fn comparing(first: &[u8], second: &[u8], lens: [u64; 3]) -> Object {
     case.number("first_len", lens[0]).number("second_len", lens[1]).number("differ_len", lens[2])
 }
 
-/// What changes, and the change.
+/// The name of a change, and the change.
 type Change = (&'static str, fn(&mut Plan));
 
-/// Three rows against the same with one field of row 1 changed.
+/// `three_rows` compared with the same file after a change of one field of row 1.
 fn fields() -> Vec<Test> {
     let ring = samples::ring();
     let plan = three_rows().resuited(4, 6);
@@ -144,7 +144,7 @@ fn reporting(file: &[u8], ring: &[u8], lens: [u64; 2]) -> Object {
     case.number("jobs_len", lens[0]).number("numbers_len", lens[1])
 }
 
-/// The day with the unit of some rows exchanged: it passes the check, and their tags are wrong.
+/// The day with the other unit in some rows: it passes the check, and the tags of these rows are wrong.
 fn exchanged(units: &[usize]) -> Vec<u8> {
     let mut day = samples::day();
     for row in units {
@@ -154,7 +154,7 @@ fn exchanged(units: &[usize]) -> Vec<u8> {
     day
 }
 
-/// A good file of this length with one row, whose ciphertext is zeros.
+/// A file of this length that passes the check, with one row whose ciphertext is zeros.
 fn long_row(len: usize) -> Vec<u8> {
     let (ring, entry) = (samples::ring(), Entry::new(1, 3, 0, 1, [0; 16], b""));
     let text = vec![0; len - row_at(1) - entry.ad.len() - 8];

@@ -1,4 +1,4 @@
-//! Records: ciphers.json, records.json, statuses.json and mistakes.json.
+//! Cases on records: ciphers.json, records.json, statuses.json and mistakes.json.
 
 use super::bytes::{bytes_of, ruled_text, text_of};
 use super::json::{Object, Value};
@@ -16,9 +16,9 @@ fn cipher_case(suite: u8, key: &[u8], block: &[u8]) -> Object {
 }
 
 pub fn ciphers() -> Vec<Test> {
-    let published = |(place, suite, key, block, image): &(&str, u8, &str, &str, &str)| {
-        let made = test(*place, "cipher", cipher_case(*suite, &unhex(key), &unhex(block)), 0);
-        assert_eq!(made.answer.bytes_of("out"), unhex(image));
+    let published = |(source, suite, key, block, encrypted): &(&str, u8, &str, &str, &str)| {
+        let made = test(*source, "cipher", cipher_case(*suite, &unhex(key), &unhex(block)), 0);
+        assert_eq!(made.answer.bytes_of("out"), unhex(encrypted));
         made
     };
     let mut tests: Vec<Test> = PUBLISHED.iter().map(published).collect();
@@ -32,7 +32,7 @@ pub fn ciphers() -> Vec<Test> {
     tests
 }
 
-/// A record as the vectors have it: each part is the text of a byte string.
+/// A record as the vectors write it: each field is the text of a byte string.
 #[derive(Clone)]
 struct Record {
     suite: u8,
@@ -70,7 +70,7 @@ impl Record {
         specified(self.suite, &key, &nonce, &ad, &msg)
     }
 
-    /// Sealed, unless the suite is retired, and opened.
+    /// The cases that seal the record, unless the suite is retired, and that open it.
     fn both(&self, what: &str, rule: &'static str) -> Vec<Test> {
         let (text, tag) = self.sealed();
         let name = |verb: &str| format!("suite {}: {verb}, {what}", self.suite);
@@ -79,7 +79,7 @@ impl Record {
     }
 }
 
-/// Lengths of associated data and message, in blocks and bytes more or fewer, and what they try.
+/// Lengths of associated data and message, each as blocks plus or minus bytes, and what they test.
 const SHAPES: [(i64, i64, i64, i64, &str); 16] = [
     (0, 0, 0, 0, "both texts empty: one mark, 80"),
     (0, 1, 0, 0, "one byte of associated data"),
@@ -116,7 +116,7 @@ pub fn records() -> Vec<Test> {
     tests
 }
 
-/// Texts of 65,536 bytes by the rule.
+/// Texts of 65,536 bytes by the rule of `ruled`.
 fn longest(suite: u8) -> Vec<Test> {
     let mut random = Random::new(83);
     let empty = Record::random(&mut random, suite, 0, 0);
@@ -127,7 +127,7 @@ fn longest(suite: u8) -> Vec<Test> {
     if !is_retired(suite) {
         tests.push(test(format!("suite {suite}: seal, 65,536 bytes of message"), "sealing", message.sealing(), 0));
     }
-    // the ciphertext by the rule, so that the case stays short
+    // the ciphertext is written by its rule, so that the case stays short
     let text = bytes_of(&message.msg);
     let [key, nonce] = [&message.key, &message.nonce].map(|part| bytes_of(part));
     let tag = crate::comet::fitting_tag(suite, &key, &nonce, &[], &text);
@@ -136,14 +136,14 @@ fn longest(suite: u8) -> Vec<Test> {
     tests
 }
 
-/// The same with one bit of a byte string inverted.
+/// The case with one bit of a byte string inverted.
 fn flipped(case: &Object, name: &str, byte: usize, bit: u32) -> Object {
     let mut bytes = case.bytes_of(name);
     bytes[byte] ^= 1 << bit;
     case.clone().changed(name, Value::Text(text_of(&bytes)))
 }
 
-/// One bit inverted in each part.
+/// A record opened with one bit inverted, in each of its parts.
 fn altered(random: &mut Random, suite: u8) -> Vec<Test> {
     let size = block_size(suite);
     let record = Record::random(random, suite, size + 5, 2 * size + 3);
@@ -161,7 +161,7 @@ fn altered(random: &mut Random, suite: u8) -> Vec<Test> {
     places.iter().map(flip).collect()
 }
 
-/// Records put together from two others, cut short, or under another suite.
+/// Records combined from two others, truncated, or opened under another suite.
 fn exchanged(random: &mut Random, suite: u8) -> Vec<Test> {
     let size = block_size(suite);
     let record = Record::random(random, suite, size, 2 * size);
@@ -193,7 +193,7 @@ fn exchanged(random: &mut Random, suite: u8) -> Vec<Test> {
     tests
 }
 
-/// Puts the fault of one status into a case.
+/// The case with the fault of one status.
 fn with_fault(case: Object, status: u32) -> Object {
     let cut = |case: Object, name: &str| {
         let bytes = case.bytes_of(name);
@@ -222,15 +222,15 @@ fn with_fault(case: Object, status: u32) -> Object {
     }
 }
 
-/// Each status alone, and beside each later one.
+/// Each status of `order` alone, and together with each later one.
 fn in_order(case: &Object, order: &[u32], also: &str) -> Vec<Test> {
     let mut tests = vec![];
     let call = case.text_of("call").to_string();
-    for (place, status) in order.iter().enumerate() {
+    for (index, status) in order.iter().enumerate() {
         let alone = with_fault(case.clone(), *status);
         tests.push(test(format!("{call}{also}: status {status} alone"), "order", alone.clone(), *status));
-        // a text that is too long has no place for a fault of its content
-        for later in order[place + 1..].iter().filter(|later| (*status, **later) != (4, 8)) {
+        // not 4 with 8: the fault of 8 inverts a bit of the associated data, which the fault of 4 has replaced
+        for later in order[index + 1..].iter().filter(|later| (*status, **later) != (4, 8)) {
             let both = with_fault(alone.clone(), *later);
             tests.push(test(format!("{call}{also}: status {status} beside {later}"), "order", both, *status));
         }
@@ -266,7 +266,7 @@ pub fn statuses() -> Vec<Test> {
     tests
 }
 
-/// Lengths at which a mistake shows, and the rule that it breaks.
+/// Lengths at which a mistake changes the result, and the rule that it breaks.
 fn shape_of(mistake: Mistake, size: usize) -> (usize, usize, &'static str) {
     match mistake {
         Mistake::RotatedDoubling | Mistake::DoubledHighHalf | Mistake::ForgottenDoubling => {
@@ -282,10 +282,10 @@ fn shape_of(mistake: Mistake, size: usize) -> (usize, usize, &'static str) {
     }
 }
 
-/// The mistakes that are the opener's alone.
+/// The mistakes that only an opener can make.
 const OPENERS: [Mistake; 2] = [Mistake::ComparedFirstBytes, Mistake::WipedLastBlock];
 
-/// A record under which the mistake changes the tag; with one that is the opener's alone, any record.
+/// A record whose tag the mistake changes; for a mistake of the opener alone, any record.
 fn showing(random: &mut Random, mistake: Mistake, suite: u8) -> Record {
     let (ad, msg, _) = shape_of(mistake, block_size(suite));
     loop {
@@ -301,7 +301,7 @@ fn wrong_pair(mistake: Mistake, record: &Record) -> (Vec<u8>, Vec<u8>) {
     mistakes::seal(mistake, record.suite, &key, &nonce, &ad, &msg)
 }
 
-/// A mistake under a suite: the record as it is, and what a sealer with the mistake makes of it, which is no record.
+/// The cases of a mistake under a suite: the right record, and what a sealer with the mistake outputs, which must not open.
 fn mistaken(random: &mut Random, (mistake, name, what): (Mistake, &str, &str), suite: u8) -> Vec<Test> {
     let rule = shape_of(mistake, block_size(suite)).2;
     let record = showing(random, mistake, suite);
@@ -336,7 +336,7 @@ pub fn mistakes() -> Vec<Test> {
     tests
 }
 
-/// One byte of the tag is wrong, each in turn.
+/// A wrong tag in each of its bytes.
 fn tag_bytes(random: &mut Random, suite: u8) -> Vec<Test> {
     let record = Record::random(random, suite, 5, 9);
     let (text, tag) = record.sealed();

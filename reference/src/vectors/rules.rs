@@ -1,6 +1,6 @@
-//! The rules of docs/FORMAT.md that a case can break: a name, the section that has the rule, and the rule in short.
+//! The rules of docs/FORMAT.md that the cases test.
 
-/// Name, section, rule.
+/// Name, section of docs/FORMAT.md, and the rule in short.
 pub type Rule = (&'static str, &'static str, &'static str);
 
 const SUITES: &str = "Suites";

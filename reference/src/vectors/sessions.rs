@@ -1,4 +1,5 @@
-//! Records sealed in parts: sessions.json. Every part's output has the length that it needs, where nothing else is said.
+//! Cases on records sealed in parts: sessions.json. Unless a comment says otherwise, every part's output has exactly the
+//! length that it needs.
 
 use super::bytes::ruled_text;
 use super::json::{Object, Value};
@@ -6,7 +7,7 @@ use super::{test, Test};
 use crate::comet::{block_size, nonce_size, LIMIT, SEALED};
 use crate::random::Random;
 
-/// A record that a session seals.
+/// A record to be sealed by a session.
 struct Record {
     suite: u8,
     size: usize,
@@ -35,7 +36,7 @@ impl Record {
         format!("e{0}:{0}", self.size)
     }
 
-    /// Both texts in parts of these lengths, in turn.
+    /// The case that passes both texts in parts of these lengths, used cyclically.
     fn cut(&self, ad_parts: &[usize], parts: &[usize]) -> Object {
         let mut steps: Vec<String> = lengths(self.ad, ad_parts).iter().map(|len| format!("a{len}")).collect();
         steps.extend(lengths(self.msg, parts).iter().map(|len| self.part(*len)));
@@ -43,7 +44,7 @@ impl Record {
         self.case(&steps)
     }
 
-    /// The case of steps in words; `E` is the end, and mN a part with the output that it needs.
+    /// The case with these steps; `E` is the end, and `mN` a part with an output of exactly the length that it needs.
     fn words(&self, words: &str) -> Object {
         let word = |word: &str| match word.strip_prefix('m') {
             Some(len) if !word.contains(':') => self.part(len.parse().expect("a length")),
@@ -54,7 +55,7 @@ impl Record {
     }
 }
 
-/// A total cut into these lengths, in turn; the last part may be shorter.
+/// A total cut into these lengths, used cyclically; the last part may be shorter.
 fn lengths(total: usize, cuts: &[usize]) -> Vec<usize> {
     let mut left = total;
     let mut parts = vec![];
@@ -115,7 +116,7 @@ fn refusals(random: &mut Random, suite: u8) -> Vec<Test> {
         .collect()
 }
 
-/// A start that is refused, and what its session answers afterwards.
+/// A refused start, and the statuses of the calls after it.
 fn starts(random: &mut Random) -> Vec<Test> {
     let record = Record::new(random, 3, 4, 4);
     let words = |case: Object| case.text("steps", "a4 m4:11 e8:8");
@@ -137,16 +138,16 @@ fn starts(random: &mut Random) -> Vec<Test> {
     cases.into_iter().map(start).collect()
 }
 
-/// 4 and 5 on the running totals.
+/// 4 and 5 of the running totals.
 fn totals(random: &mut Random, suite: u8) -> Vec<Test> {
     let record = Record::new(random, suite, 0, 0);
     let long = |name: &str, words: &str| {
         let text = ruled_text(LIMIT + 1, suite as usize);
         record.words(words).changed(name, Value::Text(text))
     };
-    let room = LIMIT + record.size - 1;
-    let all = format!("m{LIMIT}:{room} m1:100 m0:100 E");
-    let both = format!("m{LIMIT}:{room} m1:0 E");
+    let out = LIMIT + record.size - 1;
+    let all = format!("m{LIMIT}:{out} m1:100 m0:100 E");
+    let both = format!("m{LIMIT}:{out} m1:0 E");
     let comment = |what: &str| format!("suite {}: {what}", record.suite);
     vec![
         test(comment("65,536 bytes of associated data, then one more"), "session", long("ad", "a65536 a1 a0 E"), 4),

@@ -1,4 +1,4 @@
-//! Files that are written: drafts.json (sealing, unsealing, resealing) and editions.json.
+//! Cases on functions that write files: drafts.json (sealing, unsealing, resealing) and editions.json.
 
 use super::files::{patched, rule_of};
 use super::json::{Object, Value};
@@ -14,14 +14,14 @@ fn written(call: &str, file: &[u8]) -> Object {
     case.number("out_len", file.len() as u64)
 }
 
-/// Ring and output of other lengths, in a case that is refused or not: 2 and 6.
+/// The case with a ring of another length and an output that is `more` bytes longer.
 fn with_lengths(case: &Object, ring: usize, more: u64) -> Object {
     let short = crate::show::hex(&samples::ring()[..ring]);
     let len = case.number_of("out_len");
     case.clone().changed("ring", Value::Text(short)).changed("out_len", Value::Number(len + more))
 }
 
-/// Three rows without suite 4: a draft of them can be sealed.
+/// `three_rows` without suite 4, so that its draft can be sealed.
 fn sealable() -> Plan {
     three_rows().resuited(4, 6).without_stations()
 }
@@ -49,7 +49,7 @@ fn seals() -> Vec<Test> {
     tests
 }
 
-/// 33, 10, 2 and 6, alone and beside later ones.
+/// 33, 10, 2 and 6, alone and together with later ones.
 fn seal_order() -> Vec<Test> {
     let draft = sealable().draft();
     let retired = three_rows().without_stations().draft();
@@ -91,7 +91,7 @@ fn unseals() -> Vec<Test> {
     cases.into_iter().map(|(status, what, case)| test(format!("unseal: {what}"), "draft", case, status)).collect()
 }
 
-/// Two rows of suites 4 and 3 with one key number and nonce: resealed they would clash.
+/// Two rows of suites 4 and 3 with one key number and nonce, which would clash after resealing.
 fn clashing() -> Vec<u8> {
     let nonce = [3; 16];
     let entries = vec![
@@ -127,7 +127,7 @@ pub fn drafts() -> Vec<Test> {
     [seals(), unseals(), reseals()].into_iter().flatten().collect()
 }
 
-/// A move with an output of the moved file's length and `more`.
+/// A move whose output is `more` bytes longer than the moved file.
 fn moving(call: &str, file: &[u8], more: u64) -> Object {
     Object::call(call).bytes("file", file).number("out_len", moved_length(file) as u64 + more)
 }

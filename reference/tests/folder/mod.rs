@@ -1,4 +1,4 @@
-//! What the tests of the programs share: the repository, and a folder of a test's own.
+//! Helpers of the tests that run programs: the repository's root, and a temporary folder for each test.
 
 #![allow(dead_code, reason = "each test file uses a part of it")]
 
@@ -12,7 +12,7 @@ pub fn root() -> PathBuf {
     Path::new(env!("CARGO_MANIFEST_DIR")).join("..").canonicalize().unwrap()
 }
 
-/// Whether every program is built from these sources, by the functions of `./run` itself: the prover is not started.
+/// Whether every program is built from these sources, by the functions of `./run` itself, which do not start the prover here.
 pub fn is_built() -> bool {
     static BUILT: OnceLock<bool> = OnceLock::new();
     let script =
@@ -28,7 +28,7 @@ pub fn is_built() -> bool {
     *built
 }
 
-/// A folder of a test's own, removed at its end.
+/// A temporary folder of one test, removed when the test ends.
 pub struct Folder(pub PathBuf);
 
 impl Folder {
@@ -53,26 +53,26 @@ impl Folder {
         names
     }
 
-    /// `./run` in this folder, not yet started.
+    /// The command `./run` in this folder, not yet started.
     pub fn command(&self, arguments: &[&str]) -> Command {
         let mut command = Command::new(root().join("run"));
         command.args(arguments).current_dir(&self.0);
         command
     }
 
-    /// `./run`: exit status, standard output and standard error.
+    /// Runs `./run`: exit status, standard output and standard error.
     pub fn run(&self, arguments: &[&str]) -> (i32, String, String) {
         ended(self.command(arguments).output().unwrap())
     }
 
-    /// A shell script in this folder, in which `$0` is `./run`.
+    /// Runs a shell script in this folder, in which `$0` is `./run`: exit status, standard output and standard error.
     pub fn shell(&self, script: &str) -> (i32, String, String) {
         let mut command = Command::new("bash");
         ended(command.args(["-c", script]).arg(root().join("run")).current_dir(&self.0).output().unwrap())
     }
 }
 
-/// Exit status, standard output and standard error; -1 where a signal ended it.
+/// Exit status (-1 if a signal ended the program), standard output and standard error.
 pub fn ended(output: Output) -> (i32, String, String) {
     let text = |bytes: Vec<u8>| String::from_utf8_lossy(&bytes).into_owned();
     (output.status.code().unwrap_or(-1), text(output.stdout), text(output.stderr))
