@@ -1,4 +1,6 @@
--- Each definition is a ladder of tests; what the tests before an outcome say gives it.
+-- Read `Tables` first: a test *tells* a proposition when it is true exactly where the proposition holds, and a ladder of tests
+-- that tell their lines gives the table's numbers. Here each definition is such a ladder: the tests before an outcome say when
+-- it is reached, and so give its case.
 use mathlib.Core.Path.{_≡_, refl, sym, ap, _∙_}
 use mathlib.Core.Logic.{_⊎_, ⊎-elim}
 use mathlib.Core.Bool.{Bool, true, false, cond, not, _||_, true≢false}

@@ -1,4 +1,6 @@
--- `comet::crypt_core` meets its contract: the states are walked from the start to the tag, a call for each step, and the walk is the chain.
+-- `comet::crypt_core`: the code calls start, associated data, text and tag in this order, and each callee ensures its step of
+-- the walk. Composed, these steps are the walk over the whole record, which `text-walk` and `tag-walk` equate with the
+-- definition; the calls add up by `count-all`.
 use borrow.Author.Needs.{needs}
 use denote.Ref.{now}
 use mathlib.Core.Bool.{Bool, false}

@@ -1,4 +1,5 @@
--- `comet::verify` meets its contract: a refusal is the opener's for an output of the text's length; else the answer is the comparison's, as the opener's number is.
+-- `comet::verify`: if the lengths are refused, the status is that of the opener with an output as long as the text. Otherwise
+-- the status follows from the tag comparison alone, as the opener's does.
 use borrow.Author.Needs.{needs}
 use borrow.Author.Tests.{not-true, not-false}
 use denote.Ref.{now}

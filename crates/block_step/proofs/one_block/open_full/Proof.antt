@@ -1,4 +1,5 @@
--- `block_step::one_block::open_full` meets its contract: the mask is of X, and the output is absorbed.
+-- `block_step::one_block::open_full`: the law `full-turn` for opening. The output is the XOR with the shuffle of X, and this
+-- message block is absorbed.
 use borrow.Author.Needs.{needs}
 use denote.Ref.{now}
 use mathlib.Core.Bool.{true}

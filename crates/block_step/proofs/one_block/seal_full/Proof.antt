@@ -1,4 +1,5 @@
--- `block_step::one_block::seal_full` meets its contract: the mask is of X, and the block that came is absorbed.
+-- `block_step::one_block::seal_full`: the law `full-turn` for sealing. The output is the XOR with the shuffle of X, and the
+-- message block that came in is absorbed.
 use borrow.Author.Needs.{needs}
 use denote.Ref.{now}
 use mathlib.Core.Bool.{false}

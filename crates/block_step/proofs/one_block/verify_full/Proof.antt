@@ -1,4 +1,5 @@
--- `block_step::one_block::verify_full` meets its contract: the output for a full block is absorbed, and is written nowhere.
+-- `block_step::one_block::verify_full`: the law `full-turn` for opening, of which the state alone is used: the message block
+-- is absorbed and written nowhere.
 use borrow.Author.Needs.{needs}
 use denote.Ref.{now}
 use mathlib.Core.Bool.{true}

@@ -1,4 +1,6 @@
--- `session::blocks::crypt_part` meets its contract: the whole blocks are gathered at the output's start and sealed there.
+-- `session::blocks::crypt_part`: with less than one block nothing is output and the bytes are buffered. Otherwise the buffered
+-- bytes and the part are written to the start of the output, and the whole blocks are sealed there. The proof shows that those
+-- bytes are the whole blocks of the joined text, and that the buffered bytes are its rest.
 use borrow.Author.Needs.{needs}
 use borrow.Rule.Slice.PartMut.{putMid}
 use denote.Ref.{now}

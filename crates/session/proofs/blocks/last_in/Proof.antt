@@ -1,4 +1,5 @@
--- `session::blocks::last_in` meets its contract: less than a block is one short block, or none.
+-- `session::blocks::last_in`, by two cases. No buffered byte: no block, and the walk does nothing. Otherwise less than a
+-- block: it is one short block, copied to the output and sealed there, and the walk over one short block is one step.
 use denote.Ref.{now}
 use lib.ListN.{length, take, drop}
 use lib.Seq.{length-take-le}

@@ -1,4 +1,6 @@
--- `session::work::begin` meets its contract: where the message has not begun, the last bytes of the associated data are one short block, or none.
+-- `session::work::begin`, by three cases. If the message has begun, or if no byte is buffered, the states are unchanged.
+-- Otherwise the buffered bytes are the last, short block of associated data, and absorbing it ends the walk over the
+-- associated data.
 use lib.ListN.{length, length-take}
 use mathlib.Core.Path.{_≡_, sym, _∙_}
 use native.Mathlib.Nat.{mod-lt}

@@ -1,4 +1,5 @@
--- `session::work::close` meets its contract: the held bytes are absorbed as the last block, and the tag is made.
+-- `session::work::close`: after `begin` the buffered bytes are the message's last block, one short block or none. Sealing it
+-- ends the walk over the message, and the tag of the last state is the definition's tag.
 use borrow.Author.Needs.{needs}
 use denote.Ref.{now}
 use lib.ListN.{length, take}

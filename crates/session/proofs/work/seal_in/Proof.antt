@@ -1,4 +1,5 @@
--- `session::work::seal_in` meets its contract: the held bytes and the part are absorbed, and what they complete is output.
+-- `session::work::seal_in`: the callees give the states before the part, the mark, and the sealed blocks with the buffered
+-- rest. `part-given` shows that together they are the session that the definition gives after the part.
 use borrow.Author.Needs.{needs}
 use denote.Ref.{now}
 use lib.ListN.{length}

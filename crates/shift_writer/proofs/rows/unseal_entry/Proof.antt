@@ -1,4 +1,4 @@
--- The text is opened into the output; where its tag is right, zeros follows it.
+-- The text is opened into the output; if its tag is right, zeros follow it, and both are the piece of the draft.
 use borrow.Author.Needs.{needs}
 use denote.Ref.{now}
 use lib.ListN.{length, replicate}
