@@ -3,8 +3,8 @@
 // A call's numbers are the lengths of key, nonce, associated data, text, output and tag; the bytes of key, nonce,
 // associated data and text follow and, to open or verify, those of the tag. Op 0 seals and 1 opens; 2 and 3 are the same,
 // counted; 4 seals and 5 opens in place, and 6 verifies, without an output. A line is the number, for 2 and 3 the count of
-// the cipher calls, the output (for 4 and 5 the text) and, to seal, the tag; for 6 the number alone. What borrows for
-// writing alone holds 0xa5 before the call.
+// the cipher calls, the output (for 4 and 5 the text) and, to seal, the tag; for 6 the number alone. Buffers that
+// are only written hold 0xa5 before the call.
 use comet::Counted;
 use libc::STDIN_FILENO;
 use program_text::call::Call;

@@ -49,7 +49,7 @@ fn entry(e: NextRow, line: &mut [u8], at: usize) -> usize {
     }
 }
 
-// The reader's answers to so many requires.
+// The reader's answers to so many calls.
 fn answers(file: &[u8], asks: usize, line: &mut [u8], at: usize) -> usize {
     let mut to = put(line, at, b"reader");
     let mut c = start(file);
