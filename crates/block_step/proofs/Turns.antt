@@ -1,4 +1,5 @@
--- One turn of the code is one step of the walk: where X and Z for a block are held, what is XORed with X is the walk's, and the bytes that the suite does not use stay zero.
+-- One turn of the code is one step of the walk: where X and Z for a block are held, what is XORed with X is the walk's, and
+-- the bytes that the suite does not use stay zero.
 use mathlib.Core.Path.{_≡_, refl, sym, ap, ap₂, _∙_}
 use Prim.Native.Nat.{ℕ, _-_, _≤_, _<_}
 use native.Mathlib.Omega.{arith}

@@ -1,4 +1,5 @@
--- When a change goes undetected (document 02, W13): the kernel of shuffle XOR identity, which source 000, section 3.5, wants invertible; and which altered records still have the old tag.
+-- When a change goes undetected (document 02, W13): the kernel of shuffle XOR identity, which source 000, section 3.5, wants
+-- invertible; and which altered records still have the old tag.
 use mathlib.Core.Path.{_≡_}
 use mathlib.Core.Bool.{true}
 use mathlib.Core.Logic.{_⊎_, _↔_}
@@ -29,7 +30,8 @@ ComplementBytes =
     → Complements n x x′ ↔ ((i : ℕ) → i < n → getD x′ i 0 ≡ 255 - getD x i 0)
 
 module _ (κ : Cipher) where
-  -- the cipher's output at message block i, counted from 0, where ciphertext c with associated data ad is opened: in the list of its calls the start's stands first, then those of the associated data, then those of the message
+  -- the cipher's output at message block i, counted from 0, where ciphertext c with associated data ad is opened: in the list
+  -- of its calls the start's stands first, then those of the associated data, then those of the message
   unfoldable pub outputAt : List ℕ → List ℕ → List ℕ → List ℕ → ℕ → List ℕ
   outputAt key nonce ad c i = enciphered κ (getD (calls κ true key nonce ad c) (suc (length (blocks (κ .size) ad) + i)) (startCall κ key nonce))
 
@@ -53,7 +55,8 @@ pub data Changed (n : ℕ) (ad ad′ c c′ : List ℕ) : ℕ → Type 0 where
 abbrev pub FullFrom : ℕ → ℕ → List ℕ → Type 0
 FullFrom n first text = (i : ℕ) → first ≤ i → i < length (blocks n text) → length (getD (blocks n text) i []) ≡ n
 
--- opening gives the tag t; the record is changed in one block, and every message block after the change is full: opening gives t again exactly if at some message block after the change the outputs of the two openings are complements
+-- opening gives the tag t; the record is changed in one block, and every message block after the change is full: opening gives
+-- t again exactly if at some message block after the change the outputs of the two openings are complements
 abbrev pub SlipsThrough : Type 0
 SlipsThrough =
     (κ : Cipher) → Lawful κ → (key nonce ad ad′ c c′ t : List ℕ) (first : ℕ)

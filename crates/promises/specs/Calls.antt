@@ -1,4 +1,5 @@
--- Document 02, W12: how many cipher calls sealer and opener report. For every suite the list of key and block pairs that the definition enciphers decides; that it is a + m + 2 long, with a and m the block counts, follows.
+-- Document 02, W12: how many cipher calls sealer and opener report. For every suite the list of key and block pairs that the
+-- definition enciphers decides; that it is a + m + 2 long, with a and m the block counts, follows.
 use mathlib.Core.Path.{_≡_}
 use mathlib.Core.Logic.{_⊎_}
 use mathlib.Core.Bool.{Bool, true, false}

@@ -1,4 +1,6 @@
--- Every outcome of the shift file's other calls, and when it is given. Of writer and reseal pass the numbers in their order; what each leaves stands in `shift_draft/specs/Promised.antt` (`SealCases`, `UnsealCases`) and `shift_reseal/specs/Promised.antt` (`ResealCases`). The amendments' stand in `shift_amend/specs/Promised.antt`.
+-- Every outcome of the shift file's other calls, and when it is given. Of writer and reseal pass the numbers in their order;
+-- what each leaves stands in `shift_draft/specs/Promised.antt` (`SealCases`, `UnsealCases`) and
+-- `shift_reseal/specs/Promised.antt` (`ResealCases`). The amendments' stand in `shift_amend/specs/Promised.antt`.
 use mathlib.Core.Path.{_≡_}
 use mathlib.Core.Logic.{_⊎_, _↔_}
 use Prim.Native.Nat.{ℕ, _≤_, _<_}
@@ -98,9 +100,12 @@ pub record BackCases (f out : List ℕ) : Type 0 where
       ∷ []
       )
   pub checked : (checkAs newest f .number ≡ 0 → ⊥) → toEdition1 f out ≡ record { answer = checkAs newest f; out = out }
-  pub station : checkAs newest f .number ≡ 0 → (i : ℕ) → i < countOf f → (stationOf f i ≡ 0 → ⊥) → ((k : ℕ) → k < i → stationOf f k ≡ 0) → toEdition1 f out ≡ unmoved 35 i out
-  pub room : checkAs newest f .number ≡ 0 → ((i : ℕ) → i < countOf f → stationOf f i ≡ 0) → (length out ≡ length (moved firstEdition f) → ⊥) → toEdition1 f out ≡ unmoved 6 0 out
-  pub moves : checkAs newest f .number ≡ 0 → ((i : ℕ) → i < countOf f → stationOf f i ≡ 0) → length out ≡ length (moved firstEdition f) → toEdition1 f out ≡ done (moved firstEdition f)
+  pub station : checkAs newest f .number ≡ 0 → (i : ℕ) → i < countOf f → (stationOf f i ≡ 0 → ⊥) → ((k : ℕ) → k < i → stationOf f k ≡ 0)
+      → toEdition1 f out ≡ unmoved 35 i out
+  pub room : checkAs newest f .number ≡ 0 → ((i : ℕ) → i < countOf f → stationOf f i ≡ 0) → (length out ≡ length (moved firstEdition f) → ⊥)
+      → toEdition1 f out ≡ unmoved 6 0 out
+  pub moves : checkAs newest f .number ≡ 0 → ((i : ℕ) → i < countOf f → stationOf f i ≡ 0) → length out ≡ length (moved firstEdition f)
+      → toEdition1 f out ≡ done (moved firstEdition f)
 
 -- the report (W14): 20 for a file of more than 65,280 bytes, the checks, 2; 6 where a list has fewer places than there are entries
 pub record ReportCases (f ring jobs numbers : List ℕ) : Type 0 where

@@ -21,7 +21,8 @@ pub record Answers (f : Contract) : Type 0 where
   pub asks-nothing : (κs : Lfts (f .lifetimes)) (a : Dens κs (f .params)) → f .Pre κs a
   pub one-outcome : OneOutcome (f .params) (f .result) (f .Pre) (f .Post)
 
--- the same for a routine that returns a part of a borrowed slice: any two outcomes agree in bytes and offset; a reference's ghost name belongs to the proof and is no outcome
+-- the same for a routine that returns a part of a borrowed slice: any two outcomes agree in bytes and offset; a reference's
+-- ghost name belongs to the proof and is no outcome
 pub record AnswersPart (f : Contract) (part : (κs : Lfts (f .lifetimes)) → resT (f .result) κs .Denot → RefT (List ℕ)) : Type 0 where
   pub asks-nothing : (κs : Lfts (f .lifetimes)) (a : Dens κs (f .params)) → f .Pre κs a
   pub one-outcome : (κs : Lfts (f .lifetimes)) (a : Dens κs (f .params)) (x y : Gave f κs a)
@@ -88,7 +89,8 @@ OpenKeeps =
     let r : Opened = opening suite key nonce ad text tag out₀ in
     (r .number ≤ 8) × (0 < r .number → r .number < 8 → r .out ≡ out₀) × (r .number ≡ 8 → r .out ≡ replicate (length out₀) 0)
 
--- in place, the sealer gives what it gives with any output of the text's length: number and tag are the same, on 0 the output too, and on any other number the text is unchanged
+-- in place, the sealer gives what it gives with any output of the text's length: number and tag are the same, on 0 the output
+-- too, and on any other number the text is unchanged
 abbrev pub SealInPlace : Type 0
 SealInPlace =
     (suite : ℕ) (key nonce ad text tag₀ out₀ : List ℕ) → length out₀ ≡ length text →

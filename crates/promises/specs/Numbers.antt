@@ -1,4 +1,5 @@
--- Demand 1, "refusing by the numbers, in the order given, and only then": document 01's tables, and document 02's, line by line. `Tables.antt` says what it is that a table's numbers are given.
+-- Demand 1, "refusing by the numbers, in the order given, and only then": document 01's tables, and document 02's, line by
+-- line. `Tables.antt` says what it is that a table's numbers are given.
 use mathlib.Core.Path.{_≡_}
 use mathlib.Core.Bool.{Bool, true, false}
 use mathlib.Core.Logic.{_⊎_, _↔_}

@@ -1,4 +1,5 @@
--- An order of refusals, as document 02 gives them: stages one after the other, each a number for the whole call, which carries row 0, or a number that carries the first row to which it applies.
+-- An order of refusals, as document 02 gives them: stages one after the other, each a number for the whole call, which carries
+-- row 0, or a number that carries the first row to which it applies.
 use mathlib.Core.Logic.{_↔_}
 use Prim.Native.Nat.{ℕ, _<_}
 use mathlib.Core.List.{List, [], _∷_}
@@ -15,7 +16,8 @@ Quiet [] = Unit
 Quiet (whole k c ∷ ss) = (c → ⊥) × Quiet ss
 Quiet (rows k n c ∷ ss) = ((j : ℕ) → j < n → c j → ⊥) × Quiet ss
 
--- each number is given, with its row, exactly if it applies, no stage before it does and, where it carries a row, to no row before; and the order is reached. `Gives k i` says that k is given, with row i
+-- each number is given, with its row, exactly if it applies, no stage before it does and, where it carries a row, to no row
+-- before; and the order is reached. `Gives k i` says that k is given, with row i
 abbrev pub Stages : (ℕ → ℕ → Type 0) → Type 0 → List Stage → Type 0
 Stages Gives reached [] = Unit
 Stages Gives reached (whole k c ∷ ss) = (Gives k 0 ↔ (reached × c)) × Stages Gives (reached × (c → ⊥)) ss

@@ -1,4 +1,5 @@
--- Document 02, W9: version 2 of COMET, for suites 5 and 6. Demands 2 and 3, the session's cutting and the writer's round trips are the statements that they were, over every suite that we have, these two among them.
+-- Document 02, W9: version 2 of COMET, for suites 5 and 6. Demands 2 and 3, the session's cutting and the writer's round trips
+-- are the statements that they were, over every suite that we have, these two among them.
 use mathlib.Core.List.{List, [], _∷_}
 use mathlib.Core.Path.{_≡_}
 use Prim.Native.Nat.{ℕ, _-_, _^_}

@@ -1,4 +1,5 @@
--- Every public function of `session` leaves one outcome: a session is told by its value in the definitions (`asValue`), whose lists are the bytes of its numbers.
+-- Every public function of `session` leaves one outcome: a session is told by its value in the definitions (`asValue`), whose
+-- lists are the bytes of its numbers.
 use mathlib.Core.Path.{_≡_, refl, sym, ap, _∙_}
 use mathlib.Core.List.{List}
 use Prim.Native.Nat.{ℕ, _^_, _<_}

@@ -1,4 +1,5 @@
--- The resealed file is the file with the new suites, its suite 4 pieces put anew: it passes, no suite 4 row is left, and each resealed entry opens to the message that the old one opened to.
+-- The resealed file is the file with the new suites, its suite 4 pieces put anew: it passes, no suite 4 row is left, and each
+-- resealed entry opens to the message that the old one opened to.
 use Prim.Native.Nat.{ℕ, _+_, _-_, _≤_, _<_}
 use native.Mathlib.Decide.{decLt}
 use native.Mathlib.Omega.{arith}

@@ -1,4 +1,5 @@
--- `shift_reader::read` meets its contract: a walk of its MIR, by hand. `start` is called on the slice, and the struct is made of the slice and the cursor that it returned.
+-- `shift_reader::read` meets its contract: a walk of its MIR, by hand. `start` is called on the slice, and the struct is made
+-- of the slice and the cursor that it returned.
 -- Assumes nothing.
 use mathlib.Core.Path.{_≡_, refl, ap}
 use Prim.Native.Nat.{ℕ}

@@ -1,4 +1,6 @@
--- `shift_reader::step_at` meets its contract: a walk of its MIR, by hand. A reader is made of the file and the place in a local, and passed to `next`; the place and the entry are taken out of what that gives. All that the proof knows of `next` is that it meets its contract.
+-- `shift_reader::step_at` meets its contract: a walk of its MIR, by hand. A reader is made of the file and the place in a
+-- local, and passed to `next`; the place and the entry are taken out of what that gives. All that the proof knows of `next` is
+-- that it meets its contract.
 -- Assumes nothing.
 use mathlib.Core.Path.{_≡_, refl, ap}
 use Prim.Native.Nat.{ℕ}

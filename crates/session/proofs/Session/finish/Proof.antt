@@ -1,4 +1,5 @@
--- `session::Session::finish` meets its contract: a refusal returns the session unchanged; else the rest and the tag are computed, with the tables that the suite's cipher needs, or none.
+-- `session::Session::finish` meets its contract: a refusal returns the session unchanged; else the rest and the tag are
+-- computed, with the tables that the suite's cipher needs, or none.
 use borrow.Author.Needs.{needs}
 use denote.Ref.{now}
 use lib.ListN.{length}

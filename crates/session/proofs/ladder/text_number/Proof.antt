@@ -1,4 +1,5 @@
--- `session::ladder::text_number` meets its contract: each return is one line of the table of `textNumber`; the room test adds the block size less one to the part.
+-- `session::ladder::text_number` meets its contract: each return is one line of the table of `textNumber`; the room test adds
+-- the block size less one to the part.
 use borrow.Author.Tests.{lt-ltb, le-ltb, not-true, not-false}
 use mathlib.Core.Path.{refl, sym, _∙_}
 use mathlib.Core.Bool.{true, false}

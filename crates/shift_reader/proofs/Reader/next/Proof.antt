@@ -1,4 +1,5 @@
--- `shift_reader::next` meets its contract: a walk of its MIR, by hand. The struct is taken apart, `ask` is called on the cursor and the slice, and the result is made of the slice and of what `ask` returned.
+-- `shift_reader::next` meets its contract: a walk of its MIR, by hand. The struct is taken apart, `ask` is called on the
+-- cursor and the slice, and the result is made of the slice and of what `ask` returned.
 -- The struct is Copy: what it owns is had twice, and so is what its slice owns. Assumes nothing.
 use mathlib.Core.Path.{_≡_, refl, ap}
 use mathlib.Core.List.{[], _∷_}
