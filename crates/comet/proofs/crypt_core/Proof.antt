@@ -61,7 +61,8 @@ module _ (j : tie.Joined1) where
   pos : 0 < sizeOf suite
   pos = some (cipherOf suite) (lawful suite)
 
-  pub read-is : (twoOf suite (j .if1 .s) ≡ walked (cipherOf suite) false 0x08 0x10 (twoOf suite begun) (blocks (sizeOf suite) ad)) × (j .if1 .s .calls ≡ add 64 (begun .calls) (length (blocks (sizeOf suite) ad)))
+  pub read-is : (twoOf suite (j .if1 .s) ≡ walked (cipherOf suite) false 0x08 0x10 (twoOf suite begun) (blocks (sizeOf suite) ad))
+      × (j .if1 .s .calls ≡ add 64 (begun .calls) (length (blocks (sizeOf suite) ad)))
   read-is =
       ⊎-elim
       (λ w. (ap (twoOf suite) (w .2) ∙ w .1 .ensures .0, ap (λ (s : State). s .calls) (w .2) ∙ w .1 .ensures .1))

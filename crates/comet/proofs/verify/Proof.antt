@@ -63,7 +63,8 @@ returns c =
     let x = c .before .before .before .before .before .before .before .args in
     let a = c .before .refused-for .result in
     ap (λ (w : Opened). w .number)
-    (opening-kept (x .suite) (now (x .key)) (now (x .nonce)) (now (x .ad)) (now (x .text)) (now (x .tag)) (now (x .text)) (numberOf a) (c .before .refused-for .ensures) (other-some a (c .match .keys2)))
+    (opening-kept (x .suite) (now (x .key)) (now (x .nonce)) (now (x .ad)) (now (x .text)) (now (x .tag)) (now (x .text)) (numberOf a)
+    (c .before .refused-for .ensures) (other-some a (c .match .keys2)))
 
 tag-under-requires : tie.Need-tag-under-requires
 tag-under-requires c κs =
