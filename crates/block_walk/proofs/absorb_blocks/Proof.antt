@@ -1,4 +1,5 @@
--- `block_walk::absorb_blocks` meets its contract: each turn takes one whole block off what is left.
+-- `block_walk::absorb_blocks`, by induction on the loop: each turn absorbs one whole block of what is left.
+-- The laws are those of `Going`, with the direction `false`: the bytes are absorbed as they are.
 use borrow.Author.Needs.{needs}
 use denote.Ref.{now}
 use lib.ListN.{length}

@@ -1,4 +1,5 @@
--- `block_walk::open_blocks` meets its contract: each turn takes one whole block off what is left, and its message takes its place and is absorbed.
+-- `block_walk::open_blocks`, by induction on the loop: each turn overwrites one whole block of what is left with its message.
+-- The laws are those of `Placed`, with the direction `true`.
 use borrow.Author.Needs.{needs}
 use denote.Ref.{now}
 use lib.ListN.{length}

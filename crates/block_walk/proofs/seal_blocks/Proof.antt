@@ -1,4 +1,5 @@
--- `block_walk::seal_blocks` meets its contract: each turn takes one whole block off what is left, and its ciphertext takes its place.
+-- `block_walk::seal_blocks`, by induction on the loop: each turn overwrites one whole block of what is left with its ciphertext.
+-- The laws are those of `Placed`, with the direction `false`.
 use borrow.Author.Needs.{needs}
 use denote.Ref.{now}
 use lib.ListN.{length}

@@ -1,4 +1,5 @@
--- `block_walk::verify_blocks` meets its contract: each turn takes one whole block off what is left, and its message is absorbed.
+-- `block_walk::verify_blocks`, by induction on the loop: each turn absorbs the message of one whole block of what is left.
+-- The laws are those of `Going`, with the direction `true`.
 use borrow.Author.Needs.{needs}
 use denote.Ref.{now}
 use lib.ListN.{length}
