@@ -179,7 +179,13 @@ part-filled-bytes-end c = search needs
 filled-bytes-requires : tie.Need-filled-bytes-requires
 filled-bytes-requires c κs =
     let d = c .before .before .before .before .before .before .before .before .before .before .before in
-    omega (arith, ap length (rest-is (sizeOf (suite d)) (pos d) (x d) (part d) (st d .args .h) (w d) (lx d) (w-is d) (h-within d)), rest-less (sizeOf (suite d)) (pos d) (x d ++ part d), d .before .size-of .ensures .1 .1, en d)
+    omega (
+      arith,
+      ap length (rest-is (sizeOf (suite d)) (pos d) (x d) (part d) (st d .args .h) (w d) (lx d) (w-is d) (h-within d)),
+      rest-less (sizeOf (suite d)) (pos d) (x d ++ part d),
+      d .before .size-of .ensures .1 .1,
+      en d,
+    )
 
 same-length : tie.Need-same-length
 same-length c = search needs

@@ -104,7 +104,8 @@ returns-2 c =
     let call = c .before .before .crypt-short in
     let o = call .last .1 .1 .1 .1 .1 .0 in
     let ex : take (h - 0) (drop 0 (putMid 0 (h - 0) out y)) ≡ x = lent-again out y h ly ho ∙ ey in
-    let ec : o ≡ covered k false (st .args .m) 0x40 s (blocks (sizeOf suite) x) = call .ensures .0 ∙ ap (hidden k (xor (st .args .m) 0x40) s) ex ∙ sym (cover-short k pos false 0x40 (st .args .m) s x px (omega arith)) in
+    let ec : o ≡ covered k false (st .args .m) 0x40 s (blocks (sizeOf suite) x) = call .ensures .0 ∙ ap (hidden k (xor (st .args .m) 0x40) s) ex
+    ∙ sym (cover-short k pos false 0x40 (st .args .m) s x px (omega arith)) in
     let lo : length o ≡ h = call .kept .1 .1 .1 .1 .1 .0 ∙ ap length ex ∙ lx in (
       twice-written out y h ly ho o _ (call .kept .1 .1 .1 .1 .1 .0) ec,
       (

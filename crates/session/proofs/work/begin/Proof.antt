@@ -67,7 +67,8 @@ returns-3 c =
     let s = st .args .s in
     let n = c .before .before .before .before .before .size-of in
     c .absorb-last .ensures .two
-    ∙ begun-short (cipherOf (s .suite)) (asValue s) (n .result) (n .ensures .0) (n .ensures .1 .0) (n .ensures .1 .1) (held-long st) (c .before .before .before .before .before .before .if1 .left) (c .before .before .before .before .if2 .left)
+    ∙ begun-short (cipherOf (s .suite)) (asValue s) (n .result) (n .ensures .0) (n .ensures .1 .0) (n .ensures .1 .1) (held-long st)
+    (c .before .before .before .before .before .before .if1 .left) (c .before .before .before .before .if2 .left)
     (c .before .before .before .first-mark .result) (c .before .before .before .first-mark .ensures)
 
 pub begin-spec : {M : Type 1} → statement M
