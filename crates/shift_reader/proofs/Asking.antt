@@ -106,7 +106,8 @@ others-rows r zero m e q = let c : 0 + m ≡ m = omega arith in rw c (stuck r (p
 others-rows r (suc k) m e q =
     let c : suc k + m ≡ suc (k + m) = omega arith in
     let l : r .place .at < rowsLaid (now (r .src)) = omega arith in
-    let g : nextOf r ≡ record { reader = record { src = r .src; place = moved (r .place) }; entry = Row (listedOf (now (r .src)) (r .place .at)) } = ap (made (r .src)) (going (r .place) (now (r .src)) e l) in
+    let g : nextOf r ≡ record { reader = record { src = r .src; place = moved (r .place) }; entry = Row (listedOf (now (r .src)) (r .place .at)) } =
+    ap (made (r .src)) (going (r .place) (now (r .src)) e l) in
     rw c (ap₂ (λ (a : NextRow) (t : List NextRow). a ∷ t) (ap (λ (x : Asked). x .entry) g)
     (ap (λ (x : Asked). asks (k + m) (x .reader)) g ∙ rw add-one (others-rows (record { src = r .src; place = record { at = suc (r .place .at); end = r .place .end } }) k m e (omega arith))))
 
