@@ -1,4 +1,5 @@
--- Every public function of `aes_plain` leaves one outcome: a word or columns are told by their bytes (`bytesOf`), the table by its rule, the image by the definition.
+-- Every public function of `aes_plain` leaves one outcome: a word or columns are told by their bytes (`bytesOf`), the table by
+-- its rule, the image by the definition.
 use mathlib.Core.Path.{_≡_, refl, sym, ap, _∙_}
 use native.Mathlib.Omega.{arith}
 use Rattle.block.specs.Words.{xor}

@@ -1,4 +1,5 @@
--- Doubling on two halves of 64 bits: p comes in as often as a bit drops out, once or not at all, so no test is needed; in 120 bits the bit that the low half drops enters the high one, and p stays in the low half.
+-- Doubling on two halves of 64 bits: p comes in as often as a bit drops out, once or not at all, so no test is needed; in 120
+-- bits the bit that the low half drops enters the high one, and p stays in the low half.
 use mathlib.Core.Path.{_≡_, sym, ap, ap₂, _∙_}
 use mathlib.Core.Bool.{Bool, true, false, cond}
 use Prim.Native.Nat.{ℕ, _+_, _-_, _*_, _/_, _%_, _^_, _<_}

@@ -1,8 +1,10 @@
--- One turn of the code is one step of the walk: where X and Z for a block are held, what is XORed with X is the walk's, and the bytes that the suite does not use stay zero.
+-- One turn of the code is one step of the walk: where X and Z for a block are held, what is XORed with X is the walk's, and
+-- the bytes that the suite does not use stay zero.
 use mathlib.Core.Path.{_≡_, refl, sym, ap, ap₂, _∙_}
 use Prim.Native.Nat.{ℕ, _-_, _≤_, _<_}
 use native.Mathlib.Omega.{arith}
 use native.Mathlib.Nat.{le-of-eq}
+use mathlib.Core.Bool.{Bool, true, false, cond}
 use mathlib.Core.List.{List, _++_}
 use lib.ListN.{length, take, drop, replicate, drop-of-length-le}
 use lib.Seq.{take-at, length-take-le}
@@ -15,7 +17,7 @@ use Rattle.block.proofs.Xors.{take-xors, drop-xors, xors-take, xors-zeros}
 use Rattle.cipher.specs.Cipher.{sizeOf, cipherOf}
 use Rattle.cipher.proofs.Suites.{size-most}
 use Rattle.mode.specs.Words.{shuffle, pad}
-use Rattle.mode.specs.Walk.{States, turned, hidden}
+use Rattle.mode.specs.Walk.{States, turned, hidden, messageOf}
 use Rattle.mode.proofs.Words.{pad-full}
 use Rattle.block_step.specs.declared.state.State.{State}
 use Rattle.block_step.specs.Two.{twoOf, Clean, Holds, oneMore, imaged}
@@ -115,3 +117,15 @@ module _ (suite m : ℕ) (s t : State) (h : Holds suite t (imaged suite m (twoOf
         front = is ∙ sym (pad-full (sizeOf suite) v l);
         clean = clean-xor suite p x c (full-goes suite b p e ep .clean) (ex .1) ec;
       }
+
+  -- the block that is absorbed: c where a ciphertext is opened, else p
+  full-in : (opening : Bool) → length b ≡ sizeOf suite → Goes suite (messageOf (cipherOf suite) opening m (twoOf suite s) b) (cond opening c p)
+  full-in true e = out-goes e
+  full-in false e = full-goes suite b p e ep
+
+  -- the turn of a full block in either direction: the output, and the state r after the message was absorbed
+  pub full-turn : (opening : Bool) (r : State) → length b ≡ sizeOf suite
+      → wide (r .y) ≡ xors (wide (t .y)) (wide (cond opening c p)) → (wide (r .z) ≡ wide (t .z)) × (r .calls ≡ t .calls)
+      → (take (length b) (wide c) ≡ hidden (cipherOf suite) m (twoOf suite s) b)
+      × Holds suite r (turned (cipherOf suite) m (twoOf suite s) (messageOf (cipherOf suite) opening m (twoOf suite s) b)) (oneMore (s .calls))
+  full-turn opening r e ey ez = (goes-out (le-of-eq e), put-in suite m s t h _ (cond opening c p) r (full-in opening e) ey ez)

@@ -1,4 +1,5 @@
-// One block of associated data or text, full or short, by one cipher call; a full one is read and written by whole words. The output overwrites the block of text.
+// One block of associated data or text, full or short, by one cipher call; a full one is read and written by whole words. The
+// output overwrites the block of text.
 use crate::state::State;
 use cipher::AesTables;
 ghost use mathlib.Core.Path.{_≡_};

@@ -9,7 +9,8 @@ ghost use Rattle.cipher.specs.Cipher.{TablesFit, IsSuite, sizeOf, nonceOf, ciph
 ghost use Rattle.mode.specs.Walk.{origin};
 ghost use Rattle.block_step.specs.Two.{twoOf, Clean, Holds, oneMore, imaged};
 
-// Y in the first bytes of y, as many as the suite's block has, Z, and the number of cipher calls so far. The count wraps modulo 2^64, so that it adds no precondition for callers who do not read it.
+// Y in the first bytes of y, as many as the suite's block has, Z, and the number of cipher calls so far. The count wraps
+// modulo 2^64, so that it adds no precondition for callers who do not read it.
 pub struct State {
     pub y: Block,
     pub z: Block,

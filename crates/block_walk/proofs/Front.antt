@@ -147,7 +147,7 @@ module _ (κ : Cipher) (pos : 0 < κ .size) (d : Bool) (short : ℕ) where
         ap (λ (x : States). walked κ d 0 short x (wholes n (drop e l))) et
         ∙ sym (ap (walked κ d m short s) (turn-blocks n pos l i e q h) ∙ walk-full m s block (wholes n (drop e l)) (block-long n pos l i e q h))
 
-    -- what was output so far, after the part of out from i to e borrowed and has come back as x
+    -- what was output so far, after the part of out from i to e was borrowed and has come back as x
     pub turn-cover : (out x post all : List ℕ) → i ≤ length out → length x ≡ e - i → x ≡ hidden κ m s block
         → take i out ++ covered κ d m short s (wholes n (drop i l)) ≡ all
         → take e (take i out ++ (x ++ post)) ++ covered κ d 0 short t (wholes n (drop e l)) ≡ all

@@ -18,7 +18,9 @@ use Rattle.block_walk.specs.declared.Progress.{Progress}
 abbrev pub wholes : ℕ → List ℕ → List (List ℕ)
 wholes n l = blocks n (whole n l)
 
--- r is the result of processing the whole blocks of l from the state s, the first under the mark m. No whole block has the short mark, whatever it is. If there is no whole block, the mark and the bytes of y that Y does not use are unchanged; else there is no mark and these bytes are zero
+-- r is the result of processing the whole blocks of l from the state s, the first under the mark m. No whole block has the
+-- short mark, whatever it is. If there is no whole block, the mark and the bytes of y that Y does not use are unchanged; else
+-- there is no mark and these bytes are zero
 pub record Passed (suite : ℕ) (d : Bool) (m : ℕ) (s : State) (l : List ℕ) (r : Progress) : Type 0 where
   pub two : (short : ℕ) → twoOf suite (r .s) ≡ walked (cipherOf suite) d m short (twoOf suite s) (wholes (sizeOf suite) l)
   pub beside : drop (sizeOf suite) (wide (r .s .y)) ≡ cond (ltb (length l) (sizeOf suite)) (drop (sizeOf suite) (wide (s .y))) (replicate (16 - sizeOf suite) 0)

@@ -70,7 +70,8 @@ facts b n t v e = record { block = b; nonce = n; tag = t; version = v; engine = 
 abbrev pub limit : ℕ
 limit = 65536
 
--- document 01's table, a line for each suite: AES-128 for 1, CHAM-128/128 for 2, Speck-64/128 for 3, CHAM-64/128 for 4; then version 2 over AES-128 for 5, and over Speck-64/128 for 6 (document 02, W9)
+-- document 01's table, a line for each suite: AES-128 for 1, CHAM-128/128 for 2, Speck-64/128 for 3, CHAM-64/128 for 4; then
+-- version 2 over AES-128 for 5, and over Speck-64/128 for 6 (document 02, W9)
 unfoldable pub factsOf : ℕ → Facts
 factsOf s =
     cond (leb s 1) (facts 16 16 16 one aes128)

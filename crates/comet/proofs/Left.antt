@@ -13,6 +13,11 @@ use Rattle.status.specs.Verdicts.{refusal}
 use Rattle.status.proofs.Refuse.{passed}
 use Rattle.comet.specs.Answers.{Sealed, sealedAs, sealing, Opened, openedAs, opening}
 
+-- lengths that pass for a text and its output pass for a copy of the text that is its own output
+pub copy-passes : (d : Bool) (s k v a t o g : ℕ) → refusal d s k v a t o g ≡ 0 → (n : ℕ) → n ≡ t → refusal d s k v a n n g ≡ 0
+copy-passes d s k v a t o g z n q =
+    ap (λ (x : ℕ). refusal d s k v a x x g) q ∙ ap (λ (x : ℕ). refusal d s k v a t x g) (sym (passed d s k v a t o g z .room)) ∙ z
+
 -- ---- the sealer
 
 as-kept : (n : ℕ) (x y o t : List ℕ) → 0 < n → _≡_ {A = Sealed} (record { number = n; out = o; tag = t }) (sealedAs n x y o t)
@@ -39,9 +44,8 @@ module _ (s : ℕ) (k v a m o t : List ℕ) (n : ℕ) (e : n ≡ refusal false s
 pub sealing-over : (s : ℕ) (k v a m o t : List ℕ) → refusal false s (length k) (length v) (length a) (length m) (length o) (length t) ≡ 0 → sealing s k v a m m t ≡ sealing s k v a m o t
 unfolding sealing
 sealing-over s k v a m o t z =
-    let room : length o ≡ length m = passed false s _ _ _ _ _ _ z .room in
-    let z′ : refusal false s (length k) (length v) (length a) (length m) (length m) (length t) ≡ 0 = sym (ap (λ (n : ℕ). refusal false s (length k) (length v) (length a) (length m) n (length t)) room) ∙ z in
-    ap (λ (j : ℕ). sealedAs j (ciphertext (cipherOf s) k v a m) (tag (cipherOf s) k v a m) m t) z′
+    ap (λ (j : ℕ). sealedAs j (ciphertext (cipherOf s) k v a m) (tag (cipherOf s) k v a m) m t)
+    (copy-passes false s (length k) (length v) (length a) (length m) (length o) (length t) z (length m) refl)
     ∙ sym (ap (λ (j : ℕ). sealedAs j (ciphertext (cipherOf s) k v a m) (tag (cipherOf s) k v a m) o t) z)
 
 -- ---- the opener
@@ -76,7 +80,7 @@ pub opening-over : (s : ℕ) (k v a c g o : List ℕ) → refusal true s (length
 unfolding opening
 opening-over s k v a c g o z =
     let room : length o ≡ length c = passed true s _ _ _ _ _ _ z .room in
-    let z′ : refusal true s (length k) (length v) (length a) (length c) (length c) (length g) ≡ 0 = sym (ap (λ (n : ℕ). refusal true s (length k) (length v) (length a) (length c) n (length g)) room) ∙ z in
+    let passes = copy-passes true s (length k) (length v) (length a) (length c) (length o) (length g) z (length c) refl in
     let right : Bool = sameBytes (tagOut (cipherOf s) true k v a c) g in
     let message : List ℕ = textOut (cipherOf s) true k v a c in
-    ap (λ (j : ℕ). openedAs j right message c) z′ ∙ over-same right message c o (sym room) ∙ sym (ap (λ (j : ℕ). openedAs j right message o) z)
+    ap (λ (j : ℕ). openedAs j right message c) passes ∙ over-same right message c o (sym room) ∙ sym (ap (λ (j : ℕ). openedAs j right message o) z)

@@ -1,4 +1,5 @@
--- How many cipher calls sealer and opener report (document 02, W12): the length of their list if the text was processed, 8 included, and 0 on the refusals before.
+-- How many cipher calls sealer and opener report (document 02, W12): the length of their list if the text was processed, 8
+-- included, and 0 on the refusals before.
 use mathlib.Core.Bool.{Bool, true, false}
 use Prim.Native.Nat.{ℕ, zero, suc}
 use mathlib.Core.List.{List}

@@ -54,7 +54,8 @@ fn refused_for(
     )
 }
 
-// Seals or opens text in place under these tables; returns the tag and the count of cipher calls. Every length is right. Empty inputs are skipped, so that the states stay in registers.
+// Seals or opens text in place under these tables; returns the tag and the count of cipher calls. Every length is right. Empty
+// inputs are skipped, so that the states stay in registers.
 fn crypt_core(
     tables: &[AesTables],
     opening: bool,
@@ -88,7 +89,8 @@ fn crypt_core(
     block_step::tag::tag_of(tables, suite, s)
 }
 
-// `crypt_core` under the tables that the suite needs: only suites 1 and 5 spend time on filling them. Their 4 KiB are in this function's stack frame, whichever the suite.
+// `crypt_core` under the tables that the suite needs: only suites 1 and 5 spend time on filling them. Their 4 KiB are in this
+// function's stack frame, whichever the suite.
 fn crypt(
     opening: bool,
     suite: u8,

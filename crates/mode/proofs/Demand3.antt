@@ -1,4 +1,5 @@
--- A change inside one block changes the tag: the block keys do not know the contents, so after the block two chains differ in Y alone, and no later block under equal keys brings them together.
+-- A change inside one block changes the tag: the block keys do not know the contents, so after the block two chains differ in
+-- Y alone, and no later block under equal keys brings them together.
 use mathlib.Core.Path.{_≡_, refl, sym, ap, ap₂, _∙_, subst}
 use mathlib.Core.Bool.{Bool, true, false}
 use Prim.Native.Nat.{ℕ, suc, _+_, _-_, _*_, _≤_, _<_, min}

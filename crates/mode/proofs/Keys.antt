@@ -1,4 +1,5 @@
--- Block keys are blocks of sixteen bytes, one for each mark.
+-- Every block key is a block of sixteen bytes, in both versions, by induction on the marks; and there are as many marks as
+-- blocks and one for the tag, so no key is missing.
 use mathlib.Core.Path.{_≡_, refl, ap, ap₂, _∙_}
 use Prim.Native.Nat.{ℕ, zero, suc, _+_, _-_, _≤_, _<_}
 use native.Mathlib.Nat.{not-suc-le-zero, le-of-suc-le-suc}

@@ -1,4 +1,5 @@
--- Two openings with the same keys whose Ys differ: a full block brings them together exactly if their cipher outputs are complements, and once together they stay so.
+-- Two openings with the same keys whose Ys differ: a full block brings them together exactly if their cipher outputs are
+-- complements, and once together they stay so.
 use mathlib.Core.Path.{_≡_, sym, ap, ap₂, _∙_}
 use mathlib.Core.Logic.{_⊎_, _↔_, inl, inr}
 use mathlib.Core.Bool.{true}

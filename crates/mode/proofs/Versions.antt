@@ -1,4 +1,4 @@
--- Version 2's held mark may stand in Z: what a call takes from the one before it, and what was inlined into Z after that one, are the same mark.
+-- Version 2's held mark may stand in Z: what a call takes from the one before it, and what was XORed into Z after that one, are the same mark.
 use mathlib.Core.Path.{_≡_, refl, sym, ap, _∙_}
 use native.Mathlib.Omega.{arith}
 use Prim.Native.Nat.{ℕ, zero, suc, _<_}

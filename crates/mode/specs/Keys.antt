@@ -24,7 +24,8 @@ unfoldable pub late : ℕ → List ℕ → List ℕ
 late held [] = xor held 0x80 ∷ []
 late held (m ∷ ms) = held ∷ late m ms
 
--- the mark before each cipher call after the start, the tag's last, from the marks of the blocks: version 1 marks a block's own call, version 2 the next call (source 004, algorithm 7.1)
+-- the mark before each cipher call after the start, the tag's last, from the marks of the blocks: version 1 marks a block's
+-- own call, version 2 the next call (source 004, algorithm 7.1)
 abbrev pub placed : Version → List ℕ → List ℕ
 placed one ms = ms ++ (0x80 ∷ [])
 placed two ms = late 0 ms

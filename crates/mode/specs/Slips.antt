@@ -1,4 +1,5 @@
--- When a change goes undetected (document 02, W13): the kernel of shuffle XOR identity, which source 000, section 3.5, wants invertible; and which altered records still have the old tag.
+-- When a change goes undetected (document 02, W13): the kernel of shuffle XOR identity, which source 000, section 3.5, wants
+-- invertible; and which altered records still have the old tag.
 use mathlib.Core.Path.{_≡_}
 use mathlib.Core.Bool.{true}
 use mathlib.Core.Logic.{_⊎_, _↔_}
@@ -53,7 +54,8 @@ pub data Changed (n : ℕ) (ad ad′ c c′ : List ℕ) : ℕ → Type 0 where
 abbrev pub FullFrom : ℕ → ℕ → List ℕ → Type 0
 FullFrom n first text = (i : ℕ) → first ≤ i → i < length (blocks n text) → length (getD (blocks n text) i []) ≡ n
 
--- opening gives the tag t; the record is changed in one block, and every message block after the change is full: opening gives t again exactly if at some message block after the change the outputs of the two openings are complements
+-- opening gives the tag t; the record is changed in one block, and every message block after the change is full: opening gives
+-- t again exactly if at some message block after the change the outputs of the two openings are complements
 abbrev pub SlipsThrough : Type 0
 SlipsThrough =
     (κ : Cipher) → Lawful κ → (key nonce ad ad′ c c′ t : List ℕ) (first : ℕ)

@@ -1,4 +1,6 @@
--- Version 1 of COMET, frozen: document 01, "Bytes, words and the two states", sentence by sentence. It names no version, and no other definition uses it; `KeptBytes` says that the mode gives its bytes. Blocks, padding and shuffle are what both versions share.
+-- Version 1 of COMET, frozen: document 01, "Bytes, words and the two states", sentence by sentence. It names no version, and
+-- no other definition uses it; `KeptBytes` says that the mode gives its bytes. Blocks, padding and shuffle are what both
+-- versions share.
 use mathlib.Core.Path.{_≡_}
 use Prim.Native.Nat.{ℕ, _*_, _%_, _^_, _<_}
 use mathlib.Core.Bool.{Bool, cond}

@@ -1,4 +1,5 @@
--- The chain, processed block by block: the two states Y and Z before and after each block, and the output for it. A step does not depend on later blocks, so a text may come in parts.
+-- The chain, processed block by block: the two states Y and Z before and after each block, and the output for it. A step does
+-- not depend on later blocks, so a text may come in parts.
 use Prim.Native.Nat.{ℕ, _*_, _/_}
 use mathlib.Core.Bool.{Bool, false, cond}
 use mathlib.Core.List.{List, [], _∷_, _++_}

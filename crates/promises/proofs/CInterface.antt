@@ -1,4 +1,5 @@
--- The C functions by citation: each contract says what number and outputs equal. Of a session's words: a refusal leaves the value, and words of 64 bits are read back from it.
+-- The C functions by citation: each contract says what number and outputs equal. Of a session's words: a refusal leaves the
+-- value, and words of 64 bits are read back from it.
 use mathlib.Core.Path.{_≡_, refl, sym, ap, subst, _∙_}
 use Prim.Native.Nat.{ℕ, zero, suc, _<_}
 use native.Mathlib.Nat.{suc-ne-zero}

@@ -1,4 +1,6 @@
--- Each definition is a ladder of tests; what the tests before an outcome say gives it.
+-- Read `Tables` first: a test *tells* a proposition when it is true exactly where the proposition holds, and a ladder of tests
+-- that tell their lines gives the table's numbers. Here each definition is such a ladder: the tests before an outcome say when
+-- it is reached, and so give its case.
 use mathlib.Core.Path.{_≡_, refl, sym, ap, _∙_}
 use mathlib.Core.Logic.{_⊎_, ⊎-elim}
 use mathlib.Core.Bool.{Bool, true, false, cond, not, _||_, true≢false}
@@ -65,7 +67,12 @@ module _ (f : List ℕ) (job : ℕ) where
 
   -- a number that the binary search does not give is the head's
   search-by : (k : ℕ) → (k ≡ 0 → ⊥) → (k ≡ 32 → ⊥) → By (λ j. searching f job ≡ ends (answer j 0)) Unit (ladder Unit (headTable firstEdition newest f) (head-rungs firstEdition newest f)) k
-  search-by k n0 n32 = (λ e. (tt, sym (head-is firstEdition newest f) ∙ on (eqb H 0) refl e), λ y. let h : H ≡ k = head-is firstEdition newest f ∙ y .1 in search-stops (λ z. n0 (sym h ∙ z)) ∙ ap (λ (m : ℕ). ends (answer m 0)) h)
+  search-by k n0 n32 = (
+    λ e. (tt, sym (head-is firstEdition newest f) ∙ on (eqb H 0) refl e),
+    λ y.
+        let h : H ≡ k = head-is firstEdition newest f ∙ y .1 in
+        search-stops (λ z. n0 (sym h ∙ z)) ∙ ap (λ (m : ℕ). ends (answer m 0)) h,
+  )
     where
       said : Walk → ℕ
       said x = x .says .number
@@ -78,8 +85,13 @@ module _ (f : List ℕ) (job : ℕ) where
 
   search-cases : SearchCases f job
   search-cases = record {
-    head = lines (λ k. searching f job ≡ ends (answer k 0)) Unit (headTable firstEdition newest f) (head-rungs firstEdition newest f) refl
-        (search-by 20 (λ e. omega arith) (λ e. omega arith), (search-by 21 (λ e. omega arith) (λ e. omega arith), (search-by 22 (λ e. omega arith) (λ e. omega arith), (search-by 23 (λ e. omega arith) (λ e. omega arith), (search-by 24 (λ e. omega arith) (λ e. omega arith), tt)))));
+    head = lines (λ k. searching f job ≡ ends (answer k 0)) Unit (headTable firstEdition newest f) (head-rungs firstEdition newest f) refl (
+      search-by 20 (λ e. omega arith) (λ e. omega arith),
+      (
+        search-by 21 (λ e. omega arith) (λ e. omega arith),
+        (search-by 22 (λ e. omega arith) (λ e. omega arith), (search-by 23 (λ e. omega arith) (λ e. omega arith), (search-by 24 (λ e. omega arith) (λ e. omega arith), tt))),
+      ),
+    );
     halved = λ h. search-goes (none-head firstEdition newest f .1 h);
   }
 
@@ -204,7 +216,8 @@ module _ (f out : List ℕ) where
   unfolding stationsFrom
   none q = first-none (λ j. not (eqb (stationOf f j) 0)) (answer 35) (answer 0 0) (countOf f) (λ j m. simp (q j m))
 
-  back-past : (b : Bool) → checkAs newest f .number ≡ 0 → AllZero (countOf f) → eqb (length out) (length (moved firstEdition f)) ≡ b → toEdition1 f out ≡ cond b (done (moved firstEdition f)) (unmoved 6 0 out)
+  back-past : (b : Bool) → checkAs newest f .number ≡ 0 → AllZero (countOf f) → eqb (length out) (length (moved firstEdition f)) ≡ b
+      → toEdition1 f out ≡ cond b (done (moved firstEdition f)) (unmoved 6 0 out)
   unfolding toEdition1 backAnswer lengthAnswer
   back-past true p q e = simp (p, none q, le-ltb 1048576 (length (moved firstEdition f)) (back-short f p), e)
   back-past false p q e = simp (p, none q, le-ltb 1048576 (length (moved firstEdition f)) (back-short f p), e)

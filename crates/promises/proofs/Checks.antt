@@ -33,7 +33,8 @@ tells-any {p} {P} t n = (λ e. let r = any-some p n e in (r .0, r .1 .0, t (r .0
 tells-clash : (f : List ℕ) (i j : ℕ) → Tells (clash (rowSizeOf f) f i j) (SameNonce f i j)
 unfolding clash
 tells-clash f i j =
-    tells-as (tells-and (tells-eq (rowOf f i .suite) (rowOf f j .suite)) (tells-and (tells-eq (rowOf f i .key) (rowOf f j .key)) (tells-same (nonceReadAt (rowSizeOf f) f i) (nonceReadAt (rowSizeOf f) f j))))
+    tells-as (tells-and (tells-eq (rowOf f i .suite) (rowOf f j .suite))
+    (tells-and (tells-eq (rowOf f i .key) (rowOf f j .key)) (tells-same (nonceReadAt (rowSizeOf f) f i) (nonceReadAt (rowSizeOf f) f j))))
     (λ h. record { suite = h .0; key = h .1 .0; nonce = h .1 .1 }, λ h. (h .suite, (h .key, h .nonce)))
 
 tells-above : (f : List ℕ) (i : ℕ) → Tells (notAbove (rowSizeOf f) f i) ((0 < i) × (rowOf f i .job ≤ rowOf f (i - 1) .job))
@@ -267,7 +268,8 @@ check-numbers low high f =
       );
     }
   where
-    given : (k : ℕ) → fresh k (numbersOf (rowTable f 0)) ≡ true → fresh k (numbersOf (endTable f)) ≡ true → By (λ j. checkBetween low high f ≡ answer j 0) Unit (ladder Unit (headTable low high f) (head-rungs low high f)) k
+    given : (k : ℕ) → fresh k (numbersOf (rowTable f 0)) ≡ true → fresh k (numbersOf (endTable f)) ≡ true
+        → By (λ j. checkBetween low high f ≡ answer j 0) Unit (ladder Unit (headTable low high f) (head-rungs low high f)) k
     given = of-head low high f
 
     in-row : (i k : ℕ) → fresh k (numbersOf (headTable low high f)) ≡ true → fresh k (numbersOf (endTable f)) ≡ true →

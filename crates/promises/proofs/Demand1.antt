@@ -68,7 +68,8 @@ entry-points =
       unseal-counted = record { asks-nothing = λ κs a. tt; one-outcome = comet.unseal-counted };
     }
 
-sealed-keeps : (n : ℕ) (x y o t : List ℕ) → (n ≤ 7) ⊎ (n ≡ 10) → ((sealedAs n x y o t .number ≤ 7) ⊎ (sealedAs n x y o t .number ≡ 10)) × (0 < sealedAs n x y o t .number → (sealedAs n x y o t .out ≡ o) × (sealedAs n x y o t .tag ≡ t))
+sealed-keeps : (n : ℕ) (x y o t : List ℕ) → (n ≤ 7) ⊎ (n ≡ 10) → ((sealedAs n x y o t .number ≤ 7) ⊎ (sealedAs n x y o t .number ≡ 10))
+    × (0 < sealedAs n x y o t .number → (sealedAs n x y o t .out ≡ o) × (sealedAs n x y o t .tag ≡ t))
 sealed-keeps zero x y o t h = (inl (omega arith), λ p. absurd (not-suc-le-zero p))
 sealed-keeps (suc n) x y o t h = (h, λ p. (refl, refl))
 

@@ -1,4 +1,5 @@
--- The tables of sealer, opener and session: each is a ladder of tests.
+-- The number tables of sealer, opener and session. Each definition is a ladder of tests; each test tells its line (`Tables`),
+-- so the ladder gives the number of the first line that applies.
 use mathlib.Core.Path.{_≡_, refl, sym, ap, _∙_}
 use mathlib.Core.Logic.{_⊎_, inl, inr, _↔_}
 use mathlib.Core.Bool.{Bool, true, false, cond, not, _&&_, true≢false}

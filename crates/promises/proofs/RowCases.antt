@@ -67,8 +67,13 @@ module _ (f : List ℕ) where
       no-header = lines (λ k. headerAnswer f ≡ noHeader k) Unit (headTable firstEdition newest f) (head-rungs firstEdition newest f) refl
           (header-by 20 (λ e. omega arith), (header-by 21 (λ e. omega arith), (header-by 22 (λ e. omega arith), (header-by 23 (λ e. omega arith), (header-by 24 (λ e. omega arith), tt)))));
       header = λ h. header-goes f (none-head firstEdition newest f .1 h);
-      no-table = lines (λ k. rowAnswer f i ≡ noFields k) Unit (headTable firstEdition newest f) (head-rungs firstEdition newest f) refl
-          (row-by 20 (λ e. omega arith) (λ e. omega arith), (row-by 21 (λ e. omega arith) (λ e. omega arith), (row-by 22 (λ e. omega arith) (λ e. omega arith), (row-by 23 (λ e. omega arith) (λ e. omega arith), (row-by 24 (λ e. omega arith) (λ e. omega arith), tt)))));
+      no-table = lines (λ k. rowAnswer f i ≡ noFields k) Unit (headTable firstEdition newest f) (head-rungs firstEdition newest f) refl (
+        row-by 20 (λ e. omega arith) (λ e. omega arith),
+        (
+          row-by 21 (λ e. omega arith) (λ e. omega arith),
+          (row-by 22 (λ e. omega arith) (λ e. omega arith), (row-by 23 (λ e. omega arith) (λ e. omega arith), (row-by 24 (λ e. omega arith) (λ e. omega arith), tt))),
+        ),
+      );
       no-row = (no-row, tt);
       row = λ h l. row-goes f i (none-head firstEdition newest f .1 h) l;
     }

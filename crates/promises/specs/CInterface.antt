@@ -83,11 +83,13 @@ pub record CRoutines : Type 0 where
       _≡_ {A = Opened} (record { number = x .result; out = text′ }) (opening suite (now key) (now nonce) (now ad) (now text) (now tag) (now text))
   pub comet-verify : (κs : Lfts 5) (suite : ℕ) (key nonce ad text tag : RefT (List ℕ)) (x : Gave the.comet-verify κs (suite, (key, (nonce, (ad, (text, (tag, tt))))))) →
       x .result ≡ verifying suite (now key) (now nonce) (now ad) (now text) (now tag)
-  pub comet-seal-counted : (κs : Lfts 7) (suite : ℕ) (key nonce ad msg out tag : RefT (List ℕ)) (calls : RefT ℕ) (x : Gave the.comet-seal-counted κs (suite, (key, (nonce, (ad, (msg, (out, (tag, (calls, tt))))))))) →
+  pub comet-seal-counted : (κs : Lfts 7) (suite : ℕ) (key nonce ad msg out tag : RefT (List ℕ)) (calls : RefT ℕ)
+      (x : Gave the.comet-seal-counted κs (suite, (key, (nonce, (ad, (msg, (out, (tag, (calls, tt))))))))) →
       let (_, (_, (_, (_, (_, (out′, (tag′, (calls′, _)))))))) = x .last in
       _≡_ {A = Counting Sealed} (record { leaves = record { number = x .result; out = out′; tag = tag′ }; calls = calls′ })
       (sealingCounted suite (now key) (now nonce) (now ad) (now msg) (now out) (now tag))
-  pub comet-open-counted : (κs : Lfts 7) (suite : ℕ) (key nonce ad text tag out : RefT (List ℕ)) (calls : RefT ℕ) (x : Gave the.comet-open-counted κs (suite, (key, (nonce, (ad, (text, (tag, (out, (calls, tt))))))))) →
+  pub comet-open-counted : (κs : Lfts 7) (suite : ℕ) (key nonce ad text tag out : RefT (List ℕ)) (calls : RefT ℕ)
+      (x : Gave the.comet-open-counted κs (suite, (key, (nonce, (ad, (text, (tag, (out, (calls, tt))))))))) →
       let (_, (_, (_, (_, (_, (_, (out′, (calls′, _)))))))) = x .last in
       _≡_ {A = Counting Opened} (record { leaves = record { number = x .result; out = out′ }; calls = calls′ })
       (openingCounted suite (now key) (now nonce) (now ad) (now text) (now tag) (now out))
@@ -117,7 +119,8 @@ pub record CRoutines : Type 0 where
   pub shift-associated : (κs : Lfts 3) (file : RefT (List ℕ)) (job : ℕ) (at len : RefT ℕ) (x : Gave the.shift-associated κs (file, (job, (at, (len, tt))))) →
       let (_, (_, (at′, (len′, _)))) = x .last in
       _≡_ {A = Located} (record { number = x .result; at = at′; len = len′ }) (locating (now file) job)
-  pub shift-entry : (κs : Lfts 6) (file : RefT (List ℕ)) (job : ℕ) (row ad-at ad-len text-at text-len : RefT ℕ) (x : Gave the.shift-entry κs (file, (job, (row, (ad-at, (ad-len, (text-at, (text-len, tt)))))))) →
+  pub shift-entry : (κs : Lfts 6) (file : RefT (List ℕ)) (job : ℕ) (row ad-at ad-len text-at text-len : RefT ℕ)
+      (x : Gave the.shift-entry κs (file, (job, (row, (ad-at, (ad-len, (text-at, (text-len, tt)))))))) →
       let (_, (_, (row′, (ad-at′, (ad-len′, (text-at′, (text-len′, _))))))) = x .last in
       _≡_ {A = Entry} (record { number = x .result; row = row′; «ad_at» = ad-at′; «ad_len» = ad-len′; «text_at» = text-at′; «text_len» = text-len′ }) (entryOf (now file) job)
   pub shift-open-job : (κs : Lfts 4) (file ring : RefT (List ℕ)) (job : ℕ) (out : RefT (List ℕ)) (row : RefT ℕ) (x : Gave the.shift-open-job κs (file, (ring, (job, (out, (row, tt)))))) →
@@ -140,10 +143,12 @@ pub record CRoutines : Type 0 where
       let (_, (_, (out′, (row′, _)))) = x .last in
       writes (answer (x .result) row′) out′ ≡ fileResealing (now file) (now ring) (now out)
   -- amendments
-  pub shift-amended : (κs : Lfts 6) (amendment day : RefT (List ℕ)) (job : ℕ) (file row at len : RefT ℕ) (x : Gave the.shift-amended κs (amendment, (day, (job, (file, (row, (at, (len, tt)))))))) →
+  pub shift-amended : (κs : Lfts 6) (amendment day : RefT (List ℕ)) (job : ℕ) (file row at len : RefT ℕ)
+      (x : Gave the.shift-amended κs (amendment, (day, (job, (file, (row, (at, (len, tt)))))))) →
       let (_, (_, (_, (file′, (row′, (at′, (len′, _))))))) = x .last in
       _≡_ {A = Placed} (record { number = x .result; file = file′; row = row′; at = at′; len = len′ }) (placing (now amendment) (now day) job)
-  pub shift-open-amended : (κs : Lfts 6) (amendment day ring : RefT (List ℕ)) (job : ℕ) (out : RefT (List ℕ)) (file row : RefT ℕ) (x : Gave the.shift-open-amended κs (amendment, (day, (ring, (job, (out, (file, (row, tt)))))))) →
+  pub shift-open-amended : (κs : Lfts 6) (amendment day ring : RefT (List ℕ)) (job : ℕ) (out : RefT (List ℕ)) (file row : RefT ℕ)
+      (x : Gave the.shift-open-amended κs (amendment, (day, (ring, (job, (out, (file, (row, tt)))))))) →
       let (_, (_, (_, (_, (out′, (file′, (row′, _))))))) = x .last in
       _≡_ {A = AmendedOpening} (record { file = file′; answer = answer (x .result) row′; out = out′ }) (amendedOpening (now amendment) (now day) (now ring) job (now out))
   -- the length of a moved file, and the moves
@@ -156,7 +161,8 @@ pub record CRoutines : Type 0 where
       let (_, (out′, (row′, _))) = x .last in
       _≡_ {A = FileMoved} (record { answer = answer (x .result) row′; out = out′ }) (toEdition1 (now file) (now out))
   -- compare; the report
-  pub shift-compare : (κs : Lfts 10) (f g first second differ : RefT (List ℕ)) (n-first n-second n-differ file row : RefT ℕ) (x : Gave the.shift-compare κs (f, (g, (first, (second, (differ, (n-first, (n-second, (n-differ, (file, (row, tt))))))))))) →
+  pub shift-compare : (κs : Lfts 10) (f g first second differ : RefT (List ℕ)) (n-first n-second n-differ file row : RefT ℕ)
+      (x : Gave the.shift-compare κs (f, (g, (first, (second, (differ, (n-first, (n-second, (n-differ, (file, (row, tt))))))))))) →
       let (_, (_, (first′, (second′, (differ′, (n-first′, (n-second′, (n-differ′, (file′, (row′, _)))))))))) = x .last in
       _≡_ {A = Comparison} (record {
         finding = record { number = x .result; file = file′; row = row′; first = n-first′; second = n-second′; differ = n-differ′ };
@@ -167,7 +173,8 @@ pub record CRoutines : Type 0 where
       (comparison (now f) (now g) (now first) (now second) (now differ))
   pub shift-report : (κs : Lfts 6) (file ring jobs numbers : RefT (List ℕ)) (count row : RefT ℕ) (x : Gave the.shift-report κs (file, (ring, (jobs, (numbers, (count, (row, tt))))))) →
       let (_, (_, (jobs′, (numbers′, (count′, (row′, _)))))) = x .last in
-      _≡_ {A = Report} (record { said = record { number = x .result; row = row′; count = count′ }; jobs = jobs′; numbers = numbers′ }) (reporting (now file) (now ring) (now jobs) (now numbers))
+      _≡_ {A = Report} (record { said = record { number = x .result; row = row′; count = count′ }; jobs = jobs′; numbers = numbers′ })
+      (reporting (now file) (now ring) (now jobs) (now numbers))
   -- the table of contents by row number
   pub shift-rows : (κs : Lfts 3) (file : RefT (List ℕ)) (edition count : RefT ℕ) (x : Gave the.shift-rows κs (file, (edition, (count, tt)))) →
       let (_, (edition′, (count′, _))) = x .last in
@@ -183,13 +190,16 @@ pub record CRows : Type 0 where
       let (_, (edition′, (count′, _))) = x .last in
       (x .result ≡ 0) × (edition′ ≡ editionOf (now file)) × (count′ ≡ countOf (now file))
   -- of each row its nine fields: the text follows the associated data, and its offset does not wrap
-  pub given : (κs : Lfts 2) (file : RefT (List ℕ)) (i : ℕ) (fields : RefT (List ℕ)) (x : Gave the.shift-row κs (file, (i, (fields, tt)))) → checkFile (now file) .number ≡ 0 → i < countOf (now file) →
+  pub given : (κs : Lfts 2) (file : RefT (List ℕ)) (i : ℕ) (fields : RefT (List ℕ))
+      (x : Gave the.shift-row κs (file, (i, (fields, tt)))) → checkFile (now file) .number ≡ 0 → i < countOf (now file) →
       let (_, (_, (fields′, _))) = x .last in
       let r = rowOf (now file) i in
       (x .result ≡ 0)
-      × (fields′ ≡ r .job ∷ stationOf (now file) i ∷ r .suite ∷ r .key ∷ nonceStart (rowSizeOf (now file)) i ∷ r .«ad_at» ∷ r .«ad_len» ∷ (r .«ad_at» + r .«ad_len») ∷ r .«text_len» ∷ [])
+      × (fields′ ≡ r .job ∷ stationOf (now file) i ∷ r .suite ∷ r .key ∷ nonceStart (rowSizeOf (now file)) i
+      ∷ r .«ad_at» ∷ r .«ad_len» ∷ (r .«ad_at» + r .«ad_len») ∷ r .«text_len» ∷ [])
   -- past the rows 32, and nine zeros
-  pub past : (κs : Lfts 2) (file : RefT (List ℕ)) (i : ℕ) (fields : RefT (List ℕ)) (x : Gave the.shift-row κs (file, (i, (fields, tt)))) → checkFile (now file) .number ≡ 0 → countOf (now file) ≤ i →
+  pub past : (κs : Lfts 2) (file : RefT (List ℕ)) (i : ℕ) (fields : RefT (List ℕ))
+      (x : Gave the.shift-row κs (file, (i, (fields, tt)))) → checkFile (now file) .number ≡ 0 → countOf (now file) ≤ i →
       let (_, (_, (fields′, _))) = x .last in
       (x .result ≡ 32) × (fields′ ≡ replicate 9 0)
 

@@ -98,9 +98,12 @@ pub record BackCases (f out : List ℕ) : Type 0 where
       ∷ []
       )
   pub checked : (checkAs newest f .number ≡ 0 → ⊥) → toEdition1 f out ≡ record { answer = checkAs newest f; out = out }
-  pub station : checkAs newest f .number ≡ 0 → (i : ℕ) → i < countOf f → (stationOf f i ≡ 0 → ⊥) → ((k : ℕ) → k < i → stationOf f k ≡ 0) → toEdition1 f out ≡ unmoved 35 i out
-  pub room : checkAs newest f .number ≡ 0 → ((i : ℕ) → i < countOf f → stationOf f i ≡ 0) → (length out ≡ length (moved firstEdition f) → ⊥) → toEdition1 f out ≡ unmoved 6 0 out
-  pub moves : checkAs newest f .number ≡ 0 → ((i : ℕ) → i < countOf f → stationOf f i ≡ 0) → length out ≡ length (moved firstEdition f) → toEdition1 f out ≡ done (moved firstEdition f)
+  pub station : checkAs newest f .number ≡ 0 → (i : ℕ) → i < countOf f → (stationOf f i ≡ 0 → ⊥) → ((k : ℕ) → k < i → stationOf f k ≡ 0)
+      → toEdition1 f out ≡ unmoved 35 i out
+  pub room : checkAs newest f .number ≡ 0 → ((i : ℕ) → i < countOf f → stationOf f i ≡ 0) → (length out ≡ length (moved firstEdition f) → ⊥)
+      → toEdition1 f out ≡ unmoved 6 0 out
+  pub moves : checkAs newest f .number ≡ 0 → ((i : ℕ) → i < countOf f → stationOf f i ≡ 0) → length out ≡ length (moved firstEdition f)
+      → toEdition1 f out ≡ done (moved firstEdition f)
 
 -- the report (W14): 20 for a file of more than 65,280 bytes, the checks, 2; 6 if a list has fewer elements than there are entries
 pub record ReportCases (f ring jobs numbers : List ℕ) : Type 0 where

@@ -10,7 +10,8 @@ use Rattle.aes_plain.proofs.sbox_table.Kinds as sbox-kinds
 use Rattle.aes_plain.proofs.sbox_table.Reads as sbox-reads
 use Rattle.cipher.specs.Cipher.{IsSuite, Lawful, cipherOf}
 
--- "under each key no two blocks share an image": the cipher of every suite has blocks of 16 or 8 bytes, encrypts blocks to blocks, and is injective under each key
+-- "under each key no two blocks share an image": the cipher of every suite has blocks of 16 or 8 bytes, encrypts blocks to
+-- blocks, and is injective under each key
 abbrev pub AllLawful : Type 0
 AllLawful = (suite : ℕ) → IsSuite suite → Lawful (cipherOf suite)
 

@@ -21,7 +21,8 @@ pub record Answers (f : Contract) : Type 0 where
   pub asks-nothing : (κs : Lfts (f .lifetimes)) (a : Dens κs (f .params)) → f .Pre κs a
   pub one-outcome : OneOutcome (f .params) (f .result) (f .Pre) (f .Post)
 
--- the same for a routine that returns a part of a borrowed slice: any two outcomes agree in bytes and offset; a reference's ghost name belongs to the proof and is no outcome
+-- the same for a routine that returns a part of a borrowed slice: any two outcomes agree in bytes and offset; a reference's
+-- ghost name belongs to the proof and is no outcome
 pub record AnswersPart (f : Contract) (part : (κs : Lfts (f .lifetimes)) → resT (f .result) κs .Denot → RefT (List ℕ)) : Type 0 where
   pub asks-nothing : (κs : Lfts (f .lifetimes)) (a : Dens κs (f .params)) → f .Pre κs a
   pub one-outcome : (κs : Lfts (f .lifetimes)) (a : Dens κs (f .params)) (x y : Gave f κs a)

@@ -1,4 +1,7 @@
--- Demand 2: for a suite that seals, sealing gives exactly COMET's ciphertext and tag; for every suite that we have, opening accepts exactly the specification's pairs, those that sealing makes from some message, and returns that message. Of suite 4, which is retired, it speaks of opening alone (document 02, W7). That the routines give what `sealing` and `opening` say is `Routines.antt`'s.
+-- Demand 2: for a suite that seals, sealing gives exactly COMET's ciphertext and tag; for every suite that we have, opening
+-- accepts exactly the specification's pairs, those that sealing makes from some message, and returns that message. Of suite 4,
+-- which is retired, it speaks of opening alone (document 02, W7). That the routines give what `sealing` and `opening` say is
+-- `Routines.antt`'s.
 use mathlib.Core.Path.{_≡_}
 use mathlib.Core.Logic.{_↔_}
 use Prim.Native.Nat.{ℕ}

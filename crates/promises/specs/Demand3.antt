@@ -1,4 +1,6 @@
--- Demand 3: a change inside one block changes the tag. `ChangedIn` (`mode/specs/Slips.antt`): two texts of one length that differ, and every byte that differs is inside block j. That the opener's routine gives what `opening` says is `Routines.antt`'s.
+-- Demand 3: a change inside one block changes the tag. `ChangedIn` (`mode/specs/Slips.antt`): two texts of one length that
+-- differ, and every byte that differs is inside block j. That the opener's routine gives what `opening` says is
+-- `Routines.antt`'s.
 use mathlib.Core.Path.{_≡_}
 use mathlib.Core.Logic.{_⊎_}
 use Prim.Native.Nat.{ℕ, _+_, _*_, _≤_, _<_}
@@ -10,7 +12,8 @@ use Rattle.mode.specs.Slips.{ChangedIn}
 use Rattle.comet.specs.Answers.{opening}
 use Rattle.promises.specs.Input.{Texts, Input}
 
--- one suite, key and nonce; two inputs of equal lengths that differ, every difference inside block j of the message or inside block j of the associated data: the specification's tags differ
+-- one suite, key and nonce; two inputs of equal lengths that differ, every difference inside block j of the message or inside
+-- block j of the associated data: the specification's tags differ
 abbrev pub OneBlock : Type 0
 OneBlock =
     (suite : ℕ) (key nonce ad ad′ msg msg′ : List ℕ) (j : ℕ) → Texts suite key nonce ad msg → Texts suite key nonce ad′ msg′

@@ -2,7 +2,8 @@
 use Rattle.shift_reseal.specs.Promised.{Renewing, NothingRetired, ResealedTwice, ClashOfCheck, Resealing, ResealNumbers}
 
 pub record Reseal : Type 0 where
-  -- on 0 the output passes the check and has no suite 4 row, each resealed entry opens under suite 3 to what it opened to before, and every other byte is unchanged
+  -- on 0 the output passes the check and has no suite 4 row, each resealed entry opens under suite 3 to what it opened to
+  -- before, and every other byte is unchanged
   pub renewing : Renewing
   -- a file without suite 4 comes back byte for byte; resealing twice is resealing once
   pub nothing-retired : NothingRetired

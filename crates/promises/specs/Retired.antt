@@ -1,4 +1,5 @@
--- W7 (document 02): suite 4 is retired. It no longer seals, and opens as before. The writer's statuses are in `shift_draft/specs/Promised.antt` (`SealCases`); demand 2 for it is in `Demand2.antt`.
+-- W7 (document 02): suite 4 is retired. It no longer seals, and opens as before. The writer's statuses are in
+-- `shift_draft/specs/Promised.antt` (`SealCases`); demand 2 for it is in `Demand2.antt`.
 use mathlib.Core.Path.{_≡_}
 use mathlib.Core.Logic.{_↔_}
 use mathlib.Core.List.{List, []}

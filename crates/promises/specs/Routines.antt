@@ -1,4 +1,6 @@
--- The routines compute what the definitions say. Every other promise is about the definitions (`sealing`, `opening`, `checkFile`, ..). Here, for each entry point and for every outcome that its contract allows: the status, with the final contents of each `&mut` (out′ for out), is the definition's value on the bytes that it borrowed.
+-- The routines compute what the definitions say. Every other promise is about the definitions (`sealing`, `opening`,
+-- `checkFile`, ..). Here, for each entry point and for every outcome that its contract allows: the status, with the final
+-- contents of each `&mut` (out′ for out), is the definition's value on the bytes that it borrowed.
 use mathlib.Core.Path.{_≡_}
 use Prim.Native.Nat.{ℕ}
 use mathlib.Core.List.{List, []}

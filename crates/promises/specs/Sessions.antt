@@ -34,7 +34,8 @@ OpensWhole =
     (out₁ : List ℕ) → length out₁ ≡ length (r .msg)
     → opening suite key nonce (r .ad) (joined r e) (e .tag) out₁ ≡ record { number = 0; out = r .msg })
 
--- the numbers of a run's next call, on the lengths of the joined texts: associated data 9 first of all, once a message byte has come, and then 4; a message part 5, 6; the end 6, 7
+-- the numbers of a run's next call, on the lengths of the joined texts: associated data 9 first of all, once a message byte
+-- has come, and then 4; a message part 5, 6; the end 6, 7
 pub record NextNumbers (suite : ℕ) (r : Run) : Type 0 where
   pub associated : (p : List ℕ) → Table (λ k. dataPart (r .now) p .number ≡ k) (
       (9 when (length (r .msg) ≡ 0 → ⊥))
@@ -64,9 +65,11 @@ Keeps =
     (v : Value)
     → ((p : List ℕ) → (dataPart v p .number ≡ 0 → ⊥) → (dataPart v p .next ≡ v) × (dataPart v p .count ≡ 0))
     × ((p out : List ℕ) → (textPart v p out .number ≡ 0 → ⊥) → (textPart v p out .next ≡ v) × (textPart v p out .count ≡ 0) × (textPart v p out .out ≡ out))
-    × ((out tag : List ℕ) → (ending v out tag .number ≡ 0 → ⊥) → (ending v out tag .next ≡ v) × (ending v out tag .count ≡ 0) × (ending v out tag .out ≡ out) × (ending v out tag .tag ≡ tag))
+    × ((out tag : List ℕ) → (ending v out tag .number ≡ 0 → ⊥)
+    → (ending v out tag .next ≡ v) × (ending v out tag .count ≡ 0) × (ending v out tag .out ≡ out) × (ending v out tag .tag ≡ tag))
 
--- an empty message part changes nothing, whatever value arrives: no byte is written, and the session returned is the one that came in, so it does not begin the message
+-- an empty message part changes nothing, whatever value arrives: no byte is written, and the session returned is the one that
+-- came in, so it does not begin the message
 abbrev pub EmptyPart : Type 0
 EmptyPart = (v : Value) (out : List ℕ) → textPart v [] out ≡ gave (textPart v [] out .number) 0 v out []
 

@@ -1,4 +1,5 @@
--- A table of numbers, as documents 01 and 02 print them: lines in order, each a number and when it is given. "The first that applies is given, and none is given otherwise."
+-- A table of numbers, as documents 01 and 02 print them: lines in order, each a number and when it is given. "The first that
+-- applies is given, and none is given otherwise."
 use mathlib.Core.Logic.{_↔_}
 use Prim.Native.Nat.{ℕ}
 use mathlib.Core.List.{List, [], _∷_}

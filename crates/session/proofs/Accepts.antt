@@ -1,4 +1,5 @@
--- A session of ours takes what the rules allow: at the value of the bytes that have come, the numbers are those of the lengths that have come, and so are the counts.
+-- A session of ours takes what the rules allow: at the value of the bytes that have come, the numbers are those of the lengths
+-- that have come, and so are the counts.
 use mathlib.Core.Path.{_≡_, refl, sym, ap, _∙_}
 use mathlib.Core.Bool.{Bool, true, false}
 use Prim.Native.Nat.{ℕ, zero, suc, _+_, _-_, _*_, _/_, _%_, _≤_, _<_}

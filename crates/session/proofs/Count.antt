@@ -26,7 +26,8 @@ module _ (κ : Cipher) (L : Lawful κ) (short : ℕ) where
 
   none-long : (m : ℕ) (s : States) (l : List ℕ) → length l ≡ 0 → length (covered κ false m short s (blocks (κ .size) l)) ≡ length l
   unfolding covered
-  none-long m s l e = ap (λ (x : List ℕ). length (covered κ false m short s (blocks (κ .size) x))) (nil-of l e) ∙ ap (λ (bs : List (List ℕ)). length (covered κ false m short s bs)) (blocks-nil (κ .size) (some κ L)) ∙ sym e
+  none-long m s l e = ap (λ (x : List ℕ). length (covered κ false m short s (blocks (κ .size) x))) (nil-of l e)
+      ∙ ap (λ (bs : List (List ℕ)). length (covered κ false m short s bs)) (blocks-nil (κ .size) (some κ L)) ∙ sym e
 
   covered-long : (f : ℕ) (m : ℕ) (s : States) (l : List ℕ) → length l ≤ f → length (covered κ false m short s (blocks (κ .size) l)) ≡ length l
   unfolding covered

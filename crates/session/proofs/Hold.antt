@@ -39,7 +39,7 @@ module _ (out c : List ℕ) (k : ℕ) (lc : length c ≡ k) (ho : k ≤ length o
   once-is : once ≡ c ++ drop k out
   once-is = ap (λ (r : List ℕ). c ++ r) (post-is 0 k out (omega arith))
 
-  -- and borrowed again
+  -- and it is borrowed again
   pub lent-again : take (k - 0) (drop 0 once) ≡ c
   lent-again =
       let ek : k - 0 ≡ k = omega arith in

@@ -1,4 +1,5 @@
--- Every public function of `session` leaves one outcome: a session is told by its value in the definitions (`asValue`), whose lists are the bytes of its numbers.
+-- Every public function of `session` leaves one outcome: a session is told by its value in the definitions (`asValue`), whose
+-- lists are the bytes of its numbers.
 use mathlib.Core.Path.{_≡_, refl, sym, ap, _∙_}
 use mathlib.Core.List.{List}
 use Prim.Native.Nat.{ℕ, _^_, _<_}
@@ -38,14 +39,16 @@ step-told x y o t o′ t′ p q e =
 
 pub start : OneOutcome start-kinds.ps start-kinds.r start-reads.Pre start-reads.Post
 start κs a h x y = (
-  step-told (x .result) (y .result) _ _ _ _ (record { ya = omega arith; yb = omega arith; za = omega arith; zb = omega arith }) (record { ya = omega arith; yb = omega arith; za = omega arith; zb = omega arith })
+  step-told (x .result) (y .result) _ _ _ _ (record { ya = omega arith; yb = omega arith; za = omega arith; zb = omega arith })
+      (record { ya = omega arith; yb = omega arith; za = omega arith; zb = omega arith })
       (x .ensures ∙ sym (y .ensures)),
   refl,
 )
 
 pub associated : OneOutcome associated-kinds.ps associated-kinds.r associated-reads.Pre associated-reads.Post
 associated κs a h x y = (
-  step-told (x .result) (y .result) _ _ _ _ (record { ya = omega arith; yb = omega arith; za = omega arith; zb = omega arith }) (record { ya = omega arith; yb = omega arith; za = omega arith; zb = omega arith })
+  step-told (x .result) (y .result) _ _ _ _ (record { ya = omega arith; yb = omega arith; za = omega arith; zb = omega arith })
+      (record { ya = omega arith; yb = omega arith; za = omega arith; zb = omega arith })
       (x .ensures ∙ sym (y .ensures)),
   refl,
 )
@@ -53,13 +56,15 @@ associated κs a h x y = (
 pub message : OneOutcome message-kinds.ps message-kinds.r message-reads.Pre message-reads.Post
 message κs a h x y =
     let e = x .ensures ∙ sym (y .ensures) in (
-      step-told (x .result) (y .result) _ _ _ _ (record { ya = omega arith; yb = omega arith; za = omega arith; zb = omega arith }) (record { ya = omega arith; yb = omega arith; za = omega arith; zb = omega arith }) e,
+      step-told (x .result) (y .result) _ _ _ _ (record { ya = omega arith; yb = omega arith; za = omega arith; zb = omega arith })
+          (record { ya = omega arith; yb = omega arith; za = omega arith; zb = omega arith }) e,
       ap (λ (g : Given). (tt, (tt, (g .out, tt)))) e,
     )
 
 pub finish : OneOutcome finish-kinds.ps finish-kinds.r finish-reads.Pre finish-reads.Post
 finish κs a h x y =
     let e = x .ensures ∙ sym (y .ensures) in (
-      step-told (x .result) (y .result) _ _ _ _ (record { ya = omega arith; yb = omega arith; za = omega arith; zb = omega arith }) (record { ya = omega arith; yb = omega arith; za = omega arith; zb = omega arith }) e,
+      step-told (x .result) (y .result) _ _ _ _ (record { ya = omega arith; yb = omega arith; za = omega arith; zb = omega arith })
+          (record { ya = omega arith; yb = omega arith; za = omega arith; zb = omega arith }) e,
       ap (λ (g : Given). (tt, (g .out, (g .tag, tt)))) e,
     )

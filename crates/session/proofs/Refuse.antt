@@ -66,8 +66,11 @@ module _ (s c t o g : ℕ) where
   unfolding endNumber
   end-passed e =
       let p = not-taken (not (sound s c t)) 9 (cond (ltb o (sizeOf s)) 6 (cond (not (eqb g (sizeOf s))) 7 0)) (lit< tt) e in
-      let q = not-taken (ltb o (sizeOf s)) 6 (cond (not (eqb g (sizeOf s))) 7 0) (lit< tt) (p .1) in
-      (sound-told s c t (not-false (sound s c t) (p .0)), ltb-false o (sizeOf s) (q .0), eqb-true g (sizeOf s) (not-false (eqb g (sizeOf s)) (not-taken (not (eqb g (sizeOf s))) 7 0 (lit< tt) (q .1) .0)))
+      let q = not-taken (ltb o (sizeOf s)) 6 (cond (not (eqb g (sizeOf s))) 7 0) (lit< tt) (p .1) in (
+        sound-told s c t (not-false (sound s c t) (p .0)),
+        ltb-false o (sizeOf s) (q .0),
+        eqb-true g (sizeOf s) (not-false (eqb g (sizeOf s)) (not-taken (not (eqb g (sizeOf s))) 7 0 (lit< tt) (q .1) .0)),
+      )
 
   pub end-is : (b d f : Bool) → sound s c t ≡ b → ltb o (sizeOf s) ≡ d → eqb g (sizeOf s) ≡ f → endNumber s c t o g ≡ cond (not b) 9 (cond d 6 (cond (not f) 7 0))
   unfolding endNumber

@@ -140,7 +140,8 @@ module _ (suite : ℕ) (key nonce : List ℕ) (hk : Block 16 key) (hv : AllBytes
       ∙ sym (ap (walked κ false 0x20 0x40 (dataDone κ key nonce a)) (ap (blocks (κ .size)) (whole-short (κ .size) pos [] pos) ∙ blocks-nil (κ .size) pos))
   begun-is a (x ∷ m) ha hm =
       let v = value a (x ∷ m) in
-      ap (λ (t : Bool). cond t (walked κ false (firstMark κ 0x08 (v .«ad_total»)) 0x10 (states κ v) (blocks (κ .size) (heldOf κ v (v .«ad_total»)))) (states κ v)) (ne-eqb (length (x ∷ m)) 0 (λ e. omega arith))
+      ap (λ (t : Bool). cond t (walked κ false (firstMark κ 0x08 (v .«ad_total»)) 0x10 (states κ v) (blocks (κ .size) (heldOf κ v (v .«ad_total»))))
+      (states κ v)) (ne-eqb (length (x ∷ m)) 0 (λ e. omega arith))
       ∙ states-are a (x ∷ m) ha hm
 
   text-states : (a m l : List ℕ) → AllBytes a → AllBytes m → textStates κ (value a m) l ≡ walked κ false (firstMark κ 0x20 (length m)) 0x40 (textSoFar κ key nonce a m) (blocks (κ .size) l)

@@ -71,7 +71,9 @@ module _ (κ : Cipher) where
 
   -- the session after message bytes p, at least one
   unfoldable pub textIn : Value → List ℕ → Value
-  textIn v p = valueOf (v .suite) (textStates v (whole (κ .size) (heldOf v (v .«text_total») ++ p))) (filled (rest (κ .size) (heldOf v (v .«text_total») ++ p))) (v .«ad_total») (v .«text_total» + length p)
+  textIn v p =
+      valueOf (v .suite) (textStates v (whole (κ .size) (heldOf v (v .«text_total») ++ p)))
+      (filled (rest (κ .size) (heldOf v (v .«text_total») ++ p))) (v .«ad_total») (v .«text_total» + length p)
 
   -- their output: the ciphertext of the blocks that they complete
   unfoldable pub partOut : Value → List ℕ → List ℕ

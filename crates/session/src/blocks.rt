@@ -74,7 +74,8 @@ fn absorb_past(
     absorb_blocks(tables, suite, whole.s, &ad[need..ad.len()])
 }
 
-// Absorbs the whole blocks of h buffered bytes followed by ad, the first under the mark m, and buffers the rest. Tables are constructed only if a block is completed.
+// Absorbs the whole blocks of h buffered bytes followed by ad, the first under the mark m, and buffers the rest. Tables are
+// constructed only if a block is completed.
 pub(crate) fn absorb_part(
     suite: u8,
     s: State,
@@ -132,7 +133,8 @@ fn crypt_blocks(suite: u8, s: State, m: u8, text: &mut [u8]) -> Progress
     block_walk::crypt(&[], false, suite, s, m, text)
 }
 
-// Seals the whole blocks of h buffered bytes followed by part, the first under the mark m, and outputs their ciphertext; the rest is buffered. Tables are constructed only if a block is completed.
+// Seals the whole blocks of h buffered bytes followed by part, the first under the mark m, and outputs their ciphertext; the
+// rest is buffered. Tables are constructed only if a block is completed.
 pub(crate) fn crypt_part(
     suite: u8,
     s: State,

@@ -10,7 +10,8 @@ ghost use mathlib.Core.List.{[]};
 ghost use Rattle.session.specs.Value.{dataPart, textPart, ending, starting};
 ghost use Rattle.session.specs.Structs.{asValue, gives};
 
-// Y and Z, the buffered bytes (the first of the sixteen, as many as a total leaves over whole blocks), and the bytes of associated data and of message so far. Any value may arrive: the methods have no precondition.
+// Y and Z, the buffered bytes (the first of the sixteen, as many as a total leaves over whole blocks), and the bytes of
+// associated data and of message so far. Any value may arrive: the methods have no precondition.
 pub struct Session {
     pub suite: u8,
     pub y: Block,

@@ -1,4 +1,5 @@
--- What a lookup found tells which case of the current entry applies: a refusal is that of the file, which then has no entry; a job that is missing is lacked by a file that passes.
+-- What a lookup found tells which case of the current entry applies: a refusal is that of the file, which then has no entry; a
+-- job that is missing is lacked by a file that passes.
 use Prim.Native.Nat.{ℕ}
 use native.Mathlib.Omega.{arith}
 use mathlib.Core.Path.{_≡_, refl, sym, ap, subst, _∙_}

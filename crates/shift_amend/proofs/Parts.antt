@@ -1,4 +1,5 @@
--- Where the current entry lies, and what opening it is, case by case: a refusal has no place, and a found entry is the one-file entry of the file that holds it.
+-- Where the current entry lies, and what opening it is, case by case: a refusal has no place, and a found entry is the
+-- one-file entry of the file that holds it.
 use Prim.Native.Nat.{ℕ, _+_, _≤_}
 use native.Mathlib.Omega.{arith}
 use mathlib.Core.Path.{_≡_, refl, sym, ap, ap₂, subst}

@@ -59,7 +59,8 @@ MissingExactly = (a d : List ℕ) (job : ℕ) → Missing a d job
 abbrev pub OneFilePart : RefT (List ℕ) → RefT (List ℕ) → ℕ → Type 0
 OneFilePart f r job = PartOf f r (dataStart (now f) (lookupJob (now f) job)) (dataLength (now f) (lookupJob (now f) job))
 
--- the part is what the one-file call returns for the file that holds the entry: its bytes, and its offset in that file; on a refusal the amendment's first zero bytes
+-- the part is what the one-file call returns for the file that holds the entry: its bytes, and its offset in that file; on a
+-- refusal the amendment's first zero bytes
 pub record Hands (a d r : RefT (List ℕ)) (job : ℕ) : Type 0 where
   pub held : amendedEntry (now a) (now d) job .entry .number ≡ 0 → CurrentPart a d r job ↔ OneFilePart (holder a d (amendedEntry (now a) (now d) job)) r job
   pub refused : (amendedEntry (now a) (now d) job .entry .number ≡ 0 → ⊥) → CurrentPart a d r job ↔ PartOf a r 0 0

@@ -1,4 +1,5 @@
--- The nonce bytes that a suite reads: where the others are 0, all sixteen tell what is read, and on a file that passes no two rows of one suite and key number read the same.
+-- The nonce bytes that a suite reads: where the others are 0, all sixteen tell what is read, and on a file that passes no two
+-- rows of one suite and key number read the same.
 use Prim.Native.Nat.{ℕ, _+_, _-_, _<_}
 use native.Mathlib.Nat.{not-suc-le-zero}
 use native.Mathlib.Decide.{decLt}

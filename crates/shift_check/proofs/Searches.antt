@@ -59,6 +59,31 @@ any-only p (suc n) j l h =
     (λ (m : j < n). simp (h n (omega arith) (λ q. omega arith)) (any-only p n j m (λ k z. h k (omega arith))))
     (eq-or-lt-of-le (omega arith))
 
+-- ---- a loop that looks for a number below n that passes
+
+-- it has come to j, and none below j passes
+pub record NoneYet (p : ℕ → Bool) (n j : ℕ) : Type 0 where
+  pub within : j ≤ n
+  pub none : anyBelow p j ≡ false
+
+module _ {p : ℕ → Bool} {n : ℕ} where
+  pub yet-start : NoneYet p n 0
+  unfolding anyBelow
+  yet-start = record { within = omega arith; none = refl }
+
+  module _ {j : ℕ} (yet : NoneYet p n j) where
+    -- j passes
+    pub yet-hit : j < n → p j ≡ true → anyBelow p n ≡ true
+    yet-hit l e = any-hit p j n l e
+
+    -- j does not
+    pub yet-more : j < n → p j ≡ false → NoneYet p n (j + 1)
+    yet-more l e = record { within = omega arith; none = any-more p j (yet .none) e }
+
+    -- none is left
+    pub yet-end : n ≤ j → anyBelow p n ≡ false
+    yet-end l = let q : j ≡ n = omega (arith, yet .within) in ap (anyBelow p) (sym q) ∙ yet .none
+
 -- ---- the first number that passes
 
 module _ {A : Type 0} (hit : ℕ → Bool) (what : ℕ → A) (rest : A) where

@@ -1,4 +1,5 @@
--- The pass over both files: its invariant, each list filled by itself.
+-- The loop over both files. The invariant `Going` says of each of the three lists by itself that its numbers so far and those
+-- still to come are the whole list (`Filled`); a turn keeps it, and at the end nothing is left to come.
 use Prim.Native.Nat.{ℕ, _+_, _≤_, _<_}
 use native.Mathlib.Omega.{arith}
 use native.Mathlib.Nat.{sub-zero, le-trans}

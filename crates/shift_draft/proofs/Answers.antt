@@ -1,4 +1,6 @@
--- The answers one after the other: which numbers there are, and what each says.
+-- The status of sealing and of unsealing: which numbers there are, and when each is given. A search for the first row that
+-- breaks a rule is one law, `first-not`; it serves 33 (tag not zero), 10 (suite retired) and 8 (tag wrong). Then one status
+-- after another, by the ladder of the definition.
 use Prim.Native.Nat.{ℕ, _-_, _<_}
 use native.Mathlib.Omega.{arith}
 use mathlib.Core.Path.{_≡_, refl, sym, ap, _∙_}
@@ -7,7 +9,7 @@ use mathlib.Core.List.{List}
 use mathlib.Core.Logic.{_⊎_, inl, inr, ⊎-elim}
 use lib.ListN.{length, replicate}
 use lib.Dec.{eqb, lit<}
-use borrow.Author.Tests.{eq-eqb, ne-eqb, eqb-true, eqb-false, not-false}
+use borrow.Author.Tests.{eq-eqb, ne-eqb, eqb-true, eqb-false, not-true, not-false}
 use Rattle.block.specs.Bytes.{sameBytes}
 use Rattle.block.proofs.Tests.{is-false}
 use Rattle.block.proofs.SameBytes.{same-true, same-refl}
@@ -37,10 +39,6 @@ module _ (f : List ℕ) (i : ℕ) where
       let z : List ℕ = replicate (sizeOf (rowOf f i .suite)) 0 in
       ap (λ (t : List ℕ). not (sameBytes t z)) q ∙ ap not (same-refl z)
 
-  set-test : (ZeroTag f i → ⊥) → tagSet f i ≡ true
-  unfolding tagSet
-  set-test n = ap not (is-false _ (λ e. n (same-true _ _ e)))
-
   module _ (ring : List ℕ) where
     pub right-told : tagRight f ring i ≡ true → RightTag f ring i
     unfolding tagRight
@@ -50,30 +48,39 @@ module _ (f : List ℕ) (i : ℕ) where
     unfolding tagRight
     right-test q = ap (λ (t : List ℕ). sameBytes t (tagOf f (rowOf f i))) q ∙ same-refl (tagOf f (rowOf f i))
 
-    pub wrong-test : (RightTag f ring i → ⊥) → tagRight f ring i ≡ false
-    unfolding tagRight
-    wrong-test n = is-false _ (λ e. n (same-true _ _ e))
+-- ---- the first of n rows that breaks a rule gives number m; 0 where every row keeps it
 
--- ---- a search that gives number m or 0
+pub record FirstNot (Keeps : ℕ → Type 0) (m n : ℕ) (x : Answer) : Type 0 where
+  pub none : ((i : ℕ) → i < n → Keeps i) → x ≡ answer 0 0
+  pub first : (i : ℕ) → i < n → (Keeps i → ⊥) → ((k : ℕ) → k < i → Keeps k) → x ≡ answer m i
+  pub all : x .number ≡ 0 → (i : ℕ) → i < n → Keeps i
+  pub number : (x ≡ answer 0 0) ⊎ (x .number ≡ m)
 
-module _ (hit : ℕ → Bool) (m : ℕ) (some : 0 < m) (n : ℕ) where
-  abbrev pub first : Answer
-  first = firstOf hit (answer m) (answer 0 0) 0 (n - 0)
+-- by a test that is false exactly for the rows that keep the rule
+module _ (Keeps : ℕ → Type 0) (hit : ℕ → Bool) (m n : ℕ) (some : 0 < m) (told : (i : ℕ) → hit i ≡ false → Keeps i) (test : (i : ℕ) → Keeps i → hit i ≡ false) where
+  abbrev found : Answer
+  found = firstOf hit (answer m) (answer 0 0) 0 (n - 0)
 
-  -- 0: nothing is found
-  pub found-none : first .number ≡ 0 → (i : ℕ) → i < n → hit i ≡ false
-  found-none z =
-      ⊎-elim
-      (λ q. absurd (let w : m ≡ 0 = ap (λ (x : Answer). x .number) (q .gives) ∙ z in omega arith))
-      (λ q i l. q .none i (omega arith) (omega arith))
-      (first-says _ _ _ (n - 0) 0 first refl)
+  breaks : (i : ℕ) → (Keeps i → ⊥) → hit i ≡ true
+  breaks i f = not-false (hit i) (is-false (not (hit i)) (λ e. f (told i (not-true (hit i) e))))
 
-  pub found-number : (first ≡ answer 0 0) ⊎ (first .number ≡ m)
-  found-number =
-      ⊎-elim
-      (λ q. inr (sym (ap (λ (x : Answer). x .number) (q .gives))))
-      (λ q. inl (sym (q .gives)))
-      (first-says _ _ _ (n - 0) 0 first refl)
+  pub first-not : FirstNot Keeps m n found
+  first-not =
+      let says = first-says hit (answer m) (answer 0 0) (n - 0) 0 found refl in
+      record {
+        none = λ h. first-none hit (answer m) (answer 0 0) n (λ i l. test i (h i l));
+        first = λ i l f h. first-at hit (answer m) (answer 0 0) n i l (breaks i f) (λ k b. test k (h k b));
+        all = λ z i l.
+            ⊎-elim
+            (λ q. absurd (let w : m ≡ 0 = ap (λ (x : Answer). x .number) (q .gives) ∙ z in omega arith))
+            (λ q. told i (q .none i (omega arith) (omega arith)))
+            says;
+        number =
+            ⊎-elim
+            (λ q. inr (sym (ap (λ (x : Answer). x .number) (q .gives))))
+            (λ q. inl (sym (q .gives)))
+            says;
+      }
 
 -- what 0 and 8 leave depends on the output's length alone
 pub eight-leaves : (x : Answer) → (x ≡ answer 0 0) ⊎ (x .number ≡ 8) → (done a b : List ℕ) → length a ≡ length b → leaves x done a ≡ leaves x done b
@@ -84,55 +91,25 @@ eight-leaves x n done a b q =
     n
 
 module _ (f : List ℕ) where
-  set-none : ((i : ℕ) → i < countOf f → ZeroTag f i) → setFrom f (countOf f) 0 ≡ answer 0 0
+  set-rows : FirstNot (ZeroTag f) 33 (countOf f) (setFrom f (countOf f) 0)
   unfolding setFrom
-  set-none z = first-none _ _ _ (countOf f) (λ i l. zero-test f i (z i l))
+  set-rows = first-not (ZeroTag f) (tagSet f) 33 (countOf f) (lit< tt) (zero-told f) (zero-test f)
 
-  set-first : (i : ℕ) → i < countOf f → (ZeroTag f i → ⊥) → ((k : ℕ) → k < i → ZeroTag f k) → setFrom f (countOf f) 0 ≡ answer 33 i
-  unfolding setFrom
-  set-first i l n z = first-at _ _ _ (countOf f) i l (set-test f i n) (λ k b. zero-test f k (z k b))
-
-  none-set : setFrom f (countOf f) 0 .number ≡ 0 → (i : ℕ) → i < countOf f → ZeroTag f i
-  unfolding setFrom
-  none-set z i l = zero-told f i (found-none (tagSet f) 33 (lit< tt) (countOf f) z i l)
-
-  set-number : (setFrom f (countOf f) 0 ≡ answer 0 0) ⊎ (setFrom f (countOf f) 0 .number ≡ 33)
-  unfolding setFrom
-  set-number = found-number (tagSet f) 33 (lit< tt) (countOf f)
-
-  retired-none : AllSeal f → retiredFrom f (countOf f) 0 ≡ answer 0 0
+  retired-rows : FirstNot (λ i. Seals (rowOf f i .suite)) 10 (countOf f) (retiredFrom f (countOf f) 0)
   unfolding retiredFrom rowRetired
-  retired-none a = first-none _ _ _ (countOf f) (λ i l. ap not (a i l))
-
-  retired-first : (i : ℕ) → i < countOf f → (Seals (rowOf f i .suite) → ⊥) → ((k : ℕ) → k < i → Seals (rowOf f k .suite)) → retiredFrom f (countOf f) 0 ≡ answer 10 i
-  unfolding retiredFrom rowRetired
-  retired-first i l n a = first-at _ _ _ (countOf f) i l (ap not (is-false _ n)) (λ k b. ap not (a k b))
-
-  none-retired : retiredFrom f (countOf f) 0 .number ≡ 0 → AllSeal f
-  unfolding retiredFrom rowRetired
-  none-retired z i l = not-false _ (found-none (rowRetired f) 10 (lit< tt) (countOf f) z i l)
-
-  retired-number : (retiredFrom f (countOf f) 0 ≡ answer 0 0) ⊎ (retiredFrom f (countOf f) 0 .number ≡ 10)
-  unfolding retiredFrom
-  retired-number = found-number (rowRetired f) 10 (lit< tt) (countOf f)
+  retired-rows = first-not (λ i. Seals (rowOf f i .suite)) (rowRetired f) 10 (countOf f) (lit< tt) (λ i. not-false _) (λ i a. ap not a)
 
   module _ (ring : List ℕ) where
-    pub wrong-none : ((i : ℕ) → i < countOf f → RightTag f ring i) → wrongFrom f ring (countOf f) 0 ≡ answer 0 0
+    wrong-rows : FirstNot (RightTag f ring) 8 (countOf f) (wrongFrom f ring (countOf f) 0)
     unfolding wrongFrom
-    wrong-none z = first-none _ _ _ (countOf f) (λ i l. ap not (right-test f i ring (z i l)))
-
-    wrong-first : (i : ℕ) → i < countOf f → (RightTag f ring i → ⊥) → ((k : ℕ) → k < i → RightTag f ring k) → wrongFrom f ring (countOf f) 0 ≡ answer 8 i
-    unfolding wrongFrom
-    wrong-first i l n z = first-at _ _ _ (countOf f) i l (ap not (wrong-test f i ring n)) (λ k b. ap not (right-test f k ring (z k b)))
-
-    wrong-number : (wrongFrom f ring (countOf f) 0 ≡ answer 0 0) ⊎ (wrongFrom f ring (countOf f) 0 .number ≡ 8)
-    unfolding wrongFrom
-    wrong-number = found-number (λ j. not (tagRight f ring j)) 8 (lit< tt) (countOf f)
+    wrong-rows =
+        first-not (RightTag f ring) (λ j. not (tagRight f ring j)) 8 (countOf f) (lit< tt)
+        (λ i e. right-told f i ring (not-false _ e)) (λ i q. ap not (right-test f i ring q))
 
     pub wrong-leaves : (done a b : List ℕ) → length a ≡ length b → leaves (wrongFrom f ring (countOf f) 0) done a ≡ leaves (wrongFrom f ring (countOf f) 0) done b
-    wrong-leaves = eight-leaves (wrongFrom f ring (countOf f) 0) wrong-number
+    wrong-leaves = eight-leaves (wrongFrom f ring (countOf f) 0) (wrong-rows .number)
 
--- ---- the lengths of the borrowed tables
+-- ---- the lengths of ring and output
 
 pub record Room (file ring out : ℕ) : Type 0 where
   pub ring-long : ring ≡ 256
@@ -223,7 +200,7 @@ module _ (draft : List ℕ) (ring out : ℕ) where
           ⊎-elim
           (lent-case z q)
           (λ r. inr (inr (inr (inl (ap (λ (x : Answer). x .number) (sym (seal-retired z q _ refl (λ w. omega arith))) ∙ r)))))
-          (retired-number draft)
+          (retired-rows draft .number)
 
       check-case : (b : Bool) → eqb (checkAs draftEdition draft .number) 0 ≡ b → SealOne
       check-case false e = inr (inr (inr (inr (inr (seal-checked (eqb-false _ _ e))))))
@@ -232,7 +209,7 @@ module _ (draft : List ℕ) (ring out : ℕ) where
           ⊎-elim
           (retired-case z)
           (λ q. inr (inr (inr (inr (inl (ap (λ (x : Answer). x .number) (sym (seal-set z _ refl (λ w. omega arith))) ∙ q))))))
-          (set-number draft)
+          (set-rows draft .number)
 
   pub seal-not-eight : sealAnswer draft ring out .number ≡ 8 → ⊥
   seal-not-eight q =
@@ -260,7 +237,7 @@ module _ (draft : List ℕ) (ring out : ℕ) where
       let b = both-zero (setFrom draft (countOf draft) 0) r y in
       let x = rw (b .1) at y in
       let d = both-zero (retiredFrom draft (countOf draft) 0) l x in
-      record { passed = a .0; zeros = none-set draft (b .0); all-seal = none-retired draft (d .0); room = room-told (length draft) ring out (rw (d .1) at x) }
+      record { passed = a .0; zeros = set-rows draft .all (b .0); all-seal = retired-rows draft .all (d .0); room = room-told (length draft) ring out (rw (d .1) at x) }
 
 module _ (file : List ℕ) (ring out : ℕ) where
   open-checked : (checkAs firstEdition file .number ≡ 0 → ⊥) → openAnswer file ring out ≡ checkAs firstEdition file
@@ -333,18 +310,18 @@ module _ (draft ring out₀ : List ℕ) where
   cases = record {
     checked = λ n. sealing-kept _ (sym (seal-checked draft (length ring) (length out₀) n)) n;
     tags = λ z i l n b.
-        let q = set-first draft i l n b in
+        let q = set-rows draft .first i l n b in
         sealing-is (answer 33 i) (seal-set draft (length ring) (length out₀) z (answer 33 i) (sym q) (λ w. omega arith));
     retired = λ v i l n b.
-        let q = retired-first draft i l n b in
-        sealing-is (answer 10 i) (seal-retired draft (length ring) (length out₀) (ap (λ (x : Answer). x .number) (v .checked)) (set-none draft (v .zeros)) (answer 10 i) (sym q) (λ w. omega arith));
+        let q = retired-rows draft .first i l n b in
+        sealing-is (answer 10 i) (seal-retired draft (length ring) (length out₀) (ap (λ (x : Answer). x .number) (v .checked)) (set-rows draft .none (v .zeros)) (answer 10 i) (sym q) (λ w. omega arith));
     ring-wrong = λ v a n. sealing-is (answer 2 0) (sym (ring-wrong (length draft) (length ring) (length out₀) n) ∙ lent v a);
     room-wrong = λ v a r n. sealing-is (answer 6 0) (sym (out-wrong (length draft) (length ring) (length out₀) r n) ∙ lent v a);
     done = λ v a r o. sealing-is (answer 0 0) (sym (room-right (length draft) (length ring) (length out₀) r o) ∙ lent v a);
   }
     where
       lent : Valid draft → AllSeal draft → lentAnswer (length draft) (length ring) (length out₀) ≡ S
-      lent v a = seal-lent draft (length ring) (length out₀) (ap (λ (x : Answer). x .number) (v .checked)) (set-none draft (v .zeros)) (retired-none draft a)
+      lent v a = seal-lent draft (length ring) (length out₀) (ap (λ (x : Answer). x .number) (v .checked)) (set-rows draft .none (v .zeros)) (retired-rows draft .none a)
 
 module _ (file ring out₀ : List ℕ) where
   abbrev O : Answer
@@ -369,8 +346,8 @@ module _ (file ring out₀ : List ℕ) where
     checked = λ n. unsealing-kept _ (sym (open-checked file (length ring) (length out₀) n)) n;
     ring-wrong = λ z n. unsealing-kept (answer 2 0) (sym (ring-wrong (length file) (length ring) (length out₀) n) ∙ open-lent file (length ring) (length out₀) z) (λ w. omega arith);
     room-wrong = λ z r n. unsealing-kept (answer 6 0) (sym (out-wrong (length file) (length ring) (length out₀) r n) ∙ open-lent file (length ring) (length out₀) z) (λ w. omega arith);
-    tags = λ z r o i l n b. tags-are z r o (answer 8 i) (wrong-first file ring i l n b);
-    done = λ g r o. tags-are (ap (λ (x : Answer). x .number) (g .checked)) r o (answer 0 0) (wrong-none file ring (g .right));
+    tags = λ z r o i l n b. tags-are z r o (answer 8 i) (wrong-rows file ring .first i l n b);
+    done = λ g r o. tags-are (ap (λ (x : Answer). x .number) (g .checked)) r o (answer 0 0) (wrong-rows file ring .none (g .right));
   }
     where
       tags-are : checkAs firstEdition file .number ≡ 0 → length ring ≡ 256 → length out₀ ≡ length file → (x : Answer) → wrongFrom file ring (countOf file) 0 ≡ x
@@ -402,7 +379,7 @@ unseal-number file ring out₀ =
         ⊎-elim
         (λ h. inl (ap (λ (x : Answer). x .number) (q ∙ h)))
         (λ h. inr (inr (inr (inl (ap (λ (x : Answer). x .number) q ∙ h)))))
-        (wrong-number file ring)
+        (wrong-rows file ring .number)
     number-case false e =
         let n = eqb-false _ _ e in
         let q = unseal-lent file ring (length out₀) n in

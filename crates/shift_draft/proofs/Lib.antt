@@ -5,3 +5,4 @@ pub mod Answers
 pub mod Back
 pub mod Takes
 pub mod Altered
+pub mod RowLoop

@@ -1,4 +1,4 @@
--- Pieces that are inlined into a list: it keeps its length, each piece stands where it was put, and every other byte is unchanged.
+-- Pieces that are put into a list: it keeps its length, each piece stands where it was put, and every other byte is unchanged.
 use Prim.Native.Nat.{ℕ, zero, suc, _+_, _-_, _≤_, _<_}
 use native.Mathlib.Nat.{not-suc-le-zero, le-of-suc-le-suc, eq-or-lt-of-le}
 use native.Mathlib.Decide.{decLt}

@@ -1,4 +1,5 @@
--- A file that passes, with another edition and other bytes for text and tag of each row: it has the same rows and associated data, so it passes at that edition.
+-- A file that passes, with another edition and other bytes for text and tag of each row: it has the same rows and associated
+-- data, so it passes at that edition.
 use Prim.Native.Nat.{ℕ, _+_, _-_, _/_, _%_, _≤_, _<_}
 use native.Mathlib.Decide.{decLt}
 use native.Mathlib.Omega.{arith}

@@ -1,4 +1,5 @@
--- The promises of the writer (document 02, W4; W7 for the retired suite). The statements are about the definitions; the contracts of the writer's crate tie the code to the definitions.
+-- The promises of the writer (document 02, W4; W7 for the retired suite). The statements are about the definitions; the
+-- contracts of the writer's crate tie the code to the definitions.
 use Prim.Native.Nat.{ℕ, _+_, _*_, _≤_, _<_}
 use mathlib.Core.Path.{_≡_}
 use mathlib.Core.Bool.{true, false}
@@ -60,7 +61,8 @@ UnsealedBack =
 
 -- ---- every outcome, and when it is given
 
--- the status of sealing: the check's refusal; 33 with the first row whose tag has a nonzero byte, 10 with the first row whose suite is retired, whatever ring and output are; 2; 6; 0
+-- the status of sealing: the check's refusal; 33 with the first row whose tag has a nonzero byte, 10 with the first row whose
+-- suite is retired, whatever ring and output are; 2; 6; 0
 pub record SealCases (draft ring out₀ : List ℕ) : Type 0 where
   pub checked : (checkAs draftEdition draft .number ≡ 0 → ⊥) → fileSealing draft ring out₀ ≡ writes (checkAs draftEdition draft) out₀
   pub tags : checkAs draftEdition draft .number ≡ 0 → (i : ℕ) → i < countOf draft → (ZeroTag draft i → ⊥) → ((k : ℕ) → k < i → ZeroTag draft k)
@@ -136,6 +138,7 @@ abbrev pub DataAltered : Type 0
 DataAltered =
     (file other ring out : List ℕ) (i j to : ℕ) → WithRing file ring → AllBytes other → length out ≡ length file → Genuine file ring → i < countOf file →
     let n : ℕ = sizeOf (rowOf file i .suite) in
-    rowOf file i .«text_len» ≡ 0 → to ≤ rowOf file i .«ad_at» + (j * n + n) → to ≤ rowOf file i .«ad_at» + rowOf file i .«ad_len» → Altered file other (rowOf file i .«ad_at» + j * n) to
+    rowOf file i .«text_len» ≡ 0 → to ≤ rowOf file i .«ad_at» + (j * n + n) → to ≤ rowOf file i .«ad_at» + rowOf file i .«ad_len»
+    → Altered file other (rowOf file i .«ad_at» + j * n) to
     → (badData other (rowOf file i) ≡ false → fileUnsealing other ring out ≡ writes (answer 8 i) (replicate (length out) 0))
     × (badData other (rowOf file i) ≡ true → fileUnsealing other ring out ≡ writes (answer 30 i) out)

@@ -1,4 +1,5 @@
--- Moved there and back, a file is what it was.
+-- A file that is moved to the other edition and back is the same file, byte for byte: header, every row and the bodies are
+-- each written back as they were read.
 use Prim.Native.Nat.{ℕ, zero, suc, _+_, _-_, _*_, _^_, _≤_, _<_}
 use native.Mathlib.Nat.{mul-suc, mul-zero, add-assoc}
 use native.Mathlib.Omega.{arith}

@@ -1,4 +1,5 @@
--- What is read from a moved file.
+-- What is read from a moved file: header fields, the fields of each row, and the bodies. Each lies at a known offset (`Laid`),
+-- so reading it gives what was written there: the old value, or the carried offset.
 use Prim.Native.Nat.{ℕ, _+_, _-_, _^_, _≤_, _<_}
 use native.Mathlib.Nat.{add-zero, add-assoc}
 use native.Mathlib.Omega.{arith}

@@ -1,4 +1,5 @@
--- Where the parts of a moved file lie.
+-- The offsets of the parts of a moved file: header, rows and bodies. By induction on the rows, k rows take k row widths, so
+-- row i of the new table stands at its offset.
 use Prim.Native.Nat.{ℕ, zero, suc, _+_, _-_, _*_, _≤_, _<_}
 use native.Mathlib.Nat.{mul-suc, mul-le-mul-left, eq-or-lt-of-le, le-of-suc-le-suc, not-suc-le-zero, mul-zero}
 use native.Mathlib.Omega.{arith}

@@ -1,4 +1,5 @@
--- A moved file passes: every test says of it what it said of the file.
+-- A moved file passes the full check if the file did. Each row is read back with its offset carried, so every test of a row,
+-- and of two neighbouring rows, gives on the moved file what it gave on the file.
 use Prim.Native.Nat.{ℕ, zero, suc, _-_, _^_, _≤_, _<_}
 use native.Mathlib.Omega.{arith}
 use mathlib.Core.Path.{_≡_, sym, ap, ap₂, _∙_}

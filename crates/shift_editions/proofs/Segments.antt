@@ -1,4 +1,5 @@
--- Parts of lists that are joined of parts.
+-- Laws on parts of lists (`stretch`): a part of a joined list lies in the first or the second list, and lists with one common
+-- part give the same bytes and words inside it.
 use Prim.Native.Nat.{ℕ, zero, suc, _+_, _-_, _≤_, _<_}
 use native.Mathlib.Nat.{add-zero}
 use native.Mathlib.Omega.{arith}

@@ -63,7 +63,8 @@ UpRises = (f out₀ : List ℕ) → toEdition2 f out₀ .answer .number ≡ 0 �
 abbrev pub BackFalls : Type 0
 BackFalls = (f out₀ : List ℕ) → toEdition1 f out₀ .answer .number ≡ 0 → Risen (toEdition1 f out₀ .out) f
 
--- row i of g is that of f, but for where its body lies: job number, suite, key number, both lengths, the sixteen nonce bytes, the station, and the body byte for byte
+-- row i of g is that of f, but for where its body lies: job number, suite, key number, both lengths, the sixteen nonce bytes,
+-- the station, and the body byte for byte
 pub record RowKept (f g : List ℕ) (i : ℕ) : Type 0 where
   pub job : rowOf g i .job ≡ rowOf f i .job
   pub suite : rowOf g i .suite ≡ rowOf f i .suite

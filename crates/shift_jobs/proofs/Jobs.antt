@@ -1,4 +1,5 @@
--- Opening a job: the answer is the opener's on the entry's own bytes; its number is 0, 2, 6, 8 or a refusal of the lookup; the output changes only with 0 and 8.
+-- Opening a job: the answer is the opener's on the entry's own bytes; its number is 0, 2, 6, 8 or a refusal of the lookup; the
+-- output changes only with 0 and 8.
 use Prim.Native.Nat.{ℕ}
 use native.Mathlib.Omega.{arith}
 use mathlib.Core.Path.{_≡_, refl, sym, ap, subst}

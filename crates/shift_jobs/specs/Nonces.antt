@@ -1,4 +1,5 @@
--- Why 29 and 34 are there (document 02, W5): on a file or draft that passes, no two rows of one suite and one key number are opened under the same nonce; and 34 as the request words it.
+-- Why 29 and 34 are there (document 02, W5): on a file or draft that passes, no two rows of one suite and one key number are
+-- opened under the same nonce; and 34 as the request words it.
 use Prim.Native.Nat.{ℕ, _+_, _≤_, _<_}
 use mathlib.Core.Path.{_≡_}
 use mathlib.Core.Logic.{_↔_}

@@ -1,4 +1,4 @@
--- A reader's requires: each gives the row at its place until there is none, and then the reader stays where it is.
+-- Repeated calls of a reader: each gives the row at its index until there is none, and then the reader stays where it is.
 use Prim.Native.Nat.{ℕ, zero, suc, _+_, _≤_, _<_}
 use native.Mathlib.Omega.{arith}
 use native.Mathlib.Nat.{not-suc-le-zero}
@@ -99,14 +99,15 @@ stuck r e (suc m) =
     let q : nextOf r ≡ record { reader = r; entry = Ended } = ap (made (r .src)) e in
     ap₂ (λ (a : NextRow) (t : List NextRow). a ∷ t) (ap (λ (x : Asked). x .entry) q) (ap (λ (x : Asked). asks m (x .reader)) q ∙ stuck r e m)
 
--- k rows are left, and m requires come after
+-- k rows are left, and m calls follow them
 pub others-rows : OthersRows
 unfolding asks listedFrom
 others-rows r zero m e q = let c : 0 + m ≡ m = omega arith in rw c (stuck r (past (r .place) (now (r .src)) (omega arith)) m)
 others-rows r (suc k) m e q =
     let c : suc k + m ≡ suc (k + m) = omega arith in
     let l : r .place .at < rowsLaid (now (r .src)) = omega arith in
-    let g : nextOf r ≡ record { reader = record { src = r .src; place = moved (r .place) }; entry = Row (listedOf (now (r .src)) (r .place .at)) } = ap (made (r .src)) (going (r .place) (now (r .src)) e l) in
+    let g : nextOf r ≡ record { reader = record { src = r .src; place = moved (r .place) }; entry = Row (listedOf (now (r .src)) (r .place .at)) } =
+    ap (made (r .src)) (going (r .place) (now (r .src)) e l) in
     rw c (ap₂ (λ (a : NextRow) (t : List NextRow). a ∷ t) (ap (λ (x : Asked). x .entry) g)
     (ap (λ (x : Asked). asks (k + m) (x .reader)) g ∙ rw add-one (others-rows (record { src = r .src; place = record { at = suc (r .place .at); end = r .place .end } }) k m e (omega arith))))
 

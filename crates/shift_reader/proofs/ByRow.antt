@@ -1,4 +1,5 @@
--- The table by row number. Each answer is a case of its definition; on a file that passes the check, an induction over the rows shows that the answers are the reader's list.
+-- The table by row number. Each answer is a case of its definition; on a file that passes the check, an induction over the
+-- rows shows that the answers are the reader's list.
 use Prim.Native.Nat.{ℕ, zero, suc, _+_, _^_, _≤_, _<_}
 use native.Mathlib.Omega.{arith}
 use native.Mathlib.Nat.{mod-eq-of-lt}

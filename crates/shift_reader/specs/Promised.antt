@@ -19,10 +19,13 @@ RowsThenEnded = (s : RefT (List ℕ)) (m : ℕ) → checkFile (now s) .number �
 abbrev pub EndedAtOnce : Type 0
 EndedAtOnce = (s : RefT (List ℕ)) (m : ℕ) → (checkFile (now s) .number ≡ 0 → ⊥) → asks m (readerOf s) ≡ replicate m Ended
 
--- a reader that `read` did not return has ended if its index is past the rows that the header states, or if it belongs to another file, one with another number of rows
+-- a reader that `read` did not return has ended if its index is past the rows that the header states, or if it belongs to
+-- another file, one with another number of rows
 abbrev pub OthersEnded : Type 0
 OthersEnded = (r : Reader) (m : ℕ) → (rowsLaid (now (r .src)) ≤ r .place .at) ⊎ (r .place .end ≡ rowsLaid (now (r .src)) → ⊥) → asks m r ≡ replicate m Ended
 
 -- any other gives the table's rows from its index on, unchecked, and then has ended: of the file only 20 to 24 are known not to apply
 abbrev pub OthersRows : Type 0
-OthersRows = (r : Reader) (k m : ℕ) → r .place .end ≡ rowsLaid (now (r .src)) → r .place .at + k ≡ rowsLaid (now (r .src)) → asks (k + m) r ≡ listedFrom (now (r .src)) (r .place .at) k ++ replicate m Ended
+OthersRows =
+    (r : Reader) (k m : ℕ) → r .place .end ≡ rowsLaid (now (r .src)) → r .place .at + k ≡ rowsLaid (now (r .src))
+    → asks (k + m) r ≡ listedFrom (now (r .src)) (r .place .at) k ++ replicate m Ended

@@ -1,4 +1,6 @@
--- The answers one after the other: which numbers there are, and what each says.
+-- The status of the reseal pass: which numbers there are, and when each is given. The first row that breaks a rule is found
+-- by the law `first-not` of `shift_draft`, for 29 (nonce seen before) and 8 (wrong tag of a suite 4 row). Then one status after
+-- another, by the ladder of the definition.
 use Prim.Native.Nat.{ℕ, _-_, _<_}
 use native.Mathlib.Omega.{arith}
 use mathlib.Core.Path.{_≡_, refl, sym, ap, _∙_}
@@ -14,11 +16,10 @@ use Rattle.status.specs.declared.checked.Answer.{Answer}
 use Rattle.shift_format.specs.Format.{countOf, firstEdition, rowSizeOf, rowOf}
 use Rattle.status.specs.Answers.{answer}
 use Rattle.shift_check.specs.Check.{nonceSeen, andThen, checkAs}
-use Rattle.shift_check.proofs.Searches.{first-none, first-at}
 use Rattle.shift_check.proofs.Passed.{both-zero}
 use Rattle.shift_draft.specs.Answers.{tagRight, lentAnswer, writes, leaves}
 use Rattle.shift_draft.specs.Promised.{RightTag}
-use Rattle.shift_draft.proofs.Answers.{right-test, right-told, wrong-test, found-none, found-number, eight-leaves, Room, room-told, room-right, ring-wrong, out-wrong, lent-number, not-eight, kept}
+use Rattle.shift_draft.proofs.Answers.{right-test, right-told, FirstNot, first-not, eight-leaves, Room, room-told, room-right, ring-wrong, out-wrong, lent-number, not-eight, kept}
 use Rattle.shift_reseal.specs.Files.{retabled, resealedFile}
 use Rattle.shift_reseal.specs.Answers.{seenFrom, wrongAgain, wrongAgainFrom, takeAnswer, resealAnswer, fileResealing}
 use Rattle.shift_reseal.specs.Promised.{HasFour, Calm, ResealCases, Resealing, ResealNumbers}
@@ -29,21 +30,11 @@ number x = x .number
 -- ---- 29, on any table
 
 module _ (f : List ℕ) (n : ℕ) where
-  pub seen-none : ((i : ℕ) → i < n → nonceSeen (rowSizeOf f) f i ≡ true → ⊥) → seenFrom f n 0 ≡ answer 0 0
+  pub seen-rows : FirstNot (λ i. nonceSeen (rowSizeOf f) f i ≡ true → ⊥) 29 n (seenFrom f n 0)
   unfolding seenFrom
-  seen-none h = first-none _ _ _ n (λ i l. is-false _ (h i l))
-
-  seen-first : (i : ℕ) → i < n → nonceSeen (rowSizeOf f) f i ≡ true → ((k : ℕ) → k < i → nonceSeen (rowSizeOf f) f k ≡ true → ⊥) → seenFrom f n 0 ≡ answer 29 i
-  unfolding seenFrom
-  seen-first i l h z = first-at _ _ _ n i l h (λ k b. is-false _ (z k b))
-
-  none-seen : seenFrom f n 0 .number ≡ 0 → (i : ℕ) → i < n → nonceSeen (rowSizeOf f) f i ≡ true → ⊥
-  unfolding seenFrom
-  none-seen z i l e = true≢false (sym e ∙ found-none (nonceSeen (rowSizeOf f) f) 29 (lit< tt) n z i l)
-
-  seen-number : (seenFrom f n 0 ≡ answer 0 0) ⊎ (seenFrom f n 0 .number ≡ 29)
-  unfolding seenFrom
-  seen-number = found-number (nonceSeen (rowSizeOf f) f) 29 (lit< tt) n
+  seen-rows =
+      first-not (λ i. nonceSeen (rowSizeOf f) f i ≡ true → ⊥) (nonceSeen (rowSizeOf f) f) 29 n (lit< tt)
+      (λ i q e. true≢false (sym e ∙ q)) (λ i. is-false _)
 
 -- ---- 8, of the suite 4 rows
 
@@ -56,34 +47,18 @@ module _ (f ring : List ℕ) where
       suite-case true e = ap not (right-test f i ring (h (eqb-true _ _ e)))
       suite-case false e = refl
 
-  again-wrong : (i : ℕ) → HasFour f i → (RightTag f ring i → ⊥) → wrongAgain f ring i ≡ true
-  unfolding wrongAgain
-  again-wrong i q n = simp (eq-eqb _ _ q, wrong-test f i ring n)
-
   again-told : (i : ℕ) → wrongAgain f ring i ≡ false → HasFour f i → RightTag f ring i
   unfolding wrongAgain
   again-told i e q =
       let h : not (tagRight f ring i) ≡ false = simp (eq-eqb _ _ q) at e in
       right-told f i ring (not-false _ h)
 
-  pub again-none : ((i : ℕ) → i < countOf f → HasFour f i → RightTag f ring i) → wrongAgainFrom f ring (countOf f) 0 ≡ answer 0 0
+  pub again-rows : FirstNot (λ i. HasFour f i → RightTag f ring i) 8 (countOf f) (wrongAgainFrom f ring (countOf f) 0)
   unfolding wrongAgainFrom
-  again-none h = first-none _ _ _ (countOf f) (λ i l. again-right i (h i l))
-
-  again-first : (i : ℕ) → i < countOf f → HasFour f i → (RightTag f ring i → ⊥) → ((k : ℕ) → k < i → HasFour f k → RightTag f ring k) → wrongAgainFrom f ring (countOf f) 0 ≡ answer 8 i
-  unfolding wrongAgainFrom
-  again-first i l q n z = first-at _ _ _ (countOf f) i l (again-wrong i q n) (λ k b. again-right k (z k b))
-
-  none-again : wrongAgainFrom f ring (countOf f) 0 .number ≡ 0 → (i : ℕ) → i < countOf f → HasFour f i → RightTag f ring i
-  unfolding wrongAgainFrom
-  none-again z i l = again-told i (found-none (wrongAgain f ring) 8 (lit< tt) (countOf f) z i l)
-
-  again-number : (wrongAgainFrom f ring (countOf f) 0 ≡ answer 0 0) ⊎ (wrongAgainFrom f ring (countOf f) 0 .number ≡ 8)
-  unfolding wrongAgainFrom
-  again-number = found-number (wrongAgain f ring) 8 (lit< tt) (countOf f)
+  again-rows = first-not (λ i. HasFour f i → RightTag f ring i) (wrongAgain f ring) 8 (countOf f) (lit< tt) again-told again-right
 
   pub again-leaves : (done a b : List ℕ) → length a ≡ length b → leaves (wrongAgainFrom f ring (countOf f) 0) done a ≡ leaves (wrongAgainFrom f ring (countOf f) 0) done b
-  again-leaves = eight-leaves (wrongAgainFrom f ring (countOf f) 0) again-number
+  again-leaves = eight-leaves (wrongAgainFrom f ring (countOf f) 0) (again-rows .number)
 
 -- ---- one answer after another
 
@@ -127,7 +102,7 @@ module _ (file : List ℕ) (ring out : ℕ) where
           ⊎-elim
           (lent-case z)
           (λ q. inr (inr (inr (inl (ap number (sym (take-seen z _ refl (λ h. omega arith))) ∙ q)))))
-          (seen-number (retabled file) (countOf file))
+          (seen-rows (retabled file) (countOf file) .number)
 
   pub take-not-eight : takeAnswer file ring out .number ≡ 8 → ⊥
   take-not-eight q =
@@ -148,12 +123,12 @@ module _ (file : List ℕ) (ring out : ℕ) where
       let a = both-zero (checkAs firstEdition file) (andThen seen (lentAnswer (length file) ring out)) z in
       let b = both-zero seen (lentAnswer (length file) ring out) (rw (a .1) at z) in
       record {
-        calm = record { checked = a .0; calm = none-seen (retabled file) (countOf file) (b .0) };
+        calm = record { checked = a .0; calm = seen-rows (retabled file) (countOf file) .all (b .0) };
         room = room-told (length file) ring out (rw (b .1) at (rw (a .1) at z));
       }
 
   take-calm : Calm file → lentAnswer (length file) ring out ≡ takeAnswer file ring out
-  take-calm c = take-lent (c .checked) (seen-none (retabled file) (countOf file) (c .calm))
+  take-calm c = take-lent (c .checked) (seen-rows (retabled file) (countOf file) .none (c .calm))
 
   pub take-right : Calm file → ring ≡ 256 → out ≡ length file → takeAnswer file ring out ≡ answer 0 0
   take-right c r o = sym (take-calm c) ∙ room-right (length file) ring out r o
@@ -196,12 +171,12 @@ module _ (file ring out₀ : List ℕ) where
   cases = record {
     checked = λ n. resealing-kept _ (sym (take-checked file (length ring) (length out₀) n)) n;
     clash = λ z i l h b.
-        let q = seen-first (retabled file) (countOf file) i l h b in
+        let q = seen-rows (retabled file) (countOf file) .first i l (λ k. k h) b in
         resealing-kept (answer 29 i) (take-seen file (length ring) (length out₀) z (answer 29 i) (sym q) (λ e. omega arith)) (λ e. omega arith);
     ring-wrong = λ c n. resealing-kept (answer 2 0) (sym (ring-wrong (length file) (length ring) (length out₀) n) ∙ take-calm file (length ring) (length out₀) c) (λ e. omega arith);
     room-wrong = λ c r n. resealing-kept (answer 6 0) (sym (out-wrong (length file) (length ring) (length out₀) r n) ∙ take-calm file (length ring) (length out₀) c) (λ e. omega arith);
-    tags = λ c r o i l h n b. tags-are c r o (answer 8 i) (again-first file ring i l h n b);
-    done = λ c r o h. tags-are c r o (answer 0 0) (again-none file ring h);
+    tags = λ c r o i l h n b. tags-are c r o (answer 8 i) (again-rows file ring .first i l (λ k. n (k h)) b);
+    done = λ c r o h. tags-are c r o (answer 0 0) (again-rows file ring .none h);
   }
     where
       tags-are : Calm file → length ring ≡ 256 → length out₀ ≡ length file → (x : Answer) → wrong ≡ x → fileResealing file ring out₀ ≡ leaves x (resealedFile file ring) out₀
@@ -221,7 +196,7 @@ module _ (file ring out₀ : List ℕ) where
   went z =
       let b = both-zero taken wrong z in
       let t = takeable file (length ring) (length out₀) (b .0) in
-      let r = none-again file ring (rw (b .1) at z) in
+      let r = again-rows file ring .all (rw (b .1) at z) in
       record { calm = t .calm; room = t .room; right = r; leaves-it = cases .done (t .calm) (t .room .ring-long) (t .room .out-long) r }
 
 pub resealing : Resealing
@@ -238,7 +213,7 @@ reseal-numbers file ring out₀ = number-case (eqb (taken file ring out₀ .numb
         ⊎-elim
         (λ h. inl (ap number (q ∙ h)))
         (λ h. inr (inr (inr (inl (ap number q ∙ h)))))
-        (again-number file ring)
+        (again-rows file ring .number)
     number-case false e =
         let n = eqb-false _ _ e in
         let q = result-taken file ring out₀ n in

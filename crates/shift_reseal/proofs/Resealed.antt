@@ -1,4 +1,5 @@
--- The resealed file is the file with the new suites, its suite 4 pieces put anew: it passes, no suite 4 row is left, and each resealed entry opens to the message that the old one opened to.
+-- The resealed file is the file with the new suites, its suite 4 pieces put anew: it passes, no suite 4 row is left, and each
+-- resealed entry opens to the message that the old one opened to.
 use Prim.Native.Nat.{ℕ, _+_, _-_, _≤_, _<_}
 use native.Mathlib.Decide.{decLt}
 use native.Mathlib.Omega.{arith}
@@ -37,7 +38,7 @@ use Rattle.shift_reseal.specs.Files.{successor, retabled, againPiece, re
 use Rattle.shift_reseal.specs.Promised.{HasFour, Elsewhere, Calm}
 use Rattle.shift_reseal.proofs.Retabled.{withSuite, size-new, nonce-new, new-four, new-not, t-length, t-row, t-nonce, t-head, t-body, t-count, t-kept, t-same, clash-of-check}
 use Rattle.shift_reseal.proofs.Pieces.{put-places, put-empty, put-alike}
-use Rattle.shift_reseal.proofs.Answers.{seen-none}
+use Rattle.shift_reseal.proofs.Answers.{seen-rows}
 
 -- the nonce bytes that suite 3 reads of row i
 abbrev nonceAgain : List ℕ → ℕ → List ℕ
@@ -96,7 +97,7 @@ module _ (f ring : List ℕ) (hf : AllBytes f) (hr : AllBytes ring) (c : Calm f)
 
   -- the theorem of the table: with the new suites it passes too
   t-passes : checkAs firstEdition T .number ≡ 0
-  t-passes = ap (λ (x : Answer). x .number) (clash-of-check f z ∙ seen-none T n (c .calm))
+  t-passes = ap (λ (x : Answer). x .number) (clash-of-check f z ∙ seen-rows T n .none (c .calm))
 
   taken : (i : ℕ) → i < n → EntryIn (rowSizeOf f) f i
   taken = entry-at firstEdition f plain-file z

@@ -80,7 +80,8 @@ pub record Calm (file : List ℕ) : Type 0 where
   pub checked : checkAs firstEdition file .number ≡ 0
   pub calm : (i : ℕ) → i < countOf file → Clashes file i → ⊥
 
--- the check's refusal; 29 with the lowest row that would clash with an earlier one, whatever ring and output are; 2; 6; 8 with the first suite 4 row whose tag is wrong, and an output of zeros; 0
+-- the check's refusal; 29 with the lowest row that would clash with an earlier one, whatever ring and output are; 2; 6; 8 with
+-- the first suite 4 row whose tag is wrong, and an output of zeros; 0
 pub record ResealCases (file ring out₀ : List ℕ) : Type 0 where
   pub checked : (checkAs firstEdition file .number ≡ 0 → ⊥) → fileResealing file ring out₀ ≡ writes (checkAs firstEdition file) out₀
   pub clash : checkAs firstEdition file .number ≡ 0 → (i : ℕ) → i < countOf file → Clashes file i → ((k : ℕ) → k < i → Clashes file k → ⊥)

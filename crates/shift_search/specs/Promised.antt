@@ -28,7 +28,8 @@ abbrev pub SameJobs : List ℕ → List ℕ → List ℕ → Type 0
 SameJobs f g [] = Unit
 SameJobs f g (i ∷ is) = (rowOf f i .job ≡ rowOf g i .job) × SameJobs f g is
 
--- only the listed rows matter: a file with the same answer of 20 to 24, the same number of rows and the same jobs in the listed rows gives the same result, whatever its other rows contain
+-- only the listed rows matter: a file with the same answer of 20 to 24, the same number of rows and the same jobs in the
+-- listed rows gives the same result, whatever its other rows contain
 abbrev pub RowsDecide : Type 0
 RowsDecide = (f g : List ℕ) (job : ℕ) → headAnswer f ≡ headAnswer g → countOf f ≡ countOf g → SameJobs f g (searching f job .rows) → searching f job ≡ searching g job
 

@@ -1,4 +1,5 @@
--- A session and its nine words know each other: each word of 64 bits is read back from its eight bytes, so words that are not written over stand for the same session.
+-- A session and its nine words know each other: each word of 64 bits is read back from its eight bytes, so words that are not
+-- written over stand for the same session.
 use mathlib.Core.Path.{_≡_, refl, sym, ap, _∙_}
 use Prim.Native.Nat.{ℕ, _^_, _<_}
 use native.Mathlib.Omega.{arith}

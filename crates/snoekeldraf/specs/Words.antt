@@ -1,4 +1,5 @@
--- A session as nine words of 64 bits, which C holds and passes by pointer: the suite; Y, Z and the held bytes in two words each, low bytes first; the two totals.
+-- A session as nine words of 64 bits, which C holds and passes by pointer: the suite; Y, Z and the held bytes in two words
+-- each, low bytes first; the two totals.
 use mathlib.Core.Path.{_≡_}
 use Prim.Native.Nat.{ℕ, _^_, _<_}
 use mathlib.Core.List.{List, [], _∷_, _++_}

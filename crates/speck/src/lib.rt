@@ -59,7 +59,8 @@ fn pair_of(block: [u8; 8]) -> Pair
     }
 }
 
-// The encryption of the block under the key. The next round key is computed before the round, which does not depend on it: the compiler keeps this order, and a block takes a twentieth less time.
+// The encryption of the block under the key. The next round key is computed before the round, which does not depend on it: the
+// compiler keeps this order, and a block takes a twentieth less time.
 pub fn encrypt(key: [u8; 16], block: [u8; 8]) -> [u8; 8]
     ensures { λ r. ⌜ r ≡ speck key block ⌝ }
 {

@@ -67,7 +67,8 @@ fn texts_refused(suite: u8, ad: usize, text: usize, out: usize, tag: usize) -> V
     Verdict::Done
 }
 
-// Numbers 1, 10, 2 and 3 in the order of the table, from the suite and the lengths of key and nonce: the first half of the checks, which a session's start shares.
+// Numbers 1, 10, 2 and 3 in the order of the table, from the suite and the lengths of key and nonce: the first half of the
+// checks, which a session's start shares.
 pub fn under_key(opening: bool, suite: u8, key: usize, nonce: usize) -> Verdict
     ensures { λ r. ⌜ numberOf r ≡ underKey (takes opening suite) suite key nonce 0 ⌝ }
 {

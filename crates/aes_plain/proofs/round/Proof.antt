@@ -1,4 +1,5 @@
--- `aes_plain::round` meets its contract: one step after the other.
+-- `aes_plain::round`: the code calls SubBytes with ShiftRows, then MixColumns except in the last round, then AddRoundKey. Each
+-- callee ensures its step on the state's bytes, so the composition is FIPS 197's round.
 use borrow.Author.Needs.{needs}
 use Rattle.aes_plain.proofs.round.Statement.{statement}
 use Rattle.aes_plain.proofs.round.Tie as tie

@@ -1,4 +1,4 @@
--- `aes_plain::shifted` meets its contract: the column has the four bytes that were looked up.
+-- `aes_plain::shifted`: the column is made of the four bytes that were looked up, so its bytes are these four (`packed`).
 use Rattle.aes_plain.proofs.Column.{packed}
 use borrow.Author.Needs.{needs}
 use Rattle.aes_plain.proofs.shifted.Statement.{statement}

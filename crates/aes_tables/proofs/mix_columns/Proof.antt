@@ -1,4 +1,5 @@
--- `aes_tables::mix_columns` meets its contract, column by column.
+-- `aes_tables::mix_columns`: the callee gives one column, and the state's bytes are its four columns one after the other
+-- (`four`).
 use Rattle.block.specs.Bytes.{bytes}
 use Rattle.aes_spec.specs.Cipher.{subBytes, shiftRows, mixColumns}
 use Rattle.aes_plain.proofs.Column.{four}

@@ -1,4 +1,5 @@
--- `aes_tables::shifted` meets its contract: the column has the four bytes that were looked up.
+-- `aes_tables::shifted`: the column is made of the four bytes that were looked up, so its bytes are these four (`packed`, as
+-- in `aes_plain`).
 use Rattle.aes_plain.proofs.Column.{packed}
 use borrow.Author.Needs.{needs}
 use Rattle.aes_tables.proofs.shifted.Statement.{statement}

@@ -1,4 +1,5 @@
--- `block::put8` meets its contract: eight stores write the whole slice.
+-- `block::put8`: eight stores write bytes 0 to 7 of a slice of length 8. The slice is the list of the eight stored bytes,
+-- since each store changes its own element only.
 use borrow.Author.Needs.{needs}
 use Prim.Native.Nat.{_-_}
 use mathlib.Core.Path.{_≡_, ap, _∙_}

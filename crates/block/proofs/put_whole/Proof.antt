@@ -1,4 +1,5 @@
--- `block::put_whole` meets its contract: sixteen bytes are two stores of eight, and eight are one.
+-- `block::put_whole`, by the slice's length: a slice of sixteen is written by two stores of eight bytes, a slice of eight by
+-- one.
 use Prim.Native.Nat.{ℕ, _-_, _+_}
 use mathlib.Core.Path.{_≡_, sym, ap, ap₂, _∙_}
 use mathlib.Core.List.{List, _++_}

@@ -1,4 +1,5 @@
--- `byte_runs::all_zero` meets its contract: what is left to compare gives the whole answer.
+-- `byte_runs::all_zero`, by induction on the loop: the bytes before i are zero, so the answer for the whole slice is the
+-- answer for what is left of it.
 use borrow.Author.Needs.{needs}
 use borrow.Author.Tests.{eq-eqb, ne-eqb}
 use denote.Ref.{now}

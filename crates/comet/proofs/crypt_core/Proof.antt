@@ -1,4 +1,6 @@
--- `comet::crypt_core` meets its contract: the states are walked from the start to the tag, a call for each step, and the walk is the chain.
+-- `comet::crypt_core`: the code calls start, associated data, text and tag in this order, and each callee ensures its step of
+-- the walk. Composed, these steps are the walk over the whole record, which `text-walk` and `tag-walk` equate with the
+-- definition; the calls add up by `count-all`.
 use borrow.Author.Needs.{needs}
 use denote.Ref.{now}
 use mathlib.Core.Bool.{Bool, false}
@@ -59,7 +61,8 @@ module _ (j : tie.Joined1) where
   pos : 0 < sizeOf suite
   pos = some (cipherOf suite) (lawful suite)
 
-  pub read-is : (twoOf suite (j .if1 .s) ≡ walked (cipherOf suite) false 0x08 0x10 (twoOf suite begun) (blocks (sizeOf suite) ad)) × (j .if1 .s .calls ≡ add 64 (begun .calls) (length (blocks (sizeOf suite) ad)))
+  pub read-is : (twoOf suite (j .if1 .s) ≡ walked (cipherOf suite) false 0x08 0x10 (twoOf suite begun) (blocks (sizeOf suite) ad))
+      × (j .if1 .s .calls ≡ add 64 (begun .calls) (length (blocks (sizeOf suite) ad)))
   read-is =
       ⊎-elim
       (λ w. (ap (twoOf suite) (w .2) ∙ w .1 .ensures .0, ap (λ (s : State). s .calls) (w .2) ∙ w .1 .ensures .1))

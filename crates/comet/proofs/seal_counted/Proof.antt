@@ -1,15 +1,16 @@
--- `comet::seal_counted` meets its contract: a refusal leaves the buffers and takes no call; else the text is copied, and sealed in its copy's place.
+-- `comet::seal_counted`, by two cases. A refusal leaves the buffers unchanged and takes no cipher call. Otherwise the text is copied into the
+-- output and sealed there, which gives what the definition gives for text and output (`sealing-same`).
 use borrow.Author.Needs.{needs}
 use denote.Ref.{now}
 use lib.ListN.{length}
 use mathlib.Core.Bool.{false}
 use mathlib.Core.List.{List}
-use mathlib.Core.Path.{_≡_, sym, ap, _∙_, subst}
+use mathlib.Core.Path.{_≡_, sym, ap, _∙_}
 use Prim.Native.Nat.{ℕ}
 use Rattle.status.specs.Verdicts.{numberOf, refusal}
 use Rattle.comet.specs.Counted.{sealingCounted}
 use Rattle.status.proofs.Refuse.{passed, done-zero, other-some}
-use Rattle.comet.proofs.Left.{sealing-kept}
+use Rattle.comet.proofs.Left.{copy-passes, sealing-kept}
 use Rattle.comet.proofs.Counts.{counting, calls-none, sealing-same}
 use Rattle.comet.proofs.seal_counted.Statement.{statement}
 use Rattle.comet.proofs.seal_counted.Tie as tie
@@ -45,12 +46,7 @@ copy-requires : tie.Need-copy-requires
 copy-requires c κs = room (c .before .before)
 
 seal-checked-requires : tie.Need-seal-checked-requires
-seal-checked-requires c κs =
-    let m = c .before .before .before .before .before .before .before in
-    let a = x m .args in
-    let copied : length (c .before .before .before .before .copy .last .1 .0) ≡ length (now (a .msg)) = ap length (c .before .before .before .before .copy .ensures) in
-    subst (λ (n : ℕ). refusal false (a .suite) (length (now (a .key))) (length (now (a .nonce))) (length (now (a .ad))) n n (length (now (a .tag))) ≡ 0) (sym copied)
-    (subst (λ (n : ℕ). refusal false (a .suite) (length (now (a .key))) (length (now (a .nonce))) (length (now (a .ad))) (length (now (a .msg))) n (length (now (a .tag))) ≡ 0) (room m) (zero m))
+seal-checked-requires c κs = copy-passes _ _ _ _ _ _ _ _ (zero (c .before .before .before .before .before .before .before)) _ (ap length (c .before .before .before .before .copy .ensures))
 
 same-length : tie.Need-same-length
 same-length c = search needs
@@ -63,7 +59,8 @@ returns-2 c =
     let m = c .before .before .before .before .before .before .before .before .before .before .before .before in
     let a = x m .args in
     c .before .before .before .before .seal-checked .ensures
-    ∙ ap (λ (l : List ℕ). sealingCounted (a .suite) (now (a .key)) (now (a .nonce)) (now (a .ad)) l l (now (a .tag))) (c .before .before .before .before .before .before .before .before .before .copy .ensures)
+    ∙ ap (λ (l : List ℕ). sealingCounted (a .suite) (now (a .key)) (now (a .nonce)) (now (a .ad)) l l (now (a .tag)))
+    (c .before .before .before .before .before .before .before .before .before .copy .ensures)
     ∙ sealing-same (a .suite) (now (a .key)) (now (a .nonce)) (now (a .ad)) (now (a .msg)) (now (a .out)) (now (a .tag)) (zero m)
 
 pub seal-counted-spec : {M : Type 1} → statement M

@@ -33,7 +33,8 @@ module _ (d : tie.After-same) where
   same-is : d .same .result ≡ sameBytes (tagOut (cipherOf (x .args .suite)) true (now (x .args .key)) (now (x .args .nonce)) (now (x .args .ad)) (now (x .args .text))) (now (x .args .tag))
   same-is =
       d .same .ensures
-      ∙ ap (λ (l : List ℕ). sameBytes l (now (x .args .tag))) (ap (λ (n : ℕ). take n (wide (d .before .before .before .before .crypt .result .tag))) (ok x .tag) ∙ d .before .before .before .before .crypt .ensures .1 .0)
+      ∙ ap (λ (l : List ℕ). sameBytes l (now (x .args .tag)))
+      (ap (λ (n : ℕ). take n (wide (d .before .before .before .before .crypt .result .tag))) (ok x .tag) ∙ d .before .before .before .before .crypt .ensures .1 .0)
 
   -- every length is right, and the comparison gave b
   done : (b : Bool) → d .same .result ≡ b

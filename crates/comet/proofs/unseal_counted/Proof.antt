@@ -1,15 +1,16 @@
--- `comet::unseal_counted` meets its contract: a refusal leaves the buffer and takes no call; else the text is copied, and opened in its copy's place.
+-- `comet::unseal_counted`, by two cases. A refusal leaves the buffer unchanged and takes no cipher call. Otherwise the text is copied into the
+-- output and opened there, which gives what the definition gives for text and output (`opening-same`).
 use borrow.Author.Needs.{needs}
 use denote.Ref.{now}
 use lib.ListN.{length}
 use mathlib.Core.Bool.{true}
 use mathlib.Core.List.{List}
-use mathlib.Core.Path.{_≡_, sym, ap, _∙_, subst}
+use mathlib.Core.Path.{_≡_, sym, ap, _∙_}
 use Prim.Native.Nat.{ℕ}
 use Rattle.status.specs.Verdicts.{numberOf, refusal}
 use Rattle.comet.specs.Counted.{openingCounted}
 use Rattle.status.proofs.Refuse.{passed, done-zero, other-some}
-use Rattle.comet.proofs.Left.{opening-kept}
+use Rattle.comet.proofs.Left.{copy-passes, opening-kept}
 use Rattle.comet.proofs.Counts.{counting, calls-none, opening-same}
 use Rattle.comet.proofs.unseal_counted.Statement.{statement}
 use Rattle.comet.proofs.unseal_counted.Tie as tie
@@ -45,12 +46,7 @@ copy-requires : tie.Need-copy-requires
 copy-requires c κs = room (c .before .before)
 
 unseal-checked-requires : tie.Need-unseal-checked-requires
-unseal-checked-requires c κs =
-    let m = c .before .before .before .before .before .before in
-    let a = x m .args in
-    let copied : length (c .before .before .before .copy .last .1 .0) ≡ length (now (a .text)) = ap length (c .before .before .before .copy .ensures) in
-    subst (λ (n : ℕ). refusal true (a .suite) (length (now (a .key))) (length (now (a .nonce))) (length (now (a .ad))) n n (length (now (a .tag))) ≡ 0) (sym copied)
-    (subst (λ (n : ℕ). refusal true (a .suite) (length (now (a .key))) (length (now (a .nonce))) (length (now (a .ad))) (length (now (a .text))) n (length (now (a .tag))) ≡ 0) (room m) (zero m))
+unseal-checked-requires c κs = copy-passes _ _ _ _ _ _ _ _ (zero (c .before .before .before .before .before .before)) _ (ap length (c .before .before .before .copy .ensures))
 
 same-length : tie.Need-same-length
 same-length c = search needs

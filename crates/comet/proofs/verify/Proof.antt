@@ -1,4 +1,5 @@
--- `comet::verify` meets its contract: a refusal is the opener's for an output of the text's length; else the answer is the comparison's, as the opener's number is.
+-- `comet::verify`: if the lengths are refused, the status is that of the opener with an output as long as the text. Otherwise
+-- the status follows from the tag comparison alone, as the opener's does.
 use borrow.Author.Needs.{needs}
 use borrow.Author.Tests.{not-true, not-false}
 use denote.Ref.{now}
@@ -62,7 +63,8 @@ returns c =
     let x = c .before .before .before .before .before .before .before .args in
     let a = c .before .refused-for .result in
     ap (λ (w : Opened). w .number)
-    (opening-kept (x .suite) (now (x .key)) (now (x .nonce)) (now (x .ad)) (now (x .text)) (now (x .tag)) (now (x .text)) (numberOf a) (c .before .refused-for .ensures) (other-some a (c .match .keys2)))
+    (opening-kept (x .suite) (now (x .key)) (now (x .nonce)) (now (x .ad)) (now (x .text)) (now (x .tag)) (now (x .text)) (numberOf a)
+    (c .before .refused-for .ensures) (other-some a (c .match .keys2)))
 
 tag-under-requires : tie.Need-tag-under-requires
 tag-under-requires c κs =

@@ -1,5 +1,4 @@
--- The first of the tests that holds gives the number.
--- Each way out is the test that led there, with those before it.
+-- Each return is one rung of `headNumber`: the tests before it have failed, and its own holds, so the ladder gives its number.
 use borrow.Author.Tests.{lt-ltb, le-ltb, eq-eqb, ne-eqb}
 use Rattle.shift_check.specs.Check.{headNumber}
 use Rattle.shift_format.proofs.Rows.{rows-small}

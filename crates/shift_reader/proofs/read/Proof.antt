@@ -1,4 +1,5 @@
--- `shift_reader::read` meets its contract: a walk of its MIR, by hand. `start` is called on the slice, and the struct is made of the slice and the cursor that it returned.
+-- `shift_reader::read` meets its contract: a walk of its MIR, by hand. `start` is called on the slice, and the struct is made
+-- of the slice and the cursor that it returned.
 -- Assumes nothing.
 use mathlib.Core.Path.{_≡_, refl, ap}
 use Prim.Native.Nat.{ℕ}
@@ -85,7 +86,8 @@ module _ {M : Type 1} (𝓤 : URA M) (H : Heap 𝓤) (A : Atoms 𝓤) (W : Given
   goes =
       qed W ((‵ (flft κ q) ⊛ ‵ ftrue) ∷ ‵ (owns (ShrSlice (named 0) κ u8 ∷ []) (s, tt) (v ∷ [], tt)) ∷ []) ∵
       move ! (1 ∷ []) $ fsplit ! $ use1 W (‵ Own ⊛ ‵ Own) (shr-slice-copy 𝓤 H A W (named 0) κ u8 .twice s (v ∷ [])) $ split ! $
-      move ! (0 ∷ 2 ∷ []) $ fjoin ! $ move ! (2 ∷ 0 ∷ []) $ use2 W (raw (Start 𝓤 H A mem run .pre to)) (qed W ((‵ (flft κ q) ⊛ ‵ ftrue) ∷ ‵ (owns (ShrSlice (named 0) κ u8 ∷ []) (s, tt) (v ∷ [], tt)) ∷ []) ∵ join ! $ frame ! $ done !) $ frame ! $ done !
+      move ! (0 ∷ 2 ∷ []) $ fjoin ! $ move ! (2 ∷ 0 ∷ []) $ use2 W (raw (Start 𝓤 H A mem run .pre to))
+      (qed W ((‵ (flft κ q) ⊛ ‵ ftrue) ∷ ‵ (owns (ShrSlice (named 0) κ u8 ∷ []) (s, tt) (v ∷ [], tt)) ∷ []) ∵ join ! $ frame ! $ done !) $ frame ! $ done !
 
   said : (c : Cursor) → ent 𝓤 (ensured 𝓤 H A start.ended (start.clauses 𝓤 H A mem run) (κ, tt) (s, tt) tt c) (fact 𝓤 (c ≡ startOf (now s)))
   said c = exE 𝓤 _ (λ ws. snd∗ 𝓤 (sem 𝓤 H A (lasts start.ended (κ, tt) (s, tt) ws)) (fact 𝓤 (c ≡ startOf (now s))))
@@ -93,7 +95,8 @@ module _ {M : Type 1} (𝓤 : URA M) (H : Heap 𝓤) (A : Atoms 𝓤) (W : Given
   exits : (c : Cursor) → c ≡ startOf (now s) → ent 𝓤 (⋆ 𝓤 H A (‵ (C.the-row .own c (C′.lowered c ∷ [])) ∷ (‵ (flft κ q) ⊛ ‵ ftrue) ∷ ‵ Own ∷ [])) (Post (T′.lowered (made c)))
   exits c e =
       qed W (‵ (C.the-row .own c (C′.lowered c ∷ [])) ∷ (‵ (flft κ q) ⊛ ‵ ftrue) ∷ ‵ Own ∷ []) ∵
-      suffices ! _ (ends-at 𝓤 H A read.ended stayed (read.clauses 𝓤 H A mem run) W (((κ, tt), (q, tt), tt, (s, tt), (v ∷ [], tt)), tt) (T′.lowered (made c)) (made c) (tt, tt) (tt, tt)) $ says ! (ap made e) $
+      suffices ! _ (ends-at 𝓤 H A read.ended stayed (read.clauses 𝓤 H A mem run) W (((κ, tt), (q, tt), tt, (s, tt), (v ∷ [], tt)), tt) (T′.lowered (made c))
+      (made c) (tt, tt) (tt, tt)) $ says ! (ap made e) $
       move ! (1 ∷ []) $ frame ! $ move ! (1 ∷ []) $ use1 W (‵ Own ⊛ ‵ Own) (shr-slice-copy 𝓤 H A W (named 0) κ u8 .twice s (v ∷ [])) $ split ! $ nothing ! $ move ! (1 ∷ 0 ∷ []) $ fjoin ! $ frame ! $
       -- [what src owns; what the cursor owns]: what the fields own together is what the struct owns
       nothing ! $ move ! (2 ∷ 0 ∷ []) $ fjoin ! $ move ! (1 ∷ 0 ∷ []) $ fjoin ! $ by ! (own-shut 𝓤 H A W (T.the-type α) (T′.the-laws α) (s, (c, tt)))
@@ -105,16 +108,20 @@ module _ {M : Type 1} (𝓤 : URA M) (H : Heap 𝓤) (A : Atoms 𝓤) (W : Given
         alloc1 ! (λ l₀. alloc1 ! (λ l₁. alloc1 ! (λ l₂. alloc0 ! $ params1 ! $ pass1 ! (init ! 2 refl (shr-slice-lawful 𝓤 H A W (named 0) κ u8 .typed s (v ∷ []) p .0)) $ pass0 ! $
         move ! (6 ∷ []) $ use1 W (raw (Start 𝓤 H A mem run .pre to) ⊛ ‵ Own) goes $ split ! $
         calls-at ! fm (Start 𝓤 H A mem run) known to (and-then ! (load ! (from ! (stop !)) (look ! 4 refl)) (no-more !)) (λ u.
-        use1 W (later (some (λ (c : Cursor). ((‵ (flft κ q) ⊛ ‵ ftrue) ⊛ ‵ (C.the-row .own c (u ∷ []))) ⊛ raw (ensured 𝓤 H A start.ended (start.clauses 𝓤 H A mem run) (κ, tt) (s, tt) tt c)))) (id⊢ 𝓤 _) $ await ! tt $ pick ! (λ c.
+        use1 W (later (some (λ (c : Cursor). ((‵ (flft κ q) ⊛ ‵ ftrue) ⊛ ‵ (C.the-row .own c (u ∷ [])))
+        ⊛ raw (ensured 𝓤 H A start.ended (start.clauses 𝓤 H A mem run) (κ, tt) (s, tt) tt c)))) (id⊢ 𝓤 _) $ await ! tt $ pick ! (λ c.
         split ! $ move ! (1 ∷ []) $ use1 W (raw (fact 𝓤 (c ≡ startOf (now s)))) (said c) $ heard ! (c ≡ startOf (now s)) (λ e. split ! $ move ! (1 ∷ []) $
         -- [what the cursor owns; the token; what s owns; room for _2; …; _1; …; room for _0; …]
         peeks ! C.the-row (Is C.the-row) (shows 𝓤 H A C.the-row) c (u ∷ []) (λ is.
         land ! (from ! (stop !)) (init ! 3 refl (LL.lawful C.the-type C′.the-laws 𝓤 H A W .typed c _ is .0)) $
         -- the machine value of the cursor, spelled
-        rewrite ! 3 (λ (w : Val). ‵ (fat fullShare C′.mir l₂ 0 w)) (ap only (LL.tells C.the-type C′.the-laws c _ is)) refl $ rewrite ! 0 (λ (w : Val). ‵ (C.the-row .own c (w ∷ []))) (ap only (LL.tells C.the-type C′.the-laws c _ is)) refl $
+        rewrite ! 3 (λ (w : Val). ‵ (fat fullShare C′.mir l₂ 0 w)) (ap only (LL.tells C.the-type C′.the-laws c _ is)) refl $
+        rewrite ! 0 (λ (w : Val). ‵ (C.the-row .own c (w ∷ []))) (ap only (LL.tells C.the-type C′.the-laws c _ is)) refl $
         assigns ! (agg ! (and-then ! (load ! (from ! (stop !)) (look ! 5 refl)) (and-then ! (load ! (from ! (stop !)) (look ! 3 refl)) (no-more !)))) (from ! (stop !))
-        (init ! 7 refl (LL.lawful (T.the-type α) (T′.the-laws α) 𝓤 H A W .typed (made c) _ (LL.owes (T.the-type α) (T′.the-laws α) (made c) (p, (LL.owes C.the-type C′.the-laws c (LL.owed C.the-type C′.the-laws c _ is), tt))) .0)) $
-        returns ! (look ! 7 refl) $ forget ! 3 refl $ forget ! 5 refl $ forget ! 7 refl $ move ! (7 ∷ 8 ∷ []) $ free1 ! $ move ! (5 ∷ 6 ∷ []) $ free1 ! $ move ! (3 ∷ 4 ∷ []) $ free1 ! $ free0 ! $ by ! (exits c e))))))))
+        (init ! 7 refl (LL.lawful (T.the-type α) (T′.the-laws α) 𝓤 H A W .typed (made c) _
+        (LL.owes (T.the-type α) (T′.the-laws α) (made c) (p, (LL.owes C.the-type C′.the-laws c (LL.owed C.the-type C′.the-laws c _ is), tt))) .0)) $
+        returns ! (look ! 7 refl) $ forget ! 3 refl $ forget ! 5 refl $ forget ! 7 refl $ move ! (7 ∷ 8 ∷ []) $ free1 ! $ move ! (5 ∷ 6 ∷ []) $ free1 ! $
+        move ! (3 ∷ 4 ∷ []) $ free1 ! $ free0 ! $ by ! (exits c e))))))))
 
 module _ {M : Type 1} (𝓤 : URA M) (H : Heap 𝓤) (A : Atoms 𝓤) (W : Given 𝓤 H A) (mem : Memory → SProp 𝓤) (run : Routine → Fun 𝓤) where
   read-walks : (Cs : Calls 𝓤 H) (Λ : Loops 𝓤 H) → FmC 𝓤 H (W .laws) Cs → Triple 𝓤 (Cs #shift-reader·cursor·start) (Start 𝓤 H A mem run)
@@ -125,7 +132,8 @@ module _ {M : Type 1} (𝓤 : URA M) (H : Heap 𝓤) (A : Atoms 𝓤) (W : Given
 read-meets : {M : Type 1} (𝓤 : URA M) (H : Heap 𝓤) (A : Atoms 𝓤) (W : Given 𝓤 H A) (mem : Memory → SProp 𝓤) (run : Routine → Fun 𝓤) (𝓣 : Tables 𝓤 H)
     → Triple 𝓤 (𝓣 .C #shift-reader·cursor·start) (Start 𝓤 H A mem run)
     → Meets 𝓤 H A read.signature (WpFn 𝓤 H (𝓣 .C) (𝓣 .Λ) code.function) (read.spec 𝓤 H A mem run)
-read-meets 𝓤 H A W mem run 𝓣 known = walk-meets 𝓤 H A read.ended stayed W (goes-none-slice 𝓤 H A W 1 (0 ∷ []) tt (plain (λ _. u8)) yes, tt) (read.clauses 𝓤 H A mem run) (WpFn 𝓤 H (𝓣 .C) (𝓣 .Λ) code.function) (WpFn-mono 𝓤 H (W .laws) 𝓣 code.function)
+read-meets 𝓤 H A W mem run 𝓣 known = walk-meets 𝓤 H A read.ended stayed W (goes-none-slice 𝓤 H A W 1 (0 ∷ []) tt (plain (λ _. u8)) yes, tt)
+    (read.clauses 𝓤 H A mem run) (WpFn 𝓤 H (𝓣 .C) (𝓣 .Λ) code.function) (WpFn-mono 𝓤 H (W .laws) 𝓣 code.function)
     (read-walks 𝓤 H A W mem run (𝓣 .C) (𝓣 .Λ) (fmOf 𝓤 H (W .laws) 𝓣) known)
 
 pub read-spec : {M : Type 1} → stated.statement M

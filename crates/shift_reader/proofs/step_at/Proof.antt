@@ -1,4 +1,6 @@
--- `shift_reader::step_at` meets its contract: a walk of its MIR, by hand. A reader is made of the file and the place in a local, and passed to `next`; the place and the entry are taken out of what that gives. All that the proof knows of `next` is that it meets its contract.
+-- `shift_reader::step_at` meets its contract: a walk of its MIR, by hand. A reader is made of the file and the place in a
+-- local, and passed to `next`; the place and the entry are taken out of what that gives. All that the proof knows of `next` is
+-- that it meets its contract.
 -- Assumes nothing.
 use mathlib.Core.Path.{_≡_, refl, ap}
 use Prim.Native.Nat.{ℕ}
@@ -145,52 +147,65 @@ module _ {M : Type 1} (𝓤 : URA M) (H : Heap 𝓤) (A : Atoms 𝓤) (W : Given
   exits : (t : Asked) → t ≡ nextOf made → ent 𝓤 (⋆ 𝓤 H A (‵ (OwnN t) ∷ (‵ (flft κ q) ⊛ ‵ ftrue) ∷ ‵ Kept ∷ [])) (Post (out t))
   exits t e =
       qed W (‵ (OwnN t) ∷ (‵ (flft κ q) ⊛ ‵ ftrue) ∷ ‵ Kept ∷ []) ∵
-      suffices ! _ (ends-at 𝓤 H A step-at.ended stayed (step-at.clauses 𝓤 H A mem run) W (((κ, tt), (q, tt), tt, (s, (c, tt)), at), tt) (out t) (taken t) (tt, (tt, tt)) (tt, (tt, tt))) $ says ! (ap taken e) $
+      suffices ! _ (ends-at 𝓤 H A step-at.ended stayed (step-at.clauses 𝓤 H A mem run) W (((κ, tt), (q, tt), tt, (s, (c, tt)), at), tt) (out t) (taken t)
+      (tt, (tt, tt)) (tt, (tt, tt))) $ says ! (ap taken e) $
       move ! (1 ∷ []) $ frame ! $ move ! (1 ∷ []) $ frame ! $
       -- [what the answer owns]: the answer and the reader in it are taken apart
-      use1 W (given (whole-val t ∷ [] ≡ whole-val t ∷ []) (‵ (all-own (N.the-type α .parts) (N′.the-laws α) (t .reader, (t .entry, tt))))) (own-open 𝓤 H A W (N.the-type α) (N′.the-laws α) (t .reader, (t .entry, tt)) (whole-val t)) $ learn ! (λ _. fsplit ! $
-      use1 W (given (part-val t ∷ [] ≡ part-val t ∷ []) (‵ (all-own (T.the-type α .parts) (T′.the-laws α) (t .reader .src, (t .reader .place, tt))))) (own-open 𝓤 H A W (T.the-type α) (T′.the-laws α) (t .reader .src, (t .reader .place, tt)) (part-val t)) $ learn ! (λ _. fsplit ! $ move ! (1 ∷ []) $ fsplit ! $
+      use1 W (given (whole-val t ∷ [] ≡ whole-val t ∷ []) (‵ (all-own (N.the-type α .parts) (N′.the-laws α) (t .reader, (t .entry, tt)))))
+      (own-open 𝓤 H A W (N.the-type α) (N′.the-laws α) (t .reader, (t .entry, tt)) (whole-val t)) $ learn ! (λ _. fsplit ! $
+      use1 W (given (part-val t ∷ [] ≡ part-val t ∷ []) (‵ (all-own (T.the-type α .parts) (T′.the-laws α) (t .reader .src, (t .reader .place, tt)))))
+      (own-open 𝓤 H A W (T.the-type α) (T′.the-laws α) (t .reader .src, (t .reader .place, tt)) (part-val t)) $ learn ! (λ _. fsplit ! $ move ! (1 ∷ []) $ fsplit ! $
       -- [what place owns; nothing; what src owns; what entry owns]
       move ! (0 ∷ 3 ∷ []) $ fjoin ! $ keep ! (0 ∷ []) $ by ! (own-shut 𝓤 H A W S.the-type S′.the-laws (t .reader .place, (t .entry, tt)))))
 
   module _ (Cs : Calls 𝓤 H) (Λ : Loops 𝓤 H) (fm : FmC 𝓤 H (W .laws) Cs) (known : Triple 𝓤 (Cs #shift-reader·Reader·next) (Next 𝓤 H A mem run)) where
-    walk : Is (ShrSlice (named 0) κ u8) s (v ∷ []) → Is C.the-row c (C′.lowered c ∷ []) → ent 𝓤 (onEntry 𝓤 H A step-at.signature (κ, tt) (q, tt) (s, (c, tt)) at) (WpFn 𝓤 H Cs Λ code.function (v ∷ C′.lowered c ∷ []) Post)
+    walk : Is (ShrSlice (named 0) κ u8) s (v ∷ []) → Is C.the-row c (C′.lowered c ∷ [])
+        → ent 𝓤 (onEntry 𝓤 H A step-at.signature (κ, tt) (q, tt) (s, (c, tt)) at) (WpFn 𝓤 H Cs Λ code.function (v ∷ C′.lowered c ∷ []) Post)
     walk p pc =
         qed W (raw (onEntry 𝓤 H A step-at.signature (κ, tt) (q, tt) (s, (c, tt)) at) ∷ []) ∵ enter ! Cs Λ code.function (v ∷ C′.lowered c ∷ []) _ $
-        alloc1 ! (λ l₀. alloc1 ! (λ l₁. alloc1 ! (λ l₂. alloc1 ! (λ l₃. alloc1 ! (λ l₄. alloc1 ! (λ l₅. alloc1 ! (λ l₆. alloc0 ! $ params1 ! $ pass1 ! (init ! 10 refl (shr-slice-lawful 𝓤 H A W (named 0) κ u8 .typed s (v ∷ []) p .0)) $
+        alloc1 ! (λ l₀. alloc1 ! (λ l₁. alloc1 ! (λ l₂. alloc1 !
+        (λ l₃. alloc1 ! (λ l₄. alloc1 ! (λ l₅. alloc1 ! (λ l₆. alloc0 ! $ params1 ! $ pass1 ! (init ! 10 refl (shr-slice-lawful 𝓤 H A W (named 0) κ u8 .typed s (v ∷ []) p .0)) $
         pass1 ! (init ! 8 refl (LL.lawful C.the-type C′.the-laws 𝓤 H A W .typed c _ pc .0)) $ pass0 ! $
         -- [room for _6; …; _5; …; _4; …; _3; …; _2; …; _1; …; room for _0; …; what is had at entry]
         assigns ! (agg ! (and-then ! (load ! (from ! (stop !)) (look ! 10 refl)) (and-then ! (load ! (from ! (stop !)) (look ! 8 refl)) (no-more !)))) (from ! (stop !))
         (init ! 4 refl (LL.lawful (T.the-type αᵉ) (T′.the-laws αᵉ) 𝓤 H A W .typed made _ (LL.owes (T.the-type αᵉ) (T′.the-laws αᵉ) made (p, (pc, tt))) .0)) $
         move ! (14 ∷ []) $ use1 W (raw (Next 𝓤 H A mem run .pre to) ⊛ ‵ Kept) goes $ split ! $
         calls-at ! fm (Next 𝓤 H A mem run) known to (and-then ! (load ! (from ! (stop !)) (look ! 6 refl)) (no-more !)) (λ u.
-        use1 W (later (some (λ (t : Asked). ((‵ (flft κ q) ⊛ ‵ ftrue) ⊛ ‵ (N.the-row α .own t (u ∷ []))) ⊛ raw (ensured 𝓤 H A next.ended (next.clauses 𝓤 H A mem run) (κ, tt) (made, tt) tt t)))) (id⊢ 𝓤 _) $ await ! tt $ pick ! (λ t.
+        use1 W (later (some (λ (t : Asked). ((‵ (flft κ q) ⊛ ‵ ftrue) ⊛ ‵ (N.the-row α .own t (u ∷ [])))
+        ⊛ raw (ensured 𝓤 H A next.ended (next.clauses 𝓤 H A mem run) (κ, tt) (made, tt) tt t)))) (id⊢ 𝓤 _) $ await ! tt $ pick ! (λ t.
         split ! $ move ! (1 ∷ []) $ use1 W (raw (fact 𝓤 (t ≡ nextOf made))) (said t) $ heard ! (t ≡ nextOf made) (λ e. split ! $ move ! (1 ∷ []) $
         -- [what the result owns; the token; what the parameters own; _6; …; _5; …; _4; …; room for _3; …; _2; …; _1; …; room for _0; …]
         peeks ! (N.the-row α) (Is (N.the-row α)) (shows 𝓤 H A (N.the-row α)) t (u ∷ []) (λ is.
         let told : u ≡ whole-val t = ap only (LL.tells (N.the-type α) (N′.the-laws α) t _ is) in
         let parts = LL.owed (N.the-type α) (N′.the-laws α) t _ is in
         let fields = LL.owed (T.the-type α) (T′.the-laws α) (t .reader) _ (parts .0) in
-        land ! (from ! (stop !)) (init ! 9 refl (rw told (LL.lawful (N.the-type αᵉ) (N′.the-laws αᵉ) 𝓤 H A W .typed t _ (LL.owes (N.the-type αᵉ) (N′.the-laws αᵉ) t (LL.owes (T.the-type αᵉ) (T′.the-laws αᵉ) (t .reader) fields, (parts .1 .0, tt))) .0))) $
+        land ! (from ! (stop !)) (init ! 9 refl (rw told (LL.lawful (N.the-type αᵉ) (N′.the-laws αᵉ) 𝓤 H A W .typed t _
+        (LL.owes (N.the-type αᵉ) (N′.the-laws αᵉ) t (LL.owes (T.the-type αᵉ) (T′.the-laws αᵉ) (t .reader) fields, (parts .1 .0, tt))) .0))) $
         rewrite ! 9 (λ (w : Val). ‵ (fat fullShare (N′.mir erased) l₃ 0 w)) told refl $ rewrite ! 0 (λ (w : Val). ‵ (N.the-row α .own t (w ∷ []))) told refl $
-        assigns ! (of-opd ! (load ! (from ! (fld ! refl (fld ! refl (stop !)))) (look-in ! 9 (sub ! 1 refl (sub ! 0 refl (whole !)))))) (from ! (stop !)) (init ! 5 refl (LL.lawful C.the-type C′.the-laws 𝓤 H A W .typed (t .reader .place) _ (fields .1 .0) .0)) $
-        assigns ! (of-opd ! (load ! (from ! (fld ! refl (stop !))) (look-in ! 9 (sub ! 1 refl (whole !))))) (from ! (stop !)) (init ! 3 refl (EL.lawful E.the-type E′.the-laws 𝓤 H A W tt .typed (t .entry) _ (parts .1 .0) .0)) $
+        assigns ! (of-opd ! (load ! (from ! (fld ! refl (fld ! refl (stop !)))) (look-in ! 9 (sub ! 1 refl (sub ! 0 refl (whole !)))))) (from ! (stop !))
+        (init ! 5 refl (LL.lawful C.the-type C′.the-laws 𝓤 H A W .typed (t .reader .place) _ (fields .1 .0) .0)) $
+        assigns ! (of-opd ! (load ! (from ! (fld ! refl (stop !))) (look-in ! 9 (sub ! 1 refl (whole !))))) (from ! (stop !))
+        (init ! 3 refl (EL.lawful E.the-type E′.the-laws 𝓤 H A W tt .typed (t .entry) _ (parts .1 .0) .0)) $
         assigns ! (agg ! (and-then ! (load ! (from ! (stop !)) (look ! 5 refl)) (and-then ! (load ! (from ! (stop !)) (look ! 3 refl)) (no-more !)))) (from ! (stop !))
         (init ! 15 refl (LL.lawful S.the-type S′.the-laws 𝓤 H A W .typed (taken t) _ (LL.owes S.the-type S′.the-laws (taken t) (fields .1 .0, (parts .1 .0, tt))) .0)) $
         returns ! (look ! 15 refl) $ forget ! 3 refl $ forget ! 5 refl $ forget ! 7 refl $ forget ! 9 refl $ forget ! 11 refl $ forget ! 13 refl $ forget ! 15 refl $
-        move ! (15 ∷ 16 ∷ []) $ free1 ! $ move ! (13 ∷ 14 ∷ []) $ free1 ! $ move ! (11 ∷ 12 ∷ []) $ free1 ! $ move ! (9 ∷ 10 ∷ []) $ free1 ! $ move ! (7 ∷ 8 ∷ []) $ free1 ! $ move ! (5 ∷ 6 ∷ []) $ free1 ! $ move ! (3 ∷ 4 ∷ []) $ free1 ! $ free0 ! $
+        move ! (15 ∷ 16 ∷ []) $ free1 ! $ move ! (13 ∷ 14 ∷ []) $ free1 ! $ move ! (11 ∷ 12 ∷ []) $ free1 ! $ move ! (9 ∷ 10 ∷ []) $ free1 ! $
+        move ! (7 ∷ 8 ∷ []) $ free1 ! $ move ! (5 ∷ 6 ∷ []) $ free1 ! $ move ! (3 ∷ 4 ∷ []) $ free1 ! $ free0 ! $
         by ! (exits t e))))))))))))
 
 module _ {M : Type 1} (𝓤 : URA M) (H : Heap 𝓤) (A : Atoms 𝓤) (W : Given 𝓤 H A) (mem : Memory → SProp 𝓤) (run : Routine → Fun 𝓤) where
   step-at-walks : (Cs : Calls 𝓤 H) (Λ : Loops 𝓤 H) → FmC 𝓤 H (W .laws) Cs → Triple 𝓤 (Cs #shift-reader·Reader·next) (Next 𝓤 H A mem run)
       → Walks 𝓤 H A step-at.ended stayed (WpFn 𝓤 H Cs Λ code.function) (step-at.clauses 𝓤 H A mem run)
-  step-at-walks Cs Λ fm known = walked 𝓤 H A step-at.ended stayed (step-at.clauses 𝓤 H A mem run) (WpFn 𝓤 H Cs Λ code.function) (λ κs. (slice-vals, (LL.vals C.the-type C′.the-laws, tt))) (λ κs. (shr-slice-tells (named 0) (κs .0) u8, (LL.tells C.the-type C′.the-laws, tt)))
+  step-at-walks Cs Λ fm known = walked 𝓤 H A step-at.ended stayed (step-at.clauses 𝓤 H A mem run) (WpFn 𝓤 H Cs Λ code.function)
+      (λ κs. (slice-vals, (LL.vals C.the-type C′.the-laws, tt))) (λ κs. (shr-slice-tells (named 0) (κs .0) u8, (LL.tells C.the-type C′.the-laws, tt)))
       (λ κs qs bounds a g are. via 𝓤 _ (fst∗ 𝓤 _ (emp 𝓤)) (walk 𝓤 H A W mem run (κs .0) (qs .0) (a .0) (a .1 .0) Cs Λ fm known (are .0) (are .1 .0)))
 
 step-at-meets : {M : Type 1} (𝓤 : URA M) (H : Heap 𝓤) (A : Atoms 𝓤) (W : Given 𝓤 H A) (mem : Memory → SProp 𝓤) (run : Routine → Fun 𝓤) (𝓣 : Tables 𝓤 H)
     → Triple 𝓤 (𝓣 .C #shift-reader·Reader·next) (Next 𝓤 H A mem run)
     → Meets 𝓤 H A step-at.signature (WpFn 𝓤 H (𝓣 .C) (𝓣 .Λ) code.function) (step-at.spec 𝓤 H A mem run)
-step-at-meets 𝓤 H A W mem run 𝓣 known = walk-meets 𝓤 H A step-at.ended stayed W (goes-none-slice 𝓤 H A W 1 (0 ∷ []) tt (plain (λ _. u8)) yes, (goes-none 𝓤 H A W 1 (λ _. C.the-row) yes (λ κs x f. refl), tt)) (step-at.clauses 𝓤 H A mem run) (WpFn 𝓤 H (𝓣 .C) (𝓣 .Λ) code.function) (WpFn-mono 𝓤 H (W .laws) 𝓣 code.function)
+step-at-meets 𝓤 H A W mem run 𝓣 known = walk-meets 𝓤 H A step-at.ended stayed W
+    (goes-none-slice 𝓤 H A W 1 (0 ∷ []) tt (plain (λ _. u8)) yes, (goes-none 𝓤 H A W 1 (λ _. C.the-row) yes (λ κs x f. refl), tt))
+    (step-at.clauses 𝓤 H A mem run) (WpFn 𝓤 H (𝓣 .C) (𝓣 .Λ) code.function) (WpFn-mono 𝓤 H (W .laws) 𝓣 code.function)
     (step-at-walks 𝓤 H A W mem run (𝓣 .C) (𝓣 .Λ) (fmOf 𝓤 H (W .laws) 𝓣) known)
 
 pub step-at-spec : {M : Type 1} → stated.statement M

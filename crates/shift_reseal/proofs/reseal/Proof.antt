@@ -1,7 +1,10 @@
 -- A refusal leaves the output; else the file is copied, its suites changed, and each suite 4 entry resealed.
 use borrow.Author.Needs.{needs}
 use denote.Ref.{now}
+use lib.ListN.{length}
+use mathlib.Core.List.{List}
 use mathlib.Core.Path.{sym, ap, ap₂, _∙_}
+use Prim.Native.Nat.{ℕ}
 use Rattle.status.specs.declared.checked.Answer.{Answer}
 use Rattle.shift_format.specs.Format.{firstEdition}
 use Rattle.shift_draft.specs.Put.{putAll}
@@ -12,10 +15,21 @@ use Rattle.shift_writer.specs.Answers.{writtenAnswer}
 use Rattle.shift_writer.proofs.Done.{not-done, header-in, writable}
 use Rattle.shift_reseal.specs.Files.{resuited, againPiece, resealedFile}
 use Rattle.shift_reseal.specs.Answers.{wrongAgainFrom}
-use Rattle.shift_reseal.proofs.Answers.{again-leaves, resealing-kept, resealing-tags}
+use Rattle.shift_reseal.proofs.Answers.{Takeable, again-leaves, resealing-kept, resealing-tags}
 use Rattle.shift_reseal.proofs.Lending.{take-can, both-tables}
 use Rattle.shift_reseal.proofs.reseal.Statement.{statement}
 use Rattle.shift_reseal.proofs.reseal.Tie as tie
+
+-- nothing was refused
+module _ (m : tie.After-enum-told) where
+  abbrev st : tie.Start
+  st = m .before .before .before .before .before .before
+
+  abbrev f : List ℕ
+  f = now (st .args .file)
+
+  can : Takeable f (length (now (st .args .ring))) (length (now (st .args .out)))
+  can = take-can f _ _ _ (m .before .before .refused .ensures) (m .enum-told .given .1)
 
 refused-requires : tie.Need-refused-requires
 refused-requires c κs = search needs
@@ -30,25 +44,23 @@ returns c =
     sym (resealing-kept (now (s .file)) (now (s .ring)) (now (s .out)) _ (told .ensures) (not-done (told .result) (c .match .keys2)))
 
 copy-requires : tie.Need-copy-requires
-copy-requires c κs = take-can (now (c .before .before .before .before .before .before .before .args .file)) _ _ _ (c .before .before .before .refused .ensures) (c .before .enum-told .given .1) .room .out-long
+copy-requires c κs = can (c .before) .room .out-long
 
 count-requires : tie.Need-count-requires
 count-requires c κs =
-    let s = c .before .before .before .before .before .before .before .before .before .before .args in
-    header-in firstEdition (now (s .file)) plain-file (take-can (now (s .file)) _ _ _ (c .before .before .before .before .before .before .refused .ensures) (c .before .before .before .before .enum-told .given .1) .calm .checked)
+    let m = c .before .before .before .before in
+    header-in firstEdition (f m) plain-file (can m .calm .checked)
 
 put-suites-requires : tie.Need-put-suites-requires
 put-suites-requires c κs =
-    let s = c .before .before .before .before .before .before .before .before .before .before .before .before .args in
-    let q = take-can (now (s .file)) _ _ _ (c .before .before .before .before .before .before .before .before .refused .ensures) (c .before .before .before .before .before .before .enum-told .given .1) in
-    both-tables (now (s .file)) _ (q .calm .checked) (c .before .count .ensures) _ (c .before .before .before .before .copy .kept .1 .0 ∙ q .room .out-long)
+    let m = c .before .before .before .before .before .before in
+    both-tables (f m) _ (can m .calm .checked) (c .before .count .ensures) _ (c .before .before .before .before .copy .kept .1 .0 ∙ can m .room .out-long)
 
 reseal-rows-requires : tie.Need-reseal-rows-requires
 reseal-rows-requires c κs =
-    let s = c .before .before .before .before .before .before .before .before .before .before .before .before .before .before .before .before .args in
-    let q = take-can (now (s .file)) _ _ _ (c .before .before .before .before .before .before .before .before .before .before .before .before .refused .ensures) (c .before .before .before .before .before .before .before .before .before .before .enum-told .given .1) in
-    writable firstEdition (now (s .file)) plain-file (q .calm .checked) _ _ _ (c .before .before .before .before .before .count .ensures) (q .room .ring-long)
-    (c .before .before .before .put-suites .kept .1 .1 .0 ∙ c .before .before .before .before .before .before .before .before .copy .kept .1 .0 ∙ q .room .out-long)
+    let m = c .before .before .before .before .before .before .before .before .before .before in
+    let long = c .before .before .before .put-suites .kept .1 .1 .0 ∙ c .before .before .before .before .before .before .before .before .copy .kept .1 .0 ∙ can m .room .out-long in
+    writable firstEdition (f m) plain-file (can m .calm .checked) _ _ _ (c .before .before .before .before .before .count .ensures) (can m .room .ring-long) long
 
 same-length : tie.Need-same-length
 same-length c = search needs
@@ -56,18 +68,18 @@ same-length c = search needs
 returns-2 : tie.Need-returns-2
 unfolding resealedFile
 returns-2 c =
-    let s = c .before .before .before .before .before .before .before .before .before .before .before .before .before .before .before .before .before .before .before .args in
-    let f = now (s .file) in
-    let ring = now (s .ring) in
-    let n = c .before .before .before .before .before .before .before .before .count .ensures in
-    let mid = c .before .before .before .before .before .before .put-suites .last .1 .1 .0 in
-    let zero = ap (λ (x : Answer). x .number) (sym (c .before .before .before .before .before .before .before .before .before .before .before .before .before .before .before .refused .ensures) ∙ ap writtenAnswer (c .before .before .before .before .before .before .before .before .before .before .before .before .before .enum-told .given .1)) in
-    let base = c .before .before .before .before .before .before .put-suites .ensures ∙ ap₂ (resuited f) n (c .before .before .before .before .before .before .before .before .before .before .before .copy .ensures) in
-    let long = c .before .before .before .before .before .before .put-suites .kept .1 .1 .0 ∙ c .before .before .before .before .before .before .before .before .before .before .before .copy .kept .1 .0 in
+    let m = c .before .before .before .before .before .before .before .before .before .before .before .before .before in
+    let ring = now (st m .args .ring) in
+    let put = c .before .before .before .before .before .before .put-suites in
+    let copied = c .before .before .before .before .before .before .before .before .before .before .before .copy in
+    let rows = c .before .before .before .before .before .before .before .before .count .ensures in
+    let mid = put .last .1 .1 .0 in
+    let zero = ap (λ (x : Answer). x .number) (sym (m .before .before .refused .ensures) ∙ ap writtenAnswer (m .enum-told .given .1)) in
+    let suited = put .ensures ∙ ap₂ (resuited (f m)) rows (copied .ensures) in
     c .before .before .reseal-rows .ensures
-    ∙ (λ j. leaves (wrongAgainFrom f ring (n j) 0) (putAll (pieceStart f) (againPiece f ring) (n j) (base j)) mid)
-    ∙ again-leaves f ring (resealedFile f ring) mid (now (s .out)) long
-    ∙ sym (resealing-tags f ring (now (s .out)) zero)
+    ∙ (λ j. leaves (wrongAgainFrom (f m) ring (rows j) 0) (putAll (pieceStart (f m)) (againPiece (f m) ring) (rows j) (suited j)) mid)
+    ∙ again-leaves (f m) ring (resealedFile (f m) ring) mid (now (st m .args .out)) (put .kept .1 .1 .0 ∙ copied .kept .1 .0)
+    ∙ sym (resealing-tags (f m) ring (now (st m .args .out)) zero)
 
 pub reseal-spec : {M : Type 1} → statement M
 reseal-spec =

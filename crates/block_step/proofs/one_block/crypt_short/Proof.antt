@@ -1,4 +1,5 @@
--- `block_step::one_block::crypt_short` meets its contract: the mask is of X, and the message is absorbed padded, whichever way the text goes.
+-- `block_step::one_block::crypt_short`: in both directions the output is the XOR with the shuffle of X (`out-is`). By cases on
+-- the direction the absorbed bytes are the output (opening) or the input (sealing), each padded.
 use borrow.Author.Needs.{needs}
 use denote.Ref.{now}
 use lib.ListN.{length, take}

@@ -1,10 +1,11 @@
--- `block_step::one_block::open_full` meets its contract: the mask is of X, and the output is absorbed.
+-- `block_step::one_block::open_full`: the law `full-turn` for opening. The output is the XOR with the shuffle of X, and this
+-- message block is absorbed.
 use borrow.Author.Needs.{needs}
 use denote.Ref.{now}
+use mathlib.Core.Bool.{true}
 use mathlib.Core.Path.{_∙_}
-use native.Mathlib.Nat.{le-of-eq}
 use Rattle.cipher.proofs.Suites.{full-two}
-use Rattle.block_step.proofs.Turns.{goes-out, out-goes, put-in}
+use Rattle.block_step.proofs.Turns.{full-turn}
 use Rattle.block_step.proofs.one_block.open_full.Statement.{statement}
 use Rattle.block_step.proofs.one_block.open_full.Tie as tie
 
@@ -37,15 +38,14 @@ returns : tie.Need-returns
 returns c =
     let st = c .before .before .before .before .before .before .before .before .before .before .before .before in
     let a = st .args in
-    let b = now (a .block) in
     let t = c .before .before .before .before .before .before .before .before .before .before .turn in
     let p = c .before .before .before .before .before .before .before .whole in
     let x = c .before .before .before .before .before .before .shuffled in
-    let w = c .before .before .before .before .before .xor in (
-      c .before .before .before .put-whole .ensures ∙ goes-out (a .suite) (a .mark) (a .state) (t .result) (t .ensures) b (p .result) (x .result) (w .result) (p .ensures) (x .ensures) (w .ensures) (le-of-eq (st .pre .2)),
-      put-in (a .suite) (a .mark) (a .state) (t .result) (t .ensures) _ (w .result) (c .mix .result)
-          (out-goes (a .suite) (a .mark) (a .state) (t .result) (t .ensures) b (p .result) (x .result) (w .result) (p .ensures) (x .ensures) (w .ensures) (st .pre .2)) (c .mix .ensures .0) (c .mix .ensures .1),
-    )
+    let w = c .before .before .before .before .before .xor in
+    let full =
+    full-turn (a .suite) (a .mark) (a .state) (t .result) (t .ensures) (now (a .block)) (p .result) (x .result) (w .result) (p .ensures) (x .ensures) (w .ensures)
+    true (c .mix .result) (st .pre .2) (c .mix .ensures .0) (c .mix .ensures .1) in
+    (c .before .before .before .put-whole .ensures ∙ full .0, full .1)
 
 pub open-full-spec : {M : Type 1} → statement M
 open-full-spec = tie.close (tie.spec turn-requires whole-requires shuffled-requires xor-requires put-whole-requires mix-requires same-length returns)

@@ -1,4 +1,5 @@
--- `block_step::shuffle::shuffled` meets its contract: by the suite's block size.
+-- `block_step::shuffle::shuffled`, by cases on the suite's block size: the callee for 16 or for 8 bytes ensures the
+-- definition's shuffle of that size.
 use borrow.Author.Needs.{needs}
 use lib.Seq.{take-all}
 use mathlib.Core.Path.{_≡_, sym, ap, _∙_}

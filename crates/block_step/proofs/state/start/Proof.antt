@@ -1,4 +1,6 @@
--- `block_step::state::start` meets its contract: key and nonce by whole words, by the block size.
+-- `block_step::state::start`, by cases on the block size. With 16 bytes Y is the key and Z the encryption of the nonce; with 8
+-- bytes Y is the encryption of zeros and Z the key XOR the nonce. Key and nonce are read in whole words, whose bytes are the
+-- definition's.
 use borrow.Author.Needs.{needs}
 use denote.Ref.{now}
 use lib.ListN.{length, take, replicate}

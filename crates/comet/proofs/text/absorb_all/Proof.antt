@@ -45,7 +45,8 @@ returns c =
     let i = w .result .at in
     let pos = some (cipherOf (a .suite)) (lawful (a .suite)) in
     let more : 0 < length (rest n b) = omega (arith, left-long n pos b i (w .ensures .gone), c .before .before .if1 .taken) in (
-      last-walk (cipherOf (a .suite)) pos (a .opening) (a .first) (a .short) (twoOf (a .suite) (a .s)) b (twoOf (a .suite) (w .result .s)) (w .result .mark) (w .ensures .two (a .short)) (w .ensures .next)
+      last-walk (cipherOf (a .suite)) pos (a .opening) (a .first) (a .short) (twoOf (a .suite) (a .s)) b (twoOf (a .suite) (w .result .s)) (w .result .mark)
+          (w .ensures .two (a .short)) (w .ensures .next)
           _ (left n pos b i (w .ensures .gone)) more _ (c .absorb-short .ensures .two),
       last-count n pos b (w .result .s .calls) (a .s .calls) (w .ensures .made) more _ (c .absorb-short .ensures .made),
     )
@@ -59,7 +60,8 @@ returns-2 c =
     let i = w .result .at in
     let pos = some (cipherOf (a .suite)) (lawful (a .suite)) in
     let none : length (rest n b) ≡ 0 = omega (arith, left-long n pos b i (w .ensures .gone), c .if1 .left) in (
-      none-walk (cipherOf (a .suite)) pos (a .opening) (a .first) (a .short) (twoOf (a .suite) (a .s)) b (twoOf (a .suite) (w .result .s)) (w .result .mark) (w .ensures .two (a .short)) (w .ensures .next) none,
+      none-walk (cipherOf (a .suite)) pos (a .opening) (a .first) (a .short) (twoOf (a .suite) (a .s)) b (twoOf (a .suite) (w .result .s)) (w .result .mark)
+          (w .ensures .two (a .short)) (w .ensures .next) none,
       none-count n pos b (w .result .s .calls) (a .s .calls) (w .ensures .made) none,
     )
 

@@ -1,4 +1,6 @@
--- `comet::text::crypt_all` meets its contract: after the whole blocks the short one is absorbed, if there is one, and the output takes its place.
+-- `comet::text::crypt_all`, by three cases: the text is shorter than a block, it has whole blocks and a short one, or whole
+-- blocks only. The walk over the whole blocks is the callee's; the laws `last-..` and `none-..` of `Turns` add the last block,
+-- or none.
 use borrow.Author.Needs.{needs}
 use denote.Ref.{now}
 use lib.ListN.{length, take, drop}

@@ -20,7 +20,8 @@ returns c =
     let x = c .before .before .before .args in
     let v = asValue (x .self) in
     let p = now (x .part) in
-    answer-kept (c .before .data-number .result) (dataNumber (v .suite) (v .«ad_total») (v .«text_total») (length p)) (gave 0 0 (dataIn (cipherOf (v .suite)) v p) [] []) v [] [] (c .if1 .taken) (c .before .data-number .ensures)
+    answer-kept (c .before .data-number .result) (dataNumber (v .suite) (v .«ad_total») (v .«text_total») (length p))
+    (gave 0 0 (dataIn (cipherOf (v .suite)) v p) [] []) v [] [] (c .if1 .taken) (c .before .data-number .ensures)
 
 take-in-requires : tie.Need-take-in-requires
 take-in-requires c κs = sym (c .before .data-number .ensures) ∙ c .if1 .left

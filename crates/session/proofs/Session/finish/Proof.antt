@@ -1,4 +1,5 @@
--- `session::Session::finish` meets its contract: a refusal returns the session unchanged; else the rest and the tag are computed, with the tables that the suite's cipher needs, or none.
+-- `session::Session::finish` meets its contract: a refusal returns the session unchanged; else the rest and the tag are
+-- computed, with the tables that the suite's cipher needs, or none.
 use borrow.Author.Needs.{needs}
 use denote.Ref.{now}
 use lib.ListN.{length}
@@ -49,8 +50,11 @@ slice-aggregate-close-2 : tie.Need-slice-aggregate-close-2
 slice-aggregate-close-2 c = search needs
 
 close-requires-2 : tie.Need-close-requires-2
-close-requires-2 c κs =
-    (none-ready (c .before .before .before .before .before .before .before .before .before .args .self .suite) (sym (c .before .before .before .before .needs-tables .ensures) ∙ c .before .before .before .if2 .left), sym (c .before .before .before .before .before .before .end-number .ensures) ∙ c .before .before .before .before .before .if1 .left)
+close-requires-2 c κs = (
+  none-ready (c .before .before .before .before .before .before .before .before .before .args .self .suite)
+      (sym (c .before .before .before .before .needs-tables .ensures) ∙ c .before .before .before .if2 .left),
+  sym (c .before .before .before .before .before .before .end-number .ensures) ∙ c .before .before .before .before .before .if1 .left,
+)
 
 same-length-3 : tie.Need-same-length-3
 same-length-3 c = search needs

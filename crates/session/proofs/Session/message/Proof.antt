@@ -22,7 +22,8 @@ returns c =
     let v = asValue (x .self) in
     let p = now (x .part) in
     let o = now (x .out) in
-    answer-kept (c .before .text-number .result) (textNumber (v .suite) (v .«ad_total») (v .«text_total») (length p) (length o)) (textDone v p o) v o [] (c .if1 .taken) (c .before .text-number .ensures)
+    answer-kept (c .before .text-number .result) (textNumber (v .suite) (v .«ad_total») (v .«text_total») (length p) (length o)) (textDone v p o) v o []
+    (c .if1 .taken) (c .before .text-number .ensures)
 
 returns-2 : tie.Need-returns-2
 unfolding textPart
@@ -32,7 +33,8 @@ returns-2 c =
     let p = now (x .part) in
     let o = now (x .out) in
     done-empty v p o (c .if2 .taken)
-    ∙ answer-done (c .before .before .text-number .result) (textNumber (v .suite) (v .«ad_total») (v .«text_total») (length p) (length o)) (textDone v p o) v o [] (c .before .if1 .left) (c .before .before .text-number .ensures)
+    ∙ answer-done (c .before .before .text-number .result) (textNumber (v .suite) (v .«ad_total») (v .«text_total») (length p) (length o))
+    (textDone v p o) v o [] (c .before .if1 .left) (c .before .before .text-number .ensures)
 
 seal-in-requires : tie.Need-seal-in-requires
 seal-in-requires c κs =

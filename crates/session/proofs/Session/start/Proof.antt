@@ -22,7 +22,8 @@ returns c =
     let x = c .before .before .before .before .before .args in
     let k = c .before .before .start-number in
     c .refused .ensures
-    ∙ answer-kept (k .result) (startNumber (x .suite) (length (now (x .key))) (length (now (x .nonce)))) (gave 0 0 (fresh (x .suite) (now (x .key)) (now (x .nonce))) [] []) over [] [] (c .before .if1 .taken) (k .ensures)
+    ∙ answer-kept (k .result) (startNumber (x .suite) (length (now (x .key))) (length (now (x .nonce))))
+    (gave 0 0 (fresh (x .suite) (now (x .key)) (now (x .nonce))) [] []) over [] [] (c .before .if1 .taken) (k .ensures)
 
 needs-tables-requires : tie.Need-needs-tables-requires
 needs-tables-requires c κs = search needs
@@ -45,8 +46,11 @@ slice-aggregate-started-2 : tie.Need-slice-aggregate-started-2
 slice-aggregate-started-2 c = search needs
 
 started-requires-2 : tie.Need-started-requires-2
-started-requires-2 c κs =
-    (none-ready (c .before .before .before .before .before .before .before .args .suite) (sym (c .before .before .needs-tables .ensures) ∙ c .before .if2 .left), sym (c .before .before .before .before .start-number .ensures) ∙ c .before .before .before .if1 .left)
+started-requires-2 c κs = (
+  none-ready (c .before .before .before .before .before .before .before .args .suite)
+      (sym (c .before .before .needs-tables .ensures) ∙ c .before .if2 .left),
+  sym (c .before .before .before .before .start-number .ensures) ∙ c .before .before .before .if1 .left,
+)
 
 returns-3 : tie.Need-returns-3
 returns-3 c = search needs

@@ -1,4 +1,5 @@
--- `session::blocks::absorb_blocks` meets its contract: what is left after the whole blocks is held.
+-- `session::blocks::absorb_blocks`: the callee absorbs the whole blocks and says where it stopped. The bytes from there on are
+-- fewer than a block and become the buffered bytes.
 use borrow.Author.Needs.{needs}
 use denote.Ref.{now}
 use mathlib.Core.Path.{ap, _∙_}

@@ -1,4 +1,5 @@
--- `session::blocks::absorb_past` meets its contract: the held bytes and the first of the associated data make a block.
+-- `session::blocks::absorb_past`: the buffered bytes and the first bytes of the part make one whole block. It is absorbed
+-- first, then the whole blocks of what is left; the walk over the joined text is these two walks one after the other.
 use borrow.Author.Needs.{needs}
 use denote.Ref.{now}
 use lib.ListN.{length, take}

@@ -1,4 +1,6 @@
--- `session::blocks::crypt_part` meets its contract: the whole blocks are gathered at the output's start and sealed there.
+-- `session::blocks::crypt_part`: with less than one block nothing is output and the bytes are buffered. Otherwise the buffered
+-- bytes and the part are written to the start of the output, and the whole blocks are sealed there. The proof shows that those
+-- bytes are the whole blocks of the joined text, and that the buffered bytes are its rest.
 use borrow.Author.Needs.{needs}
 use borrow.Rule.Slice.PartMut.{putMid}
 use denote.Ref.{now}
@@ -177,7 +179,13 @@ part-filled-bytes-end c = search needs
 filled-bytes-requires : tie.Need-filled-bytes-requires
 filled-bytes-requires c κs =
     let d = c .before .before .before .before .before .before .before .before .before .before .before in
-    omega (arith, ap length (rest-is (sizeOf (suite d)) (pos d) (x d) (part d) (st d .args .h) (w d) (lx d) (w-is d) (h-within d)), rest-less (sizeOf (suite d)) (pos d) (x d ++ part d), d .before .size-of .ensures .1 .1, en d)
+    omega (
+      arith,
+      ap length (rest-is (sizeOf (suite d)) (pos d) (x d) (part d) (st d .args .h) (w d) (lx d) (w-is d) (h-within d)),
+      rest-less (sizeOf (suite d)) (pos d) (x d ++ part d),
+      d .before .size-of .ensures .1 .1,
+      en d,
+    )
 
 same-length : tie.Need-same-length
 same-length c = search needs

@@ -1,4 +1,5 @@
--- `session::blocks::gather` meets its contract: the held bytes at the front, and the part from there to the end.
+-- `session::blocks::gather`: the h buffered bytes are copied to the front of the output and the part after them. Two copies of
+-- adjacent parts make the list that joins both.
 use borrow.Author.Needs.{needs}
 use denote.Ref.{now}
 use lib.ListN.{length, take}

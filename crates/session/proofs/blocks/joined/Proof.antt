@@ -1,4 +1,5 @@
--- `session::blocks::joined` meets its contract: each turn copies one more byte after the held ones.
+-- `session::blocks::joined`, by induction on the loop: after j turns the first j bytes of the part stand after the h buffered
+-- bytes (`paste`). At the end the array is the joined bytes, with zeros after them.
 use Prim.Native.Nat.{ℕ, _≤_, _-_, _+_}
 use mathlib.Core.Path.{_≡_, sym, ap, ap₂, _∙_}
 use native.Mathlib.Nat.{sub-zero}

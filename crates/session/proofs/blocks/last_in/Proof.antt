@@ -1,4 +1,5 @@
--- `session::blocks::last_in` meets its contract: less than a block is one short block, or none.
+-- `session::blocks::last_in`, by two cases. No buffered byte: no block, and the walk does nothing. Otherwise less than a
+-- block: it is one short block, copied to the output and sealed there, and the walk over one short block is one step.
 use denote.Ref.{now}
 use lib.ListN.{length, take, drop}
 use lib.Seq.{length-take-le}
@@ -103,7 +104,8 @@ returns-2 c =
     let call = c .before .before .crypt-short in
     let o = call .last .1 .1 .1 .1 .1 .0 in
     let ex : take (h - 0) (drop 0 (putMid 0 (h - 0) out y)) ≡ x = lent-again out y h ly ho ∙ ey in
-    let ec : o ≡ covered k false (st .args .m) 0x40 s (blocks (sizeOf suite) x) = call .ensures .0 ∙ ap (hidden k (xor (st .args .m) 0x40) s) ex ∙ sym (cover-short k pos false 0x40 (st .args .m) s x px (omega arith)) in
+    let ec : o ≡ covered k false (st .args .m) 0x40 s (blocks (sizeOf suite) x) = call .ensures .0 ∙ ap (hidden k (xor (st .args .m) 0x40) s) ex
+    ∙ sym (cover-short k pos false 0x40 (st .args .m) s x px (omega arith)) in
     let lo : length o ≡ h = call .kept .1 .1 .1 .1 .1 .0 ∙ ap length ex ∙ lx in (
       twice-written out y h ly ho o _ (call .kept .1 .1 .1 .1 .1 .0) ec,
       (

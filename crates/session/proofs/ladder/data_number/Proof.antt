@@ -20,7 +20,8 @@ returns c =
 returns-2 : tie.Need-returns-2
 returns-2 c =
     let x = c .before .before .before .args in
-    sym (data-begun (x .suite) (x .ad-total) (x .text-total) (x .part) (sym (c .before .before .goes-on .ensures) ∙ not-false _ (c .before .if1 .left)) (ne-eqb (x .text-total) 0 (λ e. omega (arith, c .if2 .taken))))
+    sym (data-begun (x .suite) (x .ad-total) (x .text-total) (x .part) (sym (c .before .before .goes-on .ensures) ∙ not-false _ (c .before .if1 .left))
+    (ne-eqb (x .text-total) 0 (λ e. omega (arith, c .if2 .taken))))
 
 sub-if3 : tie.Need-sub-if3
 sub-if3 c =

@@ -26,21 +26,26 @@ returns-2 c =
     let x = c .before .before .before .before .args in
     let n = c .before .size-of in
     let h : x .out < sizeOf (x .suite) = omega (arith, c .if2 .taken, n .ensures .0) in
-    sym (end-is (x .suite) (x .ad-total) (x .text-total) (x .out) (x .tag) true true _ (sym (c .before .before .before .goes-on .ensures) ∙ not-false _ (c .before .before .if1 .left)) (lt-ltb _ _ h) refl)
+    sym (end-is (x .suite) (x .ad-total) (x .text-total) (x .out) (x .tag) true true _
+    (sym (c .before .before .before .goes-on .ensures) ∙ not-false _ (c .before .before .if1 .left)) (lt-ltb _ _ h) refl)
 
 returns-3 : tie.Need-returns-3
 returns-3 c =
     let x = c .before .before .before .before .before .args in
     let n = c .before .before .size-of in
     let h : sizeOf (x .suite) ≤ x .out = omega (arith, c .before .if2 .left, n .ensures .0) in
-    sym (end-is (x .suite) (x .ad-total) (x .text-total) (x .out) (x .tag) true false false (sym (c .before .before .before .before .goes-on .ensures) ∙ not-false _ (c .before .before .before .if1 .left)) (le-ltb _ _ h) (ne-eqb (x .tag) (sizeOf (x .suite)) (λ e. c .if3 .taken (e ∙ sym (n .ensures .0)))))
+    sym (end-is (x .suite) (x .ad-total) (x .text-total) (x .out) (x .tag) true false false
+    (sym (c .before .before .before .before .goes-on .ensures) ∙ not-false _ (c .before .before .before .if1 .left)) (le-ltb _ _ h)
+    (ne-eqb (x .tag) (sizeOf (x .suite)) (λ e. c .if3 .taken (e ∙ sym (n .ensures .0)))))
 
 returns-4 : tie.Need-returns-4
 returns-4 c =
     let x = c .before .before .before .before .before .args in
     let n = c .before .before .size-of in
     let h : sizeOf (x .suite) ≤ x .out = omega (arith, c .before .if2 .left, n .ensures .0) in
-    sym (end-is (x .suite) (x .ad-total) (x .text-total) (x .out) (x .tag) true false true (sym (c .before .before .before .before .goes-on .ensures) ∙ not-false _ (c .before .before .before .if1 .left)) (le-ltb _ _ h) (eq-eqb (x .tag) (sizeOf (x .suite)) (c .if3 .left ∙ n .ensures .0)))
+    sym (end-is (x .suite) (x .ad-total) (x .text-total) (x .out) (x .tag) true false true
+    (sym (c .before .before .before .before .goes-on .ensures) ∙ not-false _ (c .before .before .before .if1 .left)) (le-ltb _ _ h)
+    (eq-eqb (x .tag) (sizeOf (x .suite)) (c .if3 .left ∙ n .ensures .0)))
 
 pub end-number-spec : {M : Type 1} → statement M
 end-number-spec =

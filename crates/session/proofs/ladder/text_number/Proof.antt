@@ -1,4 +1,5 @@
--- `session::ladder::text_number` meets its contract: each return is one line of the table of `textNumber`; the room test adds the block size less one to the part.
+-- `session::ladder::text_number` meets its contract: each return is one line of the table of `textNumber`; the room test adds
+-- the block size less one to the part.
 use borrow.Author.Tests.{lt-ltb, le-ltb, not-true, not-false}
 use mathlib.Core.Path.{refl, sym, _∙_}
 use mathlib.Core.Bool.{true, false}
@@ -26,7 +27,8 @@ sub-if2 c =
 returns-2 : tie.Need-returns-2
 returns-2 c =
     let x = c .before .before .before .args in
-    sym (text-is (x .suite) (x .ad-total) (x .text-total) (x .part) (x .out) true true _ (sym (c .before .before .goes-on .ensures) ∙ not-false _ (c .before .if1 .left)) (lt-ltb _ _ (c .if2 .taken)) refl)
+    sym (text-is (x .suite) (x .ad-total) (x .text-total) (x .part) (x .out) true true _
+    (sym (c .before .before .goes-on .ensures) ∙ not-false _ (c .before .if1 .left)) (lt-ltb _ _ (c .if2 .taken)) refl)
 
 size-of-requires : tie.Need-size-of-requires
 size-of-requires c κs = search needs
@@ -42,14 +44,16 @@ returns-3 c =
     let x = c .before .before .before .before .before .args in
     let n = c .before .size-of in
     let h : x .out < x .part + (sizeOf (x .suite) - 1) = omega (arith, c .if3 .taken, n .ensures .0) in
-    sym (text-is (x .suite) (x .ad-total) (x .text-total) (x .part) (x .out) true false true (sym (c .before .before .before .before .goes-on .ensures) ∙ not-false _ (c .before .before .before .if1 .left)) (le-ltb _ _ (c .before .before .if2 .left)) (lt-ltb _ _ h))
+    sym (text-is (x .suite) (x .ad-total) (x .text-total) (x .part) (x .out) true false true
+    (sym (c .before .before .before .before .goes-on .ensures) ∙ not-false _ (c .before .before .before .if1 .left)) (le-ltb _ _ (c .before .before .if2 .left)) (lt-ltb _ _ h))
 
 returns-4 : tie.Need-returns-4
 returns-4 c =
     let x = c .before .before .before .before .before .args in
     let n = c .before .size-of in
     let h : x .part + (sizeOf (x .suite) - 1) ≤ x .out = omega (arith, c .if3 .left, n .ensures .0) in
-    sym (text-is (x .suite) (x .ad-total) (x .text-total) (x .part) (x .out) true false false (sym (c .before .before .before .before .goes-on .ensures) ∙ not-false _ (c .before .before .before .if1 .left)) (le-ltb _ _ (c .before .before .if2 .left)) (le-ltb _ _ h))
+    sym (text-is (x .suite) (x .ad-total) (x .text-total) (x .part) (x .out) true false false
+    (sym (c .before .before .before .before .goes-on .ensures) ∙ not-false _ (c .before .before .before .if1 .left)) (le-ltb _ _ (c .before .before .if2 .left)) (le-ltb _ _ h))
 
 pub text-number-spec : {M : Type 1} → statement M
 text-number-spec =

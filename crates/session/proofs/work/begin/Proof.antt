@@ -1,4 +1,6 @@
--- `session::work::begin` meets its contract: where the message has not begun, the last bytes of the associated data are one short block, or none.
+-- `session::work::begin`, by three cases. If the message has begun, or if no byte is buffered, the states are unchanged.
+-- Otherwise the buffered bytes are the last, short block of associated data, and absorbing it ends the walk over the
+-- associated data.
 use lib.ListN.{length, length-take}
 use mathlib.Core.Path.{_≡_, sym, _∙_}
 use native.Mathlib.Nat.{mod-lt}
@@ -65,7 +67,8 @@ returns-3 c =
     let s = st .args .s in
     let n = c .before .before .before .before .before .size-of in
     c .absorb-last .ensures .two
-    ∙ begun-short (cipherOf (s .suite)) (asValue s) (n .result) (n .ensures .0) (n .ensures .1 .0) (n .ensures .1 .1) (held-long st) (c .before .before .before .before .before .before .if1 .left) (c .before .before .before .before .if2 .left)
+    ∙ begun-short (cipherOf (s .suite)) (asValue s) (n .result) (n .ensures .0) (n .ensures .1 .0) (n .ensures .1 .1) (held-long st)
+    (c .before .before .before .before .before .before .if1 .left) (c .before .before .before .before .if2 .left)
     (c .before .before .before .first-mark .result) (c .before .before .before .first-mark .ensures)
 
 pub begin-spec : {M : Type 1} → statement M

@@ -1,4 +1,5 @@
--- `session::work::clean` meets its contract: by the suite's block size.
+-- `session::work::clean`, by cases on the block size: with 16 bytes all of Y is kept; with 8 the upper half is set to zero,
+-- which the definition does not use.
 use borrow.Author.Needs.{needs}
 use mathlib.Core.Path.{_≡_, sym, ap, _∙_}
 use Prim.Native.Nat.{ℕ}

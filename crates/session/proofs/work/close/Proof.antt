@@ -1,4 +1,5 @@
--- `session::work::close` meets its contract: the held bytes are absorbed as the last block, and the tag is made.
+-- `session::work::close`: after `begin` the buffered bytes are the message's last block, one short block or none. Sealing it
+-- ends the walk over the message, and the tag of the last state is the definition's tag.
 use borrow.Author.Needs.{needs}
 use denote.Ref.{now}
 use lib.ListN.{length, take}
@@ -75,7 +76,8 @@ returns c =
     let m = c .before .before .before .before .before .before .before .before .before .before .before .first-mark in
     let f = c .before .before .before .before .before .before .before .before .before .last-in in
     let g = c .before .before .before .before .before .before .tag-of in
-    end-given v (twoOf (s .suite) (two .result)) (n .result) (m .result) (two .ensures) (n .ensures .0) (m .ensures) o _ _ _ _ (twoOf (s .suite) (f .result)) (f .ensures .0) (f .ensures .1 .0) (c .ended .ensures) (f .ensures .1 .1)
+    end-given v (twoOf (s .suite) (two .result)) (n .result) (m .result) (two .ensures) (n .ensures .0) (m .ensures) o _ _ _ _ (twoOf (s .suite) (f .result))
+    (f .ensures .0) (f .ensures .1 .0) (c .ended .ensures) (f .ensures .1 .1)
     (c .before .before .before .put .ensures ∙ ap (λ (k : ℕ). take k (wide (g .result .tag))) (p .2) ∙ g .ensures .0)
     ∙ answer-done 0 (endNumber (v .suite) (v .«ad_total») (v .«text_total») (length o) (length t)) (endDone v o) v o t refl (sym (st .pre .1))
 

@@ -1,4 +1,5 @@
--- `session::work::seal_in` meets its contract: the held bytes and the part are absorbed, and what they complete is output.
+-- `session::work::seal_in`: the callees give the states before the part, the mark, and the sealed blocks with the buffered
+-- rest. `part-given` shows that together they are the session that the definition gives after the part.
 use borrow.Author.Needs.{needs}
 use denote.Ref.{now}
 use lib.ListN.{length}
@@ -63,7 +64,8 @@ returns c =
     let n = c .before .before .before .before .before .before .before .before .size-of in
     let m = c .before .before .before .before .before .before .before .first-mark in
     let f = c .before .before .before .before .before .crypt-part in
-    part-given v (twoOf (s .suite) (two .result)) (n .result) (m .result) (two .ensures) (n .ensures .0) (m .ensures) p o _ (f .result .count) _ (twoOf (s .suite) (f .result .s)) (f .result .held) (f .ensures .0) (f .ensures .1 .0) (c .packed .ensures) (f .ensures .1 .1 .0) (f .ensures .1 .1 .1)
+    part-given v (twoOf (s .suite) (two .result)) (n .result) (m .result) (two .ensures) (n .ensures .0) (m .ensures) p o _ (f .result .count) _
+    (twoOf (s .suite) (f .result .s)) (f .result .held) (f .ensures .0) (f .ensures .1 .0) (c .packed .ensures) (f .ensures .1 .1 .0) (f .ensures .1 .1 .1)
     ∙ done-more v p o (λ e. omega (arith, st .pre .1))
     ∙ answer-done 0 (textNumber (v .suite) (v .«ad_total») (v .«text_total») (length p) (length o)) (textDone v p o) v o [] refl (sym (st .pre .0))
 

@@ -1,4 +1,5 @@
--- `session::work::take_in` meets its contract: the held bytes and the part are absorbed.
+-- `session::work::take_in`: the buffered bytes and the part of associated data are absorbed. The session's new fields are
+-- those that the definition gives for the longer associated data.
 use borrow.Author.Needs.{needs}
 use denote.Ref.{now}
 use lib.ListN.{length, take}

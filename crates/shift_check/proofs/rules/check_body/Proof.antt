@@ -1,4 +1,5 @@
--- The first of four tests that holds gives the number.
+-- Each return is one rung of the ladder of four tests: the tests before it have failed, and its own holds, so the ladder gives
+-- its number.
 use mathlib.Core.Path.{sym, _∙_}
 use denote.Ref.{now}
 use Rattle.shift_check.specs.Check.{bodyNumber}

@@ -1,4 +1,5 @@
--- What is left to compare gives the whole answer.
+-- By induction on the loop, sixteen bytes a turn: the bytes before i are equal, so the answer for both parts is the answer for
+-- what is left of them from i on.
 use Rattle.shift_compare.proofs.Strings.{same-turn, same-rest, unequal}
 use Rattle.block.specs.Bytes.{sameBytes}
 use lib.ListN.{length, drop}

@@ -1,4 +1,4 @@
--- The rows below i stand in the output, one after the other.
+-- By induction on the loop: the rows below i stand in the output, one after the other, and each turn puts row i after them.
 use Prim.Native.Nat.{_-_, _≤_}
 use mathlib.Core.Path.{_≡_, refl, _∙_}
 use mathlib.Core.List.{_++_}

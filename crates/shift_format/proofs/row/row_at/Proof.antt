@@ -1,4 +1,4 @@
--- Each field is read at its place in the row.
+-- Each field of the row is read at its offset in the table, which the precondition places inside the file.
 use Rattle.shift_format.specs.Format.{rowAt}
 use borrow.Author.Needs.{needs}
 use Rattle.shift_format.proofs.row.row_at.Statement.{statement}

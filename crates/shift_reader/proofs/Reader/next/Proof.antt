@@ -1,4 +1,5 @@
--- `shift_reader::next` meets its contract: a walk of its MIR, by hand. The struct is taken apart, `ask` is called on the cursor and the slice, and the result is made of the slice and of what `ask` returned.
+-- `shift_reader::next` meets its contract: a walk of its MIR, by hand. The struct is taken apart, `ask` is called on the
+-- cursor and the slice, and the result is made of the slice and of what `ask` returned.
 -- The struct is Copy: what it owns is had twice, and so is what its slice owns. Assumes nothing.
 use mathlib.Core.Path.{_≡_, refl, ap}
 use mathlib.Core.List.{[], _∷_}
@@ -115,10 +116,12 @@ module _ {M : Type 1} (𝓤 : URA M) (H : Heap 𝓤) (A : Atoms 𝓤) (W : Given
   apart =
       qed W ((‵ (flft κ q) ⊛ ‵ ftrue) ∷ ‵ (owns (B (κ, tt) ∷ []) (d, tt) (mach ∷ [], tt)) ∷ []) ∵
       move ! (1 ∷ []) $ fsplit ! $ move ! (1 ∷ []) $ drop ! $ use1 W (‵ Own ⊛ ‵ Own) (LL.copy (T.the-type α) (T′.the-copy α) 𝓤 H A W .twice d (mach ∷ [])) $ split ! $
-      use1 W (given (mach ∷ [] ≡ mach ∷ []) (‵ (all-own (T.the-type α .parts) (T′.the-laws α) (d .src, (d .place, tt))))) (own-open 𝓤 H A W (T.the-type α) (T′.the-laws α) (d .src, (d .place, tt)) mach) $ learn ! (λ _. fsplit ! $ move ! (1 ∷ []) $ fsplit ! $
+      use1 W (given (mach ∷ [] ≡ mach ∷ []) (‵ (all-own (T.the-type α .parts) (T′.the-laws α) (d .src, (d .place, tt)))))
+      (own-open 𝓤 H A W (T.the-type α) (T′.the-laws α) (d .src, (d .place, tt)) mach) $ learn ! (λ _. fsplit ! $ move ! (1 ∷ []) $ fsplit ! $
       -- [what place owns; nothing; what src owns; what the struct owns; the token]: the callee takes them in the other order
       move ! (2 ∷ 1 ∷ []) $ fjoin ! $ move ! (1 ∷ 0 ∷ []) $ fjoin ! $ move ! (2 ∷ 0 ∷ []) $
-      use2 W (raw (Ask 𝓤 H A mem run .pre to)) (qed W ((‵ (flft κ q) ⊛ ‵ ftrue) ∷ ‵ (owns (C.the-row ∷ ShrSlice (named 0) κ u8 ∷ []) (d .place, (d .src, tt)) passed) ∷ []) ∵ join ! $ frame ! $ done !) $ frame ! $ done !)
+      use2 W (raw (Ask 𝓤 H A mem run .pre to)) (qed W ((‵ (flft κ q) ⊛ ‵ ftrue)
+      ∷ ‵ (owns (C.the-row ∷ ShrSlice (named 0) κ u8 ∷ []) (d .place, (d .src, tt)) passed) ∷ []) ∵ join ! $ frame ! $ done !) $ frame ! $ done !)
 
   said : (t : Stepped) → ent 𝓤 (ensured 𝓤 H A ask.ended (ask.clauses 𝓤 H A mem run) (κ, tt) (d .place, (d .src, tt)) tt t) (fact 𝓤 (t ≡ askOf (d .place) (now (d .src))))
   said t = exE 𝓤 _ (λ ws. snd∗ 𝓤 (sem 𝓤 H A (lasts ask.ended (κ, tt) (d .place, (d .src, tt)) ws)) (fact 𝓤 (t ≡ askOf (d .place) (now (d .src)))))
@@ -127,10 +130,14 @@ module _ {M : Type 1} (𝓤 : URA M) (H : Heap 𝓤) (A : Atoms 𝓤) (W : Given
   exits t e =
       qed W (‵ (OwnS t) ∷ (‵ (flft κ q) ⊛ ‵ ftrue) ∷ ‵ Own ∷ []) ∵
       suffices ! _ (ends-at 𝓤 H A next.ended stayed (next.clauses 𝓤 H A mem run) W (((κ, tt), (q, tt), tt, (d, tt), (mach ∷ [], tt)), tt) (out t) (made t) (tt, tt) (tt, tt)) $ says ! (ap made e) $
-      move ! (1 ∷ []) $ frame ! $ move ! (1 ∷ []) $ use1 W (‵ Own ⊛ ‵ Own) (LL.copy (T.the-type α) (T′.the-copy α) 𝓤 H A W .twice d (mach ∷ [])) $ split ! $ nothing ! $ move ! (1 ∷ 0 ∷ []) $ fjoin ! $ frame ! $
+      move ! (1 ∷ []) $ frame ! $ move ! (1 ∷ []) $ use1 W (‵ Own ⊛ ‵ Own) (LL.copy (T.the-type α) (T′.the-copy α) 𝓤 H A W .twice d (mach ∷ [])) $ split ! $
+      nothing ! $ move ! (1 ∷ 0 ∷ []) $ fjoin ! $ frame ! $
       -- [what the struct owns; what ask's result owns]: both are taken apart
-      use1 W (given (mach ∷ [] ≡ mach ∷ []) (‵ (all-own (T.the-type α .parts) (T′.the-laws α) (d .src, (d .place, tt))))) (own-open 𝓤 H A W (T.the-type α) (T′.the-laws α) (d .src, (d .place, tt)) mach) $ learn ! (λ _. fsplit ! $ move ! (1 ∷ []) $ drop ! $ move ! (1 ∷ []) $
-      use1 W (given (LL.val S.the-type S′.the-laws t ∷ [] ≡ LL.val S.the-type S′.the-laws t ∷ []) (‵ (all-own (S.the-type .parts) S′.the-laws (t .next, (t .entry, tt))))) (own-open 𝓤 H A W S.the-type S′.the-laws (t .next, (t .entry, tt)) (LL.val S.the-type S′.the-laws t)) $ learn ! (λ _. fsplit ! $
+      use1 W (given (mach ∷ [] ≡ mach ∷ []) (‵ (all-own (T.the-type α .parts) (T′.the-laws α) (d .src, (d .place, tt)))))
+      (own-open 𝓤 H A W (T.the-type α) (T′.the-laws α) (d .src, (d .place, tt)) mach) $ learn ! (λ _. fsplit ! $ move ! (1 ∷ []) $ drop ! $ move ! (1 ∷ []) $
+      use1 W (given (LL.val S.the-type S′.the-laws t ∷ [] ≡ LL.val S.the-type S′.the-laws t ∷ [])
+      (‵ (all-own (S.the-type .parts) S′.the-laws (t .next, (t .entry, tt)))))
+      (own-open 𝓤 H A W S.the-type S′.the-laws (t .next, (t .entry, tt)) (LL.val S.the-type S′.the-laws t)) $ learn ! (λ _. fsplit ! $
       -- [what next owns; what entry owns; what src owns]: src and next are the reader's, and the reader and entry the answer's
       nothing ! $ move ! (1 ∷ 0 ∷ []) $ fjoin ! $ move ! (2 ∷ 0 ∷ []) $ fjoin ! $
       use1 W (‵ (B (κ, tt) .own (moved t) (LL.val (T.the-type α) (T′.the-laws α) (moved t) ∷ []))) (own-shut 𝓤 H A W (T.the-type α) (T′.the-laws α) (d .src, (t .next, tt))) $ fjoin ! $
@@ -148,32 +155,40 @@ module _ {M : Type 1} (𝓤 : URA M) (H : Heap 𝓤) (A : Atoms 𝓤) (W : Given
         assigns ! (of-opd ! (load ! (from ! (fld ! refl (stop !))) (look-in ! 10 (sub ! 0 refl (whole !))))) (from ! (stop !)) (init ! 4 refl (tt, wt .1 .0)) $
         move ! (14 ∷ []) $ use1 W (raw (Ask 𝓤 H A mem run .pre to) ⊛ ‵ Own) apart $ split ! $
         calls-at ! fm (Ask 𝓤 H A mem run) known to (and-then ! (load ! (from ! (stop !)) (look ! 8 refl)) (and-then ! (load ! (from ! (stop !)) (look ! 6 refl)) (no-more !))) (λ u.
-        use1 W (later (some (λ (t : Stepped). ((‵ (flft κ q) ⊛ ‵ ftrue) ⊛ ‵ (S.the-row .own t (u ∷ []))) ⊛ raw (ensured 𝓤 H A ask.ended (ask.clauses 𝓤 H A mem run) (κ, tt) (d .place, (d .src, tt)) tt t)))) (id⊢ 𝓤 _) $ await ! tt $ pick ! (λ t.
+        use1 W (later (some (λ (t : Stepped). ((‵ (flft κ q) ⊛ ‵ ftrue) ⊛ ‵ (S.the-row .own t (u ∷ [])))
+        ⊛ raw (ensured 𝓤 H A ask.ended (ask.clauses 𝓤 H A mem run) (κ, tt) (d .place, (d .src, tt)) tt t)))) (id⊢ 𝓤 _) $ await ! tt $ pick ! (λ t.
         split ! $ move ! (1 ∷ []) $ use1 W (raw (fact 𝓤 (t ≡ askOf (d .place) (now (d .src))))) (said t) $ heard ! (t ≡ askOf (d .place) (now (d .src))) (λ e. split ! $ move ! (1 ∷ []) $
         -- [what the result owns; the token; what the struct owns; _6; …; _5; …; _4; …; _3; …; room for _2; …; _1; …; room for _0; …]
         peeks ! S.the-row (Is S.the-row) (shows 𝓤 H A S.the-row) t (u ∷ []) (λ is.
         let parts = LL.owed S.the-type S′.the-laws t _ is in
         land ! (from ! (stop !)) (init ! 11 refl (LL.lawful S.the-type S′.the-laws 𝓤 H A W .typed t _ is .0)) $
-        rewrite ! 11 (λ (w : Val). ‵ (fat fullShare S′.mir l₂ 0 w)) (ap only (LL.tells S.the-type S′.the-laws t _ is)) refl $ rewrite ! 0 (λ (w : Val). ‵ (S.the-row .own t (w ∷ []))) (ap only (LL.tells S.the-type S′.the-laws t _ is)) refl $
+        rewrite ! 11 (λ (w : Val). ‵ (fat fullShare S′.mir l₂ 0 w)) (ap only (LL.tells S.the-type S′.the-laws t _ is)) refl $
+        rewrite ! 0 (λ (w : Val). ‵ (S.the-row .own t (w ∷ []))) (ap only (LL.tells S.the-type S′.the-laws t _ is)) refl $
         assigns ! (of-opd ! (load ! (from ! (fld ! refl (stop !))) (look-in ! 13 (sub ! 0 refl (whole !))))) (from ! (stop !)) (init ! 5 refl (tt, wt .1 .0)) $
-        assigns ! (agg ! (and-then ! (load ! (from ! (stop !)) (look ! 5 refl)) (and-then ! (load ! (from ! (fld ! refl (stop !))) (look-in ! 11 (sub ! 0 refl (whole !)))) (no-more !)))) (from ! (stop !))
+        assigns ! (agg ! (and-then ! (load ! (from ! (stop !)) (look ! 5 refl))
+        (and-then ! (load ! (from ! (fld ! refl (stop !))) (look-in ! 11 (sub ! 0 refl (whole !)))) (no-more !)))) (from ! (stop !))
         (init ! 3 refl (LL.lawful (T.the-type αᵉ) (T′.the-laws αᵉ) 𝓤 H A W .typed (moved t) _ (LL.owes (T.the-type αᵉ) (T′.the-laws αᵉ) (moved t) (fields .0, (parts .0, tt))) .0)) $
-        assigns ! (agg ! (and-then ! (load ! (from ! (stop !)) (look ! 3 refl)) (and-then ! (load ! (from ! (fld ! refl (stop !))) (look-in ! 11 (sub ! 1 refl (whole !)))) (no-more !)))) (from ! (stop !))
-        (init ! 15 refl (LL.lawful (N.the-type α) (N′.the-laws α) 𝓤 H A W .typed (made t) _ (LL.owes (N.the-type α) (N′.the-laws α) (made t) (LL.owes (T.the-type α) (T′.the-laws α) (moved t) (fields .0, (parts .0, tt)), (parts .1 .0, tt))) .0)) $
+        assigns ! (agg ! (and-then ! (load ! (from ! (stop !)) (look ! 3 refl))
+        (and-then ! (load ! (from ! (fld ! refl (stop !))) (look-in ! 11 (sub ! 1 refl (whole !)))) (no-more !)))) (from ! (stop !))
+        (init ! 15 refl (LL.lawful (N.the-type α) (N′.the-laws α) 𝓤 H A W .typed (made t) _
+        (LL.owes (N.the-type α) (N′.the-laws α) (made t) (LL.owes (T.the-type α) (T′.the-laws α) (moved t) (fields .0, (parts .0, tt)), (parts .1 .0, tt))) .0)) $
         returns ! (look ! 15 refl) $ forget ! 3 refl $ forget ! 5 refl $ forget ! 7 refl $ forget ! 9 refl $ forget ! 11 refl $ forget ! 13 refl $ forget ! 15 refl $
-        move ! (15 ∷ 16 ∷ []) $ free1 ! $ move ! (13 ∷ 14 ∷ []) $ free1 ! $ move ! (11 ∷ 12 ∷ []) $ free1 ! $ move ! (9 ∷ 10 ∷ []) $ free1 ! $ move ! (7 ∷ 8 ∷ []) $ free1 ! $ move ! (5 ∷ 6 ∷ []) $ free1 ! $ move ! (3 ∷ 4 ∷ []) $ free1 ! $ free0 ! $
+        move ! (15 ∷ 16 ∷ []) $ free1 ! $ move ! (13 ∷ 14 ∷ []) $ free1 ! $ move ! (11 ∷ 12 ∷ []) $ free1 ! $ move ! (9 ∷ 10 ∷ []) $ free1 ! $
+        move ! (7 ∷ 8 ∷ []) $ free1 ! $ move ! (5 ∷ 6 ∷ []) $ free1 ! $ move ! (3 ∷ 4 ∷ []) $ free1 ! $ free0 ! $
         by ! (exits t e))))))))))))
 
 module _ {M : Type 1} (𝓤 : URA M) (H : Heap 𝓤) (A : Atoms 𝓤) (W : Given 𝓤 H A) (mem : Memory → SProp 𝓤) (run : Routine → Fun 𝓤) where
   next-walks : (Cs : Calls 𝓤 H) (Λ : Loops 𝓤 H) → FmC 𝓤 H (W .laws) Cs → Triple 𝓤 (Cs #shift-reader·cursor·ask) (Ask 𝓤 H A mem run)
       → Walks 𝓤 H A next.ended stayed (WpFn 𝓤 H Cs Λ code.function) (next.clauses 𝓤 H A mem run)
-  next-walks Cs Λ fm known = walked 𝓤 H A next.ended stayed (next.clauses 𝓤 H A mem run) (WpFn 𝓤 H Cs Λ code.function) (λ κs. (LL.vals (T.the-type (namedLft 1 0 tt κs)) (T′.the-laws (namedLft 1 0 tt κs)), tt)) (λ κs. (LL.tells (T.the-type (namedLft 1 0 tt κs)) (T′.the-laws (namedLft 1 0 tt κs)), tt))
+  next-walks Cs Λ fm known = walked 𝓤 H A next.ended stayed (next.clauses 𝓤 H A mem run) (WpFn 𝓤 H Cs Λ code.function)
+      (λ κs. (LL.vals (T.the-type (namedLft 1 0 tt κs)) (T′.the-laws (namedLft 1 0 tt κs)), tt)) (λ κs. (LL.tells (T.the-type (namedLft 1 0 tt κs)) (T′.the-laws (namedLft 1 0 tt κs)), tt))
       (λ κs qs bounds a g are. via 𝓤 _ (fst∗ 𝓤 _ (emp 𝓤)) (walk 𝓤 H A W mem run (κs .0) (qs .0) (a .0) Cs Λ fm known (are .0)))
 
 next-meets : {M : Type 1} (𝓤 : URA M) (H : Heap 𝓤) (A : Atoms 𝓤) (W : Given 𝓤 H A) (mem : Memory → SProp 𝓤) (run : Routine → Fun 𝓤) (𝓣 : Tables 𝓤 H)
     → Triple 𝓤 (𝓣 .C #shift-reader·cursor·ask) (Ask 𝓤 H A mem run)
     → Meets 𝓤 H A next.signature (WpFn 𝓤 H (𝓣 .C) (𝓣 .Λ) code.function) (next.spec 𝓤 H A mem run)
-next-meets 𝓤 H A W mem run 𝓣 known = walk-meets 𝓤 H A next.ended stayed W (goes-none 𝓤 H A W 1 B yes (λ κs x f. refl), tt) (next.clauses 𝓤 H A mem run) (WpFn 𝓤 H (𝓣 .C) (𝓣 .Λ) code.function) (WpFn-mono 𝓤 H (W .laws) 𝓣 code.function)
+next-meets 𝓤 H A W mem run 𝓣 known = walk-meets 𝓤 H A next.ended stayed W (goes-none 𝓤 H A W 1 B yes (λ κs x f. refl), tt) (next.clauses 𝓤 H A mem run)
+    (WpFn 𝓤 H (𝓣 .C) (𝓣 .Λ) code.function) (WpFn-mono 𝓤 H (W .laws) 𝓣 code.function)
     (next-walks 𝓤 H A W mem run (𝓣 .C) (𝓣 .Λ) (fmOf 𝓤 H (W .laws) 𝓣) known)
 
 pub next-spec : {M : Type 1} → stated.statement M

@@ -1,4 +1,4 @@
--- The entry is opened into its own place in the output; where its tag is right, what stands there is sealed there.
+-- The entry is opened to its own offset in the output; if its tag is right, the text is sealed there under the new suite.
 use borrow.Author.Needs.{needs}
 use denote.Ref.{now}
 use mathlib.Core.Bool.{true≢false}

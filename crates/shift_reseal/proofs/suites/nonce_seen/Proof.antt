@@ -1,27 +1,23 @@
--- No row below j clashes with row i.
-use Prim.Native.Nat.{_≤_, _-_}
-use mathlib.Core.Bool.{false}
-use mathlib.Core.Path.{_≡_}
+-- Whether an earlier row clashes with row i: the loop has come to row j, and no row below j clashes (`NoneYet`).
+use Prim.Native.Nat.{_-_}
+use mathlib.Core.Path.{sym}
 use native.Mathlib.Omega.{arith}
 use borrow.Author.Needs.{needs}
-use denote.Ref.{now}
-use Rattle.shift_check.specs.Search.{anyBelow}
 use Rattle.shift_format.specs.Format.{rowSizeOf}
 use Rattle.shift_check.specs.Check.{clash, nonceSeen}
-use Rattle.shift_check.proofs.Searches.{any-more, any-hit}
+use Rattle.shift_check.proofs.Searches.{NoneYet, yet-start, yet-hit, yet-more, yet-end}
 use Rattle.shift_reseal.specs.Files.{retabled}
 use Rattle.shift_reseal.proofs.suites.nonce_seen.Statement.{statement}
 use Rattle.shift_reseal.proofs.suites.nonce_seen.Tie as tie
 
 abbrev Inv-loop : tie.InvT-loop
-Inv-loop f n i j₀ j = (j ≤ i) × (anyBelow (clash (rowSizeOf (retabled f)) (retabled f) i) j ≡ false)
+Inv-loop f n i j₀ j = NoneYet (clash (rowSizeOf (retabled f)) (retabled f) i) i j
 
 abbrev μ-loop : tie.MeasureT-loop
 μ-loop f n i j₀ j = i - j
 
 loop-holds : tie.Need-loop-holds Inv-loop μ-loop
-unfolding anyBelow
-loop-holds c = search needs
+loop-holds c = yet-start
 
 clashes-requires : tie.Need-clashes-requires Inv-loop μ-loop
 clashes-requires c κs =
@@ -30,10 +26,7 @@ clashes-requires c κs =
 
 returns : tie.Need-returns Inv-loop μ-loop
 unfolding nonceSeen
-returns c =
-    let a = c .before .before .before .before .before .args in
-    let t = retabled (now (a .file)) in
-    simp (any-hit (clash (rowSizeOf t) t (a .index)) (c .before .before .before .loop .j) (a .index) (c .before .before .loop-test .taken) (cc))
+returns c = sym (yet-hit (c .before .before .before .loop .inv) (c .before .before .loop-test .taken) (cc))
 
 add-j : tie.Need-add-j Inv-loop μ-loop
 add-j c = search needs
@@ -42,13 +35,11 @@ loop-less : tie.Need-loop-less Inv-loop μ-loop
 loop-less c = search needs
 
 loop-again : tie.Need-loop-again Inv-loop μ-loop
-loop-again c = (omega arith, any-more _ _ (c .before .before .before .loop .inv .1) (cc))
+loop-again c = yet-more (c .before .before .before .loop .inv) (c .before .before .loop-test .taken) (cc)
 
 returns-2 : tie.Need-returns-2 Inv-loop μ-loop
 unfolding nonceSeen
-returns-2 c =
-    let q : c .before .loop .j ≡ c .before .before .before .args .index = omega arith in
-    simp (rw q at (c .before .loop .inv .1))
+returns-2 c = sym (yet-end (c .before .loop .inv) (c .loop-test .left))
 
 pub nonce-seen-spec : {M : Type 1} → statement M
 nonce-seen-spec =

@@ -1,4 +1,4 @@
--- The suites of the rows below i are the new ones.
+-- By induction on the loop: after i turns the output is the old one with the new suites of the first i rows (`resuited`).
 use borrow.Author.Needs.{needs}
 use denote.Ref.{now}
 use lib.ListN.{length}

@@ -1,4 +1,4 @@
--- The draft's text is inlined into its place in the output, and sealed there.
+-- The draft's text is copied to its offset in the output and sealed there; the piece that this gives is the definition's.
 use borrow.Author.Needs.{needs}
 use denote.Ref.{now}
 use lib.ListN.{length, take}
@@ -35,7 +35,7 @@ add-e c = search needs
 text-of-requires : tie.Need-text-of-requires
 text-of-requires c κs = rw (c .before .before .before .row-of .ensures) (c .before .before .before .before .before .before .before .pre .0 .entry .body-in)
 
--- the entry's places, once its text borrows
+-- the entry's offsets, once its text is borrowed
 module _ (d : tie.After-text-of) where
   abbrev s : tie.Start
   s = d .before .before .before .before .before .before .before .before

@@ -1,4 +1,5 @@
--- The rows below i are sealed into the output.
+-- By induction on the loop: the pieces of the rows below i stand in the output (`putAll`), and each turn puts the piece of row
+-- i.
 use borrow.Author.Needs.{needs}
 use denote.Ref.{now}
 use lib.ListN.{length}

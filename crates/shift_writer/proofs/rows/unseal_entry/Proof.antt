@@ -1,9 +1,9 @@
--- The text is opened into the output; where its tag is right, zeros follows it.
+-- The text is opened into the output; if its tag is right, zeros follow it, and both are the piece of the draft.
 use borrow.Author.Needs.{needs}
 use denote.Ref.{now}
 use lib.ListN.{length, replicate}
 use mathlib.Core.Bool.{true≢false}
-use mathlib.Core.List.{_++_}
+use mathlib.Core.List.{List, _++_}
 use mathlib.Core.Path.{_≡_, sym, ap, _∙_}
 use native.Mathlib.Omega.{arith}
 use Prim.Native.Nat.{ℕ, _+_, _-_, _≤_}
@@ -19,6 +19,42 @@ use Rattle.status.proofs.Refuse.{other-some}
 use Rattle.shift_writer.proofs.Lending.{body-fits, open-told, put-two, row-opened}
 use Rattle.shift_writer.proofs.rows.unseal_entry.Statement.{statement}
 use Rattle.shift_writer.proofs.rows.unseal_entry.Tie as tie
+
+-- the entry's piece in the output: its text from a to b, its tag from b to e
+module _ (d : tie.After-text-start) where
+  abbrev st : tie.Start
+  st = d .before .before .before .before .before .before .before
+
+  abbrev f : List ℕ
+  f = now (st .args .file)
+
+  abbrev out : List ℕ
+  out = now (st .args .out)
+
+  abbrev r : Row
+  r = d .before .before .before .row-of .result
+
+  abbrev a : ℕ
+  a = d .text-start .result
+
+  abbrev b : ℕ
+  b = a + r .«text_len»
+
+  abbrev e : ℕ
+  e = b + d .before .size-of .result
+
+  inside : e ≤ length out
+  inside =
+      omega (
+        arith,
+        body-fits f (st .args .index) r (st .pre .entry) (d .before .before .before .row-of .ensures),
+        st .pre .out-long,
+        d .before .size-of .ensures .0,
+        d .text-start .ensures,
+      )
+
+  text-long : length (stretch out a (b - a)) ≡ r .«text_len»
+  text-long = stretch-length out a (b - a) (omega (arith, inside)) ∙ omega arith
 
 row-of-requires : tie.Need-row-of-requires
 row-of-requires c κs = search needs
@@ -45,12 +81,12 @@ part-open-row-start : tie.Need-part-open-row-start
 part-open-row-start c = search needs
 
 part-open-row-end : tie.Need-part-open-row-end
-part-open-row-end c = omega (arith, body-fits (now (c .before .before .before .before .before .before .before .args .file)) (c .before .before .before .before .before .before .before .args .index) _ (c .before .before .before .before .before .before .before .pre .entry) (c .before .before .before .row-of .ensures), c .before .before .before .before .before .before .before .pre .out-long, c .text-start .ensures)
+part-open-row-end c = omega (arith, inside c)
 
 open-row-requires : tie.Need-open-row-requires
 open-row-requires c κs =
-    let s = c .before .before .before .before .before .before .before .before in
-    lendable (now (s .args .file)) (now (s .args .ring)) (s .args .index) (s .pre .entry) (s .pre .ring-long) _ (c .before .before .before .before .row-of .ensures)
+    let d = c .before in
+    lendable (f d) (now (st d .args .ring)) (st d .args .index) (st d .pre .entry) (st d .pre .ring-long) _ (d .before .before .before .row-of .ensures)
 
 enum-told : tie.Need-enum-told
 enum-told c = search needs
@@ -60,18 +96,11 @@ same-length c = search needs
 
 returns : tie.Need-returns
 returns c =
-    let s = c .before .before .before .before .before .before .before .before .before .before .before .before in
+    let d = c .before .before .before .before .before in
     let call = c .before .before .before .open-row in
-    let row = c .before .before .before .before .before .before .before .before .row-of in
-    let r = row .result in
-    let a = c .before .before .before .before .before .text-start .result in
-    let b = a + r .«text_len» in
-    let out = now (s .args .out) in
-    let fits = body-fits (now (s .args .file)) (s .args .index) r (s .pre .entry) (row .ensures) in
-    let lo : length (stretch out a (b - a)) ≡ r .«text_len» = stretch-length out a (b - a) (omega (arith, fits, s .pre .out-long, c .before .before .before .before .before .text-start .ensures)) ∙ omega arith in
-    let some = other-some (call .result) (c .match .keys2) in
-    let t = open-told (now (s .args .file)) (now (s .args .ring)) (s .args .index) (s .pre .entry) (s .pre .ring-long) _ _ (stretch out a (b - a)) (lo ∙ ap (λ (q : Row). q .«text_len») (row .ensures)) (call .ensures) in
-    (t .wrong some, λ e. absurd (true≢false (sym e)))
+    let long = text-long d ∙ ap (λ (q : Row). q .«text_len») (d .before .before .before .row-of .ensures) in
+    let t = open-told (f d) (now (st d .args .ring)) (st d .args .index) (st d .pre .entry) (st d .pre .ring-long) _ _ (stretch (out d) (a d) (b d - a d)) long (call .ensures) in
+    (t .wrong (other-some (call .result) (c .match .keys2)), λ e. absurd (true≢false (sym e)))
 
 sub-wipe : tie.Need-sub-wipe
 sub-wipe c = search needs
@@ -81,12 +110,9 @@ part-wipe-start c = search needs
 
 part-wipe-end : tie.Need-part-wipe-end
 part-wipe-end c =
-    let s = c .before .before .before .before .before .before .before .before .before .before .before .before .before in
-    let a = c .before .before .before .before .before .before .text-start .result in
+    let d = c .before .before .before .before .before .before in
     let call = c .before .before .before .before .open-row in
-    let b = a + c .before .before .before .before .before .before .before .before .before .row-of .result .«text_len» in
-    let l = same-len-mid a (b - a) (now (s .args .out)) (call .last .1 .1 .1 .1 .0) (call .kept .1 .1 .1 .1 .0) in
-    omega (arith, l, body-fits (now (c .before .before .before .before .before .before .before .before .before .before .before .before .before .args .file)) (c .before .before .before .before .before .before .before .before .before .before .before .before .before .args .index) _ (c .before .before .before .before .before .before .before .before .before .before .before .before .before .pre .entry) (c .before .before .before .before .before .before .before .before .before .row-of .ensures), s .pre .out-long, c .before .before .before .before .before .before .before .size-of .ensures .0, c .before .before .before .before .before .before .text-start .ensures)
+    omega (arith, same-len-mid (a d) (b d - a d) (out d) (call .last .1 .1 .1 .1 .0) (call .kept .1 .1 .1 .1 .0), inside d)
 
 wipe-requires : tie.Need-wipe-requires
 wipe-requires c κs = search needs
@@ -96,34 +122,25 @@ same-length-2 c = search needs
 
 returns-2 : tie.Need-returns-2
 returns-2 c =
-    let s = c .before .before .before .before .before .before .before .before .before .before .before .before .before .before .before .before .before in
-    let r = c .before .before .before .before .before .before .before .before .before .before .before .before .before .row-of .result in
-    let rq = c .before .before .before .before .before .before .before .before .before .before .before .before .before .row-of .ensures in
-    let size = c .before .before .before .before .before .before .before .before .before .before .before .size-of in
-    let start = c .before .before .before .before .before .before .before .before .before .before .text-start in
+    let d = c .before .before .before .before .before .before .before .before .before .before in
     let call = c .before .before .before .before .before .before .before .before .open-row in
-    let f = now (s .args .file) in
-    let ring = now (s .args .ring) in
-    let out = now (s .args .out) in
-    let fits = body-fits f (s .args .index) r (s .pre .entry) rq in
-    let a = start .result in
-    let b = a + r .«text_len» in
-    let e = b + size .result in
-    let inside : e ≤ length out = omega (arith, fits, s .pre .out-long, size .ensures .0, start .ensures) in
+    let is-row = d .before .before .before .row-of .ensures in
+    let ring = now (st d .args .ring) in
     let x = call .last .1 .1 .1 .1 .0 in
-    let lo : length (stretch out a (b - a)) ≡ r .«text_len» = stretch-length out a (b - a) (omega (arith, inside)) ∙ omega arith in
-    let lx : length x ≡ b - a = call .kept .1 .1 .1 .1 .0 ∙ lo ∙ omega arith in
-    let m = putMid a (b - a) out x in
-    let lm : length m ≡ length out = same-len-mid a (b - a) out x (call .kept .1 .1 .1 .1 .0) in
-    let lt : length (stretch m b (e - b)) ≡ e - b = stretch-length m b (e - b) (omega (arith, lm, inside)) in
-    let n : e - b ≡ sizeOf (r .suite) = omega (arith, size .ensures .0) in
     let y = c .before .before .wipe .last .0 in
-    let t = open-told f ring (s .args .index) (s .pre .entry) (s .pre .ring-long) _ _ (stretch out a (b - a)) (lo ∙ ap (λ (q : Row). q .«text_len») rq) (call .ensures) .done (ap numberOf (c .before .before .before .before .enum-told .given .1)) in (
+    let lx : length x ≡ b d - a d = call .kept .1 .1 .1 .1 .0 ∙ text-long d ∙ omega arith in
+    let m = putMid (a d) (b d - a d) (out d) x in
+    let lm : length m ≡ length (out d) = same-len-mid (a d) (b d - a d) (out d) x (call .kept .1 .1 .1 .1 .0) in
+    let lt : length (stretch m (b d) (e d - b d)) ≡ e d - b d = stretch-length m (b d) (e d - b d) (omega (arith, lm, inside d)) in
+    let n : e d - b d ≡ sizeOf (r d .suite) = omega (arith, d .before .size-of .ensures .0) in
+    let long = text-long d ∙ ap (λ (q : Row). q .«text_len») is-row in
+    let told = open-told (f d) ring (st d .args .index) (st d .pre .entry) (st d .pre .ring-long) _ _ (stretch (out d) (a d) (b d - a d)) long (call .ensures) in
+    let t = told .done (ap numberOf (c .before .before .before .before .enum-told .given .1)) in (
       t .0,
       λ z.
-          put-two out x y a b e (omega arith) (omega arith) inside lx (c .before .before .wipe .kept .0 ∙ lt)
-          ∙ ap (λ (k : ℕ). put out k (x ++ y)) (start .ensures)
-          ∙ row-opened f ring (s .args .index) r rq out x y (t .1) (c .before .before .wipe .ensures ∙ ap (λ (k : ℕ). replicate k 0) (lt ∙ n)),
+          put-two (out d) x y (a d) (b d) (e d) (omega arith) (omega arith) (inside d) lx (c .before .before .wipe .kept .0 ∙ lt)
+          ∙ ap (λ (k : ℕ). put (out d) k (x ++ y)) (d .text-start .ensures)
+          ∙ row-opened (f d) ring (st d .args .index) (r d) is-row (out d) x y (t .1) (c .before .before .wipe .ensures ∙ ap (λ (k : ℕ). replicate k 0) (lt ∙ n)),
     )
 
 pub unseal-entry-spec : {M : Type 1} → statement M

@@ -1,4 +1,4 @@
--- The requires are counted, and the buffer keeps its length.
+-- The calls are counted, and the buffer keeps its length.
 use Prim.Native.Nat.{_-_, _≤_}
 use mathlib.Core.Path.{_≡_}
 use lib.ListN.{length}
