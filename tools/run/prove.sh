@@ -123,7 +123,8 @@ progress() { # CRATES
     bytes=$(size_of "$1")
     while IFS= read -r line; do
         case $line in
-        "rt: ok"* | "rt: "*" ran as "* | "rt: "*" ran, "* | "fn "* | "library "* | "crate "* | "logic"* | "linked "* | "axioms "* | '') continue ;;
+        "rt: ok"* | "rt: "*" ran as "* | "rt: "*" ran, "* | "library "* | "crate "* | "logic"* | "linked "* | "axioms "* | '') continue ;;
+        "fn "*": proved" | "struct "*": proved" | "enum "*": proved" | "note: "* | *": note: "*) continue ;;
         "rt: "*" proved ("*)
             name=${line#rt: }
             name=${name%% *}
