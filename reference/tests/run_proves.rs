@@ -134,8 +134,9 @@ fn a_tree_that_cannot_be_written() {
     folder.put("crates/program_text/src/lib.rt", b"bad");
     let (status, printed, said) = as_nobody(&folder);
     assert_eq!((status, &printed[..], proofs(&folder)), (3, "", 1), "{said}");
+    assert!(said.lines().all(|line| line.starts_with("run: ")), "{said}");
     assert!(
-        said.contains("nothing is proved, for the results cannot be written: ") && said.contains("Permission denied")
+        said.contains("nothing is proved, since the results cannot be written: ") && said.contains("Permission denied")
     );
 }
 

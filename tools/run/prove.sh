@@ -96,7 +96,8 @@ wait_for_others() {
 need_folders() {
     local said
     said=$(LC_ALL=C mkdir -p "$root/target" "$root/.run/bin" 2>&1 && LC_ALL=C touch "$root/target/.written" "$root/.run/.written" 2>&1) || {
-        say "nothing is proved, for the results cannot be written: ${said#*: }"
+        said=${said%%$'\n'*}
+        say "nothing is proved, since the results cannot be written: ${said#*: }"
         exit 3
     }
     rm -f "$root/target/.written" "$root/.run/.written"
