@@ -75,13 +75,12 @@ fn main() {
     println!("cargo:rerun-if-env-changed=SNOEKELDRAF_DIR");
     let target = target();
     let here = PathBuf::from(of_cargo("CARGO_MANIFEST_DIR"));
-    let folders = match env::var("SNOEKELDRAF_DIR") {
-        Ok(folder) => vec![PathBuf::from(folder)],
-        Err(_) => folders(&here, target),
-    };
+    let named = env::var_os("SNOEKELDRAF_DIR").map(PathBuf::from);
+    let folders = named.clone().map_or_else(|| folders(&here, target), |folder| vec![folder]);
     let Some(folder) = folders.iter().find(|folder| folder.join(ARCHIVE).exists()) else {
+        let place = named.map_or("there".to_owned(), |folder| format!("in {}", folder.display()));
         stop(format!(
-            "the archive of the proved library for {name} is not there: run `./run library {name}` at the root of the \
+            "the archive of the proved library for {name} is not {place}: run `./run library {name}` at the root of the \
              repository, which writes target/{name}/{ARCHIVE}, or name the archive's folder by SNOEKELDRAF_DIR",
             name = target.name
         ))

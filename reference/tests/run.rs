@@ -104,6 +104,17 @@ fn devices_stay() {
     assert_eq!((status, &printed[..]), (0, DONE));
     assert!(folder.get("log") == sealed());
     assert_eq!(["/dev/stderr", "/dev/stdout"].map(|path| std::fs::read_link(path).unwrap()), were);
+    symlink("/proc/self/fd/2", folder.0.join("error")).unwrap();
+    symlink("error", folder.0.join("twice")).unwrap();
+    for out in ["error", "twice"] {
+        folder.put("log", b"first,");
+        let added = [b"first,", &sealed()[..]].concat();
+        for (to, expected) in [(">>log", added), (">log", sealed()), ("> >(cat >log)", sealed())] {
+            assert_eq!(folder.shell(&format!("\"$0\" write draft ring {out} 2{to}; s=$?; wait $!; exit $s")).0, 0);
+            assert!(folder.get("log") == expected, "{out} {to}");
+        }
+        assert!(is_link(&folder.0.join(out)));
+    }
     symlink("/dev/null", folder.0.join("link")).unwrap();
     for out in ["link", "/dev/null"] {
         assert_eq!(folder.run(&["write", "draft", "ring", out]).0, 0);
@@ -145,7 +156,7 @@ fn pipes_get_every_byte() {
     assert!(folder.get("got") == [b"first,", &two[..]].concat());
 }
 
-/// OUT keeps its mode and, for root, its owner. A restored draft is private; other new files follow the umask.
+/// OUT keeps its mode and, for root, its owner. A restored draft is its owner's alone; other new files follow the umask.
 #[test]
 fn modes_are_kept() {
     if !is_built() {
@@ -156,8 +167,10 @@ fn modes_are_kept() {
     for old in [0o600, 0o640, 0o664, 0o444 | 0o200] {
         folder.put("out", b"as it was");
         set_mode(&out, old);
-        assert_eq!(folder.run(&["write", "back", "day", "ring", "out"]).0, 0);
+        assert_eq!(folder.run(&["write", "draft", "ring", "out"]).0, 0);
         assert_eq!(mode(&out), old);
+        assert_eq!(folder.run(&["write", "back", "day", "ring", "out"]).0, 0);
+        assert_eq!(mode(&out), 0o600, "plain text over a file of mode {old:o}");
     }
     for (umask, call, new) in [
         ("022", "write back day ring new", 0o600),
@@ -179,7 +192,8 @@ fn modes_are_kept() {
     }
 }
 
-/// While a draft is being restored, no file in its folder can be read by others.
+/// While a draft is being restored, no file in its folder can be read by others. A run is short: we look at several, until
+/// one was seen at work.
 #[test]
 fn a_draft_is_private_from_the_first_byte() {
     if !is_built() {
@@ -187,19 +201,82 @@ fn a_draft_is_private_from_the_first_byte() {
     }
     let folder = plant("private");
     folder.put("one", &large().0);
-    let mut run = folder.command(&["write", "back", "one", "ring", "out"]);
-    let mut run = run.stdout(Stdio::null()).spawn().unwrap();
     let mut seen = 0;
-    while run.try_wait().unwrap().is_none() {
-        for name in folder.names().iter().filter(|name| name.starts_with(".snoekeldraf-") || *name == "out") {
-            if let Ok(file) = std::fs::metadata(folder.0.join(name)) {
-                assert_eq!(file.mode() & 0o7777, 0o600, "{name}");
-                seen += 1;
+    for _ in 0..40 {
+        let mut run = folder.command(&["write", "back", "one", "ring", "out"]);
+        let mut run = run.stdout(Stdio::null()).spawn().unwrap();
+        while run.try_wait().unwrap().is_none() {
+            for name in folder.names().iter().filter(|name| name.starts_with(".snoekeldraf-") || *name == "out") {
+                if let Ok(file) = std::fs::metadata(folder.0.join(name)) {
+                    assert_eq!(file.mode() & 0o7777, 0o600, "{name}");
+                    seen += (name != "out") as u32;
+                }
             }
         }
+        assert!(run.wait().unwrap().success());
+        assert_eq!(mode(&folder.0.join("out")), 0o600);
+        std::fs::remove_file(folder.0.join("out")).unwrap();
+        if seen > 0 {
+            return;
+        }
     }
-    assert!(run.wait().unwrap().success() && seen > 0);
-    assert_eq!(mode(&folder.0.join("out")), 0o600);
+    panic!("no run was seen at work");
+}
+
+/// A file of edition 1 with 512 rows that is so long.
+fn of_length(length: usize) -> Vec<u8> {
+    let entry = |job: u32| Entry::new(job, 6, 0, 1, nonce(job), b"");
+    let mut plan = Plan::new((1..=512).map(entry).collect());
+    let left = length - plan.file(&samples::ring()).len();
+    for (i, entry) in plan.entries.iter_mut().enumerate() {
+        entry.message = vec![b'.'; left / 512 + (i < left % 512) as usize];
+    }
+    plan.file(&samples::ring())
+}
+
+/// Whatever `convert` makes, the programs read: also over its input. What would be too long is not made.
+#[test]
+fn the_whole_format() {
+    if !is_built() {
+        return;
+    }
+    let folder = plant("whole");
+    for length in [524_288, 1_046_528] {
+        let one = of_length(length);
+        folder.put("file", &one);
+        assert_eq!(folder.run(&["convert", "file", "file"]), (0, DONE.into(), String::new()));
+        assert_eq!(folder.get("file").len(), length + 4 * 512);
+        let (status, printed, said) = folder.run(&["job", "file", "ring", "512"]);
+        assert!(status == 0 && printed.starts_with(DONE), "{printed}{said}");
+        assert_eq!(folder.run(&["convert", "back", "file", "file"]), (0, DONE.into(), String::new()));
+        assert!(folder.get("file") == one);
+    }
+    let longest = of_length(1_048_576);
+    folder.put("file", &longest);
+    let (status, printed, said) = folder.run(&["convert", "file", "file"]);
+    assert_eq!((status, &printed[..]), (1, "20 0\n"), "{said}");
+    assert!(folder.get("file") == longest);
+    assert_eq!(folder.run(&["write", "back", "file", "ring", "file"]).0, 0);
+    assert_eq!(folder.run(&["write", "file", "ring", "file"]).0, 0);
+    assert!(folder.get("file") == longest);
+}
+
+/// A call of a built program takes less than 0.1 s of processor time.
+#[test]
+fn a_call_of_a_built_program_is_cheap() {
+    if !is_built() {
+        return;
+    }
+    let folder = plant("cheap");
+    let seconds = |_| {
+        let script = "TIMEFORMAT='%U %S'; time \"$0\" job day ring 4103 >/dev/null";
+        let (status, _, said) = folder.shell(script);
+        assert_eq!(status, 0, "{said}");
+        said.split_whitespace().map(|word| word.parse::<f64>().unwrap()).sum::<f64>()
+    };
+    let least = (0..5).map(seconds).fold(f64::MAX, f64::min);
+    println!("a call takes {least:.3} s");
+    assert!(least < 0.1, "{least}");
 }
 
 /// OUT may be the input but never the ring, under any name.
@@ -366,7 +443,7 @@ fn permissions() {
     assert_eq!(as_nobody(&folder, &["write", "draft", "ring", "out"]).0, 3);
     assert_eq!(folder.get("out"), b"as it was");
     set_mode(&folder.0.join("out"), 0o666);
-    assert_eq!(as_nobody(&folder, &["write", "back", "day", "ring", "out"]).0, 0);
+    assert_eq!(as_nobody(&folder, &["write", "draft", "ring", "out"]).0, 0);
     assert_eq!(mode(&folder.0.join("out")), 0o606, "the group that cannot be kept gets no access");
     assert_eq!(folder.names(), ["day", "draft", "out", "ring", "secret", "stations"]);
 }
@@ -451,13 +528,14 @@ fn words() {
     let forged = format!("8: row 2 (job {}): the tag differs", row.job);
     let station = format!("35: row 0 (job {})'s station is not 0", rows(&samples::stations())[0].job);
     for (call, status, says) in [
-        (&["job", "missing", "ring", "1"][..], 1, &["missing cannot be read: No such file or directory"][..]),
-        (&["job", "folder", "ring", "1"], 1, &["folder cannot be read: it is a folder"]),
-        (&["job", "day", "missing", "4103"], 1, &["missing cannot be read: No such file or directory"]),
+        (&["job", "missing", "ring", "1"][..], 1, &["20: missing cannot be read: No such file or directory\n"][..]),
+        (&["job", "folder", "ring", "1"], 1, &["20: folder cannot be read: it is a folder\n"]),
+        (&["job", "", "ring", "1"], 1, &["20: '' cannot be read: No such file or directory\n"]),
+        (&["job", "day", "missing", "4103"], 1, &["2: missing cannot be read: No such file or directory\n"]),
         (&["job", "day", "day", "4103"], 1, &["2: the ring is not 256 bytes long", "day is 991 bytes long"]),
         (&["job", "over", "ring", "1"], 1, &["job takes 8 to 1,048,576 bytes", "over is 1048577 bytes long"]),
         (&["inspect", "over", "ring"], 1, &["inspect takes 8 to 65,280 bytes", "over is 1048577 bytes long"]),
-        (&["differ", "day", "missing"], 1, &["20: missing: ", "missing cannot be read: No such file"]),
+        (&["differ", "day", "missing"], 1, &["20: missing cannot be read: No such file"]),
         (&["write", "day", "ring", "out"], 1, &["this call takes edition 0, a draft"]),
         (&["write", "back", "draft", "ring", "out"], 1, &["this call takes edition 1\n"]),
         (&["convert", "stations", "out"], 1, &["this call takes edition 1\n"]),
@@ -473,6 +551,7 @@ fn words() {
         let (ends, _, said) = folder.run(call);
         assert_eq!(ends, status, "{call:?}: {said}");
         assert!(says.iter().all(|words| said.contains(words)), "{call:?}: {said}");
+        assert!(!said.contains("cannot be read") || said.lines().count() == 1, "{call:?}: {said}");
     }
     assert!(!folder.0.join("out").exists());
 }

@@ -14,14 +14,17 @@ case $1 in doc) echo "$here/docs/START-HERE.md"; exit ;; esac
 echo "start $*" >>"$here/calls"
 [ ! -f "$here/slow" ] || sleep "$(cat "$here/slow")"
 if [ -f "$here/fails" ]; then cat "$here/fails"; echo end >>"$here/calls"; exit 1; fi
-for crate in lines job; do echo "rt: $crate proved (1 s)"; done
+echo "$PWD/crates/program_text/proofs/Proof.antt:48:5: note: large solution: it may be given by hand"
+echo "note: no function with a body is declared, so nothing was lowered"
+for kind in struct enum fn; do echo "$kind program_text::Line: proved"; done
+for crate in program_text job; do echo "rt: $crate proved (1 s)"; done
 mkdir -p target/bin
 printf '#!/bin/sh\necho "0 0"; echo "%s"\n' "$(cat crates/program_text/src/lib.rt)" >target/bin/job
 chmod +x target/bin/job
 echo end >>"$here/calls"
 "#;
 
-/// A tree with `./run`, the program `job`, the crate `lines` below it and `other` beside it.
+/// A tree with `./run`, the program `job`, the crate `program_text` below it and `other` beside it.
 fn tree(name: &str) -> Folder {
     let folder = Folder::new(name);
     let arch = Command::new("uname").arg("-m").output().unwrap().stdout;
@@ -37,7 +40,7 @@ fn tree(name: &str) -> Folder {
         std::fs::create_dir_all(folder.0.join("crates").join(path).parent().unwrap()).unwrap();
         folder.put(&format!("crates/{path}"), text.as_bytes());
     }
-    folder.put("crates.txt", b"# crate: what it uses\nlines:\njob: lines\nother:\n");
+    folder.put("crates.txt", b"# crate: what it uses\nprogram_text:\njob: program_text\nother:\n");
     folder.put("kit/KIT-ID", b"stand-in");
     script(&folder, "kit/rt", RT);
     script(&folder, &format!("{lib}/ld-linux-x86-64.so.2"), "#!/bin/sh\nshift 2\nexec \"$@\"\n");
@@ -103,7 +106,7 @@ fn what_is_not_proved_does_not_run() {
     folder.put("crates/program_text/src/lib.rt", b"bad");
     folder.put(
         "kit/fails",
-        b"rt: cannot write: Permission denied\nrt: lines proved (unchanged since it was last proved)\n",
+        b"rt: cannot write: Permission denied\nrt: program_text proved (unchanged since it was last proved)\n",
     );
     let (status, printed, said) = job(&folder);
     assert_eq!((status, &printed[..]), (3, ""));
@@ -131,8 +134,9 @@ fn a_tree_that_cannot_be_written() {
     folder.put("crates/program_text/src/lib.rt", b"bad");
     let (status, printed, said) = as_nobody(&folder);
     assert_eq!((status, &printed[..], proofs(&folder)), (3, "", 1), "{said}");
+    assert!(said.lines().all(|line| line.starts_with("run: ")), "{said}");
     assert!(
-        said.contains("nothing is proved, for the results cannot be written: ") && said.contains("Permission denied")
+        said.contains("nothing is proved, since the results cannot be written: ") && said.contains("Permission denied")
     );
 }
 
@@ -186,11 +190,12 @@ fn another_rt_goes_first() {
     assert!(said.contains("another rt began to work here") && proofs(&folder) == before + 2, "{said}");
 }
 
-/// A proof says how far it is, and how long it takes before it starts.
+/// A proof says how far it is, and how long it takes before it starts; the prover's notes are not shown.
 #[test]
 fn a_proof_says_how_far_it_is() {
     let folder = tree("progress");
     let (_, _, said) = job(&folder);
     assert!(said.contains("proving job and the crates below it: about "), "{said}");
-    assert!(said.contains("lines: 1 of 2 crates, about ") && said.contains("job: 2 of 2 crates"), "{said}");
+    assert!(said.contains("program_text: 1 of 2 crates, about ") && said.contains("job: 2 of 2 crates"), "{said}");
+    assert!(said.lines().all(|line| line.starts_with("run: ")), "{said}");
 }

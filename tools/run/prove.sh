@@ -98,7 +98,8 @@ wait_for_others() {
 need_folders() {
     local said
     said=$(LC_ALL=C mkdir -p "$root/target" "$root/.run/bin" 2>&1 && LC_ALL=C touch "$root/target/.written" "$root/.run/.written" 2>&1) || {
-        say "nothing is proved, for the results cannot be written: ${said#*: }"
+        said=${said%%$'\n'*}
+        say "nothing is proved, since the results cannot be written: ${said#*: }"
         exit 3
     }
     rm -f "$root/target/.written" "$root/.run/.written"
@@ -126,7 +127,8 @@ progress() { # CRATES
     bytes=$(size_of "$1")
     while IFS= read -r line; do
         case $line in
-        "rt: ok"* | "rt: "*" ran as "* | "rt: "*" ran, "* | "fn "* | "library "* | "crate "* | "logic"* | "linked "* | "axioms "* | '') continue ;;
+        "rt: ok"* | "rt: "*" ran as "* | "rt: "*" ran, "* | "library "* | "crate "* | "logic"* | "linked "* | "axioms "* | '') continue ;;
+        "fn "*": proved" | "struct "*": proved" | "enum "*": proved" | "note: "* | *": note: "*) continue ;;
         "rt: "*" proved ("*)
             name=${line#rt: }
             name=${name%% *}

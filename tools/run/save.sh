@@ -24,15 +24,21 @@ cannot_write() { # OUT WHY
     exit 3
 }
 
-# Sets $descriptor to the number of the open descriptor that a path names: such a path is not opened again, for that would
-# truncate a file behind it.
+# Sets $descriptor to the number of the open descriptor that a path names, by itself or through links: such a path is not
+# opened again, for that would truncate a file behind it.
 find_descriptor() { # PATH
+    local path=$1 target
     descriptor=''
-    case $1 in
-    /dev/stdout) descriptor=1 ;;
-    /dev/stderr) descriptor=2 ;;
-    /dev/fd/[0-9]* | /proc/self/fd/[0-9]*) descriptor=${1##*/} ;;
-    esac
+    case $path in /*) ;; *) path=$PWD/$path ;; esac
+    for _ in {1..40}; do
+        case $path in
+        /dev/stdout) descriptor=1; return ;;
+        /dev/stderr) descriptor=2; return ;;
+        /dev/fd/[0-9]* | /proc/self/fd/[0-9]*) descriptor=${path##*/}; return ;;
+        esac
+        [ -L "$path" ] && target=$(readlink -- "$path") || return 0
+        case $target in /*) path=$target ;; *) path=${path%/*}/$target ;; esac
+    done
 }
 
 # Whether a path is written as a stream: a device, a pipe, or the name of an open descriptor.
@@ -75,12 +81,14 @@ write_stream() { # OUT
     fi || cannot_write "$1" "${said##*: }"
 }
 
-# Gives a file the owner, group and mode of another, as far as we may: if the group cannot be kept, it gets no access.
-keep_mode() { # FROM TO
-    local group=yes
-    chown --reference="$1" -- "$2" 2>/dev/null || chgrp --reference="$1" -- "$2" 2>/dev/null || group=no
-    chmod --reference="$1" -- "$2"
-    [ $group = yes ] || chmod g= -- "$2"
+# Gives a file the owner, group and mode of another, as far as we may: if the group cannot be kept, it gets no access. Plain
+# text stays the owner's alone.
+keep_mode() { # FROM TO PLAIN
+    local mode
+    mode=0$(stat -L -c %a -- "$1")
+    [ "$3" = no ] || mode=$((mode & 0600))
+    chown --reference="$1" -- "$2" 2>/dev/null || chgrp --reference="$1" -- "$2" 2>/dev/null || mode=$((mode & ~070))
+    chmod "$(printf %o $((mode)))" -- "$2"
 }
 
 # Gives the finished file its mode and moves it to OUT.
@@ -89,7 +97,7 @@ place_out() { # OUT PLAIN
     [ $stream = no ] || { write_stream "$1"; return; }
     if [ -e "$place" ]; then
         [ -w "$place" ] || cannot_write "$1" "Permission denied"
-        keep_mode "$place" "$temporary"
+        keep_mode "$place" "$temporary" "$2"
     elif [ "$2" = no ]; then
         chmod "$(printf %o $((0666 & ~$(umask))))" -- "$temporary"
     fi
@@ -143,9 +151,19 @@ judge() { # NAME TEXT ARGS ..
     esac
 }
 
+# Says a refusal. An input that cannot be read counts as no bytes: then the system's reason is said, and not the status's.
 refuse() { # NAME FIRST_ARGUMENT STATUS ROW FILE WHOSE RING
+    local input='' why=''
+    case $3 in
+    20) input=$5; why=$(reason "$input") ;;
+    2) input=$7; why=$(reason "$input") ;;
+    esac
+    if [ -n "$why" ]; then
+        say "$3: ${input:-''} cannot be read: $why"
+        return 1
+    fi
     means "$1" "$2" "$3" "$4" "$5" "$6"
-    case $3 in 20) about_input "$5" ;; 2) about_input "$7" ;; esac
+    [ ! -f "$input" ] || say "$input is $(stat -L -c %s -- "$input") bytes long"
     advise "$1" "$3"
     return 1
 }

@@ -60,17 +60,6 @@ means() { # NAME FIRST_ARGUMENT STATUS ROW FILE WHOSE
     say "$3: $6$words"
 }
 
-# Says why an input could not be read (it then counts as no bytes), or how long it is.
-about_input() { # FILE
-    local why
-    why=$(reason "$1")
-    if [ -n "$why" ]; then
-        say "$1 cannot be read: $why"
-    elif [ -f "$1" ]; then
-        say "$1 is $(stat -L -c %s -- "$1") bytes long"
-    fi
-}
-
 # Says what to do after a refusal.
 advise() { # NAME STATUS
     case $1,$2 in

@@ -14,7 +14,7 @@ fn main() -> Result<(), Box<dyn Error>> {
             Ok(verified) => {
                 println!("{} in {}: {}", verified.job(), verified.unit(), String::from_utf8_lossy(&message))
             }
-            Err(refused) => println!("{} {refused}", entry.job),
+            Err(refused) => println!("{} {refused}", entry.unverified_job),
         }
     }
     Ok(())

@@ -234,8 +234,17 @@ impl FileBuilder {
 /// The entry of a file as it stands there.
 impl<'a> From<crate::Entry<'a>> for FileEntry<'a> {
     fn from(entry: crate::Entry<'a>) -> FileEntry<'a> {
-        let crate::Entry { job, station, suite, key_number, nonce, unverified_ad: ad, text, tag, .. } = entry;
-        FileEntry { job, station, suite, key_number, nonce, ad, text, tag }
+        let crate::Entry { suite, key_number, nonce, unverified_ad: ad, text, tag, .. } = entry;
+        FileEntry {
+            job: entry.unverified_job,
+            station: entry.unverified_station,
+            suite,
+            key_number,
+            nonce,
+            ad,
+            text,
+            tag,
+        }
     }
 }
 

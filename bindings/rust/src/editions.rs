@@ -29,7 +29,7 @@ pub fn moved_len(file: &[u8]) -> usize {
 /// let file = std::fs::read("../../samples/day.shift")?;
 /// let mut moved = vec![0; moved_len(&file)];
 /// to_edition2(&file, &mut moved)?;
-/// assert!(ShiftFile::check(&moved)?.entries().all(|entry| entry.station == 0));
+/// assert!(ShiftFile::check(&moved)?.entries().all(|entry| entry.unverified_station == 0));
 ///
 /// let mut back = vec![0; file.len()];
 /// to_edition1(&moved, &mut back)?;

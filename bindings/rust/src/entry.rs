@@ -18,7 +18,7 @@ use alloc::{vec, vec::Vec};
 /// for entry in ShiftFile::check(&bytes)?.entries() {
 ///     let claimed: Unit = entry.unverified_unit;
 ///     let verified = entry.verify(&ring)?;
-///     assert_eq!((verified.job(), verified.unit()), (entry.job, claimed));
+///     assert_eq!((verified.job(), verified.unit()), (entry.unverified_job, claimed));
 /// }
 /// # Ok::<(), Box<dyn std::error::Error>>(())
 /// ```
@@ -31,15 +31,23 @@ use alloc::{vec, vec::Vec};
 /// let file = ShiftFile::check(&bytes).unwrap();
 /// let unit = file.unverified_entry(4103).unwrap().unit();
 /// ```
+///
+/// And no job, whichever way the entry came:
+///
+/// ```compile_fail,E0609
+/// # use snoekeldraf::ShiftFile;
+/// # let bytes = std::fs::read("../../samples/day.shift").unwrap();
+/// let jobs: Vec<u32> = ShiftFile::check(&bytes).unwrap().entries().map(|entry| entry.job).collect();
+/// ```
 #[derive(Clone, Copy, PartialEq, Eq, Debug)]
 #[non_exhaustive]
 pub struct Entry<'a> {
     /// Its row in the table, counted from 0.
     pub row: u32,
     /// The job number in the table. The check found the same in the associated data.
-    pub job: u32,
+    pub unverified_job: u32,
     /// The station number, 0 in edition 1. No tag covers it: it is never verified.
-    pub station: u32,
+    pub unverified_station: u32,
     /// The suite.
     pub suite: Suite,
     /// Which key of the ring, 0 to 15.

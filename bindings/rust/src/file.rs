@@ -142,7 +142,7 @@ impl<'a> ShiftFile<'a> {
     ///
     /// let bytes = std::fs::read("../../samples/day.shift")?;
     /// let file = ShiftFile::check(&bytes)?;
-    /// let jobs: Vec<u32> = file.entries().map(|entry| entry.job).collect();
+    /// let jobs: Vec<u32> = file.entries().map(|entry| entry.unverified_job).collect();
     /// assert_eq!(jobs, [4101, 4102, 4103, 4105, 4110, 4200, 4210, 4211]);
     /// # Ok::<(), Box<dyn std::error::Error>>(())
     /// ```
@@ -189,7 +189,7 @@ impl<'a> ShiftFile<'a> {
     ///
     /// let bytes = std::fs::read("../../samples/stations.shift")?;
     /// let entry = ShiftFile::check(&bytes)?.unverified_entry(4200)?;
-    /// assert_eq!((entry.row, entry.station, entry.suite), (5, 311, Suite::Aes128));
+    /// assert_eq!((entry.row, entry.unverified_station, entry.suite), (5, 311, Suite::Aes128));
     /// # Ok::<(), Box<dyn std::error::Error>>(())
     /// ```
     pub fn unverified_entry(self, job: u32) -> Result<Entry<'a>, Refused> {
@@ -247,8 +247,8 @@ impl<'a> ShiftFile<'a> {
         let after_text = fields.text_at + fields.text_len;
         Ok(Entry {
             row,
-            job: fields.job,
-            station: fields.station,
+            unverified_job: fields.job,
+            unverified_station: fields.station,
             suite,
             key_number: fields.key_number as u8,
             nonce: part(self.bytes, fields.nonce_at, suite.nonce_size() as u32),

@@ -107,7 +107,7 @@ fn tools() {
 fn jobs_reports_and_pairs() {
     let all = some_files();
     for (file, other) in all.iter().zip(all.iter().skip(1)) {
-        let jobs = ShiftFile::check(file).map(|file| file.entries().map(|entry| entry.job).collect());
+        let jobs = ShiftFile::check(file).map(|file| file.entries().map(|entry| entry.unverified_job).collect());
         let jobs: Vec<u32> = jobs.unwrap_or_default();
         for job in jobs.iter().copied().chain([1, 4102]) {
             let opened = ShiftFile::check(file).and_then(|file| file.open_job_vec(&ring(), job));

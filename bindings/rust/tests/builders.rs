@@ -229,7 +229,7 @@ fn from_wrench_to_office() {
         let mut again = FileBuilder::edition2();
         for (entry, message) in ShiftFile::check(&file).unwrap().entries().zip(&messages) {
             let mut out = vec![0; message.len()];
-            assert_eq!(shift::open_job(&file, &samples::ring(), entry.job, &mut out), (0, 0));
+            assert_eq!(shift::open_job(&file, &samples::ring(), entry.unverified_job, &mut out), (0, 0));
             assert_eq!(&out, message);
             again.push(entry.into());
         }

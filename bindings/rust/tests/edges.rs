@@ -98,9 +98,9 @@ fn three_ways_to_open() {
         let Entry { suite, nonce, unverified_ad: ad, text, tag, .. } = entry;
         open(suite, ring.key(entry.key_number).unwrap(), Sealed { nonce, ad, text, tag }, &mut by_parts).unwrap();
         let verified = entry.open(&ring, &mut by_entry).unwrap();
-        assert_eq!(file.open_job(&ring, entry.job, &mut by_job), Ok(verified));
+        assert_eq!(file.open_job(&ring, entry.unverified_job, &mut by_job), Ok(verified));
         assert!(by_parts == by_entry && by_entry == by_job);
-        assert_eq!((entry.verify(&ring), file.verified(&ring, entry.job)), (Ok(verified), Ok(verified)));
+        assert_eq!((entry.verify(&ring), file.verified(&ring, entry.unverified_job)), (Ok(verified), Ok(verified)));
     }
 }
 

@@ -22,7 +22,7 @@ fn entries_are_the_rows(file: &[u8]) {
     while let Some((i, row)) = reader.entry() {
         assert_eq!(entries.len(), shift::count(file) - i);
         let entry = entries.next().unwrap();
-        assert_eq!((entry.row as usize, entry.job, entry.station), (i, row.job, row.station));
+        assert_eq!((entry.row as usize, entry.unverified_job, entry.unverified_station), (i, row.job, row.station));
         assert_eq!((entry.suite.number(), entry.key_number, entry.nonce), (row.suite, row.key, row.nonce()));
         let [ad, text, tag] = [row.associated(), row.text(), row.tag()].map(|range| &file[range]);
         assert_eq!((entry.unverified_ad, entry.text, entry.tag), (ad, text, tag));
@@ -83,7 +83,7 @@ fn entries_of_long_files() {
     }
     let file = files::many_rows(512);
     let checked = ShiftFile::check(&file).unwrap();
-    assert!(checked.entries().map(|entry| entry.job).eq(shift::rows(&file).iter().map(|row| row.job)));
+    assert!(checked.entries().map(|entry| entry.unverified_job).eq(shift::rows(&file).iter().map(|row| row.job)));
 }
 
 #[test]

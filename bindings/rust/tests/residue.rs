@@ -182,17 +182,17 @@ fn files() {
     unseal(&bytes, &ring, &mut draft).unwrap();
     for entry in file.entries() {
         let mut out = vec![0; entry.text.len()];
-        file.open_job(&ring, entry.job, &mut out).unwrap();
+        file.open_job(&ring, entry.unverified_job, &mut out).unwrap();
         let key = &ring_bytes[16 * entry.key_number as usize..][..16];
         let secrets: BTreeSet<[u8; 8]> = pieces(key).chain(pieces(&out)).collect();
         let left = [
-            residue(&secrets, || used(file.open_job(&ring, entry.job, &mut out).unwrap())),
-            residue(&secrets, || used(file.verified(&ring, entry.job).unwrap())),
+            residue(&secrets, || used(file.open_job(&ring, entry.unverified_job, &mut out).unwrap())),
+            residue(&secrets, || used(file.verified(&ring, entry.unverified_job).unwrap())),
             residue(&secrets, || used(entry.open(&ring, &mut out).unwrap())),
             residue(&secrets, || used(entry.verify(&ring).unwrap())),
             residue(&secrets, || unseal(&bytes, &ring, &mut draft).unwrap()),
         ];
-        assert_eq!(left, [0; 5], "job {}", entry.job);
+        assert_eq!(left, [0; 5], "job {}", entry.unverified_job);
     }
     let (draft, secrets) = (read("day.draft"), pieces(&ring_bytes).collect());
     let mut sealed = vec![0; draft.len()];

@@ -1,6 +1,7 @@
 //! What is said where a file, a ring or a call is wrong, and how the run ends.
 
 use crate::desk::{is_root, Desk, AS_NOBODY};
+use snoekeldraf::{FileBuilder, FileEntry, Suite};
 use std::fs::File;
 
 /// A mistyped path is not a supplier's bad file.
@@ -35,8 +36,9 @@ fn a_length_is_said_in_bytes() {
     desk.call("verify /dev/zero --ring ring.keys").ended(1, &["/dev/zero has more than 1,048,576 bytes."]);
     desk.call("list /dev/null").ended(1, &["/dev/null has 0 bytes."]);
     desk.write("short.keys", [0; 255]);
-    desk.call("verify day.shift --ring short.keys").ended(1, &["short.keys: ", "256 bytes", "number 2", "it has 255"]);
-    desk.call("verify day.shift --ring day.shift").ended(1, &["day.shift: ", "number 2", "it has more"]);
+    desk.call("verify day.shift --ring short.keys")
+        .ended(1, &["short.keys: ", "256 bytes", "number 2", "it has 255 bytes"]);
+    desk.call("verify day.shift --ring day.shift").ended(1, &["day.shift: ", "number 2", "it has more than 256 bytes"]);
 }
 
 #[test]
@@ -71,9 +73,29 @@ fn a_row_is_said_with_its_job() {
     let last = draft.len() - 1;
     draft[last] = 1;
     desk.write("tagged.draft", &draft);
-    desk.call("seal tagged.draft out --ring ring.keys").ended(1, &["(number 33, row 6, job 4211)"]);
+    desk.call("seal tagged.draft out --ring ring.keys")
+        .ended(1, &["(number 33, row 6, job 4211)", "`snoekeldraf unseal` makes one"]);
     desk.call("convert stations.shift out --to 1")
-        .ended(1, &["the row's station is not 0 (number 35, row 0, job 4101)"]);
+        .ended(1, &["the row's station is not 0 (number 35, row 0, job 4101)", "keep the file in edition 2"]);
+    let mut twice = desk.read("day.shift");
+    let (first, second) = (8 + 32 * 2, 8 + 32 * 4); // both of suite 3 and key 2; a row's nonce is its last 16 bytes
+    twice.copy_within(first + 16..first + 32, second + 16);
+    desk.write("twice.shift", &twice);
+    desk.call("list twice.shift").ended(1, &["(number 29, row 4, job 4110)", "Do not use this file"]);
+    let mut builder = FileBuilder::edition1();
+    for (job, suite) in [(7u32, Suite::Speck64), (9, Suite::Cham64)] {
+        let ad = [&job.to_le_bytes()[..], &[1]].concat();
+        let (nonce, tag) = (&[1; 15], &[0; 8]);
+        builder.push(FileEntry { job, station: 0, suite, key_number: 2, nonce, ad: &ad, text: b"", tag });
+    }
+    desk.write("resealed.shift", builder.finish().unwrap());
+    desk.call("reseal resealed.shift out --ring ring.keys").ended(
+        1,
+        &["(number 29, row 1, job 9)", "Resealed as suite 3, this entry and another would have one key and nonce"],
+    );
+    let day = desk.read("day.shift");
+    desk.write("cut.shift", &day[..day.len() - 1]);
+    desk.call("list cut.shift").ended(1, &["(number 23)", "Copy or send the file again"]);
     let mut wrong = desk.read("day.shift");
     let last = wrong.len() - 1;
     wrong[last] ^= 1;

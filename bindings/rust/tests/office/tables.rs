@@ -82,6 +82,8 @@ fn wrong_tables_are_refused_with_their_line() {
         desk.write("table.csv", format!("{HEADER}6,3,0,1,,\n{line}"));
         desk.call("draft table.csv a.draft --nonces counter").ended(1, &["table.csv: ", words]);
     }
+    desk.write("table.csv", format!("{HEADER}9,3,0,1,,\n7,3,0,1,,\n9,3,0,1,,\n"));
+    desk.call("draft table.csv a.draft --nonces counter").ended(1, &["line 4, job 9: ", "Line 2 has this job too."]);
     desk.write("table.csv", [HEADER.as_bytes(), b"7,3,0,1,,\xb1 0.5\n"].concat());
     desk.call("draft table.csv a.draft --nonces counter").ended(1, &["line 2 is not UTF-8: save the table as UTF-8"]);
     assert!(!desk.path("a.draft").exists());

@@ -50,7 +50,7 @@ fn fields(a: &Entry, b: &Entry) -> Vec<Field> {
         }
     };
     shown("unit", a.unverified_unit.to_string(), b.unverified_unit.to_string());
-    shown("station", a.station.to_string(), b.station.to_string());
+    shown("station", a.unverified_station.to_string(), b.unverified_station.to_string());
     shown("suite", suite(a.suite), suite(b.suite));
     shown("key", a.key_number.to_string(), b.key_number.to_string());
     shown("length", a.text.len().to_string(), b.text.len().to_string());

@@ -8,7 +8,7 @@ use crate::input::{read_at_most, same_file};
 use crate::nonces::{self, Counter};
 use crate::output::{self, Content};
 use crate::shown;
-use snoekeldraf::{DraftBuilder, DraftEntry, Refused, Suite, Unit};
+use snoekeldraf::{DraftBuilder, DraftEntry, Reason, Refused, Suite, Unit};
 use std::path::Path;
 
 /// A table of jobs is not longer: every byte of the longest draft in hexadecimal, and room for the rest.
@@ -58,11 +58,15 @@ fn draft(jobs: &[Job], counter: &Counter) -> Result<Result<Vec<u8>, Refused>, Fa
 
 /// A refusal with the line of the table that it is about.
 fn refused_job(table: &Path, jobs: &[Job], refused: &Refused) -> Failure {
-    let place = refused.row.and_then(|row| jobs.get(row as usize));
+    let row = refused.row.map(|row| row as usize);
+    let place = row.and_then(|row| jobs.get(row));
     let place = place.map_or(String::new(), |entry| format!(" line {}, job {}:", entry.line, entry.job));
     let mut words = format!("{}:{place} {} (number {})", shown::name(table), refused.words(), refused.number());
-    if refused.number() == 10 {
-        words += "\nUse suite 3 or 6 for new records.";
+    match (refused.reason, row.and_then(|row| jobs.get(row.checked_sub(1)?))) {
+        (Reason::SuiteRetired, _) => words += "\nUse suite 3 or 6 for new records.",
+        // The jobs are sorted: one that is not above the one before is the same.
+        (Reason::RowOrder, Some(before)) => words += &format!("\nLine {} has this job too.", before.line),
+        _ => {}
     }
     Failure::refused(words)
 }

@@ -126,7 +126,7 @@ impl Listing<'_> {
             }
         }
         let wrong: Vec<u32> =
-            rows.iter().filter(|row| row.1 == Verdict::WrongTag).map(|(entry, _)| entry.job).collect();
+            rows.iter().filter(|row| row.1 == Verdict::WrongTag).map(|(entry, _)| entry.unverified_job).collect();
         if wrong.is_empty() {
             return Ok(Status::Done);
         }
@@ -155,7 +155,7 @@ impl Listing<'_> {
         for (entry, verdict) in rows {
             console.line(&csv_line(&[
                 self.path.to_string_lossy().into_owned(),
-                entry.job.to_string(),
+                entry.unverified_job.to_string(),
                 entry.unverified_unit.to_string(),
                 (*verdict == Verdict::Verified).to_string(),
                 station(file, entry).map_or(String::new(), |station| station.to_string()),
@@ -188,7 +188,7 @@ const HEADINGS: [Heading; 7] = [
 
 fn cells(file: ShiftFile, (entry, verdict): &Row) -> [Cell; 7] {
     [
-        entry.job.to_string().into(),
+        entry.unverified_job.to_string().into(),
         verdict.unit(entry).into(),
         station(file, entry).map_or("-".to_owned(), |station| station.to_string()).into(),
         suite(entry.suite).into(),
@@ -200,7 +200,7 @@ fn cells(file: ShiftFile, (entry, verdict): &Row) -> [Cell; 7] {
 
 fn json(file: ShiftFile, (entry, verdict): &Row) -> Json {
     Json::Object(vec![
-        ("job", entry.job.into()),
+        ("job", entry.unverified_job.into()),
         ("unit", Json::text(entry.unverified_unit.to_string())),
         ("unit_verified", Json::Bool(*verdict == Verdict::Verified)),
         ("station", station(file, entry).map_or(Json::Null, Json::from)),
@@ -213,5 +213,5 @@ fn json(file: ShiftFile, (entry, verdict): &Row) -> Json {
 
 /// The station; a file of edition 1 has none.
 fn station(file: ShiftFile, entry: &Entry) -> Option<u32> {
-    (file.edition() == 2).then_some(entry.station)
+    (file.edition() == 2).then_some(entry.unverified_station)
 }

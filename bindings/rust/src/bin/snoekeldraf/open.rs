@@ -98,7 +98,7 @@ fn lines(opened: &Opened, out: Option<&Path>, console: &mut Console) -> Result<(
     console.line(&format!("suite    {}, {}", entry.suite.number(), entry.suite))?;
     console.line(&format!("key      {}", entry.key_number))?;
     if has_station(from) {
-        console.line(&format!("station  {}, claimed: a tag does not cover it", entry.station))?;
+        console.line(&format!("station  {}, claimed: a tag does not cover it", entry.unverified_station))?;
     }
     console.line(&format!("data     {}", shown::bytes(verified.data())))?;
     match out {
@@ -109,7 +109,7 @@ fn lines(opened: &Opened, out: Option<&Path>, console: &mut Console) -> Result<(
 
 fn json(opened: &Opened) -> Json {
     let Opened { from, entry, verified, message } = opened;
-    let station = if has_station(from) { entry.station.into() } else { Json::Null };
+    let station = if has_station(from) { entry.unverified_station.into() } else { Json::Null };
     Json::Object(vec![
         ("file", Json::text(from.path.to_string_lossy())),
         ("job", verified.job().into()),

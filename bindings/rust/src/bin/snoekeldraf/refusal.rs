@@ -31,8 +31,8 @@ impl Takes {
 /// A refused ring.
 pub fn of_ring(path: &Path, length: usize, refused: Refused) -> Failure {
     let has = match length {
-        257.. => "it has more".to_owned(),
-        _ => format!("it has {length}"),
+        257.. => "it has more than 256 bytes".to_owned(),
+        _ => format!("it has {}", shown::count(length, "byte", "bytes")),
     };
     Failure::refused(format!("{}: {refused}; {has}", shown::name(path)))
 }
@@ -89,6 +89,16 @@ fn what_next(input: &Input, takes: Takes, refused: &Refused) -> Option<String> {
             .to_owned(),
         Reason::FileLength => format!("{} has {}.", input.name(), input.length()),
         Reason::FileEdition => format!("This command takes {}.", takes.words()),
+        Reason::FileTotal => "Copy or send the file again: it was cut off, or something was added.".to_owned(),
+        // Resealing also refuses a file that passes the check.
+        Reason::RowNonce if ShiftFile::check(&input.bytes).is_ok() => {
+            "Resealed as suite 3, this entry and another would have one key and nonce. Nothing is written.".to_owned()
+        }
+        Reason::RowNonce => "Do not use this file: entries with one key and nonce may be readable by others. \
+             Tell whoever made it."
+            .to_owned(),
+        Reason::RowTagSet => "This is no draft. `snoekeldraf unseal` makes one of a shift file.".to_owned(),
+        Reason::RowStation => "Edition 1 has no stations: keep the file in edition 2.".to_owned(),
         Reason::NoRow => format!("`snoekeldraf list {}` shows the jobs that there are.", input.name()),
         _ => return None,
     })

@@ -32,7 +32,8 @@ pub fn run(args: &Args, console: &mut Console) -> Result<Status, Failure> {
 fn verify(path: &Path, ring: &Ring, console: &mut Console) -> Result<Status, Failure> {
     let input = Input::read(path)?;
     let file = ShiftFile::check(&input.bytes).map_err(|refused| refusal::of_file(&input, Takes::Either, refused))?;
-    let wrong: Vec<u32> = file.entries().filter(|entry| entry.verify(ring).is_err()).map(|entry| entry.job).collect();
+    let wrong: Vec<u32> =
+        file.entries().filter(|entry| entry.verify(ring).is_err()).map(|entry| entry.unverified_job).collect();
     let of = file.entries().len();
     if wrong.is_empty() {
         let verdict = console.toned("verified", Tone::Good);
