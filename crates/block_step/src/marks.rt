@@ -1,4 +1,4 @@
-// The marks of document 01: the bits that are inlined into byte 15 of Z before a cipher call.
+// The marks of document 01: the bits that are XORed into byte 15 of Z before a cipher call.
 
 // The first block of associated data.
 pub const MARK_FIRST_DATA: u8 = 0x08;
