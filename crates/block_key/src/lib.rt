@@ -23,10 +23,10 @@ fn doubling120(z: Block) -> Block
     let bit = above % 2;
     let top = (above - bit) * 0x80_0000_0000_0000;
     let once = below + (z.a >> 63);
-    let b = once + (below + top);
+    let high = once + (below + top);
     Block {
         a: (z.a << 1) ^ (bit * 0x245),
-        b: b,
+        b: high,
     }
 }
 
@@ -44,10 +44,10 @@ fn mark(z: Block, m: u8) -> Block
 fn next_key_one(z: Block, m: u8) -> Block
     ensures { λ r. ⌜ wide r ≡ nextKey one m (wide z) ⌝ }
 {
-    let r = mark(z, m);
+    let marked = mark(z, m);
     Block {
-        a: doubling(r.a),
-        b: r.b,
+        a: doubling(marked.a),
+        b: marked.b,
     }
 }
 
@@ -55,8 +55,8 @@ fn next_key_one(z: Block, m: u8) -> Block
 fn next_key_two(z: Block, m: u8) -> Block
     ensures { λ r. ⌜ wide r ≡ nextKey two m (wide z) ⌝ }
 {
-    let r = mark(z, m);
-    doubling120(r)
+    let marked = mark(z, m);
+    doubling120(marked)
 }
 
 // The mark, then the doubling of the suite's version.
@@ -81,10 +81,10 @@ pub fn block_key(suite: u8, z: Block, m: u8) -> Keyed
     ensures z { λ r. ⌜ wide (r .z) ≡ keptBehind (versionOf suite) m (wide (r .key)) ⌝ }
 {
     if cipher::is_second(suite) {
-        let k = next_key_two(z, 0);
-        let behind = mark(k, m);
-        return Keyed { key: k, z: behind };
+        let key = next_key_two(z, 0);
+        let kept = mark(key, m);
+        return Keyed { key: key, z: kept };
     }
-    let k = next_key_one(z, m);
-    Keyed { key: k, z: k }
+    let key = next_key_one(z, m);
+    Keyed { key: key, z: key }
 }

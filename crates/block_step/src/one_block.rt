@@ -15,9 +15,9 @@ pub fn absorb_full(tables: &[AesTables], suite: u8, state: State, mark: u8, bloc
     requires { ⌜ TablesFit suite (now tables) × IsSuite suite × (length (now block) ≡ sizeOf suite) ⌝ }
     ensures { λ r. ⌜ Holds suite r (turned (cipherOf suite) mark (twoOf suite state) (messageOf (cipherOf suite) false mark (twoOf suite state) (now (block .entry)))) (oneMore (state .calls)) ⌝ }
 {
-    let t = crate::state::turn(tables, suite, state, mark, block.len());
-    let p = block::whole(block);
-    crate::state::mix(t, p)
+    let enciphered = crate::state::turn(tables, suite, state, mark, block.len());
+    let data = block::whole(block);
+    crate::state::mix(enciphered, data)
 }
 
 // Absorbs the message block of a full block of ciphertext, without writing it anywhere.
@@ -25,12 +25,12 @@ pub fn verify_full(tables: &[AesTables], suite: u8, state: State, mark: u8, bloc
     requires { ⌜ TablesFit suite (now tables) × IsSuite suite × (length (now block) ≡ sizeOf suite) ⌝ }
     ensures { λ r. ⌜ Holds suite r (turned (cipherOf suite) mark (twoOf suite state) (messageOf (cipherOf suite) true mark (twoOf suite state) (now (block .entry)))) (oneMore (state .calls)) ⌝ }
 {
-    let t = crate::state::turn(tables, suite, state, mark, block.len());
-    let x = t.y;
-    let c = block::whole(block);
-    let h = crate::shuffle::shuffled(suite, x, block.len());
-    let p = block::xor(c, h);
-    crate::state::mix(t, p)
+    let enciphered = crate::state::turn(tables, suite, state, mark, block.len());
+    let x = enciphered.y;
+    let ciphertext = block::whole(block);
+    let mask = crate::shuffle::shuffled(suite, x, block.len());
+    let message = block::xor(ciphertext, mask);
+    crate::state::mix(enciphered, message)
 }
 
 // Seals a full block in place: absorbs the message block and overwrites it with the ciphertext.
@@ -39,13 +39,13 @@ pub fn seal_full(tables: &[AesTables], suite: u8, state: State, mark: u8, block:
     ensures text { λ _. ⌜ now (block .exit) ≡ hidden (cipherOf suite) mark (twoOf suite state) (now (block .entry)) ⌝ }
     ensures state { λ r. ⌜ Holds suite r (turned (cipherOf suite) mark (twoOf suite state) (messageOf (cipherOf suite) false mark (twoOf suite state) (now (block .entry)))) (oneMore (state .calls)) ⌝ }
 {
-    let t = crate::state::turn(tables, suite, state, mark, block.len());
-    let x = t.y;
-    let p = block::whole(block);
-    let h = crate::shuffle::shuffled(suite, x, block.len());
-    let c = block::xor(p, h);
-    block::put_whole(c, block);
-    crate::state::mix(t, p)
+    let enciphered = crate::state::turn(tables, suite, state, mark, block.len());
+    let x = enciphered.y;
+    let message = block::whole(block);
+    let mask = crate::shuffle::shuffled(suite, x, block.len());
+    let ciphertext = block::xor(message, mask);
+    block::put_whole(ciphertext, block);
+    crate::state::mix(enciphered, message)
 }
 
 // Opens a full block in place: overwrites the ciphertext with the message block and absorbs that.
@@ -54,13 +54,13 @@ pub fn open_full(tables: &[AesTables], suite: u8, state: State, mark: u8, block:
     ensures text { λ _. ⌜ now (block .exit) ≡ hidden (cipherOf suite) mark (twoOf suite state) (now (block .entry)) ⌝ }
     ensures state { λ r. ⌜ Holds suite r (turned (cipherOf suite) mark (twoOf suite state) (messageOf (cipherOf suite) true mark (twoOf suite state) (now (block .entry)))) (oneMore (state .calls)) ⌝ }
 {
-    let t = crate::state::turn(tables, suite, state, mark, block.len());
-    let x = t.y;
-    let c = block::whole(block);
-    let h = crate::shuffle::shuffled(suite, x, block.len());
-    let message = block::xor(c, h);
-    block::put_whole(message, block);
-    crate::state::mix(t, message)
+    let enciphered = crate::state::turn(tables, suite, state, mark, block.len());
+    let x = enciphered.y;
+    let ciphertext = block::whole(block);
+    let mask = crate::shuffle::shuffled(suite, x, block.len());
+    let opened = block::xor(ciphertext, mask);
+    block::put_whole(opened, block);
+    crate::state::mix(enciphered, opened)
 }
 
 // Absorbs a short block of associated data, or the message block of a short block of ciphertext, without writing it anywhere.
@@ -76,15 +76,15 @@ pub fn absorb_short(
     ensures { λ r. ⌜ Holds suite r (turned (cipherOf suite) mark (twoOf suite state) (messageOf (cipherOf suite) opening mark (twoOf suite state) (now (block .entry)))) (oneMore (state .calls)) ⌝ }
 {
     let n = cipher::size_of(suite);
-    let t = crate::state::turn(tables, suite, state, mark, n);
-    let p = byte_runs::filled(block);
+    let enciphered = crate::state::turn(tables, suite, state, mark, n);
+    let given = byte_runs::filled(block);
     if opening {
-        let x = t.y;
-        let h = crate::shuffle::shuffled(suite, x, n);
-        let c = block::xor(p, h);
-        return crate::state::mix(t, crate::pad::padded(c, block.len()));
+        let x = enciphered.y;
+        let mask = crate::shuffle::shuffled(suite, x, n);
+        let message = block::xor(given, mask);
+        return crate::state::mix(enciphered, crate::pad::padded(message, block.len()));
     }
-    crate::state::mix(t, crate::pad::padded(p, block.len()))
+    crate::state::mix(enciphered, crate::pad::padded(given, block.len()))
 }
 
 // Seals or opens a short block in place: absorbs the message block and overwrites the text with the output.
@@ -100,16 +100,16 @@ pub fn crypt_short(
     ensures text { λ _. ⌜ now (block .exit) ≡ hidden (cipherOf suite) mark (twoOf suite state) (now (block .entry)) ⌝ }
     ensures state { λ r. ⌜ Holds suite r (turned (cipherOf suite) mark (twoOf suite state) (messageOf (cipherOf suite) opening mark (twoOf suite state) (now (block .entry)))) (oneMore (state .calls)) ⌝ }
 {
-    let k = block.len();
+    let len = block.len();
     let n = cipher::size_of(suite);
-    let t = crate::state::turn(tables, suite, state, mark, n);
-    let x = t.y;
-    let p = byte_runs::filled(block);
-    let h = crate::shuffle::shuffled(suite, x, n);
-    let c = block::xor(p, h);
-    byte_runs::put(c, block);
+    let enciphered = crate::state::turn(tables, suite, state, mark, n);
+    let x = enciphered.y;
+    let given = byte_runs::filled(block);
+    let mask = crate::shuffle::shuffled(suite, x, n);
+    let output = block::xor(given, mask);
+    byte_runs::put(output, block);
     if opening {
-        return crate::state::mix(t, crate::pad::padded(c, k));
+        return crate::state::mix(enciphered, crate::pad::padded(output, len));
     }
-    crate::state::mix(t, crate::pad::padded(p, k))
+    crate::state::mix(enciphered, crate::pad::padded(given, len))
 }

@@ -12,8 +12,8 @@ fn padded8(x: u64, k: u32) -> u64
     requires { ⌜ k < 8 ⌝ }
     ensures { λ r. ⌜ bytes 8 r ≡ pad 8 (take k (bytes 8 x)) ⌝ }
 {
-    let q = 1u64 << (8 * k);
-    x % q + q
+    let marker = 1u64 << (8 * k);
+    x % marker + marker
 }
 
 // The first k bytes of a block, then 01, then zeros, up to 16 bytes: the first n bytes are the block padded to n.

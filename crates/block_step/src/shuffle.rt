@@ -14,9 +14,9 @@ ghost use Rattle.block_step.specs.Two.{Clean};
 fn shuffled16(x: Block) -> Block
     ensures { λ r. ⌜ wide r ≡ shuffle 16 (wide x) ⌝ }
 {
-    let t = rotl32((x.b % 0x1_0000_0000) as u32, 31) as u64;
+    let rotated = rotl32((x.b % 0x1_0000_0000) as u32, 31) as u64;
     Block {
-        a: x.b / 0x1_0000_0000 + 0x1_0000_0000 * t,
+        a: x.b / 0x1_0000_0000 + 0x1_0000_0000 * rotated,
         b: x.a,
     }
 }
@@ -25,9 +25,9 @@ fn shuffled16(x: Block) -> Block
 fn shuffled8(x: u64) -> u64
     ensures { λ r. ⌜ bytes 8 r ≡ shuffle 8 (bytes 8 x) ⌝ }
 {
-    let h = x / 0x1_0000_0000;
-    let t = rotl16((h % 0x1_0000) as u16, 15) as u64;
-    h / 0x1_0000 + 0x1_0000_0000 * (x % 0x1_0000_0000) + 0x1_0000 * t
+    let high = x / 0x1_0000_0000;
+    let rotated = rotl16((high % 0x1_0000) as u16, 15) as u64;
+    high / 0x1_0000 + 0x1_0000_0000 * (x % 0x1_0000_0000) + 0x1_0000 * rotated
 }
 
 // Of a block of the suite's size n, padded with zeros.

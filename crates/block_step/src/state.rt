@@ -24,20 +24,20 @@ pub fn start(tables: &[AesTables], suite: u8, key: &[u8], nonce: &[u8]) -> State
 {
     let k = block::sixteen(key);
     if cipher::size_of(suite) == 16 {
-        let v = block::sixteen(nonce);
+        let nonce_block = block::sixteen(nonce);
         // Constructed where it is borrowed: a borrowed value is spilled to the stack where it is defined, and an 8-byte block needs no spill.
         let key = Block { a: k.a, b: k.b };
-        let z = cipher::encipher16(tables, suite, key, v);
+        let z = cipher::encipher16(tables, suite, key, nonce_block);
         return State {
             y: k,
             z: z,
             calls: 1,
         };
     }
-    let v = block::fifteen(nonce);
+    let nonce_block = block::fifteen(nonce);
     let zero = Block { a: 0, b: 0 };
     let y = cipher::encipher(tables, suite, k, zero);
-    let z = block::xor(k, v);
+    let z = block::xor(k, nonce_block);
     State {
         y: y,
         z: z,
@@ -53,12 +53,12 @@ pub(crate) fn image(tables: &[AesTables], suite: u8, n: usize, key: Block, block
 {
     if n == 16 {
         // As in `start`.
-        let k = Block { a: key.a, b: key.b };
-        let b = Block {
+        let key_copy = Block { a: key.a, b: key.b };
+        let block_copy = Block {
             a: block.a,
             b: block.b,
         };
-        return cipher::encipher16(tables, suite, k, b);
+        return cipher::encipher16(tables, suite, key_copy, block_copy);
     }
     Block {
         a: cipher::encipher8(suite, key.a, key.b, block.a),
@@ -73,10 +73,10 @@ pub(crate) fn turn(tables: &[AesTables], suite: u8, s: State, m: u8, n: usize) -
 {
     let y = s.y;
     let z0 = s.z;
-    let b = block_key::block_key(suite, z0, m);
-    let k = b.key;
-    let z = b.z;
-    let x = image(tables, suite, n, k, y);
+    let keyed = block_key::block_key(suite, z0, m);
+    let key = keyed.key;
+    let z = keyed.z;
+    let x = image(tables, suite, n, key, y);
     State {
         y: x,
         z: z,
@@ -91,9 +91,9 @@ pub(crate) fn mix(s: State, p: Block) -> State
 {
     let y = s.y;
     let z = s.z;
-    let w = block::xor(y, p);
+    let mixed = block::xor(y, p);
     State {
-        y: w,
+        y: mixed,
         z: z,
         calls: s.calls,
     }

@@ -27,11 +27,11 @@ pub fn tag_of(tables: &[AesTables], suite: u8, state: State) -> TagAndCalls
 {
     let y = state.y;
     let z = state.z;
-    let k = block_key::next_key(suite, z, MARK_TAG);
+    let key = block_key::next_key(suite, z, MARK_TAG);
     let n = cipher::size_of(suite);
-    let t = crate::state::image(tables, suite, n, k, y);
+    let tag = crate::state::image(tables, suite, n, key, y);
     TagAndCalls {
-        tag: t,
+        tag: tag,
         calls: std::num::wrapping_add_u64(state.calls, 1),
     }
 }

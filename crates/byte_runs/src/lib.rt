@@ -53,13 +53,13 @@ pub fn filled_bytes(front: &[u8]) -> [u8; 16]
     requires { ⌜ length (now front) ≤ 16 ⌝ }
     ensures { λ r. ⌜ r ≡ filled (now (front .entry)) ⌝ }
 {
-    let mut r = [0u8; 16];
+    let mut sixteen = [0u8; 16];
     let mut i: usize = 0;
     while i < front.len() {
-        r[i] = front[i];
+        sixteen[i] = front[i];
         i += 1;
     }
-    r
+    sixteen
 }
 
 // At most sixteen bytes, padded with zeros, as a block.

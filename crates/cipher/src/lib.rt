@@ -87,33 +87,33 @@ fn by_aes(tables: &[AesTables], key: Block, block: Block) -> Block
     requires { ⌜ Full (now tables) ⌝ }
     ensures { λ r. ⌜ wide r ≡ cipher (wide key) (wide block) ⌝ }
 {
-    let k = block::bytes_of(key);
-    let b = block::bytes_of(block);
-    block::block_of(aes_tables::encrypt_with(&tables[0], k, b))
+    let key_bytes = block::bytes_of(key);
+    let block_bytes = block::bytes_of(block);
+    block::block_of(aes_tables::encrypt_with(&tables[0], key_bytes, block_bytes))
 }
 
 fn by_cham128(key: Block, block: Block) -> Block
     ensures { λ r. ⌜ wide r ≡ cham 32 (wide key) (wide block) ⌝ }
 {
-    let k = block::bytes_of(key);
-    let b = block::bytes_of(block);
-    block::block_of(cham128::encrypt(k, b))
+    let key_bytes = block::bytes_of(key);
+    let block_bytes = block::bytes_of(block);
+    block::block_of(cham128::encrypt(key_bytes, block_bytes))
 }
 
 fn by_speck(key0: u64, key1: u64, block: u64) -> u64
     ensures { λ r. ⌜ bytes 8 r ≡ speck (bytes 8 key0 ++ bytes 8 key1) (bytes 8 block) ⌝ }
 {
-    let k = block::bytes_of(Block { a: key0, b: key1 });
-    let b = block::bytes8(block);
-    block::number8(speck::encrypt(k, b))
+    let key_bytes = block::bytes_of(Block { a: key0, b: key1 });
+    let block_bytes = block::bytes8(block);
+    block::number8(speck::encrypt(key_bytes, block_bytes))
 }
 
 fn by_cham64(key0: u64, key1: u64, block: u64) -> u64
     ensures { λ r. ⌜ bytes 8 r ≡ cham 16 (bytes 8 key0 ++ bytes 8 key1) (bytes 8 block) ⌝ }
 {
-    let k = block::bytes_of(Block { a: key0, b: key1 });
-    let b = block::bytes8(block);
-    block::number8(cham64::encrypt(k, b))
+    let key_bytes = block::bytes_of(Block { a: key0, b: key1 });
+    let block_bytes = block::bytes8(block);
+    block::number8(cham64::encrypt(key_bytes, block_bytes))
 }
 
 // The encryption of a block of 16 bytes.

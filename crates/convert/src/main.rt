@@ -2,44 +2,57 @@
 //
 // Prints status and row on one line. OUT is written if the status is 0, and otherwise unchanged. A file that cannot
 // be read counts as zero bytes. The program takes files up to the format's 1,048,576 bytes (longer: 20).
+use shift_format::limits::MAX_FILE;
+use shift_format::limits::MAX_ROWS;
 use status::checked::Answer;
 ghost use Prim.Native.Nat.{_≤_};
 
-// Argument i names the output.
-fn say(a: Answer, out: &[u8], i: usize) {
-    program_files::answered(a.number, a.row, out, i);
+// The argument names the output.
+fn say(answer: Answer, out: &[u8], argument: usize) {
+    program_files::answered(answer.number, answer.row, out, argument);
 }
 
-fn run(back: bool, file: &[u8], i: usize, out: &mut [u8]) {
+fn run(back: bool, file: &[u8], argument: usize, out: &mut [u8]) {
     if back {
-        say(shift_editions::to_edition1(file, out).answer(), out, i);
+        say(
+            shift_editions::to_edition1(file, out).answer(),
+            out,
+            argument,
+        );
     } else {
-        say(shift_editions::to_edition2(file, out).answer(), out, i);
+        say(
+            shift_editions::to_edition2(file, out).answer(),
+            out,
+            argument,
+        );
     }
 }
 
 // An output of the moved file's length; the buffer holds 512 stations more than the file, so the test always holds.
-fn run_in(back: bool, file: &[u8], i: usize, out: &mut [u8]) {
+fn run_in(back: bool, file: &[u8], argument: usize, out: &mut [u8]) {
     let n = shift_editions::moved_length(file);
     if n <= out.len() {
-        run(back, file, i, &mut out[0..n]);
+        run(back, file, argument, &mut out[0..n]);
     }
 }
 
-// Zeros for a moved file: 1,048,576 bytes, and 512 stations more. A function of its own: the prover carries no array of this
+// The most bytes of a moved file: as a shift file, and a station of four bytes more for each row.
+const MOVED_ROOM: usize = MAX_FILE + 4 * MAX_ROWS;
+
+// Zeros for a moved file. A function of its own: the prover carries no array of this
 // length that stands in the body where it is used.
-fn moved_room() -> [u8; 1050624] {
-    [0u8; 1050624]
+fn moved_room() -> [u8; MOVED_ROOM] {
+    [0u8; MOVED_ROOM]
 }
 
 // Argument i names the file, the next one the output.
 fn convert(back: bool, i: usize)
     requires { ⌜ i ≤ 2 ⌝ }
 {
-    let mut f = program_text::read::file_room();
-    let mut o = moved_room();
-    let file = program_files::load(i, &mut f);
-    run_in(back, file, i + 1, &mut o);
+    let mut file_buf = program_text::read::file_room();
+    let mut out_buf = moved_room();
+    let file = program_files::load(i, &mut file_buf);
+    run_in(back, file, i + 1, &mut out_buf);
 }
 
 fn main() {

@@ -3,23 +3,26 @@
 // Prints number, file (1 the amendment, 2 the day's, 0 where neither has the job) and row on one line and, where the
 // number is 0, what the entry holds, a line for each thing (`program_reports::current`). A file that cannot be read counts as zero
 // bytes. The program takes files up to the format's 1,048,576 bytes each (longer: 20).
+use program_files::NO_JOB;
+use program_text::read::RING_ROOM;
+
 fn run<'a>(amendment: &'a [u8], day: &'a [u8], job: u32) {
-    let mut r = [0u8; 257];
+    let mut ring_buf = [0u8; RING_ROOM];
     let mut out = program_reports::page();
-    let ring = program_files::load(3, &mut r);
+    let ring = program_files::load(3, &mut ring_buf);
     let n = program_reports::current(amendment, day, ring, job, &mut out);
     program_text::text::write(&out, n);
 }
 
 fn main() {
     let job = program_files::job(4);
-    if os::arg_count() != 5 || 4294967295 < job {
+    if os::arg_count() != 5 || NO_JOB <= job {
         program_files::usage(b"current AMENDMENT DAY RING JOB\n");
         return;
     }
-    let mut a = program_text::read::file_room();
-    let mut d = program_text::read::file_room();
-    let amendment = program_files::load(1, &mut a);
-    let day = program_files::load(2, &mut d);
+    let mut amendment_buf = program_text::read::file_room();
+    let mut day_buf = program_text::read::file_room();
+    let amendment = program_files::load(1, &mut amendment_buf);
+    let day = program_files::load(2, &mut day_buf);
     run(amendment, day, job as u32);
 }

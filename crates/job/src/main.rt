@@ -2,17 +2,20 @@
 //
 // Prints number and row on one line and, where the number is 0, what the entry holds, a line for each thing (`program_reports::job`).
 // A file that cannot be read counts as zero bytes. The program takes files up to the format's 1,048,576 bytes (longer: 20).
+use program_files::NO_JOB;
+use program_text::read::RING_ROOM;
+
 fn main() {
     let job = program_files::job(3);
-    if os::arg_count() != 4 || 4294967295 < job {
+    if os::arg_count() != 4 || NO_JOB <= job {
         program_files::usage(b"job FILE RING JOB\n");
         return;
     }
-    let mut f = program_text::read::file_room();
-    let mut r = [0u8; 257];
+    let mut file_buf = program_text::read::file_room();
+    let mut ring_buf = [0u8; RING_ROOM];
     let mut out = program_reports::page();
-    let file = program_files::load(1, &mut f);
-    let ring = program_files::load(2, &mut r);
+    let file = program_files::load(1, &mut file_buf);
+    let ring = program_files::load(2, &mut ring_buf);
     let n = program_reports::job(file, ring, job as u32, &mut out);
     program_text::text::write(&out, n);
 }

@@ -12,28 +12,31 @@ pub fn usage(text: &[u8]) {
     io::write_all(STDERR_FILENO, text);
 }
 
+// What stands for no job: one more than the last job number, which has 32 bits.
+pub const NO_JOB: u64 = 4294967296;
+
 // The number that the digits spell; 4,294,967,296 if they spell no number of 32 bits.
-fn digit(n: u64, b: u8) -> u64
+fn digit(n: u64, byte: u8) -> u64
     requires { ⌜ n ≤ 4294967296 ⌝ }
     ensures { λ r. ⌜ r ≤ 4294967296 ⌝ }
 {
-    if b < 48 || 57 < b {
-        return 4294967296;
+    if byte < 48 || 57 < byte {
+        return NO_JOB;
     }
-    let m = n * 10 + (b - 48) as u64;
-    if 4294967296 < m { 4294967296 } else { m }
+    let value = n * 10 + (byte - 48) as u64;
+    if NO_JOB < value { NO_JOB } else { value }
 }
 
 fn spelled(digits: &[u8]) -> u64
     ensures { λ r. ⌜ r ≤ 4294967296 ⌝ }
 {
-    let mut n: u64 = 0;
+    let mut value: u64 = 0;
     let mut i: usize = 0;
     while i < digits.len() {
-        n = digit(n, digits[i]);
+        value = digit(value, digits[i]);
         i += 1;
     }
-    if digits.len() == 0 { 4294967296 } else { n }
+    if digits.len() == 0 { NO_JOB } else { value }
 }
 
 // The job that an argument spells; 4,294,967,296 if it spells no number of 32 bits.
@@ -43,13 +46,13 @@ pub fn job(argument: usize) -> u64 {
     spelled(&digits[..n])
 }
 
-fn same(x: &[u8], y: &[u8]) -> bool {
-    if x.len() != y.len() {
+fn same(first: &[u8], second: &[u8]) -> bool {
+    if first.len() != second.len() {
         return false;
     }
     let mut i: usize = 0;
-    while i < x.len() {
-        if x[i] != y[i] {
+    while i < first.len() {
+        if first[i] != second[i] {
             return false;
         }
         i += 1;

@@ -118,9 +118,9 @@ fn save_as(path: &[u8], bytes: &[u8]) -> bool {
     placed(path, bytes)
 }
 
-// Writes the file that argument i names; false if that fails, and then the old file is unchanged.
-pub(crate) fn save(i: usize, bytes: &[u8]) -> bool {
+// Writes the file that an argument names; false if that fails, and then the old file is unchanged.
+pub(crate) fn save(argument: usize, bytes: &[u8]) -> bool {
     let mut path = io::buffer();
-    let n = os::arg(i, &mut path);
+    let n = os::arg(argument, &mut path);
     save_as(&path[..n], bytes)
 }

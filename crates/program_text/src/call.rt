@@ -3,6 +3,9 @@ use libc::STDIN_FILENO;
 use libc::STDOUT_FILENO;
 ghost use Prim.Native.Nat.{_<_};
 
+// The bytes of a call's head.
+pub const HEAD_LEN: usize = 30;
+
 // What every call begins with: op, suite, job and six numbers, most of them lengths; 0 if a call has none.
 pub struct Call {
     pub op: u8,
@@ -16,13 +19,13 @@ pub struct Call {
     pub sixth: usize,
 }
 
-fn number(head: &[u8; 30], at: usize) -> u32
+fn number(head: &[u8; HEAD_LEN], at: usize) -> u32
     requires { ⌜ at < 27 ⌝ }
 {
     word::le32(head[at], head[at + 1], head[at + 2], head[at + 3])
 }
 
-pub fn call_of(head: &[u8; 30]) -> Call {
+pub fn call_of(head: &[u8; HEAD_LEN]) -> Call {
     Call {
         op: head[0],
         suite: head[1],
@@ -45,12 +48,12 @@ fn said(good: bool) -> bool {
 }
 
 // Reads the head of the next call; false at the end of the input, or if it ends inside the head.
-pub fn next(head: &mut [u8; 30]) -> bool {
+pub fn next(head: &mut [u8; HEAD_LEN]) -> bool {
     let n = io::read_full(STDIN_FILENO, head);
     if n == 0 {
         return false;
     }
-    said(n == 30)
+    said(n == HEAD_LEN)
 }
 
 // Writes the lines of a call, the first len bytes of a text; false if there are none: the call was bad.

@@ -16,13 +16,13 @@ pub fn fold_from(fold: u64, bytes: &[u8]) -> u64
     requires { ⌜ fold < 4294967291 ⌝ }
     ensures { λ r. ⌜ (r ≡ foldFrom fold (now (bytes .entry))) × (r < 4294967291) ⌝ }
 {
-    let mut t = fold;
+    let mut sum = fold;
     let mut i: usize = 0;
     while i < bytes.len() {
-        t = folded(t, bytes[i]);
+        sum = folded(sum, bytes[i]);
         i += 1;
     }
-    t
+    sum
 }
 
 // One number for all the bytes, modulo the largest prime below 2^32.

@@ -1,13 +1,20 @@
 // Reading.
 use libc::STDIN_FILENO;
+use shift_format::limits::MAX_FILE;
+use shift_format::limits::RING_LEN;
 ghost use mathlib.Core.Path.{_≡_};
 ghost use lib.ListN.{take, replicate};
 
-// Zeros for a file of 1,048,576 bytes, the format's limit, and one byte more.
-pub fn file_room() -> [u8; 1048577]
+// The most bytes of a shift file, and of a ring, and one byte more: a file that is longer fills the whole buffer.
+const FILE_ROOM: usize = MAX_FILE + 1;
+
+pub const RING_ROOM: usize = RING_LEN + 1;
+
+// Zeros for a shift file, with the one byte more.
+pub fn file_room() -> [u8; FILE_ROOM]
     ensures { λ r. ⌜ r ≡ replicate 1048577 0 ⌝ }
 {
-    [0u8; 1048577]
+    [0u8; FILE_ROOM]
 }
 
 // The first len bytes of buf, or all of buf if it is shorter.

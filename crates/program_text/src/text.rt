@@ -33,8 +33,8 @@ pub fn put(out: &mut [u8], at: usize, bytes: &[u8]) -> usize {
 // A number in decimal.
 pub fn number(out: &mut [u8], at: usize, value: u64) -> usize {
     let mut digits = [0u8; 20];
-    let k = io::decimal(value, &mut digits);
-    put(out, at, &digits[..k])
+    let len = io::decimal(value, &mut digits);
+    put(out, at, &digits[..len])
 }
 
 // A space and a number.
@@ -46,8 +46,8 @@ pub fn and_number(out: &mut [u8], at: usize, value: u64) -> usize {
 // A number in hexadecimal, of at least so many digits.
 pub fn hex_number(out: &mut [u8], at: usize, value: u64, width: usize) -> usize {
     let mut digits = [0u8; 16];
-    let k = io::hex(value, width, &mut digits);
-    put(out, at, &digits[..k])
+    let len = io::hex(value, width, &mut digits);
+    put(out, at, &digits[..len])
 }
 
 // The two hex digits of a byte.

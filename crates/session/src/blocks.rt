@@ -28,13 +28,13 @@ fn joined(held: [u8; 16], h: usize, p: &[u8]) -> [u8; 16]
     requires { ⌜ h + length (now p) ≤ 16 ⌝ }
     ensures { λ r. ⌜ r ≡ filled (take h held ++ now (p .entry)) ⌝ }
 {
-    let mut r = byte_runs::filled_bytes(&held[0..h]);
+    let mut sixteen = byte_runs::filled_bytes(&held[0..h]);
     let mut j: usize = 0;
     while j < p.len() {
-        r[h + j] = p[j];
+        sixteen[h + j] = p[j];
         j += 1;
     }
-    r
+    sixteen
 }
 
 // Absorbs the whole blocks of ad, none of them the first, and buffers the rest.

@@ -35,9 +35,9 @@ fn clean(suite: u8, y: Block) -> Block
 fn packed(suite: u8, f: Absorbed, ad_total: usize, text_total: usize) -> Session
     ensures { λ r. ⌜ asValue r ≡ valueOf suite (twoOf suite (f .s)) (f .held) «ad_total» «text_total» ⌝ }
 {
-    let s = f.s;
-    let y0 = s.y;
-    let z = s.z;
+    let state = f.s;
+    let y0 = state.y;
+    let z = state.z;
     let held = f.held;
     let y = clean(suite, y0);
     Session {
@@ -82,9 +82,17 @@ pub(crate) fn started(tables: &[AesTables], suite: u8, key: &[u8], nonce: &[u8])
     requires { ⌜ TablesFit suite (now tables) × (startNumber suite (length (now key)) (length (now nonce)) ≡ 0) ⌝ }
     ensures { λ r. ⌜ gives r [] [] ≡ starting suite (now (key .entry)) (now (nonce .entry)) ⌝ }
 {
-    let s = block_step::state::start(tables, suite, key, nonce);
+    let state = block_step::state::start(tables, suite, key, nonce);
     let zeros = [0u8; 16];
-    let next = packed(suite, Absorbed { s: s, held: zeros }, 0, 0);
+    let next = packed(
+        suite,
+        Absorbed {
+            s: state,
+            held: zeros,
+        },
+        0,
+        0,
+    );
     Step {
         next: next,
         number: 0,
@@ -112,14 +120,14 @@ pub(crate) fn take_in(s: Session, part: &[u8]) -> Step
     let ad_total = s.ad_total;
     let text_total = s.text_total;
     let n = cipher::size_of(suite);
-    let m = first_mark(suite, MARK_FIRST_DATA, ad_total);
-    let h = ad_total % n;
+    let mark = first_mark(suite, MARK_FIRST_DATA, ad_total);
+    let held_len = ad_total % n;
     let two = State {
         y: y,
         z: z,
         calls: 0,
     };
-    let absorbed = crate::blocks::absorb_part(suite, two, m, held, h, part);
+    let absorbed = crate::blocks::absorb_part(suite, two, mark, held, held_len, part);
     let next = packed(suite, absorbed, ad_total + part.len(), text_total);
     Step {
         next: next,
@@ -160,12 +168,12 @@ fn begin(s: Session) -> State
         return two;
     }
     let n = cipher::size_of(suite);
-    let h = ad_total % n;
-    if h == 0 {
+    let held_len = ad_total % n;
+    if held_len == 0 {
         return two;
     }
-    let m = first_mark(suite, MARK_FIRST_DATA, ad_total);
-    absorb_last(suite, two, m ^ MARK_SHORT_DATA, &held[0..h])
+    let mark = first_mark(suite, MARK_FIRST_DATA, ad_total);
+    absorb_last(suite, two, mark ^ MARK_SHORT_DATA, &held[0..held_len])
 }
 
 // The same as `begin`, without a call if the message has begun.
@@ -197,9 +205,9 @@ pub(crate) fn seal_in(s: Session, part: &[u8], out: &mut [u8]) -> Step
     let held = s.held;
     let two = going(s);
     let n = cipher::size_of(suite);
-    let m = first_mark(suite, MARK_FIRST_TEXT, text_total);
-    let h = text_total % n;
-    let sealed = crate::blocks::crypt_part(suite, two, m, held, h, part, out);
+    let mark = first_mark(suite, MARK_FIRST_TEXT, text_total);
+    let held_len = text_total % n;
+    let sealed = crate::blocks::crypt_part(suite, two, mark, held, held_len, part, out);
     let state = sealed.s;
     let buffered = sealed.held;
     let next = packed(
@@ -228,9 +236,9 @@ pub(crate) fn close(tables: &[AesTables], s: Session, out: &mut [u8], tag: &mut 
     let held = s.held;
     let two = begin(s);
     let n = cipher::size_of(suite);
-    let m = first_mark(suite, MARK_FIRST_TEXT, text_total);
-    let h = text_total % n;
-    let state = crate::blocks::last_in(tables, suite, two, m, held, h, out);
+    let mark = first_mark(suite, MARK_FIRST_TEXT, text_total);
+    let held_len = text_total % n;
+    let state = crate::blocks::last_in(tables, suite, two, mark, held, held_len, out);
     let last = block_step::tag::tag_of(tables, suite, state);
     let computed = last.tag;
     byte_runs::put(computed, tag);
@@ -238,6 +246,6 @@ pub(crate) fn close(tables: &[AesTables], s: Session, out: &mut [u8], tag: &mut 
     Step {
         next: next,
         number: 0,
-        count: h,
+        count: held_len,
     }
 }

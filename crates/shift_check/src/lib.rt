@@ -37,8 +37,8 @@ pub fn check_head(low: u16, high: u16, file: &[u8]) -> Checked
     if MAX_FILE < file.len() {
         return Checked::Refused(Refusal::Size);
     }
-    let e = get16(file, 0);
-    if outside(low, high, e) {
+    let edition = get16(file, 0);
+    if outside(low, high, edition) {
         return Checked::Refused(Refusal::Edition);
     }
     let n = count(file);
@@ -48,7 +48,7 @@ pub fn check_head(low: u16, high: u16, file: &[u8]) -> Checked
     if get32(file, 4) as usize != file.len() {
         return Checked::Refused(Refusal::Total);
     }
-    if file.len() < row_start(row_size(e), n) {
+    if file.len() < row_start(row_size(edition), n) {
         return Checked::Refused(Refusal::Table);
     }
     Checked::Passed
@@ -63,15 +63,15 @@ fn check_rows(size: usize, file: &[u8], rows: usize) -> Checked
     let mut seen = [0u64; 128];
     let mut i: usize = 0;
     while i < rows {
-        let x = mark(size, file, i);
-        let marked = has(&seen, x);
+        let hash = mark(size, file, i);
+        let marked = has(&seen, hash);
         match check_row(size, file, rows, i, marked, start) {
             RowCheck::Bad(fault) => {
                 return Checked::Refused(Refusal::InRow(fault, i));
             }
             RowCheck::Sound => {}
         }
-        put(&mut seen, x);
+        put(&mut seen, hash);
         i += 1;
         start = body_start(size, file, rows, i);
     }

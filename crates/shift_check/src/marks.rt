@@ -19,8 +19,8 @@ fn fold(a: u64, b: u64) -> u64
 fn mix(suite: u8, key: u8, x: u64) -> u64
     ensures { λ r. ⌜ r ≡ mixed suite key x ⌝ }
 {
-    let k = suite as u64 * 256 + key as u64;
-    (x % 0x1_0000_0000) * 0x71E5_4147 + (x >> 32) * 0x7764_E943 + k * 0x4045_02D3
+    let suite_and_key = suite as u64 * 256 + key as u64;
+    (x % 0x1_0000_0000) * 0x71E5_4147 + (x >> 32) * 0x7764_E943 + suite_and_key * 0x4045_02D3
 }
 
 // The hash of a row.

@@ -69,18 +69,18 @@ pub(crate) fn same_entry(f: &[u8], g: &[u8], i: usize, j: usize) -> bool
     requires { ⌜ EntryIn (rowSizeOf (now f)) (now f) i × EntryIn (rowSizeOf (now g)) (now g) j ⌝ }
     ensures { λ r. ⌜ r ≡ sameEntry (now (f .entry)) (now (g .entry)) i j ⌝ }
 {
-    let v = row_size_of(f);
-    let w = row_size_of(g);
-    let x = row_at(v, f, i);
-    let y = row_at(w, g, j);
-    if !same_fields(x, y) {
+    let first_size = row_size_of(f);
+    let second_size = row_size_of(g);
+    let first_row = row_at(first_size, f, i);
+    let second_row = row_at(second_size, g, j);
+    if !same_fields(first_row, second_row) {
         return false;
     }
     if station_of(f, i) != station_of(g, j) {
         return false;
     }
-    if !same_bytes(nonce_at(v, f, i), nonce_at(w, g, j)) {
+    if !same_bytes(nonce_at(first_size, f, i), nonce_at(second_size, g, j)) {
         return false;
     }
-    same_bytes(body_of(f, x), body_of(g, y))
+    same_bytes(body_of(f, first_row), body_of(g, second_row))
 }

@@ -35,11 +35,11 @@ pub enum Compared {
 fn refused_in(k: u8, x: Refusal) -> Finding
     ensures { λ r. ⌜ r ≡ refusedIn k (refusalAnswer x) ⌝ }
 {
-    let a = x.answer();
+    let answer = x.answer();
     Finding {
-        number: a.number,
+        number: answer.number,
         file: k,
-        row: a.row,
+        row: answer.row,
         first: 0,
         second: 0,
         differ: 0,
@@ -51,16 +51,16 @@ impl Compared {
         ensures { λ r. ⌜ r ≡ findingOf self ⌝ }
     {
         match self {
-            Compared::Done(a, b, c) => Finding {
+            Compared::Done(first, second, differ) => Finding {
                 number: 0,
                 file: 0,
                 row: 0,
-                first: a,
-                second: b,
-                differ: c,
+                first: first,
+                second: second,
+                differ: differ,
             },
-            Compared::First(x) => refused_in(1, x),
-            Compared::Second(x) => refused_in(2, x),
+            Compared::First(refusal) => refused_in(1, refusal),
+            Compared::Second(refusal) => refused_in(2, refusal),
             Compared::Room => Finding {
                 number: 36,
                 file: 0,
@@ -95,8 +95,8 @@ fn no_room(f: &[u8], g: &[u8], first: &mut [u32], second: &mut [u32], differ: &m
     if !too_long(most(f, g), first.len(), second.len(), differ.len()) {
         return false;
     }
-    let n = pass(f, g, false, first, second, differ);
-    too_long(n, first.len(), second.len(), differ.len())
+    let counts = pass(f, g, false, first, second, differ);
+    too_long(counts, first.len(), second.len(), differ.len())
 }
 
 // The three lists of two files that pass, or 36, which is known before any of them is written.
@@ -108,8 +108,8 @@ fn lists(f: &[u8], g: &[u8], first: &mut [u32], second: &mut [u32], differ: &mut
     if no_room(f, g, first, second, differ) {
         return Compared::Room;
     }
-    let m = pass(f, g, true, first, second, differ);
-    Compared::Done(m.first, m.second, m.differ)
+    let counts = pass(f, g, true, first, second, differ);
+    Compared::Done(counts.first, counts.second, counts.differ)
 }
 
 // Compares two files: the first's refusal, the second's, 36 if a list is longer than its buffer, else the three lists.
@@ -124,14 +124,14 @@ pub fn compare(
         (comparison (now (first .entry)) (now (second .entry)) (now («only_first» .entry)) (now («only_second» .entry)) (now (differ .entry))) ⌝ }
 {
     match check(first) {
-        Checked::Refused(x) => {
-            return Compared::First(x);
+        Checked::Refused(refusal) => {
+            return Compared::First(refusal);
         }
         Checked::Passed => {}
     }
     match check(second) {
-        Checked::Refused(x) => {
-            return Compared::Second(x);
+        Checked::Refused(refusal) => {
+            return Compared::Second(refusal);
         }
         Checked::Passed => {}
     }

@@ -161,12 +161,12 @@ pub(crate) fn pass(
     let mut in_second: usize = 0;
     let mut in_both: usize = 0;
     while i + j < total {
-        let t = take_turn(f, g, i, j);
-        in_first = put(first, in_first, t.first, write, t.job);
-        in_second = put(second, in_second, t.second, write, t.job);
-        in_both = put(differ, in_both, t.differ, write, t.job);
-        i = t.i;
-        j = t.j;
+        let turn = take_turn(f, g, i, j);
+        in_first = put(first, in_first, turn.first, write, turn.job);
+        in_second = put(second, in_second, turn.second, write, turn.job);
+        in_both = put(differ, in_both, turn.differ, write, turn.job);
+        i = turn.i;
+        j = turn.j;
     }
     Counts {
         first: in_first,

@@ -18,7 +18,7 @@ impl Moved {
     {
         match self {
             Moved::Done => Answer { number: 0, row: 0 },
-            Moved::Refused(x) => x.answer(),
+            Moved::Refused(refusal) => refusal.answer(),
             Moved::Station(i) => Answer { number: 35, row: i },
             Moved::Room => Answer { number: 6, row: 0 },
         }

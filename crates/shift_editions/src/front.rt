@@ -30,8 +30,8 @@ pub(crate) fn put32(out: &mut [u8], at: usize, number: u32)
     requires { ⌜ at + 4 ≤ length (now out) ⌝ }
     ensures { λ _. ⌜ take (at + 4) (now (out .exit)) ≡ take at (now (out .entry)) ++ bytes 4 number ⌝ }
 {
-    let b = word::store2_32(number, 0);
-    put(out, at, &b[0..4]);
+    let bytes = word::store2_32(number, 0);
+    put(out, at, &bytes[0..4]);
 }
 
 // Writes at most four zero bytes.
@@ -39,6 +39,6 @@ pub(crate) fn put_zeros(out: &mut [u8], at: usize, len: usize)
     requires { ⌜ (at + len ≤ length (now out)) × (len ≤ 4) ⌝ }
     ensures { λ _. ⌜ take (at + len) (now (out .exit)) ≡ take at (now (out .entry)) ++ replicate len 0 ⌝ }
 {
-    let b = [0u8; 4];
-    put(out, at, &b[0..len]);
+    let zeros = [0u8; 4];
+    put(out, at, &zeros[0..len]);
 }

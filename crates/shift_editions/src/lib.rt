@@ -36,8 +36,8 @@ fn put_header(out: &mut [u8], edition: u16, rows: usize)
     ensures { λ _. ⌜ take 8 (now (out .exit)) ≡ bytes 2 edition ++ (bytes 2 rows ++ bytes 4 (length (now (out .entry)))) ⌝ }
 {
     let top = edition as u32 + 65536 * (rows as u32);
-    let b = word::store2_32(top, out.len() as u32);
-    put(out, 0, &b[0..8]);
+    let header = word::store2_32(top, out.len() as u32);
+    put(out, 0, &header[0..8]);
 }
 
 // Writes header, rows and bodies.
@@ -47,8 +47,8 @@ fn put_file(out: &mut [u8], edition: u16, from: usize, to: usize, file: &[u8], r
 {
     put_header(out, edition, rows);
     put_rows(out, from, to, file, rows);
-    let p = row_start(from, rows);
-    put_part(out, row_start(to, rows), file, p, file.len() - p);
+    let bodies = row_start(from, rows);
+    put_part(out, row_start(to, rows), file, bodies, file.len() - bodies);
 }
 
 // Writes the file in an edition.
@@ -126,8 +126,8 @@ fn up_refused(file: &[u8], out: usize) -> Moved
     ensures { λ r. ⌜ movedAnswer r ≡ upAnswer (now (file .entry)) out ⌝ }
 {
     match check_as(FIRST_EDITION, file) {
-        Checked::Refused(x) => {
-            return Moved::Refused(x);
+        Checked::Refused(refusal) => {
+            return Moved::Refused(refusal);
         }
         Checked::Passed => {}
     }
@@ -139,8 +139,8 @@ fn back_refused(file: &[u8], out: usize) -> Moved
     ensures { λ r. ⌜ movedAnswer r ≡ backAnswer (now (file .entry)) out ⌝ }
 {
     match check_as(NEWEST, file) {
-        Checked::Refused(x) => {
-            return Moved::Refused(x);
+        Checked::Refused(refusal) => {
+            return Moved::Refused(refusal);
         }
         Checked::Passed => {}
     }

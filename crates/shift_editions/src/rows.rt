@@ -32,10 +32,10 @@ fn put_job(out: &mut [u8], from: usize, to: usize, file: &[u8], rows: usize, ind
     requires { ⌜ Movable from to (now file) rows × ((index < rows) × (rowStart to rows ≤ length (now out))) ⌝ }
     ensures { λ _. ⌜ take (restStart to index) (now (out .exit)) ≡ take (rowStart to index) (now (out .entry)) ++ (stretch (now (file .entry)) (rowStart from index) 4 ++ replicate (to - 32) 0) ⌝ }
 {
-    let a = row_start(to, index);
-    let p = row_start(from, index);
-    put_part(out, a, file, p, 4);
-    put_zeros(out, a + 4, to - 32);
+    let start = row_start(to, index);
+    let old_start = row_start(from, index);
+    put_part(out, start, file, old_start, 4);
+    put_zeros(out, start + 4, to - 32);
 }
 
 // Writes the rest of a row.
@@ -43,12 +43,12 @@ fn put_rest(out: &mut [u8], from: usize, to: usize, file: &[u8], rows: usize, in
     requires { ⌜ Movable from to (now file) rows × ((index < rows) × (rowStart to rows ≤ length (now out))) ⌝ }
     ensures { λ _. ⌜ take (restStart to index + 28) (now (out .exit)) ≡ take (restStart to index) (now (out .entry)) ++ (stretch (now (file .entry)) (restStart from index) 4 ++ (bytes 4 (carried from to rows (rowAt from (now (file .entry)) index .«ad_at»)) ++ stretch (now (file .entry)) (restStart from index + 8) 20)) ⌝ }
 {
-    let b = rest_start(to, index);
-    let q = rest_start(from, index);
-    let o = offset(from, to, file, rows, index);
-    put_part(out, b, file, q, 4);
-    put32(out, b + 4, o);
-    put_part(out, b + 8, file, q + 8, 20);
+    let start = rest_start(to, index);
+    let old_start = rest_start(from, index);
+    let body_at = offset(from, to, file, rows, index);
+    put_part(out, start, file, old_start, 4);
+    put32(out, start + 4, body_at);
+    put_part(out, start + 8, file, old_start + 8, 20);
 }
 
 // Writes a row.

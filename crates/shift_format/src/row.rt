@@ -93,15 +93,15 @@ pub fn row_at(size: usize, file: &[u8], index: usize) -> Row
     requires { ⌜ RowIn size (now file) index ⌝ }
     ensures { λ r. ⌜ r ≡ rowAt size (now (file .entry)) index ⌝ }
 {
-    let p = row_start(size, index);
-    let q = rest_start(size, index);
+    let start = row_start(size, index);
+    let rest = rest_start(size, index);
     Row {
-        job: get32(file, p),
-        suite: file[q],
-        key: file[q + 1],
-        ad_len: get16(file, q + 2),
-        ad_at: get32(file, q + 4),
-        text_len: get32(file, q + 8),
+        job: get32(file, start),
+        suite: file[rest],
+        key: file[rest + 1],
+        ad_len: get16(file, rest + 2),
+        ad_at: get32(file, rest + 4),
+        text_len: get32(file, rest + 8),
     }
 }
 

@@ -38,10 +38,10 @@ pub fn header(file: &[u8]) -> HeaderFields
     ensures { λ r. ⌜ r ≡ headerAnswer (now (file .entry)) ⌝ }
 {
     match check_head(FIRST_EDITION, NEWEST, file) {
-        Checked::Refused(x) => {
-            let a = x.answer();
+        Checked::Refused(refusal) => {
+            let answer = refusal.answer();
             return HeaderFields {
-                status: a.number,
+                status: answer.number,
                 edition: 0,
                 count: 0,
             };
@@ -98,15 +98,15 @@ pub fn row(file: &[u8], index: u32) -> RowFields
     ensures { λ r. ⌜ r ≡ rowAnswer (now (file .entry)) index ⌝ }
 {
     match check_head(FIRST_EDITION, NEWEST, file) {
-        Checked::Refused(x) => {
-            let a = x.answer();
-            return no_fields(a.number);
+        Checked::Refused(refusal) => {
+            let answer = refusal.answer();
+            return no_fields(answer.number);
         }
         Checked::Passed => {}
     }
-    let i = index as usize;
-    if count(file) <= i {
+    let at = index as usize;
+    if count(file) <= at {
         return no_fields(32);
     }
-    fields_of(listed_at(file, i))
+    fields_of(listed_at(file, at))
 }

@@ -37,13 +37,13 @@ impl<'a> Reader<'a> {
     pub fn next(self) -> Asked<'a>
         ensures { λ s. ⌜ s ≡ nextOf (self .entry) ⌝ }
     {
-        let s = ask(self.place, self.src);
+        let stepped = ask(self.place, self.src);
         Asked {
             reader: Reader {
                 src: self.src,
-                place: s.next,
+                place: stepped.next,
             },
-            entry: s.entry,
+            entry: stepped.entry,
         }
     }
 }
@@ -52,9 +52,9 @@ impl<'a> Reader<'a> {
 pub fn step_at(file: &[u8], place: Cursor) -> Stepped
     ensures { λ r. ⌜ r ≡ askOf place (now (file .entry)) ⌝ }
 {
-    let a = Reader { src: file, place }.next();
+    let asked = Reader { src: file, place }.next();
     Stepped {
-        next: a.reader.place,
-        entry: a.entry,
+        next: asked.reader.place,
+        entry: asked.entry,
     }
 }

@@ -24,10 +24,10 @@ pub enum Reported {
 fn refused(x: Refusal) -> ReportSummary
     ensures { λ r. ⌜ r ≡ refuses (refusalAnswer x) ⌝ }
 {
-    let a = x.answer();
+    let answer = x.answer();
     ReportSummary {
-        number: a.number,
-        row: a.row,
+        number: answer.number,
+        row: answer.row,
         count: 0,
     }
 }
@@ -42,7 +42,7 @@ impl Reported {
                 row: 0,
                 count: n,
             },
-            Reported::Refused(x) => refused(x),
+            Reported::Refused(refusal) => refused(refusal),
             Reported::Ring => ReportSummary {
                 number: 2,
                 row: 0,

@@ -12,8 +12,8 @@ fn tag_number(file: &[u8], ring: &[u8], index: usize, row: Row) -> u8
     requires { ⌜ Openable (now file) (now ring) index row ⌝ }
     ensures { λ r. ⌜ r ≡ tagNumber (now (file .entry)) (now (ring .entry)) index ⌝ }
 {
-    let a = verify_row(file, ring, index, row);
-    a.number()
+    let verdict = verify_row(file, ring, index, row);
+    verdict.number()
 }
 
 // Lists all entries, from the front of both lists on; a wrong tag does not stop it.

@@ -25,8 +25,8 @@ pub fn report(file: &[u8], ring: &[u8], jobs: &mut [u32], numbers: &mut [u8]) ->
         return Reported::Refused(Refusal::Size);
     }
     match check(file) {
-        Checked::Refused(x) => {
-            return Reported::Refused(x);
+        Checked::Refused(refusal) => {
+            return Reported::Refused(refusal);
         }
         Checked::Passed => {}
     }

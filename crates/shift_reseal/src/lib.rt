@@ -22,8 +22,8 @@ fn refused(file: &[u8], ring: usize, out: usize) -> Written
     ensures { λ r. ⌜ writtenAnswer r ≡ takeAnswer (now (file .entry)) ring out ⌝ }
 {
     match check_as(FIRST_EDITION, file) {
-        Checked::Refused(x) => {
-            return Written::Refused(x);
+        Checked::Refused(refusal) => {
+            return Written::Refused(refusal);
         }
         Checked::Passed => {}
     }

@@ -28,14 +28,14 @@ fn reseal_entry(file: &[u8], ring: &[u8], index: usize, row: Row, out: &mut [u8]
 {
     let len = row.text_len as usize;
     let n = len + cipher::size_of(SUCCESSOR);
-    let a = text_start(row);
-    let b = a + len;
-    let e = a + n;
-    let opened = open_row(file, ring, index, row, &mut out[a..b]);
+    let start = text_start(row);
+    let tag_start = start + len;
+    let end = start + n;
+    let opened = open_row(file, ring, index, row, &mut out[start..tag_start]);
     let Verdict::Done = opened else {
         return false;
     };
-    seal_into(file, ring, index, row, SUCCESSOR, &mut out[a..e]);
+    seal_into(file, ring, index, row, SUCCESSOR, &mut out[start..end]);
     true
 }
 

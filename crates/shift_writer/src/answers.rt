@@ -21,7 +21,7 @@ impl Written {
     {
         match self {
             Written::Done => Answer { number: 0, row: 0 },
-            Written::Refused(x) => x.answer(),
+            Written::Refused(refusal) => refusal.answer(),
             Written::TagSet(i) => Answer { number: 33, row: i },
             Written::Retired(i) => Answer { number: 10, row: i },
             Written::Ring => Answer { number: 2, row: 0 },

@@ -42,8 +42,8 @@ fn seal_refused(draft: &[u8], ring: usize, out: usize) -> Written
     ensures { λ r. ⌜ writtenAnswer r ≡ sealAnswer (now (draft .entry)) ring out ⌝ }
 {
     match check_as(DRAFT, draft) {
-        Checked::Refused(x) => {
-            return Written::Refused(x);
+        Checked::Refused(refusal) => {
+            return Written::Refused(refusal);
         }
         Checked::Passed => {}
     }
@@ -64,8 +64,8 @@ fn unseal_refused(file: &[u8], ring: usize, out: usize) -> Written
     ensures { λ r. ⌜ writtenAnswer r ≡ openAnswer (now (file .entry)) ring out ⌝ }
 {
     match check_as(FIRST_EDITION, file) {
-        Checked::Refused(x) => {
-            return Written::Refused(x);
+        Checked::Refused(refusal) => {
+            return Written::Refused(refusal);
         }
         Checked::Passed => {}
     }

@@ -14,7 +14,7 @@ pub fn seal_into(file: &[u8], ring: &[u8], index: usize, row: Row, suite: u8, ou
 {
     let len = row.text_len as usize;
     let n = cipher::size_of(suite);
-    let e = len + n;
+    let end = len + n;
     let mut tag = [0u8; 16];
     seal_as(
         file,
@@ -25,5 +25,5 @@ pub fn seal_into(file: &[u8], ring: &[u8], index: usize, row: Row, suite: u8, ou
         &mut out[0..len],
         &mut tag[0..n],
     );
-    copy(&tag[0..n], &mut out[len..e]);
+    copy(&tag[0..n], &mut out[len..end]);
 }

@@ -25,9 +25,9 @@ pub(crate) fn put_edition(edition: u16, out: &mut [u8])
     requires { ⌜ 2 ≤ length (now out) ⌝ }
     ensures { λ _. ⌜ now (out .exit) ≡ inEdition edition (now (out .entry)) ⌝ }
 {
-    let h = edition / 256;
+    let high = edition / 256;
     out[0] = (edition % 256) as u8;
-    out[1] = (h % 256) as u8;
+    out[1] = (high % 256) as u8;
 }
 
 // Seals row i of a draft at its offset in the output, after copying its text there.
@@ -38,11 +38,11 @@ fn seal_entry(file: &[u8], ring: &[u8], index: usize, out: &mut [u8])
     let row = row_of(file, index);
     let len = row.text_len as usize;
     let n = cipher::size_of(row.suite);
-    let a = text_start(row);
-    let b = a + len;
-    let e = b + n;
-    copy(text_of(file, row), &mut out[a..b]);
-    seal_into(file, ring, index, row, row.suite, &mut out[a..e]);
+    let start = text_start(row);
+    let tag_start = start + len;
+    let end = tag_start + n;
+    copy(text_of(file, row), &mut out[start..tag_start]);
+    seal_into(file, ring, index, row, row.suite, &mut out[start..end]);
 }
 
 // Seals the n rows of a draft into the output.
@@ -66,14 +66,14 @@ fn unseal_entry(file: &[u8], ring: &[u8], index: usize, out: &mut [u8]) -> bool
     let row = row_of(file, index);
     let len = row.text_len as usize;
     let n = cipher::size_of(row.suite);
-    let a = text_start(row);
-    let b = a + len;
-    let e = b + n;
-    let opened = open_row(file, ring, index, row, &mut out[a..b]);
+    let start = text_start(row);
+    let tag_start = start + len;
+    let end = tag_start + n;
+    let opened = open_row(file, ring, index, row, &mut out[start..tag_start]);
     let Verdict::Done = opened else {
         return false;
     };
-    wipe(&mut out[b..e]);
+    wipe(&mut out[tag_start..end]);
     true
 }
 

@@ -20,12 +20,12 @@ pub extern "C" fn shift_amended(
     ensures { λ r. ⌜ _≡_ {A = Placed} (record { number = r; file = now (file .exit); row = now (row .exit); at = now (at .exit); len = now (len .exit) })
         (placing (now (amendment .entry)) (now (day .entry)) job) ⌝ }
 {
-    let x = shift_amend::locate(amendment, day, job);
-    *file = x.file as u32;
-    *row = x.entry.row as u32;
-    *at = x.entry.ad_at;
-    *len = x.entry.ad_len;
-    x.entry.number as u32
+    let current = shift_amend::locate(amendment, day, job);
+    *file = current.file as u32;
+    *row = current.entry.row as u32;
+    *at = current.entry.ad_at;
+    *len = current.entry.ad_len;
+    current.entry.number as u32
 }
 
 // Opens the current entry of a job into out: the checks, 32, then 2, 6, 8.
@@ -42,8 +42,8 @@ pub extern "C" fn shift_open_amended(
     ensures { λ r. ⌜ _≡_ {A = AmendedOpening} (record { file = now (file .exit); answer = answer r (now (row .exit)); out = now (out .exit) })
         (amendedOpening (now (amendment .entry)) (now (day .entry)) (now (ring .entry)) job (now (out .entry))) ⌝ }
 {
-    let x = shift_amend::open_current(amendment, day, ring, job, out);
-    *file = x.file as u32;
-    let opened = x.opened;
+    let current = shift_amend::open_current(amendment, day, ring, job, out);
+    *file = current.file as u32;
+    let opened = current.opened;
     say(opened.answer(), row)
 }

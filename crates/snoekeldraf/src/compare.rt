@@ -31,11 +31,11 @@ pub extern "C" fn shift_compare(
     })
         (comparison (now (first .entry)) (now (second .entry)) (now («only_first» .entry)) (now («only_second» .entry)) (now (differ .entry))) ⌝ }
 {
-    let t = shift_compare::compare(first, second, only_first, only_second, differ).finding();
-    *first_count = t.first as u32;
-    *second_count = t.second as u32;
-    *differ_count = t.differ as u32;
-    *file = t.file as u32;
-    *row = t.row as u32;
-    t.number as u32
+    let finding = shift_compare::compare(first, second, only_first, only_second, differ).finding();
+    *first_count = finding.first as u32;
+    *second_count = finding.second as u32;
+    *differ_count = finding.differ as u32;
+    *file = finding.file as u32;
+    *row = finding.row as u32;
+    finding.number as u32
 }

@@ -9,10 +9,10 @@ ghost use Rattle.snoekeldraf.specs.Fields.{InFields, inFields};
 pub extern "C" fn shift_rows(file: &[u8], edition: &mut u32, count: &mut u32) -> u32
     ensures { λ r. ⌜ _≡_ {A = HeaderFields} (record { status = r; edition = now (edition .exit); count = now (count .exit) }) (headerAnswer (now (file .entry))) ⌝ }
 {
-    let h = shift_reader::contents::header(file);
-    *edition = h.edition;
-    *count = h.count;
-    h.status as u32
+    let header = shift_reader::contents::header(file);
+    *edition = header.edition;
+    *count = header.count;
+    header.status as u32
 }
 
 // 20 to 24 alone, 32 if there is no such row, then its nine fields; all are 0 after every status but 0. No row is checked.
@@ -20,17 +20,17 @@ pub extern "C" fn shift_rows(file: &[u8], edition: &mut u32, count: &mut u32) ->
 pub extern "C" fn shift_row(file: &[u8], row: u32, fields: &mut [u32; 9]) -> u32
     ensures { λ r. ⌜ _≡_ {A = InFields} (record { status = r; fields = now (fields .exit) }) (inFields (rowAnswer (now (file .entry)) row)) ⌝ }
 {
-    let x = shift_reader::contents::row(file, row);
+    let listed = shift_reader::contents::row(file, row);
     *fields = [
-        x.job,
-        x.station,
-        x.suite,
-        x.key_number,
-        x.nonce_at,
-        x.ad_at,
-        x.ad_len,
-        x.text_at,
-        x.text_len,
+        listed.job,
+        listed.station,
+        listed.suite,
+        listed.key_number,
+        listed.nonce_at,
+        listed.ad_at,
+        listed.ad_len,
+        listed.text_at,
+        listed.text_len,
     ];
-    x.status as u32
+    listed.status as u32
 }

@@ -20,8 +20,8 @@ pub extern "C" fn comet_seal_counted(
 {
     let sealed = comet::seal_counted(suite, key, nonce, ad, msg, out, tag);
     *calls = sealed.calls;
-    let v = sealed.verdict;
-    v.number() as u32
+    let verdict = sealed.verdict;
+    verdict.number() as u32
 }
 
 // As comet_open, and calls is how many cipher calls it took.
@@ -41,6 +41,6 @@ pub extern "C" fn comet_open_counted(
 {
     let opened = comet::unseal_counted(suite, key, nonce, ad, text, tag, out);
     *calls = opened.calls;
-    let v = opened.verdict;
-    v.number() as u32
+    let verdict = opened.verdict;
+    verdict.number() as u32
 }

@@ -42,10 +42,10 @@ pub extern "C" fn shift_lookup(file: &[u8], job: u32, row: &mut u32) -> u32
 pub extern "C" fn shift_associated(file: &[u8], job: u32, at: &mut u32, len: &mut u32) -> u32
     ensures { λ r. ⌜ _≡_ {A = Located} (record { number = r; at = now (at .exit); len = now (len .exit) }) (locating (now (file .entry)) job) ⌝ }
 {
-    let e = shift_jobs::entry(file, job);
-    *at = e.ad_at;
-    *len = e.ad_len;
-    e.number as u32
+    let entry = shift_jobs::entry(file, job);
+    *at = entry.ad_at;
+    *len = entry.ad_len;
+    entry.number as u32
 }
 
 // The lookup's number and row, and where in the file the job's associated data and its text lie; 0 if the lookup refuses.
@@ -69,13 +69,13 @@ pub extern "C" fn shift_entry(
     })
         (entryOf (now (file .entry)) job) ⌝ }
 {
-    let e = shift_jobs::entry(file, job);
-    *row = e.row as u32;
-    *ad_at = e.ad_at;
-    *ad_len = e.ad_len;
-    *text_at = e.text_at;
-    *text_len = e.text_len;
-    e.number as u32
+    let entry = shift_jobs::entry(file, job);
+    *row = entry.row as u32;
+    *ad_at = entry.ad_at;
+    *ad_len = entry.ad_len;
+    *text_at = entry.text_at;
+    *text_len = entry.text_len;
+    entry.number as u32
 }
 
 // Opens one job into out: the full check, 32, then 2, 6, 8.
@@ -106,9 +106,9 @@ pub extern "C" fn shift_verified(
     ensures { λ r. ⌜ _≡_ {A = Genuine} (record { number = r; row = now (row .exit); «ad_at» = now (at .exit); «ad_len» = now (len .exit) })
         (jobVerifying (now (file .entry)) (now (ring .entry)) job) ⌝ }
 {
-    let g = shift_jobs::verified(file, ring, job);
-    *row = g.row as u32;
-    *at = g.ad_at;
-    *len = g.ad_len;
-    g.number as u32
+    let genuine = shift_jobs::verified(file, ring, job);
+    *row = genuine.row as u32;
+    *at = genuine.ad_at;
+    *len = genuine.ad_len;
+    genuine.number as u32
 }

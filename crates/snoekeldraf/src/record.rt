@@ -16,8 +16,8 @@ pub extern "C" fn comet_seal(
     ensures { λ r. ⌜ _≡_ {A = Sealed} (record { number = r; out = now (out .exit); tag = now (tag .exit) })
         (sealing suite (now (key .entry)) (now (nonce .entry)) (now (ad .entry)) (now (msg .entry)) (now (out .entry)) (now (tag .entry))) ⌝ }
 {
-    let a = comet::seal(suite, key, nonce, ad, msg, out, tag);
-    a.number() as u32
+    let verdict = comet::seal(suite, key, nonce, ad, msg, out, tag);
+    verdict.number() as u32
 }
 
 // Opens text into out if its tag is right; else every byte of out is 0.
@@ -34,8 +34,8 @@ pub extern "C" fn comet_open(
     ensures { λ r. ⌜ _≡_ {A = Opened} (record { number = r; out = now (out .exit) })
         (opening suite (now (key .entry)) (now (nonce .entry)) (now (ad .entry)) (now (text .entry)) (now (tag .entry)) (now (out .entry))) ⌝ }
 {
-    let a = comet::unseal(suite, key, nonce, ad, text, tag, out);
-    a.number() as u32
+    let verdict = comet::unseal(suite, key, nonce, ad, text, tag, out);
+    verdict.number() as u32
 }
 
 // Seals text in place and writes its tag to tag.
@@ -51,8 +51,8 @@ pub extern "C" fn comet_seal_in_place(
     ensures { λ r. ⌜ _≡_ {A = Sealed} (record { number = r; out = now (text .exit); tag = now (tag .exit) })
         (sealing suite (now (key .entry)) (now (nonce .entry)) (now (ad .entry)) (now (text .entry)) (now (text .entry)) (now (tag .entry))) ⌝ }
 {
-    let a = comet::seal_in_place(suite, key, nonce, ad, text, tag);
-    a.number() as u32
+    let verdict = comet::seal_in_place(suite, key, nonce, ad, text, tag);
+    verdict.number() as u32
 }
 
 // Opens text in place if its tag is right; else every byte of it is 0.
@@ -68,8 +68,8 @@ pub extern "C" fn comet_open_in_place(
     ensures { λ r. ⌜ _≡_ {A = Opened} (record { number = r; out = now (text .exit) })
         (opening suite (now (key .entry)) (now (nonce .entry)) (now (ad .entry)) (now (text .entry)) (now (tag .entry)) (now (text .entry))) ⌝ }
 {
-    let a = comet::unseal_in_place(suite, key, nonce, ad, text, tag);
-    a.number() as u32
+    let verdict = comet::unseal_in_place(suite, key, nonce, ad, text, tag);
+    verdict.number() as u32
 }
 
 // Whether a record is genuine: the opener's status, without writing a text anywhere.
@@ -84,6 +84,6 @@ pub extern "C" fn comet_verify(
 ) -> u32
     ensures { λ r. ⌜ r ≡ verifying suite (now (key .entry)) (now (nonce .entry)) (now (ad .entry)) (now (text .entry)) (now (tag .entry)) ⌝ }
 {
-    let a = comet::verify(suite, key, nonce, ad, text, tag);
-    a.number() as u32
+    let verdict = comet::verify(suite, key, nonce, ad, text, tag);
+    verdict.number() as u32
 }

@@ -16,8 +16,8 @@ pub extern "C" fn shift_report(
     ensures { λ r. ⌜ _≡_ {A = Report} (record { said = record { number = r; row = now (row .exit); count = now (count .exit) }; jobs = now (jobs .exit); numbers = now (numbers .exit) })
         (reporting (now (file .entry)) (now (ring .entry)) (now (jobs .entry)) (now (numbers .entry))) ⌝ }
 {
-    let s = shift_report::report(file, ring, jobs, numbers).said();
-    *count = s.count as u32;
-    *row = s.row as u32;
-    s.number as u32
+    let summary = shift_report::report(file, ring, jobs, numbers).said();
+    *count = summary.count as u32;
+    *row = summary.row as u32;
+    summary.number as u32
 }

@@ -10,8 +10,8 @@ ghost use Rattle.shift_search.specs.Halving.{searching};
 pub extern "C" fn shift_search(file: &[u8], job: u32, row: &mut u32, looked: &mut u32) -> u32
     ensures { λ r. ⌜ (answer r (now (row .exit)) ≡ searching (now (file .entry)) job .says) × (now (looked .exit) ≡ length (searching (now (file .entry)) job .rows)) ⌝ }
 {
-    let s = shift_search::search(file, job);
-    *looked = s.looked as u32;
-    let found = s.found;
+    let search = shift_search::search(file, job);
+    *looked = search.looked as u32;
+    let found = search.found;
     say(found.answer(), row)
 }

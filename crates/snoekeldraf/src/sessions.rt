@@ -40,15 +40,15 @@ fn words_of(s: Session) -> [u64; 9]
     let y = s.y;
     let z = s.z;
     let held = s.held;
-    let h = block::block_of(held);
+    let buffered = block::block_of(held);
     [
         s.suite as u64,
         y.a,
         y.b,
         z.a,
         z.b,
-        h.a,
-        h.b,
+        buffered.a,
+        buffered.b,
         s.ad_total as u64,
         s.text_total as u64,
     ]
@@ -64,10 +64,10 @@ pub extern "C" fn comet_session_start(
 ) -> u32
     ensures { λ r. ⌜ after r 0 (now (state .exit)) [] [] ≡ inWords (starting suite (now (key .entry)) (now (nonce .entry))) ⌝ }
 {
-    let r = Session::start(suite, key, nonce);
-    let next = r.next;
+    let step = Session::start(suite, key, nonce);
+    let next = step.next;
     *state = words_of(next);
-    r.number as u32
+    step.number as u32
 }
 
 // A part of the associated data.
@@ -75,14 +75,14 @@ pub extern "C" fn comet_session_start(
 pub extern "C" fn comet_session_data(state: &mut [u64; 9], ad: &[u8]) -> u32
     ensures { λ r. ⌜ after r 0 (now (state .exit)) [] [] ≡ inWords (dataPart (ofWords (now (state .entry))) (now (ad .entry))) ⌝ }
 {
-    let w = copied(state);
-    if w[0] > 255 {
+    let words = copied(state);
+    if words[0] > 255 {
         return 9;
     }
-    let r = session_of(w).associated(ad);
-    let next = r.next;
+    let step = session_of(words).associated(ad);
+    let next = step.next;
     *state = words_of(next);
-    r.number as u32
+    step.number as u32
 }
 
 // A part of the message.
@@ -95,16 +95,16 @@ pub extern "C" fn comet_session_part(
 ) -> u32
     ensures { λ r. ⌜ after r (now (count .exit)) (now (state .exit)) (now (out .exit)) [] ≡ inWords (textPart (ofWords (now (state .entry))) (now (msg .entry)) (now (out .entry))) ⌝ }
 {
-    let w = copied(state);
-    if w[0] > 255 {
+    let words = copied(state);
+    if words[0] > 255 {
         *count = 0;
         return 9;
     }
-    let r = session_of(w).message(msg, out);
-    let next = r.next;
+    let step = session_of(words).message(msg, out);
+    let next = step.next;
     *state = words_of(next);
-    *count = r.count as u32;
-    r.number as u32
+    *count = step.count as u32;
+    step.number as u32
 }
 
 // The end: the rest of the ciphertext into out, and the tag; the session is over.
@@ -117,16 +117,16 @@ pub extern "C" fn comet_session_end(
 ) -> u32
     ensures { λ r. ⌜ after r (now (count .exit)) (now (state .exit)) (now (out .exit)) (now (tag .exit)) ≡ inWords (ending (ofWords (now (state .entry))) (now (out .entry)) (now (tag .entry))) ⌝ }
 {
-    let w = copied(state);
-    if w[0] > 255 {
+    let words = copied(state);
+    if words[0] > 255 {
         *count = 0;
         return 9;
     }
-    let r = session_of(w).finish(out, tag);
-    let next = r.next;
+    let step = session_of(words).finish(out, tag);
+    let next = step.next;
     *state = words_of(next);
-    *count = r.count as u32;
-    r.number as u32
+    *count = step.count as u32;
+    step.number as u32
 }
 
 // Wipes a session: nine zeros, for which every later call returns 9.

@@ -62,9 +62,9 @@ impl Refusal {
             Refusal::Count => Answer { number: 22, row: 0 },
             Refusal::Total => Answer { number: 23, row: 0 },
             Refusal::Table => Answer { number: 24, row: 0 },
-            Refusal::InRow(x, i) => Answer {
-                number: x.number(),
-                row: i,
+            Refusal::InRow(fault, row) => Answer {
+                number: fault.number(),
+                row: row,
             },
             Refusal::End => Answer { number: 31, row: 0 },
         }
@@ -83,7 +83,7 @@ impl Checked {
     {
         match self {
             Checked::Passed => Answer { number: 0, row: 0 },
-            Checked::Refused(x) => x.answer(),
+            Checked::Refused(refusal) => refusal.answer(),
         }
     }
 }

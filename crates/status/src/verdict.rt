@@ -60,8 +60,8 @@ fn texts_refused(suite: u8, ad: usize, text: usize, out: usize, tag: usize) -> V
     if out != text {
         return Verdict::Room;
     }
-    let b = cipher::size_of(suite);
-    if tag != b {
+    let size = cipher::size_of(suite);
+    if tag != size {
         return Verdict::Tag;
     }
     Verdict::Done

@@ -3,20 +3,20 @@
 use libc::STDIN_FILENO;
 
 fn read8() -> [u8; 8] {
-    let mut b = [0u8; 8];
-    io::read_full(STDIN_FILENO, &mut b);
-    b
+    let mut block = [0u8; 8];
+    io::read_full(STDIN_FILENO, &mut block);
+    block
 }
 
 fn read16() -> [u8; 16] {
-    let mut b = [0u8; 16];
-    io::read_full(STDIN_FILENO, &mut b);
-    b
+    let mut bytes = [0u8; 16];
+    io::read_full(STDIN_FILENO, &mut bytes);
+    bytes
 }
 
-fn print_line(b: &[u8]) {
+fn print_line(bytes: &[u8]) {
     let mut out = [0u8; 33];
-    let n = program_text::text::hex(&mut out, 0, b);
+    let n = program_text::text::hex(&mut out, 0, bytes);
     let n = program_text::text::end(&mut out, n);
     program_text::text::write(&out, n);
 }

@@ -5,11 +5,21 @@
 // gets this suite and the second and third number as its totals, and no line is written. A line is the
 // number, the count and, if the call has them, output and tag. The borrowed buffers hold 0xa5 before the call.
 use block::Block;
+use cipher::LIMIT;
 use program_text::call::Call;
+use program_text::call::HEAD_LEN;
 use program_text::text::and_shown;
 use program_text::text::answer;
 use program_text::text::end;
 use session::Session;
+
+// The most bytes that a call can have here: of associated data and of message, one more than the limit; of a part's output, a
+// few blocks more; and of key, nonce, tag and the last output.
+const TEXT_ROOM: usize = LIMIT + 1;
+
+const OUT_ROOM: usize = LIMIT + 64;
+
+const KEY_ROOM: usize = 40;
 
 // The current session, and whether the input goes on.
 struct After {
@@ -48,91 +58,91 @@ fn done(next: Session, line: &mut [u8], at: usize) -> After {
     }
 }
 
-fn start(c: Call, line: &mut [u8]) -> After {
-    let mut k = [0u8; 40];
-    let mut v = [0u8; 40];
-    let key = program_text::read::field(&mut k, c.first);
-    let nonce = program_text::read::field(&mut v, c.second);
-    if key.len() != c.first || nonce.len() != c.second {
+fn start(call: Call, line: &mut [u8]) -> After {
+    let mut key_buf = [0u8; KEY_ROOM];
+    let mut nonce_buf = [0u8; KEY_ROOM];
+    let key = program_text::read::field(&mut key_buf, call.first);
+    let nonce = program_text::read::field(&mut nonce_buf, call.second);
+    if key.len() != call.first || nonce.len() != call.second {
         return bad();
     }
-    let r = Session::start(c.suite, key, nonce);
-    let at = answer(line, 0, r.number, r.count);
-    let next = r.next;
+    let step = Session::start(call.suite, key, nonce);
+    let at = answer(line, 0, step.number, step.count);
+    let next = step.next;
     done(next, line, at)
 }
 
-fn associated(s: Session, c: Call, line: &mut [u8]) -> After {
-    let mut a = [0u8; 65537];
-    let ad = program_text::read::field(&mut a, c.first);
-    if ad.len() != c.first {
+fn associated(state: Session, call: Call, line: &mut [u8]) -> After {
+    let mut ad_buf = [0u8; TEXT_ROOM];
+    let ad = program_text::read::field(&mut ad_buf, call.first);
+    if ad.len() != call.first {
         return bad();
     }
-    let r = s.associated(ad);
-    let at = answer(line, 0, r.number, r.count);
-    let next = r.next;
+    let step = state.associated(ad);
+    let at = answer(line, 0, step.number, step.count);
+    let next = step.next;
     done(next, line, at)
 }
 
 // A part of the message, read, with its output.
-fn sealed(s: Session, msg: &[u8], out: &mut [u8], line: &mut [u8]) -> After {
-    let r = s.message(msg, out);
-    let at = answer(line, 0, r.number, r.count);
+fn sealed(state: Session, msg: &[u8], out: &mut [u8], line: &mut [u8]) -> After {
+    let step = state.message(msg, out);
+    let at = answer(line, 0, step.number, step.count);
     let at = and_shown(line, at, out);
-    let next = r.next;
+    let next = step.next;
     done(next, line, at)
 }
 
-fn message(s: Session, c: Call, line: &mut [u8]) -> After {
-    let mut t = [0u8; 65537];
-    let mut out = [0xa5u8; 65600];
-    let o = c.second;
-    let msg = program_text::read::field(&mut t, c.first);
-    if msg.len() != c.first {
+fn message(state: Session, call: Call, line: &mut [u8]) -> After {
+    let mut text_buf = [0u8; TEXT_ROOM];
+    let mut out = [0xa5u8; OUT_ROOM];
+    let out_len = call.second;
+    let msg = program_text::read::field(&mut text_buf, call.first);
+    if msg.len() != call.first {
         return bad();
     }
-    if 65600 < o {
+    if OUT_ROOM < out_len {
         return bad();
     }
-    sealed(s, msg, &mut out[0..o], line)
+    sealed(state, msg, &mut out[0..out_len], line)
 }
 
 // The end, with its output and tag.
-fn ended(s: Session, out: &mut [u8], tag: &mut [u8], line: &mut [u8]) -> After {
-    let r = s.finish(out, tag);
-    let at = answer(line, 0, r.number, r.count);
+fn ended(state: Session, out: &mut [u8], tag: &mut [u8], line: &mut [u8]) -> After {
+    let step = state.finish(out, tag);
+    let at = answer(line, 0, step.number, step.count);
     let at = and_shown(line, at, out);
     let at = and_shown(line, at, tag);
-    let next = r.next;
+    let next = step.next;
     done(next, line, at)
 }
 
-fn finish(s: Session, c: Call, line: &mut [u8]) -> After {
-    let mut out = [0xa5u8; 40];
-    let mut tag = [0xa5u8; 40];
-    let o = c.second;
-    let g = c.third;
-    if 40 < o {
+fn finish(state: Session, call: Call, line: &mut [u8]) -> After {
+    let mut out = [0xa5u8; KEY_ROOM];
+    let mut tag = [0xa5u8; KEY_ROOM];
+    let out_len = call.second;
+    let tag_len = call.third;
+    if KEY_ROOM < out_len {
         return bad();
     }
-    if 40 < g {
+    if KEY_ROOM < tag_len {
         return bad();
     }
-    ended(s, &mut out[0..o], &mut tag[0..g], line)
+    ended(state, &mut out[0..out_len], &mut tag[0..tag_len], line)
 }
 
 // A session value that no run gives, as a caller can build it.
-fn forge(s: Session, c: Call) -> After {
-    let y = s.y;
-    let z = s.z;
-    let held = s.held;
+fn forge(state: Session, call: Call) -> After {
+    let y = state.y;
+    let z = state.z;
+    let held = state.held;
     let next = Session {
-        suite: c.suite,
+        suite: call.suite,
         y: y,
         z: z,
         held: held,
-        ad_total: c.second,
-        text_total: c.third,
+        ad_total: call.second,
+        text_total: call.third,
     };
     After {
         next: next,
@@ -140,38 +150,38 @@ fn forge(s: Session, c: Call) -> After {
     }
 }
 
-fn put(s: Session, c: Call, line: &mut [u8]) -> After {
-    let op = c.op;
+fn put(state: Session, call: Call, line: &mut [u8]) -> After {
+    let op = call.op;
     match op {
-        0 => start(c, line),
-        1 => associated(s, c, line),
-        2 => message(s, c, line),
-        3 => finish(s, c, line),
-        4 => forge(s, c),
+        0 => start(call, line),
+        1 => associated(state, call, line),
+        2 => message(state, call, line),
+        3 => finish(state, call, line),
+        4 => forge(state, call),
         _ => bad(),
     }
 }
 
 // Reads a call and runs it on the session; `good` is false at the end of the input.
-fn turn(s: Session) -> After {
-    let mut head = [0u8; 30];
+fn turn(state: Session) -> After {
+    let mut head = [0u8; HEAD_LEN];
     let mut line = [0u8; 512];
     if !program_text::call::next(&mut head) {
         return bad();
     }
-    put(s, program_text::call::call_of(&head), &mut line)
+    put(state, program_text::call::call_of(&head), &mut line)
 }
 
 // The end of an input is not provable, so the loop counts down from a number that no input reaches.
 fn main() {
-    let mut s = over();
+    let mut state = over();
     let mut left = u64::MAX;
     while left > 0 {
-        let t = turn(s);
-        if !t.good {
+        let after = turn(state);
+        if !after.good {
             return;
         }
-        s = t.next;
+        state = after.next;
         left -= 1;
     }
 }

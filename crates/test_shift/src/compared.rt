@@ -1,6 +1,8 @@
 // The comparison of two files. Numbers: the lengths of the files and how many elements the three lists have; the files follow.
 //
 // A line: number, file, row, the three counts, and every element of the three lists.
+use crate::FILE_ROOM;
+use crate::LIST_ROOM;
 use program_text::call::Call;
 use program_text::text::and_list;
 use program_text::text::and_number;
@@ -8,13 +10,13 @@ use program_text::text::end;
 use program_text::text::number;
 use shift_compare::Finding;
 
-fn found(t: Finding, line: &mut [u8]) -> usize {
-    let at = number(line, 0, t.number as u64);
-    let at = and_number(line, at, t.file as u64);
-    let at = and_number(line, at, t.row as u64);
-    let at = and_number(line, at, t.first as u64);
-    let at = and_number(line, at, t.second as u64);
-    and_number(line, at, t.differ as u64)
+fn found(finding: Finding, line: &mut [u8]) -> usize {
+    let at = number(line, 0, finding.number as u64);
+    let at = and_number(line, at, finding.file as u64);
+    let at = and_number(line, at, finding.row as u64);
+    let at = and_number(line, at, finding.first as u64);
+    let at = and_number(line, at, finding.second as u64);
+    and_number(line, at, finding.differ as u64)
 }
 
 fn one(
@@ -25,8 +27,8 @@ fn one(
     differ: &mut [u32],
     line: &mut [u8],
 ) -> usize {
-    let t = shift_compare::compare(first, second, only_first, only_second, differ).finding();
-    let at = found(t, line);
+    let finding = shift_compare::compare(first, second, only_first, only_second, differ).finding();
+    let at = found(finding, line);
     let at = and_list(line, at, only_first);
     let at = and_list(line, at, only_second);
     let at = and_list(line, at, differ);
@@ -34,39 +36,39 @@ fn one(
 }
 
 // Runs a call on its files; no line if a list has more elements than the buffer.
-fn run_on(first: &[u8], second: &[u8], c: Call, line: &mut [u8]) -> usize {
-    let mut x = [0xa5a5a5a5u32; 520];
-    let mut y = [0xa5a5a5a5u32; 520];
-    let mut z = [0xa5a5a5a5u32; 520];
-    let k = c.third;
-    let m = c.fourth;
-    let n = c.fifth;
-    if 520 < k || 520 < m || 520 < n {
+fn run_on(first: &[u8], second: &[u8], call: Call, line: &mut [u8]) -> usize {
+    let mut only_first = [0xa5a5a5a5u32; LIST_ROOM];
+    let mut only_second = [0xa5a5a5a5u32; LIST_ROOM];
+    let mut differ = [0xa5a5a5a5u32; LIST_ROOM];
+    let first_room = call.third;
+    let second_room = call.fourth;
+    let differ_room = call.fifth;
+    if LIST_ROOM < first_room || LIST_ROOM < second_room || LIST_ROOM < differ_room {
         return 0;
     }
     one(
         first,
         second,
-        &mut x[0..k],
-        &mut y[0..m],
-        &mut z[0..n],
+        &mut only_first[0..first_room],
+        &mut only_second[0..second_room],
+        &mut differ[0..differ_room],
         line,
     )
 }
 
 // Reads both files; no line if a buffer is too small or the input ends.
-pub(crate) fn run(c: Call, line: &mut [u8]) -> usize {
-    let mut a = [0u8; 65540];
-    let mut b = [0u8; 65540];
-    let n = c.first;
-    let m = c.second;
-    let first = program_text::read::field(&mut a, n);
-    if first.len() != n {
+pub(crate) fn run(call: Call, line: &mut [u8]) -> usize {
+    let mut first_buf = [0u8; FILE_ROOM];
+    let mut second_buf = [0u8; FILE_ROOM];
+    let first_len = call.first;
+    let second_len = call.second;
+    let first = program_text::read::field(&mut first_buf, first_len);
+    if first.len() != first_len {
         return 0;
     }
-    let second = program_text::read::field(&mut b, m);
-    if second.len() != m {
+    let second = program_text::read::field(&mut second_buf, second_len);
+    if second.len() != second_len {
         return 0;
     }
-    run_on(first, second, c, line)
+    run_on(first, second, call, line)
 }

@@ -12,26 +12,26 @@ use shift_reader::contents::header;
 use shift_reader::contents::row;
 
 fn header_line(file: &[u8], line: &mut [u8]) -> usize {
-    let h = header(file);
-    let at = number(line, 0, h.status as u64);
-    let at = and_number(line, at, h.edition as u64);
-    let at = and_number(line, at, h.count as u64);
+    let fields = header(file);
+    let at = number(line, 0, fields.status as u64);
+    let at = and_number(line, at, fields.edition as u64);
+    let at = and_number(line, at, fields.count as u64);
     end(line, at)
 }
 
-fn row_line(x: RowFields, line: &mut [u8], at: usize) -> usize {
+fn row_line(listed: RowFields, line: &mut [u8], at: usize) -> usize {
     let fields = [
-        x.job,
-        x.station,
-        x.suite,
-        x.key_number,
-        x.nonce_at,
-        x.ad_at,
-        x.ad_len,
-        x.text_at,
-        x.text_len,
+        listed.job,
+        listed.station,
+        listed.suite,
+        listed.key_number,
+        listed.nonce_at,
+        listed.ad_at,
+        listed.ad_len,
+        listed.text_at,
+        listed.text_len,
     ];
-    let at = number(line, at, x.status as u64);
+    let at = number(line, at, listed.status as u64);
     let at = and_list(line, at, &fields);
     end(line, at)
 }
@@ -53,17 +53,17 @@ fn rows(file: &[u8], first: u32, count: usize, line: &mut [u8], start: usize) ->
 }
 
 // Reads the file of a call into f and runs it; no line if f is too small or the input ends.
-fn run_in(f: &mut [u8], c: Call, line: &mut [u8]) -> usize {
-    let n = c.first;
-    let file = program_text::read::field(f, n);
+fn run_in(file_buf: &mut [u8], call: Call, line: &mut [u8]) -> usize {
+    let n = call.first;
+    let file = program_text::read::field(file_buf, n);
     if file.len() != n {
         return 0;
     }
     let at = header_line(file, line);
-    rows(file, c.job, c.second, line, at)
+    rows(file, call.job, call.second, line, at)
 }
 
-pub(crate) fn run(c: Call, line: &mut [u8]) -> usize {
-    let mut f = program_text::read::file_room();
-    run_in(&mut f, c, line)
+pub(crate) fn run(call: Call, line: &mut [u8]) -> usize {
+    let mut file_buf = program_text::read::file_room();
+    run_in(&mut file_buf, call, line)
 }

@@ -12,29 +12,38 @@ mod report;
 mod search;
 
 use program_text::call::Call;
+use program_text::call::HEAD_LEN;
+use shift_format::limits::MAX_ROWS;
+
+// The most bytes of a file or an output, and of a ring, and the most places of a list, that a call can have here.
+const FILE_ROOM: usize = 65540;
+
+const RING_ROOM: usize = 300;
+
+const LIST_ROOM: usize = MAX_ROWS + 8;
 
 // Runs a call; no line if a buffer is too small, the input ends, or there is no such op.
-fn run(c: Call, line: &mut [u8]) -> usize {
-    let op = c.op;
+fn run(call: Call, line: &mut [u8]) -> usize {
+    let op = call.op;
     match op {
-        0 => opening::run(c, line),
-        1 => opening::run(c, line),
-        2 => search::run(c, line),
-        3 => amended::run(c, line),
-        4 => compared::run(c, line),
-        5 => report::run(c, line),
-        6 => printing::run(c, line),
-        7 => printing::run_current(c, line),
-        8 => printing::run(c, line),
-        9 => printing::run(c, line),
-        10 => contents::run(c, line),
+        0 => opening::run(call, line),
+        1 => opening::run(call, line),
+        2 => search::run(call, line),
+        3 => amended::run(call, line),
+        4 => compared::run(call, line),
+        5 => report::run(call, line),
+        6 => printing::run(call, line),
+        7 => printing::run_current(call, line),
+        8 => printing::run(call, line),
+        9 => printing::run(call, line),
+        10 => contents::run(call, line),
         _ => 0,
     }
 }
 
 // Reads a call and runs it; false at the end of the input.
 fn turn() -> bool {
-    let mut head = [0u8; 30];
+    let mut head = [0u8; HEAD_LEN];
     let mut line = program_reports::page();
     if !program_text::call::next(&mut head) {
         return false;

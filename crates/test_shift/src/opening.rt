@@ -3,6 +3,8 @@
 // Op 0: one line, number and row of the check and of the lookup; offset, length and bytes of the associated data; number and
 // row of the opening, and its output. Op 1: a line for each byte of the file, the fold of the answers to its 255 other values,
 // outputs too.
+use crate::FILE_ROOM;
+use crate::RING_ROOM;
 use libc::STDIN_FILENO;
 use program_text::call::Call;
 use program_text::text::and_number;
@@ -14,16 +16,19 @@ use status::checked::Answer;
 ghost use Prim.Native.Nat.{_≤_, _<_};
 ghost use lib.ListN.{length};
 
+// The most bytes of an output where every damage is tried.
+const SHORT_ROOM: usize = 300;
+
 // A space, number and row.
-fn and_answer(line: &mut [u8], at: usize, a: Answer) -> usize {
+fn and_answer(line: &mut [u8], at: usize, answered: Answer) -> usize {
     let to = space(line, at);
-    answer(line, to, a.number, a.row)
+    answer(line, to, answered.number, answered.row)
 }
 
 // Number and row of the check and of the lookup.
 fn found(file: &[u8], job: u32, line: &mut [u8]) -> usize {
-    let a = shift_check::check(file).answer();
-    let at = answer(line, 0, a.number, a.row);
+    let checked = shift_check::check(file).answer();
+    let at = answer(line, 0, checked.number, checked.row);
     and_answer(line, at, shift_jobs::lookup(file, job).answer())
 }
 
@@ -54,15 +59,15 @@ fn opening(
 }
 
 // Op 0; no line if the output's buffer is too small.
-fn one(file: &[u8], ring: &[u8], c: Call, line: &mut [u8]) -> usize {
-    let mut out = [0xa5u8; 65540];
-    let o = c.third;
-    if 65540 < o {
+fn one(file: &[u8], ring: &[u8], call: Call, line: &mut [u8]) -> usize {
+    let mut out = [0xa5u8; FILE_ROOM];
+    let out_len = call.third;
+    if FILE_ROOM < out_len {
         return 0;
     }
-    let at = found(file, c.job, line);
-    let at = place(file, c.job, line, at);
-    opening(file, ring, c.job, &mut out[0..o], line, at)
+    let at = found(file, call.job, line);
+    let at = place(file, call.job, line, at);
+    opening(file, ring, call.job, &mut out[0..out_len], line, at)
 }
 
 // The low byte of a row.
@@ -75,8 +80,8 @@ fn opened_into(s: u64, file: &[u8], ring: &[u8], job: u32, out: &mut [u8]) -> u6
     requires { ⌜ s < 4294967291 ⌝ }
     ensures { λ r. ⌜ r < 4294967291 ⌝ }
 {
-    let a = shift_jobs::open_job(file, ring, job, out).answer();
-    program_text::fold::fold_from(program_text::fold::folded(s, a.number), out)
+    let answered = shift_jobs::open_job(file, ring, job, out).answer();
+    program_text::fold::fold_from(program_text::fold::folded(s, answered.number), out)
 }
 
 // The same with a fresh output of o bytes.
@@ -84,7 +89,7 @@ fn opened(s: u64, file: &[u8], ring: &[u8], job: u32, o: usize) -> u64
     requires { ⌜ (s < 4294967291) × (o ≤ 300) ⌝ }
     ensures { λ r. ⌜ r < 4294967291 ⌝ }
 {
-    let mut out = [0xa5u8; 300];
+    let mut out = [0xa5u8; SHORT_ROOM];
     opened_into(s, file, ring, job, &mut out[0..o])
 }
 
@@ -93,13 +98,13 @@ fn answers(s: u64, file: &[u8], ring: &[u8], job: u32, o: usize) -> u64
     requires { ⌜ (s < 4294967291) × (o ≤ 300) ⌝ }
     ensures { λ r. ⌜ r < 4294967291 ⌝ }
 {
-    let a = shift_check::check(file).answer();
-    let b = shift_jobs::lookup(file, job).answer();
-    let s1 = program_text::fold::folded(s, a.number);
-    let s2 = program_text::fold::folded(s1, low(a.row));
-    let s3 = program_text::fold::folded(s2, b.number);
-    let s4 = program_text::fold::folded(s3, low(b.row));
-    opened(s4, file, ring, job, o)
+    let checked = shift_check::check(file).answer();
+    let found = shift_jobs::lookup(file, job).answer();
+    let fold1 = program_text::fold::folded(s, checked.number);
+    let fold2 = program_text::fold::folded(fold1, low(checked.row));
+    let fold3 = program_text::fold::folded(fold2, found.number);
+    let fold4 = program_text::fold::folded(fold3, low(found.row));
+    opened(fold4, file, ring, job, o)
 }
 
 // The fold of the answers to the 255 other values of byte p.
@@ -107,64 +112,64 @@ fn damages(file: &mut [u8], p: usize, ring: &[u8], job: u32, o: usize) -> u64
     requires { ⌜ (p < length (now file)) × (o ≤ 300) ⌝ }
 {
     let old = file[p];
-    let mut s: u64 = 0;
-    let mut x: u8 = 0;
-    while x < 255 {
-        x += 1;
-        file[p] = old ^ x;
-        s = answers(s, file, ring, job, o);
+    let mut fold: u64 = 0;
+    let mut mask: u8 = 0;
+    while mask < 255 {
+        mask += 1;
+        file[p] = old ^ mask;
+        fold = answers(fold, file, ring, job, o);
     }
     file[p] = old;
-    s
+    fold
 }
 
 // A fold on a line of its own.
-fn fold_line(line: &mut [u8], at: usize, s: u64) -> usize {
-    let to = program_text::text::hex_number(line, at, s, 8);
+fn fold_line(line: &mut [u8], at: usize, fold: u64) -> usize {
+    let to = program_text::text::hex_number(line, at, fold, 8);
     end(line, to)
 }
 
 // Op 1; no line if the output's buffer is too small.
-fn damage(file: &mut [u8], ring: &[u8], job: u32, o: usize, line: &mut [u8]) -> usize {
-    if 300 < o {
+fn damage(file: &mut [u8], ring: &[u8], job: u32, out_len: usize, line: &mut [u8]) -> usize {
+    if SHORT_ROOM < out_len {
         return 0;
     }
     let mut at: usize = 0;
-    let mut p: usize = 0;
-    while p < file.len() {
-        at = fold_line(line, at, damages(file, p, ring, job, o));
-        p += 1;
+    let mut index: usize = 0;
+    while index < file.len() {
+        at = fold_line(line, at, damages(file, index, ring, job, out_len));
+        index += 1;
     }
     at
 }
 
 // Runs a call on its file, once its ring is read.
-fn run_on(file: &mut [u8], c: Call, line: &mut [u8]) -> usize {
-    let mut r = [0u8; 300];
-    let n = c.second;
-    let ring = program_text::read::field(&mut r, n);
-    if ring.len() != n {
+fn run_on(file: &mut [u8], call: Call, line: &mut [u8]) -> usize {
+    let mut ring_buf = [0u8; RING_ROOM];
+    let ring_len = call.second;
+    let ring = program_text::read::field(&mut ring_buf, ring_len);
+    if ring.len() != ring_len {
         return 0;
     }
-    if c.op == 0 {
-        return one(file, ring, c, line);
+    if call.op == 0 {
+        return one(file, ring, call, line);
     }
-    damage(file, ring, c.job, c.third, line)
+    damage(file, ring, call.job, call.third, line)
 }
 
 // Reads the file of a call into f and runs it; no line if f is too small or the input ends.
-fn run_in(f: &mut [u8], c: Call, line: &mut [u8]) -> usize {
-    let n = c.first;
-    if f.len() < n {
+fn run_in(file_buf: &mut [u8], call: Call, line: &mut [u8]) -> usize {
+    let n = call.first;
+    if file_buf.len() < n {
         return 0;
     }
-    if io::read_full(STDIN_FILENO, &mut f[0..n]) != n {
+    if io::read_full(STDIN_FILENO, &mut file_buf[0..n]) != n {
         return 0;
     }
-    run_on(&mut f[0..n], c, line)
+    run_on(&mut file_buf[0..n], call, line)
 }
 
-pub(crate) fn run(c: Call, line: &mut [u8]) -> usize {
-    let mut f = program_text::read::file_room();
-    run_in(&mut f, c, line)
+pub(crate) fn run(call: Call, line: &mut [u8]) -> usize {
+    let mut file_buf = program_text::read::file_room();
+    run_in(&mut file_buf, call, line)
 }

@@ -2,62 +2,64 @@
 //
 // Op 6: `job`, of file and ring. Op 7: `current`, of amendment, day's file and ring. Op 8: `differ`, of the first file and the
 // second. Op 9: `inspect`, of file and ring.
+use crate::FILE_ROOM;
+use crate::RING_ROOM;
 use program_text::call::Call;
 use program_text::read::field;
 
 // Ops 6, 8 and 9, once the first file is read.
-fn two_on(first: &[u8], c: Call, line: &mut [u8]) -> usize {
-    let mut b = [0u8; 65540];
-    let op = c.op;
-    let n = c.second;
-    let second = field(&mut b, n);
+fn two_on(first: &[u8], call: Call, line: &mut [u8]) -> usize {
+    let mut second_buf = [0u8; FILE_ROOM];
+    let op = call.op;
+    let n = call.second;
+    let second = field(&mut second_buf, n);
     if second.len() != n {
         return 0;
     }
     match op {
-        6 => program_reports::job(first, second, c.job, line),
+        6 => program_reports::job(first, second, call.job, line),
         8 => program_reports::differ(first, second, line),
         _ => program_reports::inspect(first, second, line),
     }
 }
 
-fn two_in(f: &mut [u8], c: Call, line: &mut [u8]) -> usize {
-    let n = c.first;
-    let first = field(f, n);
+fn two_in(first_buf: &mut [u8], call: Call, line: &mut [u8]) -> usize {
+    let n = call.first;
+    let first = field(first_buf, n);
     if first.len() != n {
         return 0;
     }
-    two_on(first, c, line)
+    two_on(first, call, line)
 }
 
-pub(crate) fn run(c: Call, line: &mut [u8]) -> usize {
-    let mut f = program_text::read::file_room();
-    two_in(&mut f, c, line)
+pub(crate) fn run(call: Call, line: &mut [u8]) -> usize {
+    let mut first_buf = program_text::read::file_room();
+    two_in(&mut first_buf, call, line)
 }
 
 // Op 7, once both files are read.
-fn current<'a>(amendment: &'a [u8], day: &'a [u8], c: Call, line: &mut [u8]) -> usize {
-    let mut r = [0u8; 300];
-    let n = c.third;
-    let ring = field(&mut r, n);
+fn current<'a>(amendment: &'a [u8], day: &'a [u8], call: Call, line: &mut [u8]) -> usize {
+    let mut ring_buf = [0u8; RING_ROOM];
+    let n = call.third;
+    let ring = field(&mut ring_buf, n);
     if ring.len() != n {
         return 0;
     }
-    program_reports::current(amendment, day, ring, c.job, line)
+    program_reports::current(amendment, day, ring, call.job, line)
 }
 
-pub(crate) fn run_current(c: Call, line: &mut [u8]) -> usize {
-    let mut f = [0u8; 65540];
-    let mut g = [0u8; 65540];
-    let n = c.first;
-    let m = c.second;
-    let amendment = field(&mut f, n);
-    if amendment.len() != n {
+pub(crate) fn run_current(call: Call, line: &mut [u8]) -> usize {
+    let mut amendment_buf = [0u8; FILE_ROOM];
+    let mut day_buf = [0u8; FILE_ROOM];
+    let amendment_len = call.first;
+    let day_len = call.second;
+    let amendment = field(&mut amendment_buf, amendment_len);
+    if amendment.len() != amendment_len {
         return 0;
     }
-    let day = field(&mut g, m);
-    if day.len() != m {
+    let day = field(&mut day_buf, day_len);
+    if day.len() != day_len {
         return 0;
     }
-    current(amendment, day, c, line)
+    current(amendment, day, call, line)
 }

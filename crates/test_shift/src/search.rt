@@ -7,11 +7,11 @@ use program_text::text::answer;
 use program_text::text::end;
 
 fn one(file: &[u8], job: u32, line: &mut [u8], at: usize) -> usize {
-    let s = shift_search::search(file, job);
-    let found = s.found;
-    let a = found.answer();
-    let at = answer(line, at, a.number, a.row);
-    let at = and_number(line, at, s.looked as u64);
+    let search = shift_search::search(file, job);
+    let found = search.found;
+    let answered = found.answer();
+    let at = answer(line, at, answered.number, answered.row);
+    let at = and_number(line, at, search.looked as u64);
     end(line, at)
 }
 
@@ -32,16 +32,16 @@ fn searches(file: &[u8], first: u32, count: usize, line: &mut [u8]) -> usize {
 }
 
 // Reads the file of a call into f and runs it; no line if f is too small or the input ends.
-fn run_in(f: &mut [u8], c: Call, line: &mut [u8]) -> usize {
-    let n = c.first;
-    let file = program_text::read::field(f, n);
+fn run_in(file_buf: &mut [u8], call: Call, line: &mut [u8]) -> usize {
+    let n = call.first;
+    let file = program_text::read::field(file_buf, n);
     if file.len() != n {
         return 0;
     }
-    searches(file, c.job, c.second, line)
+    searches(file, call.job, call.second, line)
 }
 
-pub(crate) fn run(c: Call, line: &mut [u8]) -> usize {
-    let mut f = program_text::read::file_room();
-    run_in(&mut f, c, line)
+pub(crate) fn run(call: Call, line: &mut [u8]) -> usize {
+    let mut file_buf = program_text::read::file_room();
+    run_in(&mut file_buf, call, line)
 }

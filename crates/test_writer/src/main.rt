@@ -4,13 +4,19 @@
 // draft of a file back, 2 seals suite 4 entries again as suite 3, 3 moves a file to edition 2 and 4 back to edition 1 (both
 // without a ring). A line is number, row and output, which holds 0xa5 before the call.
 use program_text::call::Call;
+use program_text::call::HEAD_LEN;
 use program_text::text::and_shown;
 use program_text::text::answer;
 use program_text::text::end;
 use status::checked::Answer;
 
-fn said(a: Answer, out: &[u8], line: &mut [u8]) -> usize {
-    let at = answer(line, 0, a.number, a.row);
+// The most bytes of a ring and of an output that a call can have here.
+const RING_ROOM: usize = 300;
+
+const OUT_ROOM: usize = 65540;
+
+fn said(answered: Answer, out: &[u8], line: &mut [u8]) -> usize {
+    let at = answer(line, 0, answered.number, answered.row);
     let at = and_shown(line, at, out);
     end(line, at)
 }
@@ -32,39 +38,39 @@ fn write(op: u8, file: &[u8], ring: &[u8], out: &mut [u8], line: &mut [u8]) -> u
 }
 
 // Runs a call on its file, once its ring is read; no line if the buffer of ring or output is too small.
-fn run_on(file: &[u8], c: Call, line: &mut [u8]) -> usize {
-    let mut r = [0u8; 300];
-    let mut out = [0xa5u8; 65540];
-    let n = c.second;
-    let o = c.third;
-    let ring = program_text::read::field(&mut r, n);
-    if ring.len() != n {
+fn run_on(file: &[u8], call: Call, line: &mut [u8]) -> usize {
+    let mut ring_buf = [0u8; RING_ROOM];
+    let mut out = [0xa5u8; OUT_ROOM];
+    let ring_len = call.second;
+    let out_len = call.third;
+    let ring = program_text::read::field(&mut ring_buf, ring_len);
+    if ring.len() != ring_len {
         return 0;
     }
-    if 65540 < o {
+    if OUT_ROOM < out_len {
         return 0;
     }
-    write(c.op, file, ring, &mut out[0..o], line)
+    write(call.op, file, ring, &mut out[0..out_len], line)
 }
 
 // Reads the file of a call into f and runs it; no line if f is too small or the input ends.
-fn run_in(f: &mut [u8], c: Call, line: &mut [u8]) -> usize {
-    let n = c.first;
-    let file = program_text::read::field(f, n);
+fn run_in(file_buf: &mut [u8], call: Call, line: &mut [u8]) -> usize {
+    let n = call.first;
+    let file = program_text::read::field(file_buf, n);
     if file.len() != n {
         return 0;
     }
-    run_on(file, c, line)
+    run_on(file, call, line)
 }
 
-fn run(c: Call, line: &mut [u8]) -> usize {
-    let mut f = program_text::read::file_room();
-    run_in(&mut f, c, line)
+fn run(call: Call, line: &mut [u8]) -> usize {
+    let mut file_buf = program_text::read::file_room();
+    run_in(&mut file_buf, call, line)
 }
 
 // Reads a call and runs it; false at the end of the input.
 fn turn() -> bool {
-    let mut head = [0u8; 30];
+    let mut head = [0u8; HEAD_LEN];
     let mut line = [0u8; 512];
     if !program_text::call::next(&mut head) {
         return false;

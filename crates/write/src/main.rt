@@ -3,6 +3,7 @@
 //
 // Prints status and row on one line. OUT is written if the status is 0, and otherwise unchanged. A file that cannot
 // be read counts as zero bytes. The program takes files up to the format's 1,048,576 bytes (longer: 20).
+use program_text::read::RING_ROOM;
 use status::checked::Answer;
 ghost use Prim.Native.Nat.{_≤_};
 
@@ -13,17 +14,17 @@ enum Way {
     Reseal,
 }
 
-// Argument i names the output.
-fn say(a: Answer, out: &[u8], i: usize) {
-    program_files::answered(a.number, a.row, out, i);
+// The argument names the output.
+fn say(answer: Answer, out: &[u8], argument: usize) {
+    program_files::answered(answer.number, answer.row, out, argument);
 }
 
 // Argument i names the ring, the next one the output.
 fn run(way: Way, file: &[u8], i: usize, out: &mut [u8])
     requires { ⌜ i ≤ 3 ⌝ }
 {
-    let mut r = [0u8; 257];
-    let ring = program_files::load(i, &mut r);
+    let mut ring_buf = [0u8; RING_ROOM];
+    let ring = program_files::load(i, &mut ring_buf);
     match way {
         Way::Seal => say(
             shift_writer::seal_file(file, ring, out).answer(),
@@ -53,10 +54,10 @@ fn run_in(way: Way, file: &[u8], i: usize, out: &mut [u8])
 fn write(way: Way, i: usize)
     requires { ⌜ i ≤ 2 ⌝ }
 {
-    let mut f = program_text::read::file_room();
-    let mut o = program_text::read::file_room();
-    let file = program_files::load(i, &mut f);
-    run_in(way, file, i + 1, &mut o);
+    let mut file_buf = program_text::read::file_room();
+    let mut out_buf = program_text::read::file_room();
+    let file = program_files::load(i, &mut file_buf);
+    run_in(way, file, i + 1, &mut out_buf);
 }
 
 fn main() {

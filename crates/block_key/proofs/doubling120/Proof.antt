@@ -15,11 +15,11 @@ mul-top c = search needs
 add-once : tie.Need-add-once
 add-once c = search needs
 
-add-b : tie.Need-add-b
-add-b c = search needs
+add-high : tie.Need-add-high
+add-high c = search needs
 
-add-b-2 : tie.Need-add-b-2
-add-b-2 c = record { fits = twice-fits (c .before .before .before .args .z .a) (c .before .before .before .args .z .b) (omega arith) (omega arith) }
+add-high-2 : tie.Need-add-high-2
+add-high-2 c = record { fits = twice-fits (c .before .before .before .args .z .a) (c .before .before .before .args .z .b) (omega arith) (omega arith) }
 
 mul-t9 : tie.Need-mul-t9
 mul-t9 c = search needs
@@ -29,4 +29,4 @@ unfolding xor
 returns c = double-twice (c .before .before .before .before .args .z .a) (c .before .before .before .before .args .z .b) (omega arith) (omega arith)
 
 pub doubling120-spec : {M : Type 1} → statement M
-doubling120-spec = tie.close (tie.spec sub-top mul-top add-once add-b add-b-2 mul-t9 returns)
+doubling120-spec = tie.close (tie.spec sub-top mul-top add-once add-high add-high-2 mul-t9 returns)

@@ -20,11 +20,11 @@ abbrev μ-loop : tie.MeasureT-loop
 loop-holds : tie.Need-loop-holds Inv-loop μ-loop
 loop-holds c = (omega arith, refl)
 
-shared-slice-read-r : tie.Need-shared-slice-read-r Inv-loop μ-loop
-shared-slice-read-r c = search needs
+shared-slice-read-sixteen : tie.Need-shared-slice-read-sixteen Inv-loop μ-loop
+shared-slice-read-sixteen c = search needs
 
-array-write-r : tie.Need-array-write-r Inv-loop μ-loop
-array-write-r c = search needs
+array-write-sixteen : tie.Need-array-write-sixteen Inv-loop μ-loop
+array-write-sixteen c = search needs
 
 add-i : tie.Need-add-i Inv-loop μ-loop
 add-i c = search needs
@@ -36,7 +36,7 @@ loop-again : tie.Need-loop-again Inv-loop μ-loop
 loop-again c =
     let b = now (c .before .before .before .args .front) in
     let i = c .before .before .loop .i in
-    (omega arith, fill-zeros b (c .before .before .loop .r) i (omega arith) (omega arith) (c .before .before .loop .inv .1))
+    (omega arith, fill-zeros b (c .before .before .loop .sixteen) i (omega arith) (omega arith) (c .before .before .loop .inv .1))
 
 returns : tie.Need-returns Inv-loop μ-loop
 returns c =
@@ -52,8 +52,8 @@ filled-bytes-spec =
     Inv-loop
     μ-loop
     loop-holds
-    shared-slice-read-r
-    array-write-r
+    shared-slice-read-sixteen
+    array-write-sixteen
     add-i
     loop-less
     loop-again

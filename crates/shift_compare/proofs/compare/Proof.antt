@@ -10,13 +10,13 @@ use Rattle.shift_compare.proofs.compare.Tie as tie
 check-requires : tie.Need-check-requires
 check-requires c κs = search needs
 
-enum-known-x : tie.Need-enum-known-x
-enum-known-x c = search needs
+enum-known-refusal : tie.Need-enum-known-refusal
+enum-known-refusal c = search needs
 
 returns : tie.Need-returns
 returns c =
     let k = c .before .before .before in
-    sym (first-refused _ _ _ _ _ (c .before .x .given .0 .0) (sym (k .check .ensures) ∙ ap checkedAnswer (c .before .x .given .1)))
+    sym (first-refused _ _ _ _ _ (c .before .refusal .given .0 .0) (sym (k .check .ensures) ∙ ap checkedAnswer (c .before .refusal .given .1)))
 
 enum-told : tie.Need-enum-told
 enum-told c = search needs
@@ -24,14 +24,14 @@ enum-told c = search needs
 check-requires-2 : tie.Need-check-requires-2
 check-requires-2 c κs = search needs
 
-enum-known-x-2 : tie.Need-enum-known-x-2
-enum-known-x-2 c = search needs
+enum-known-refusal-2 : tie.Need-enum-known-refusal-2
+enum-known-refusal-2 c = search needs
 
 returns-2 : tie.Need-returns-2
 returns-2 c =
     let k = c .before .before .before in
     let second = k .before in
-    sym (second-refused _ _ _ _ _ (c .before .x2 .given .0 .0) (passed-zero _ _ (second .enum-told .given .1) (second .before .before .check .ensures)) (sym (k .check2 .ensures) ∙ ap checkedAnswer (c .before .x2 .given .1)))
+    sym (second-refused _ _ _ _ _ (c .before .refusal2 .given .0 .0) (passed-zero _ _ (second .enum-told .given .1) (second .before .before .check .ensures)) (sym (k .check2 .ensures) ∙ ap checkedAnswer (c .before .refusal2 .given .1)))
 
 enum-told-2 : tie.Need-enum-told-2
 enum-told-2 c = search needs
@@ -59,11 +59,11 @@ compare-spec =
     tie.close
     (tie.spec
     check-requires
-    enum-known-x
+    enum-known-refusal
     returns
     enum-told
     check-requires-2
-    enum-known-x-2
+    enum-known-refusal-2
     returns-2
     enum-told-2
     lists-requires

@@ -15,13 +15,13 @@ returns c = sym (too-long _ _ _ _ (c .if1 .taken))
 check-requires : tie.Need-check-requires
 check-requires c κs = search needs
 
-enum-known-x : tie.Need-enum-known-x
-enum-known-x c = search needs
+enum-known-refusal : tie.Need-enum-known-refusal
+enum-known-refusal c = search needs
 
 returns-2 : tie.Need-returns-2
 returns-2 c =
     let k = c .before .before .before in
-    sym (file-refused _ _ _ _ (k .before .if1 .left) (c .before .x .given .0 .0) (sym (k .check .ensures) ∙ ap checkedAnswer (c .before .x .given .1)))
+    sym (file-refused _ _ _ _ (k .before .if1 .left) (c .before .refusal .given .0 .0) (sym (k .check .ensures) ∙ ap checkedAnswer (c .before .refusal .given .1)))
 
 enum-told : tie.Need-enum-told
 enum-told c = search needs
@@ -76,7 +76,7 @@ report-spec =
     (tie.spec
     returns
     check-requires
-    enum-known-x
+    enum-known-refusal
     returns-2
     enum-told
     returns-3

@@ -20,14 +20,14 @@ sum-fits : (k x : ℕ) → k < 8 → x % place k + place k < 2 ^ 64
 unfolding place
 sum-fits k x h = omega (arith, place-is k h, place-low k h, mod-lt x (place-some k h))
 
-mul-q : tie.Need-mul-q
-mul-q c = search needs
+mul-marker : tie.Need-mul-marker
+mul-marker c = search needs
 
-cast-q : tie.Need-cast-q
-cast-q c = search needs
+cast-marker : tie.Need-cast-marker
+cast-marker c = search needs
 
-shl-q : tie.Need-shl-q
-shl-q c = search needs
+shl-marker : tie.Need-shl-marker
+shl-marker c = search needs
 
 rem-result : tie.Need-rem-result
 unfolding place
@@ -41,4 +41,4 @@ returns : tie.Need-returns
 returns c = pad-low 8 (c .args .k) (c .args .x) _ (c .pre) (place-is (c .args .k) (c .pre))
 
 pub padded8-spec : {M : Type 1} → statement M
-padded8-spec = tie.close (tie.spec mul-q cast-q shl-q rem-result add-result returns)
+padded8-spec = tie.close (tie.spec mul-marker cast-marker shl-marker rem-result add-result returns)

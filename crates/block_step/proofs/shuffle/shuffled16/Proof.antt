@@ -15,8 +15,8 @@ cast-rotl32 c = search needs
 rotl32-requires : tie.Need-rotl32-requires
 rotl32-requires c κs = search needs
 
-cast-t : tie.Need-cast-t
-cast-t c = search needs
+cast-rotated : tie.Need-cast-rotated
+cast-rotated c = search needs
 
 mul-t6 : tie.Need-mul-t6
 mul-t6 c = search needs
@@ -33,4 +33,4 @@ returns c =
     ap (λ (t : ℕ). bytes 8 (x .b / 0x1_0000_0000 + 0x1_0000_0000 * t) ++ bytes 8 (x .a)) (c .before .rotl32 .ensures) ∙ shuffle-16 (x .a) (x .b) hb
 
 pub shuffled16-spec : {M : Type 1} → statement M
-shuffled16-spec = tie.close (tie.spec cast-rotl32 rotl32-requires cast-t mul-t6 add-t7 returns)
+shuffled16-spec = tie.close (tie.spec cast-rotl32 rotl32-requires cast-rotated mul-t6 add-t7 returns)

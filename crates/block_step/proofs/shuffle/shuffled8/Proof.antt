@@ -14,8 +14,8 @@ cast-rotl16 c = search needs
 rotl16-requires : tie.Need-rotl16-requires
 rotl16-requires c κs = search needs
 
-cast-t : tie.Need-cast-t
-cast-t c = search needs
+cast-rotated : tie.Need-cast-rotated
+cast-rotated c = search needs
 
 mul-result : tie.Need-mul-result
 mul-result c = search needs
@@ -43,7 +43,7 @@ shuffled8-spec =
     (tie.spec
     cast-rotl16
     rotl16-requires
-    cast-t
+    cast-rotated
     mul-result
     add-result
     mul-result-2

@@ -41,7 +41,7 @@ loop-again c =
     let h : at .i < length b = omega arith in (
       omega arith,
       c .folded .ensures .1,
-      rw add-one (ap (λ (v : ℕ). foldFrom v (drop (suc (at .i)) b)) (c .folded .ensures .0) ∙ sym (ap (foldFrom (at .t)) (drop-cons b (at .i) 0 h)) ∙ at .inv .2),
+      rw add-one (ap (λ (v : ℕ). foldFrom v (drop (suc (at .i)) b)) (c .folded .ensures .0) ∙ sym (ap (foldFrom (at .sum)) (drop-cons b (at .i) 0 h)) ∙ at .inv .2),
     )
 
 returns : tie.Need-returns Inv-loop μ-loop
@@ -49,7 +49,7 @@ unfolding foldFrom
 returns c =
     let b = now (c .before .before .before .args .bytes) in
     let at = c .before .loop in
-    (sym (ap (foldFrom (at .t)) (drop-of-length-le b {i = at .i} (omega arith))) ∙ at .inv .2, at .inv .1)
+    (sym (ap (foldFrom (at .sum)) (drop-of-length-le b {i = at .i} (omega arith))) ∙ at .inv .2, at .inv .1)
 
 pub fold-from-spec : {M : Type 1} → statement M
 fold-from-spec =

@@ -41,14 +41,14 @@ loop-holds c =
     let st = c .before .before .before .before in
     (omega arith, paste-zero (c .filled-bytes .result) (st .args .h) (now (st .args .p)))
 
-shared-slice-read-r : tie.Need-shared-slice-read-r Inv-loop μ-loop
-shared-slice-read-r c = search needs
+shared-slice-read-sixteen : tie.Need-shared-slice-read-sixteen Inv-loop μ-loop
+shared-slice-read-sixteen c = search needs
 
-add-r : tie.Need-add-r Inv-loop μ-loop
-add-r c = search needs
+add-sixteen : tie.Need-add-sixteen Inv-loop μ-loop
+add-sixteen c = search needs
 
-array-write-r : tie.Need-array-write-r Inv-loop μ-loop
-array-write-r c = search needs
+array-write-sixteen : tie.Need-array-write-sixteen Inv-loop μ-loop
+array-write-sixteen c = search needs
 
 add-j : tie.Need-add-j Inv-loop μ-loop
 add-j c = search needs
@@ -91,9 +91,9 @@ joined-spec =
     part-filled-bytes-end
     filled-bytes-requires
     loop-holds
-    shared-slice-read-r
-    add-r
-    array-write-r
+    shared-slice-read-sixteen
+    add-sixteen
+    array-write-sixteen
     add-j
     loop-less
     loop-again

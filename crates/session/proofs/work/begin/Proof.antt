@@ -25,8 +25,8 @@ returns c =
 size-of-requires : tie.Need-size-of-requires
 size-of-requires c κs = search needs
 
-rem-h : tie.Need-rem-h
-rem-h c = search needs
+rem-held-len : tie.Need-rem-held-len
+rem-held-len c = search needs
 
 returns-2 : tie.Need-returns-2
 returns-2 c =
@@ -77,7 +77,7 @@ begin-spec =
     (tie.spec
     returns
     size-of-requires
-    rem-h
+    rem-held-len
     returns-2
     first-mark-requires
     sub-absorb-last

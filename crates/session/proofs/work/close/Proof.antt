@@ -29,8 +29,8 @@ size-of-requires c κs = search needs
 first-mark-requires : tie.Need-first-mark-requires
 first-mark-requires c κs = search needs
 
-rem-h : tie.Need-rem-h
-rem-h c = search needs
+rem-held-len : tie.Need-rem-held-len
+rem-held-len c = search needs
 
 last-in-requires : tie.Need-last-in-requires
 last-in-requires c κs =
@@ -82,4 +82,4 @@ returns c =
     ∙ answer-done 0 (endNumber (v .suite) (v .«ad_total») (v .«text_total») (length o) (length t)) (endDone v o) v o t refl (sym (st .pre .1))
 
 pub close-spec : {M : Type 1} → statement M
-close-spec = tie.close (tie.spec begin-requires size-of-requires first-mark-requires rem-h last-in-requires tag-of-requires put-requires ended-requires same-length same-length-2 returns)
+close-spec = tie.close (tie.spec begin-requires size-of-requires first-mark-requires rem-held-len last-in-requires tag-of-requires put-requires ended-requires same-length same-length-2 returns)

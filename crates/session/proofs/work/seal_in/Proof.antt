@@ -28,8 +28,8 @@ size-of-requires c κs = search needs
 first-mark-requires : tie.Need-first-mark-requires
 first-mark-requires c κs = search needs
 
-rem-h : tie.Need-rem-h
-rem-h c = search needs
+rem-held-len : tie.Need-rem-held-len
+rem-held-len c = search needs
 
 crypt-part-requires : tie.Need-crypt-part-requires
 crypt-part-requires c κs =
@@ -70,4 +70,4 @@ returns c =
     ∙ answer-done 0 (textNumber (v .suite) (v .«ad_total») (v .«text_total») (length p) (length o)) (textDone v p o) v o [] refl (sym (st .pre .0))
 
 pub seal-in-spec : {M : Type 1} → statement M
-seal-in-spec = tie.close (tie.spec going-requires size-of-requires first-mark-requires rem-h crypt-part-requires add-packed packed-requires same-length returns)
+seal-in-spec = tie.close (tie.spec going-requires size-of-requires first-mark-requires rem-held-len crypt-part-requires add-packed packed-requires same-length returns)

@@ -25,8 +25,8 @@ size-of-requires c κs = search needs
 first-mark-requires : tie.Need-first-mark-requires
 first-mark-requires c κs = search needs
 
-rem-h : tie.Need-rem-h
-rem-h c = search needs
+rem-held-len : tie.Need-rem-held-len
+rem-held-len c = search needs
 
 absorb-part-requires : tie.Need-absorb-part-requires
 absorb-part-requires c κs =
@@ -64,4 +64,4 @@ returns c =
     ∙ answer-done 0 (dataNumber (v .suite) (v .«ad_total») (v .«text_total») (length p)) (gave 0 0 (dataIn k v p) [] []) v [] [] refl (sym (st .pre))
 
 pub take-in-spec : {M : Type 1} → statement M
-take-in-spec = tie.close (tie.spec size-of-requires first-mark-requires rem-h absorb-part-requires add-packed packed-requires returns)
+take-in-spec = tie.close (tie.spec size-of-requires first-mark-requires rem-held-len absorb-part-requires add-packed packed-requires returns)

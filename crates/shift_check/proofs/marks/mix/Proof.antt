@@ -5,11 +5,11 @@ use borrow.Author.Needs.{needs}
 use Rattle.shift_check.proofs.marks.mix.Statement.{statement}
 use Rattle.shift_check.proofs.marks.mix.Tie as tie
 
-mul-k : tie.Need-mul-k
-mul-k c = search needs
+mul-suite-and-key : tie.Need-mul-suite-and-key
+mul-suite-and-key c = search needs
 
-add-k : tie.Need-add-k
-add-k c = search needs
+add-suite-and-key : tie.Need-add-suite-and-key
+add-suite-and-key c = search needs
 
 mul-result : tie.Need-mul-result
 mul-result c = search needs
@@ -33,4 +33,4 @@ returns c = refl
 pub mix-spec : {M : Type 1} → statement M
 mix-spec =
     tie.close
-    (tie.spec mul-k add-k mul-result mul-result-2 add-result mul-result-3 add-result-2 returns)
+    (tie.spec mul-suite-and-key add-suite-and-key mul-result mul-result-2 add-result mul-result-3 add-result-2 returns)

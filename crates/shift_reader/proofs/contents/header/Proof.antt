@@ -16,15 +16,15 @@ use Rattle.shift_reader.proofs.contents.header.Tie as tie
 check-head-requires : tie.Need-check-head-requires
 check-head-requires c κs = search needs
 
-enum-known-x : tie.Need-enum-known-x
-enum-known-x c = search needs
+enum-known-refusal : tie.Need-enum-known-refusal
+enum-known-refusal c = search needs
 
 answer-requires : tie.Need-answer-requires
 answer-requires c κs = search needs
 
 returns : tie.Need-returns
 returns c =
-    let x = c .before .before .x in
+    let x = c .before .before .refusal in
     let h = c .before .before .before .before in
     let f = now (h .before .before .args .file) in
     let r = refused-head f (x .given .0 .0) (sym (h .check-head .ensures) ∙ ap checkedAnswer (x .given .1)) in
@@ -65,7 +65,7 @@ header-spec =
     tie.close
     (tie.spec
     check-head-requires
-    enum-known-x
+    enum-known-refusal
     answer-requires
     returns
     enum-told

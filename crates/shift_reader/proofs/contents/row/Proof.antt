@@ -18,8 +18,8 @@ use Rattle.shift_reader.proofs.contents.row.Tie as tie
 check-head-requires : tie.Need-check-head-requires
 check-head-requires c κs = search needs
 
-enum-known-x : tie.Need-enum-known-x
-enum-known-x c = search needs
+enum-known-refusal : tie.Need-enum-known-refusal
+enum-known-refusal c = search needs
 
 answer-requires : tie.Need-answer-requires
 answer-requires c κs = search needs
@@ -29,7 +29,7 @@ no-fields-requires c κs = search needs
 
 returns : tie.Need-returns
 returns c =
-    let x = c .before .before .before .x in
+    let x = c .before .before .before .refusal in
     let h = c .before .before .before .before .before in
     let a = h .before .before .args in
     let r = refused-head (now (a .file)) (x .given .0 .0) (sym (h .check-head .ensures) ∙ ap checkedAnswer (x .given .1)) in
@@ -82,7 +82,7 @@ row-spec =
     tie.close
     (tie.spec
     check-head-requires
-    enum-known-x
+    enum-known-refusal
     answer-requires
     no-fields-requires
     returns

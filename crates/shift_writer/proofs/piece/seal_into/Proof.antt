@@ -22,8 +22,8 @@ cast-len c = search needs
 size-of-requires : tie.Need-size-of-requires
 size-of-requires c κs = search needs
 
-add-e : tie.Need-add-e
-add-e c = search needs
+add-end : tie.Need-add-end
+add-end c = search needs
 
 sub-seal-as : tie.Need-sub-seal-as
 sub-seal-as c = search needs
@@ -112,7 +112,7 @@ seal-into-spec =
     (tie.spec
     cast-len
     size-of-requires
-    add-e
+    add-end
     sub-seal-as
     part-seal-as-start
     part-seal-as-end

@@ -26,11 +26,11 @@ size-of-requires c κs = search needs
 text-start-requires : tie.Need-text-start-requires
 text-start-requires c κs = search needs
 
-add-b : tie.Need-add-b
-add-b c = search needs
+add-tag-start : tie.Need-add-tag-start
+add-tag-start c = search needs
 
-add-e : tie.Need-add-e
-add-e c = search needs
+add-end : tie.Need-add-end
+add-end c = search needs
 
 text-of-requires : tie.Need-text-of-requires
 text-of-requires c κs = rw (c .before .before .before .row-of .ensures) (c .before .before .before .before .before .before .before .pre .0 .entry .body-in)
@@ -148,8 +148,8 @@ seal-entry-spec =
     cast-len
     size-of-requires
     text-start-requires
-    add-b
-    add-e
+    add-tag-start
+    add-end
     text-of-requires
     sub-copy
     part-copy-start

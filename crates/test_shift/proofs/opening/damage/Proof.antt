@@ -24,8 +24,8 @@ damages-requires c κs = search needs
 fold-line-requires : tie.Need-fold-line-requires Inv-loop μ-loop
 fold-line-requires c κs = search needs
 
-add-p : tie.Need-add-p Inv-loop μ-loop
-add-p c = search needs
+add-index : tie.Need-add-index Inv-loop μ-loop
+add-index c = search needs
 
 loop-less : tie.Need-loop-less Inv-loop μ-loop
 loop-less c = search needs
@@ -52,7 +52,7 @@ damage-spec =
     loop-holds
     damages-requires
     fold-line-requires
-    add-p
+    add-index
     loop-less
     loop-again
     same-length

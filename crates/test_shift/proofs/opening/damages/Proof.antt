@@ -18,8 +18,8 @@ slice-read-old c = search needs
 loop-holds : tie.Need-loop-holds Inv-loop μ-loop
 loop-holds c = search needs
 
-add-x : tie.Need-add-x Inv-loop μ-loop
-add-x c = search needs
+add-mask : tie.Need-add-mask Inv-loop μ-loop
+add-mask c = search needs
 
 slice-write-file : tie.Need-slice-write-file Inv-loop μ-loop
 slice-write-file c = search needs
@@ -50,7 +50,7 @@ damages-spec =
     μ-loop
     slice-read-old
     loop-holds
-    add-x
+    add-mask
     slice-write-file
     answers-requires
     loop-less

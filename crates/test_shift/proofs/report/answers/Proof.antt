@@ -7,10 +7,10 @@ use Rattle.test_shift.proofs.report.answers.Statement.{statement}
 use Rattle.test_shift.proofs.report.answers.Tie as tie
 
 abbrev Inv-loop : tie.InvT-loop
-Inv-loop file asks line₀ at to₀ c₀ k₀ line to c k = (k ≤ asks) × (length line ≡ length line₀)
+Inv-loop file calls line₀ at to₀ c₀ k₀ line to c k = (k ≤ calls) × (length line ≡ length line₀)
 
 abbrev μ-loop : tie.MeasureT-loop
-μ-loop file asks line₀ at to₀ c₀ k₀ line to c k = asks - k
+μ-loop file calls line₀ at to₀ c₀ k₀ line to c k = calls - k
 
 slice-aggregate-put : tie.Need-slice-aggregate-put Inv-loop μ-loop
 slice-aggregate-put c = search needs
