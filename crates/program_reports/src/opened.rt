@@ -108,7 +108,7 @@ fn entry_lines(out: &mut [u8], at: usize, file: &[u8], index: usize, message: &[
     bytes_line(out, at, b"message", message)
 }
 
-// The lines of the row that the lookup found.
+// The lines of the row that the lookup found; none if it found none.
 fn lines_of(out: &mut [u8], at: usize, file: &[u8], found: Found, message: &[u8]) -> usize
     requires { ⌜ FoundIn (now file) (foundAnswer found) ⌝ }
 {
@@ -118,6 +118,7 @@ fn lines_of(out: &mut [u8], at: usize, file: &[u8], found: Found, message: &[u8]
     entry_lines(out, at, file, i, message)
 }
 
+// Opens what the lookup found into `message`: number and row on one line and, where the number is 0, the lines of the entry.
 fn open_job(file: &[u8], ring: &[u8], found: Found, message: &mut [u8], out: &mut [u8]) -> usize
     requires { ⌜ FoundIn (now file) (foundAnswer found) ⌝ }
 {
@@ -130,8 +131,7 @@ fn open_job(file: &[u8], ring: &[u8], found: Found, message: &mut [u8], out: &mu
     lines_of(out, at, file, found, message)
 }
 
-// Number and row on one line and, where the number is 0, the lines of the entry. The lookup checks the file; after it, what
-// was found is used.
+// Looks the job up and opens what it finds (`open_job`). Only the lookup checks the file.
 pub fn job(file: &[u8], ring: &[u8], job: u32, out: &mut [u8]) -> usize {
     let mut message = [0u8; LIMIT];
     let found = shift_jobs::lookup(file, job);
@@ -150,6 +150,7 @@ fn answer_in(out: &mut [u8], answer: u8, file: u8, row: usize) -> usize {
     end(out, at)
 }
 
+// The same, with the number of the file on the first line.
 fn open_current(
     file: &[u8],
     ring: &[u8],
@@ -168,7 +169,7 @@ fn open_current(
     lines_of(out, at, file, found, message)
 }
 
-// Opens what the lookup found in `file`, under the file's number.
+// Makes room for the message of what the lookup found in `file`, and opens it.
 fn open_in(file: &[u8], ring: &[u8], named: u8, found: Found, out: &mut [u8]) -> usize
     requires { ⌜ FoundIn (now file) (foundAnswer found) ⌝ }
 {
@@ -180,8 +181,7 @@ fn open_in(file: &[u8], ring: &[u8], named: u8, found: Found, out: &mut [u8]) ->
     open_current(file, ring, named, found, &mut message[0..n], out)
 }
 
-// Number, file and row on one line and, where the number is 0, the lines of the current entry. `look_up` checks both files;
-// after it, what was found is used.
+// Looks the job up in both files and opens the current entry (`open_current`). Only the lookup checks the files.
 pub fn current(amendment: &[u8], day: &[u8], ring: &[u8], job: u32, out: &mut [u8]) -> usize {
     let x = shift_amend::look_up(amendment, day, job);
     let file = x.file;

@@ -182,7 +182,8 @@ module _ (a d : List ℕ) (job : ℕ) where
       (λ p q n m z. ap (inFile 0) (entry-missing d job q m))
 
   -- an entry of file f that is the current one: file, number and row are as the contract of `look_up` has them
-  pub looked : (k : ℕ) (f : List ℕ) (x : Answer) → x ≡ lookupJob f job → inFile k (entryOf f job) ≡ amendedEntry a d job → (k ≡ amendedEntry a d job .file) × (x ≡ answerOf (amendedEntry a d job))
+  pub looked : (k : ℕ) (f : List ℕ) (x : Answer) → x ≡ lookupJob f job → inFile k (entryOf f job) ≡ amendedEntry a d job
+      → (k ≡ amendedEntry a d job .file) × (x ≡ answerOf (amendedEntry a d job))
   looked k f x q e = (ap (λ (y : Amended). y .file) e, q ∙ ap answerOf e)
 
   -- and they are a lookup of that file: the amendment's if the file is 1, else the day's

@@ -54,7 +54,8 @@ fn finds(found: Found) -> bool
 
 // The full check of the amendment, then of the day's file; then the amendment's lookup if it has the job, else the day's.
 pub fn look_up(amendment: &[u8], day: &[u8], job: u32) -> Looked
-    ensures { λ r. ⌜ (r .file ≡ amendedEntry (now (amendment .entry)) (now (day .entry)) job .file) × (foundAnswer (r .found) ≡ answerOf (amendedEntry (now (amendment .entry)) (now (day .entry)) job)) ⌝ }
+    ensures { λ r. ⌜ (r .file ≡ amendedEntry (now (amendment .entry)) (now (day .entry)) job .file)
+        × (foundAnswer (r .found) ≡ answerOf (amendedEntry (now (amendment .entry)) (now (day .entry)) job)) ⌝ }
 {
     let one = shift_jobs::lookup(amendment, job);
     if refuses(one) {
