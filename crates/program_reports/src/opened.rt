@@ -10,10 +10,17 @@ use program_text::text::end;
 use program_text::text::hex;
 use program_text::text::number;
 use program_text::text::put;
-use shift_reader::cursor::Listed;
-use shift_reader::cursor::NextRow;
-use shift_reader::cursor::ask;
-use shift_reader::cursor::start;
+use shift_format::body::data_of;
+use shift_format::row::Row;
+use shift_format::row::station_of;
+use shift_jobs::answers::Found;
+use shift_jobs::found::entry_found;
+use shift_jobs::found::open_found;
+use shift_jobs::lend::row_of;
+ghost use Rattle.shift_format.specs.Format.{rowSizeOf};
+ghost use Rattle.shift_format.specs.Inside.{RowIn, EntryIn};
+ghost use Rattle.shift_jobs.specs.Answers.{foundAnswer};
+ghost use Rattle.shift_jobs.specs.Inside.{FoundIn};
 
 // A name and a number.
 fn number_line(out: &mut [u8], at: usize, name: &[u8], n: u64) -> usize {
@@ -71,80 +78,68 @@ fn has_stations(file: &[u8]) -> bool {
     file[0] == 2 && file[1] == 0
 }
 
-// Suite and key number of a row, and its station where it has one.
-fn row_lines(out: &mut [u8], at: usize, x: Listed, stations: bool) -> usize {
-    let at = number_line(out, at, b"suite", x.row.suite as u64);
-    let at = number_line(out, at, b"key", x.row.key as u64);
-    if stations {
-        return number_line(out, at, b"station", x.station as u64);
+// Unit, job, suite and key number of a row.
+fn row_lines(out: &mut [u8], at: usize, row: Row, ad: &[u8]) -> usize {
+    let at = unit_of(out, at, ad);
+    let at = number_line(out, at, b"job", row.job as u64);
+    let at = number_line(out, at, b"suite", row.suite as u64);
+    number_line(out, at, b"key", row.key as u64)
+}
+
+// The station of a row, where its edition has one.
+fn station_line(out: &mut [u8], at: usize, file: &[u8], index: usize) -> usize
+    requires { ⌜ RowIn (rowSizeOf (now file)) (now file) index ⌝ }
+{
+    if has_stations(file) {
+        return number_line(out, at, b"station", station_of(file, index) as u64);
     }
     at
 }
 
-fn is_of(e: NextRow, job: u32) -> bool {
-    match e {
-        NextRow::Row(x) => x.row.job == job,
-        NextRow::Ended => false,
-    }
-}
-
-fn entry_lines(out: &mut [u8], at: usize, e: NextRow, stations: bool) -> usize {
-    match e {
-        NextRow::Row(x) => row_lines(out, at, x, stations),
-        NextRow::Ended => at,
-    }
-}
-
-// The row that has the job, of at most 512.
-fn row_of(file: &[u8], job: u32) -> NextRow {
-    let mut c = start(file);
-    let mut left: usize = 512;
-    while 0 < left {
-        let s = ask(c, file);
-        c = s.next;
-        let e = s.entry;
-        if is_of(e, job) {
-            return e;
-        }
-        left -= 1;
-    }
-    NextRow::Ended
-}
-
-// The lines of an opened entry.
-fn lines_of(out: &mut [u8], at: usize, file: &[u8], job: u32, ad: &[u8], message: &[u8]) -> usize {
-    let at = unit_of(out, at, ad);
-    let at = number_line(out, at, b"job", job as u64);
-    let at = entry_lines(out, at, row_of(file, job), has_stations(file));
+// The lines of an opened row.
+fn entry_lines(out: &mut [u8], at: usize, file: &[u8], index: usize, message: &[u8]) -> usize
+    requires { ⌜ EntryIn (rowSizeOf (now file)) (now file) index ⌝ }
+{
+    let row = row_of(file, index);
+    let ad = data_of(file, row);
+    let at = row_lines(out, at, row, ad);
+    let at = station_line(out, at, file, index);
     let at = bytes_line(out, at, b"data", rest(ad));
     bytes_line(out, at, b"message", message)
 }
 
-fn open_job(file: &[u8], ring: &[u8], job: u32, message: &mut [u8], out: &mut [u8]) -> usize {
-    let a = shift_jobs::open_job(file, ring, job, message).answer();
+// The lines of the row that the lookup found; none if it found none.
+fn lines_of(out: &mut [u8], at: usize, file: &[u8], found: Found, message: &[u8]) -> usize
+    requires { ⌜ FoundIn (now file) (foundAnswer found) ⌝ }
+{
+    let Found::At(i) = found else {
+        return at;
+    };
+    entry_lines(out, at, file, i, message)
+}
+
+// Opens what the lookup found into `message`: number and row on one line and, where the number is 0, the lines of the entry.
+fn open_job(file: &[u8], ring: &[u8], found: Found, message: &mut [u8], out: &mut [u8]) -> usize
+    requires { ⌜ FoundIn (now file) (foundAnswer found) ⌝ }
+{
+    let a = open_found(file, ring, found, message).answer();
     let at = answer(out, 0, a.number, a.row);
     let at = end(out, at);
     if a.number != 0 {
         return at;
     }
-    lines_of(
-        out,
-        at,
-        file,
-        job,
-        shift_jobs::associated(file, job),
-        message,
-    )
+    lines_of(out, at, file, found, message)
 }
 
-// Number and row on one line and, where the number is 0, the lines of the entry.
+// Looks the job up and opens what it finds (`open_job`). Only the lookup checks the file.
 pub fn job(file: &[u8], ring: &[u8], job: u32, out: &mut [u8]) -> usize {
     let mut message = [0u8; LIMIT];
-    let n = shift_jobs::entry(file, job).text_len as usize;
+    let found = shift_jobs::lookup(file, job);
+    let n = entry_found(file, found).text_len as usize;
     if LIMIT < n {
         return 0;
     }
-    open_job(file, ring, job, &mut message[0..n], out)
+    open_job(file, ring, found, &mut message[0..n], out)
 }
 
 // Number, file and row.
@@ -155,40 +150,44 @@ fn answer_in(out: &mut [u8], answer: u8, file: u8, row: usize) -> usize {
     end(out, at)
 }
 
-fn open_current<'a>(
-    amendment: &'a [u8],
-    day: &'a [u8],
+// The same, with the number of the file on the first line.
+fn open_current(
+    file: &[u8],
     ring: &[u8],
-    job: u32,
+    named: u8,
+    found: Found,
     message: &mut [u8],
     out: &mut [u8],
-) -> usize {
-    let x = shift_amend::open_current(amendment, day, ring, job, message);
-    let o = x.opened;
-    let a = o.answer();
-    let at = answer_in(out, a.number, x.file, a.row);
+) -> usize
+    requires { ⌜ FoundIn (now file) (foundAnswer found) ⌝ }
+{
+    let a = open_found(file, ring, found, message).answer();
+    let at = answer_in(out, a.number, named, a.row);
     if a.number != 0 {
         return at;
     }
-    let ad = shift_amend::current(amendment, day, job);
-    if x.file == 1 {
-        return lines_of(out, at, amendment, job, ad, message);
-    }
-    lines_of(out, at, day, job, ad, message)
+    lines_of(out, at, file, found, message)
 }
 
-// Number, file and row on one line and, where the number is 0, the lines of the current entry.
-pub fn current<'a>(
-    amendment: &'a [u8],
-    day: &'a [u8],
-    ring: &[u8],
-    job: u32,
-    out: &mut [u8],
-) -> usize {
+// Makes room for the message of what the lookup found in `file`, and opens it.
+fn open_in(file: &[u8], ring: &[u8], named: u8, found: Found, out: &mut [u8]) -> usize
+    requires { ⌜ FoundIn (now file) (foundAnswer found) ⌝ }
+{
     let mut message = [0u8; LIMIT];
-    let n = shift_amend::locate(amendment, day, job).entry.text_len as usize;
+    let n = entry_found(file, found).text_len as usize;
     if LIMIT < n {
         return 0;
     }
-    open_current(amendment, day, ring, job, &mut message[0..n], out)
+    open_current(file, ring, named, found, &mut message[0..n], out)
+}
+
+// Looks the job up in both files and opens the current entry (`open_current`). Only the lookup checks the files.
+pub fn current(amendment: &[u8], day: &[u8], ring: &[u8], job: u32, out: &mut [u8]) -> usize {
+    let x = shift_amend::look_up(amendment, day, job);
+    let file = x.file;
+    let found = x.found;
+    if file == 1 {
+        return open_in(amendment, ring, 1, found, out);
+    }
+    open_in(day, ring, file, found, out)
 }

@@ -21,8 +21,9 @@ use Rattle.shift_jobs.specs.Lookup.{lookupJob}
 use Rattle.shift_jobs.specs.Opening.{entryOpening, JobOpened, left, rowOpening, jobOpening}
 use Rattle.shift_jobs.proofs.Lookups.{found-in}
 use Rattle.shift_jobs.proofs.Finding.{finds}
-use Rattle.shift_search.specs.Halving.{Walk, ends, halving, jobsOf, searching}
-use Rattle.shift_search.proofs.Halves.{halved-number}
+use Rattle.shift_jobs.specs.Halving.{Walk, ends, halving, jobsOf}
+use Rattle.shift_search.specs.Searching.{searching}
+use Rattle.shift_jobs.proofs.Halves.{halved-number}
 use Rattle.shift_draft.specs.Files.{entryTag}
 use Rattle.shift_draft.specs.Answers.{tagSet, rowRetired, tagRight, setFrom, retiredFrom, wrongFrom, lentAnswer, sealAnswer, openAnswer, unsealAnswer, fileSealing, fileUnsealing}
 use Rattle.shift_draft.specs.Promised.{ZeroTag, RightTag}

@@ -18,7 +18,7 @@ use Rattle.shift_jobs.specs.Entry.{entryOf}
 use Rattle.shift_jobs.specs.Opening.{left, jobOpening}
 use Rattle.shift_jobs.specs.declared.answers.Genuine.{Genuine}
 use Rattle.shift_jobs.specs.Genuine.{jobVerifying}
-use Rattle.shift_search.specs.Halving.{searching}
+use Rattle.shift_search.specs.Searching.{searching}
 use Rattle.shift_draft.specs.Answers.{writes, fileSealing, fileUnsealing}
 use Rattle.shift_reseal.specs.Answers.{fileResealing}
 use Rattle.shift_amend.specs.Amending.{AmendedOpening, amendedOpening}

@@ -11,7 +11,8 @@ use Rattle.shift_check.specs.Check.{headNumber, checkAs, checkFile}
 use Rattle.shift_jobs.specs.Lookup.{lookupJob}
 use Rattle.shift_jobs.specs.Opening.{left, jobOpening}
 use Rattle.shift_jobs.specs.Promised.{Finds}
-use Rattle.shift_search.specs.Halving.{ends, halving, jobsOf, searching}
+use Rattle.shift_jobs.specs.Halving.{ends, halving, jobsOf}
+use Rattle.shift_search.specs.Searching.{searching}
 use Rattle.shift_draft.specs.Files.{draftEdition}
 use Rattle.shift_draft.specs.Answers.{fileSealing, fileUnsealing}
 use Rattle.shift_draft.specs.Promised.{ZeroTag, RightTag}

@@ -21,7 +21,7 @@ use Rattle.shift_jobs.specs.Lookup.{lookupJob}
 use Rattle.shift_jobs.specs.Entry.{dataStart, dataLength, entryOf}
 use Rattle.shift_jobs.specs.Opening.{left, jobOpening}
 use Rattle.shift_jobs.specs.Genuine.{jobVerifying}
-use Rattle.shift_search.specs.Halving.{searching}
+use Rattle.shift_search.specs.Searching.{searching}
 use Rattle.shift_draft.specs.Answers.{writes, fileSealing, fileUnsealing}
 use Rattle.shift_writer.specs.Answers.{writtenAnswer}
 use Rattle.shift_reseal.specs.Answers.{fileResealing}

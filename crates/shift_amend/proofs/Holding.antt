@@ -21,8 +21,8 @@ use Rattle.shift_jobs.specs.Lookup.{lookupJob}
 use Rattle.shift_jobs.specs.Entry.{dataStart, dataLength, textStart, textLength, entryOf}
 use Rattle.shift_jobs.proofs.Finding.{finds}
 use Rattle.shift_amend.specs.declared.Amended.{Amended}
-use Rattle.shift_amend.specs.Amending.{noEntry, inFile, amendedEntry}
-use Rattle.shift_amend.specs.Inside.{refusing, finding, Tells}
+use Rattle.shift_amend.specs.Amending.{noEntry, inFile, answerOf, amendedEntry}
+use Rattle.shift_amend.specs.Inside.{refusing, finding}
 
 -- a number is 0 or not
 pub zero-or-not : {A : Type 0} (m : ℕ) → (m ≡ 0 → A) → ((m ≡ 0 → ⊥) → A) → A
@@ -163,15 +163,7 @@ module _ (a d : List ℕ) (job : ℕ) where
 
   -- ---- what the code looks up: a file, and a lookup
 
-  -- the amendment's lookup, where the number speaks of it
-  pub first-tells : (x : Answer) → x ≡ lookupJob a job → inFile 1 (entryOf a job) ≡ amendedEntry a d job → Tells a d job 1 x
-  first-tells x q e = record { named = ap (λ (y : Amended). y .file) e; amendment = λ k. q; day = λ n. absurd (n refl) }
-
-  -- else the day's
-  pub second-tells : (k : ℕ) (x : Answer) → (k ≡ 1 → ⊥) → x ≡ lookupJob d job → inFile k (entryOf d job) ≡ amendedEntry a d job → Tells a d job k x
-  second-tells k x n q e = record { named = ap (λ (y : Amended). y .file) e; amendment = λ z. absurd (n z); day = λ z. q }
-
-  -- and they tell the entry
+  -- the file tells whose entry it is
   pub first-located : amendedEntry a d job .file ≡ 1 → inFile 1 (entryOf a job) ≡ amendedEntry a d job
   first-located =
       five (λ y. y .file ≡ 1 → inFile 1 (entryOf a job) ≡ y)
@@ -189,3 +181,21 @@ module _ (a d : List ℕ) (job : ℕ) where
       (λ p q h n. absurd (n refl))
       (λ p q n h z. refl)
       (λ p q n m z. ap (inFile 0) (entry-missing d job q m))
+
+  -- an entry of file f that is the current one: file, number and row are as the contract of `look_up` has them
+  pub looked : (k : ℕ) (f : List ℕ) (x : Answer) → x ≡ lookupJob f job → inFile k (entryOf f job) ≡ amendedEntry a d job
+      → (k ≡ amendedEntry a d job .file) × (x ≡ answerOf (amendedEntry a d job))
+  looked k f x q e = (ap (λ (y : Amended). y .file) e, q ∙ ap answerOf e)
+
+  -- and they are a lookup of that file: the amendment's if the file is 1, else the day's
+  pub record Tells (k : ℕ) (x : Answer) : Type 0 where
+    pub named : k ≡ amendedEntry a d job .file
+    pub amendment : k ≡ 1 → x ≡ lookupJob a job
+    pub day : (k ≡ 1 → ⊥) → x ≡ lookupJob d job
+
+  pub tells : (k : ℕ) (x : Answer) → (k ≡ amendedEntry a d job .file) × (x ≡ answerOf (amendedEntry a d job)) → Tells k x
+  tells k x q = record {
+    named = q .0;
+    amendment = λ z. q .1 ∙ sym (ap answerOf (first-located (sym (q .0) ∙ z)));
+    day = λ n. q .1 ∙ sym (ap answerOf (second-located (λ z. n (q .0 ∙ z))));
+  }

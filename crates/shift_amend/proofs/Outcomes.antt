@@ -1,4 +1,4 @@
--- One outcome for each input: a contract says what file and entry equal, the part's bytes and place, and what is left in the output.
+-- One outcome for each input: a contract says what file, lookup and entry equal, the part's bytes and place, and what is left in the output.
 use mathlib.Core.Path.{_≡_, refl, sym, ap, ap₂, _∙_}
 use Prim.Native.Nat.{ℕ}
 use denote.Ref.{now}
@@ -7,14 +7,21 @@ use borrow.Fn.Kinds.{Dens}
 use Rattle.block.specs.Outcome.{Outcome, OneOutcome}
 use Rattle.shift_format.proofs.Outcomes.{part-one}
 use Rattle.shift_jobs.specs.declared.answers.JobAnswer.{JobAnswer}
-use Rattle.shift_jobs.proofs.Outcomes.{opened-one}
+use Rattle.shift_jobs.specs.declared.answers.Found.{Found}
+use Rattle.shift_jobs.proofs.Outcomes.{found-one, opened-one}
 use Rattle.shift_amend.specs.Amending.{AmendedOpening}
+use Rattle.shift_amend.proofs.look_up.Kinds as look-up-kinds
+use Rattle.shift_amend.proofs.look_up.Reads as look-up-reads
 use Rattle.shift_amend.proofs.locate.Kinds as locate-kinds
 use Rattle.shift_amend.proofs.locate.Reads as locate-reads
 use Rattle.shift_amend.proofs.current.Kinds as current-kinds
 use Rattle.shift_amend.proofs.current.Reads as current-reads
 use Rattle.shift_amend.proofs.open_current.Kinds as open-current-kinds
 use Rattle.shift_amend.proofs.open_current.Reads as open-current-reads
+
+pub look-up : OneOutcome look-up-kinds.ps look-up-kinds.r look-up-reads.Pre look-up-reads.Post
+look-up κs a h x y =
+    (ap₂ (λ (k : ℕ) (f : Found). record { file = k; found = f }) (x .ensures .0 ∙ sym (y .ensures .0)) (found-one (x .ensures .1 ∙ sym (y .ensures .1))), refl)
 
 pub locate : OneOutcome locate-kinds.ps locate-kinds.r locate-reads.Pre locate-reads.Post
 locate κs a h x y = (x .ensures ∙ sym (y .ensures), refl)

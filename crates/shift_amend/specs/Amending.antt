@@ -22,6 +22,10 @@ noEntry x = record { number = x .number; row = x .row; «ad_at» = 0; «ad_len»
 abbrev pub inFile : ℕ → Entry → Amended
 inFile k x = record { file = k; entry = x }
 
+-- number and row of a current entry
+abbrev pub answerOf : Amended → Answer
+answerOf x = answer (x .entry .number) (x .entry .row)
+
 -- whether a file passes and has the job
 abbrev pub holds : List ℕ → ℕ → Bool
 holds f job = eqb (lookupJob f job .number) 0
@@ -62,4 +66,4 @@ amendedOpening a d ring job out₀ =
     openedIn (x .file)
     (cond (eqb (x .entry .number) 0)
     (jobOpening (holder a d x) ring job out₀)
-    (left (answer (x .entry .number) (x .entry .row)) out₀))
+    (left (answerOf x) out₀))

@@ -7,8 +7,8 @@ use shift_jobs::found::entry_found;
 use shift_jobs::found::open_found;
 ghost use mathlib.Core.Path.{_≡_};
 ghost use Rattle.shift_jobs.specs.Answers.{foundAnswer, openedAnswer};
-ghost use Rattle.shift_amend.specs.Amending.{amendedEntry, CurrentPart, AmendedOpening, amendedOpening};
-ghost use Rattle.shift_amend.specs.Inside.{refusing, finding, Tells};
+ghost use Rattle.shift_amend.specs.Amending.{answerOf, amendedEntry, CurrentPart, AmendedOpening, amendedOpening};
+ghost use Rattle.shift_amend.specs.Inside.{refusing, finding};
 
 // The current entry of a job: the file that its status concerns (1 the amendment, 2 the day's, 0 if neither has the
 // job), and the entry.
@@ -23,10 +23,11 @@ pub struct OpenedIn {
     pub opened: JobAnswer,
 }
 
-// What determines the current entry: the file that its status concerns, and that file's lookup (the day's, if neither has the job).
-struct Looked {
-    file: u8,
-    found: Found,
+// What determines the current entry: the file that its status concerns, and that file's lookup (the day's, if neither
+// has the job).
+pub struct Looked {
+    pub file: u8,
+    pub found: Found,
 }
 
 // Whether the lookup refuses the file.
@@ -52,8 +53,9 @@ fn finds(found: Found) -> bool
 }
 
 // The full check of the amendment, then of the day's file; then the amendment's lookup if it has the job, else the day's.
-fn look_up(amendment: &[u8], day: &[u8], job: u32) -> Looked
-    ensures { λ r. ⌜ Tells (now (amendment .entry)) (now (day .entry)) job (r .file) (foundAnswer (r .found)) ⌝ }
+pub fn look_up(amendment: &[u8], day: &[u8], job: u32) -> Looked
+    ensures { λ r. ⌜ (r .file ≡ amendedEntry (now (amendment .entry)) (now (day .entry)) job .file)
+        × (foundAnswer (r .found) ≡ answerOf (amendedEntry (now (amendment .entry)) (now (day .entry)) job)) ⌝ }
 {
     let one = shift_jobs::lookup(amendment, job);
     if refuses(one) {

@@ -23,8 +23,9 @@ use Rattle.shift_jobs.specs.Lookup.{lookupJob}
 use Rattle.shift_jobs.specs.Entry.{dataStart, dataLength}
 use Rattle.shift_jobs.specs.Opening.{ringKey, nonceRead, entryOpening, left, rowOpening, jobOpening}
 use Rattle.shift_jobs.proofs.Lookups.{holding}
-use Rattle.shift_search.specs.Halving.{Walk, halving, jobsOf, searching}
-use Rattle.shift_search.proofs.Halves.{jobs-same}
+use Rattle.shift_jobs.specs.Halving.{Walk, halving, jobsOf}
+use Rattle.shift_search.specs.Searching.{searching}
+use Rattle.shift_jobs.proofs.Halves.{jobs-same}
 use Rattle.shift_search.proofs.Promised.{goes, same-as-lookup}
 use Rattle.shift_editions.specs.Files.{carried, moved}
 use Rattle.shift_editions.specs.Answers.{toEdition2, toEdition1}

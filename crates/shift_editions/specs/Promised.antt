@@ -12,7 +12,7 @@ use Rattle.shift_check.specs.Check.{checkAs}
 use Rattle.shift_jobs.specs.Lookup.{lookupJob}
 use Rattle.shift_jobs.specs.Entry.{dataStart, dataLength}
 use Rattle.shift_jobs.specs.Opening.{jobOpening}
-use Rattle.shift_search.specs.Halving.{searching}
+use Rattle.shift_search.specs.Searching.{searching}
 use Rattle.shift_editions.specs.Files.{moved}
 use Rattle.shift_editions.specs.Answers.{movedLength, FileMoved, toEdition2, toEdition1}
 

@@ -1,4 +1,4 @@
--- On a file that passes, the lookup finds the row that has the job exactly if one has.
+-- On a file that passes, the lookup finds the row that has the job exactly if one has; and since its job numbers rise, binary search finds the same.
 use Prim.Native.Nat.{ℕ, _-_}
 use native.Mathlib.Omega.{arith}
 use mathlib.Core.Path.{_≡_, refl, sym, ap, _∙_}
@@ -11,9 +11,11 @@ use Rattle.status.specs.Answers.{answer}
 use Rattle.shift_check.specs.Check.{checkFile}
 use Rattle.shift_check.proofs.Searches.{first-says}
 use Rattle.shift_check.proofs.Passed.{passes}
-use Rattle.shift_check.proofs.Rising.{only}
+use Rattle.shift_check.proofs.Rising.{rising, only}
 use Rattle.shift_jobs.specs.Lookup.{findFrom, lookupJob}
+use Rattle.shift_jobs.specs.Halving.{halving, jobsOf}
 use Rattle.shift_jobs.specs.Promised.{Has, JobFound}
+use Rattle.shift_jobs.proofs.Halves.{says}
 use Rattle.shift_jobs.proofs.Lookups.{holding}
 
 module _ (f : List ℕ) (job : ℕ) (z : checkFile f .number ≡ 0) where
@@ -55,3 +57,12 @@ finds f job z =
       );
       one = one f job z;
     }
+
+-- binary search over all rows gives the lookup's answer
+pub halving-finds : (f : List ℕ) (job : ℕ) → checkFile f .number ≡ 0 → halving (jobsOf (rowSizeOf f) f) job 0 (countOf f) .says ≡ lookupJob f job
+halving-finds f job z =
+    let n = countOf f in
+    ⊎-elim
+    (λ r. r .gives ∙ sym (finds f job z .found (r .at) .1 (record { within = omega (arith, r .below); right = r .has })))
+    (λ g. g .gives ∙ sym (finds f job z .missing .1 (λ i h. g .none i (omega arith) (omega (arith, h .within)) (h .right))))
+    (says (jobsOf (rowSizeOf f) f) job n 0 n n (omega arith) (omega arith) (rising (rowSizeOf f) f n (passes firstEdition newest f z .walk)))

@@ -1,5 +1,6 @@
 -- One outcome for each input: an answer's number and row are those of one case, so what a contract allows is one value.
-use mathlib.Core.Path.{_≡_, refl, sym, ap, _∙_}
+use Prim.Native.Nat.{ℕ}
+use mathlib.Core.Path.{_≡_, refl, sym, ap, ap₂, _∙_}
 use mathlib.Core.Bool.{cond}
 use mathlib.Core.Logic.{inl, inr}
 use lib.Dec.{eqb, lit<}
@@ -22,6 +23,8 @@ use Rattle.shift_jobs.specs.Answers.{foundAnswer, openedAnswer}
 use Rattle.shift_jobs.specs.Opening.{JobOpened}
 use Rattle.shift_jobs.proofs.lookup.Kinds as lookup-kinds
 use Rattle.shift_jobs.proofs.lookup.Reads as lookup-reads
+use Rattle.shift_jobs.proofs.halving.halve.Kinds as halve-kinds
+use Rattle.shift_jobs.proofs.halving.halve.Reads as halve-reads
 use Rattle.shift_jobs.proofs.entry.Kinds as entry-kinds
 use Rattle.shift_jobs.proofs.entry.Reads as entry-reads
 use Rattle.shift_jobs.proofs.associated.Kinds as associated-kinds
@@ -86,6 +89,10 @@ opened-one {x} {y} q = sym (opened-back x) ∙ ap openedOf q ∙ opened-back y
 
 pub lookup : OneOutcome lookup-kinds.ps lookup-kinds.r lookup-reads.Pre lookup-reads.Post
 lookup κs a h x y = (found-one (x .ensures ∙ sym (y .ensures)), refl)
+
+pub halve : OneOutcome halve-kinds.ps halve-kinds.r halve-reads.Pre halve-reads.Post
+halve κs a h x y =
+    (ap₂ (λ (f : Found) (l : ℕ). record { found = f; looked = l }) (found-one (x .ensures .0 ∙ sym (y .ensures .0))) (x .ensures .1 ∙ sym (y .ensures .1)), refl)
 
 pub entry : OneOutcome entry-kinds.ps entry-kinds.r entry-reads.Pre entry-reads.Post
 entry κs a h x y = (x .ensures ∙ sym (y .ensures), refl)

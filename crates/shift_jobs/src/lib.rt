@@ -1,7 +1,7 @@
 // The jobs of the plant's shift file: the lookup of a job, its entry, its associated data, and its opening.
 pub mod answers;
-mod find;
 pub mod found;
+pub mod halving;
 pub mod lend;
 mod opening;
 pub mod testing;
@@ -23,7 +23,7 @@ ghost use Rattle.shift_jobs.specs.Entry.{dataStart, dataLength, entryOf}
 ghost use Rattle.shift_jobs.specs.Opening.{JobOpened, jobOpening};
 ghost use Rattle.shift_jobs.specs.Genuine.{jobVerifying};
 
-// The full check, and then the row that has the job, or 32.
+// The full check, and then the row that has the job, or 32: the check has shown the jobs to rise, so binary search finds it.
 pub fn lookup(file: &[u8], job: u32) -> Found
     ensures { λ r. ⌜ foundAnswer r ≡ lookupJob (now (file .entry)) job ⌝ }
 {
@@ -33,7 +33,7 @@ pub fn lookup(file: &[u8], job: u32) -> Found
         }
         Checked::Passed => {}
     }
-    find::find_job(row_size_of(file), file, count(file), job)
+    halving::halve(row_size_of(file), file, count(file), job).found
 }
 
 // The lookup, and where in the file the job's associated data and its text lie; 0 where the lookup refuses.

@@ -1,3 +1,2 @@
-pub mod Halves
 pub mod Promised
 pub mod Outcomes

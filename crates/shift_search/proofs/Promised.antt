@@ -5,7 +5,6 @@ use native.Mathlib.Omega.{arith}
 use mathlib.Core.Path.{_≡_, refl, sym, ap, _∙_}
 use mathlib.Core.Bool.{Bool, true, false, cond}
 use mathlib.Core.List.{List, [], _∷_}
-use mathlib.Core.Logic.{⊎-elim}
 use lib.ListN.{length, getD, take}
 use lib.Seq.{getD-take}
 use lib.Dec.{eqb, lit<, lit≤}
@@ -21,12 +20,12 @@ use Rattle.status.proofs.Numbers.{refusal-some}
 use Rattle.shift_format.proofs.Rows.{row-broad}
 use Rattle.shift_check.proofs.Sound.{headed}
 use Rattle.shift_check.proofs.Passed.{passes}
-use Rattle.shift_check.proofs.Rising.{rising}
-use Rattle.shift_jobs.proofs.Finding.{finds}
+use Rattle.shift_jobs.proofs.Finding.{halving-finds}
 use Rattle.shift_check.proofs.Alike.{Agree, AgreeTable, word-same, row-same}
-use Rattle.shift_search.specs.Halving.{Walk, ends, halving, jobsOf, headAnswer, searching}
+use Rattle.shift_jobs.specs.Halving.{Walk, ends, halving, jobsOf}
+use Rattle.shift_search.specs.Searching.{headAnswer, searching}
 use Rattle.shift_search.specs.Promised.{Halves, SameJobs, RowsDecide, SameAsLookup, TenLooks, SameTable, BodiesUnread}
-use Rattle.shift_search.proofs.Halves.{halving-none, halving-hit, halving-up, halving-down, looks, row-most, jobs-same, Same, visited-same, says}
+use Rattle.shift_jobs.proofs.Halves.{halving-none, halving-hit, halving-up, halving-down, looks, row-most, jobs-same, Same, visited-same}
 
 -- the header passes: all rows are halved
 pub goes : (f : List ℕ) (job : ℕ) → headAnswer f .number ≡ 0 → searching f job ≡ halving (jobsOf (rowSizeOf f) f) job 0 (countOf f)
@@ -68,14 +67,7 @@ rows-decide f g job a n = head-case (eqb (headAnswer f .number) 0) refl
     head-case false e h = simp (tests ∙ e) (ap ends a)
 
 pub same-as-lookup : SameAsLookup
-same-as-lookup f job z =
-    let p = passes firstEdition newest f z in
-    let n = countOf f in
-    ap (λ (x : Walk). x .says) (goes f job (p .zero))
-    ∙ ⊎-elim
-    (λ r. r .gives ∙ sym (finds f job z .found (r .at) .1 (record { within = omega (arith, r .below); right = r .has })))
-    (λ g. g .gives ∙ sym (finds f job z .missing .1 (λ i h. g .none i (omega arith) (omega (arith, h .within)) (h .right))))
-    (says (jobsOf (rowSizeOf f) f) job n 0 n n (omega arith) (omega arith) (rising (rowSizeOf f) f n (p .walk)))
+same-as-lookup f job z = ap (λ (x : Walk). x .says) (goes f job (passes firstEdition newest f z .zero)) ∙ halving-finds f job z
 
 pub ten-looks : TenLooks
 unfolding searching

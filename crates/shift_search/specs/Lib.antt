@@ -1,2 +1,2 @@
-pub mod Halving
+pub mod Searching
 pub mod Promised

@@ -7,7 +7,8 @@ use Rattle.shift_format.specs.Format.{countOf, rowSizeOf, rowStart, rowOf}
 use Rattle.status.specs.Answers.{answer}
 use Rattle.shift_check.specs.Check.{checkFile}
 use Rattle.shift_jobs.specs.Lookup.{lookupJob}
-use Rattle.shift_search.specs.Halving.{ends, visit, halving, headAnswer, searching}
+use Rattle.shift_jobs.specs.Halving.{ends, visit, halving}
+use Rattle.shift_search.specs.Searching.{headAnswer, searching}
 
 -- the rule itself, of c rows at row s whose job numbers are `jobs`: its looks never run out
 pub record HalvingRule (jobs : ℕ → ℕ) (job s c : ℕ) : Type 0 where

@@ -3,7 +3,7 @@ use crate::file::say;
 ghost use mathlib.Core.Path.{_≡_};
 ghost use lib.ListN.{length};
 ghost use Rattle.status.specs.Answers.{answer};
-ghost use Rattle.shift_search.specs.Halving.{searching};
+ghost use Rattle.shift_search.specs.Searching.{searching};
 
 // Numbers 20 to 24, then the row that the binary search finds, or 32; and how many rows were looked at.
 #[no_mangle]

@@ -1,9 +1,10 @@
--- A refused check stands; after one that passed comes the search.
+-- A refused check stands; after one that passed, binary search finds what the lookup finds.
 use mathlib.Core.Path.{sym}
 use native.Mathlib.Omega.{arith}
 use denote.Ref.{now}
 use Rattle.shift_jobs.specs.Lookup.{lookupJob}
 use Rattle.shift_format.specs.Format.{firstEdition, newest}
+use Rattle.shift_jobs.proofs.Finding.{halving-finds}
 use Rattle.shift_check.proofs.Passed.{passes, passed-zero, refused-stands}
 use borrow.Author.Needs.{needs}
 use Rattle.shift_jobs.proofs.lookup.Statement.{statement}
@@ -35,18 +36,20 @@ count-requires c κs =
     let k = passes firstEdition newest f (passed-zero _ _ (c .before .enum-told .given .1) (h .check .ensures)) .head .long in
     omega arith
 
-find-job-requires : tie.Need-find-job-requires
-find-job-requires c κs =
+halve-requires : tie.Need-halve-requires
+halve-requires c κs =
     let h = c .before .before .before .before in
     let f = now (h .before .before .args .file) in
     let k = passes firstEdition newest f (passed-zero _ _ (c .before .before .enum-told .given .1) (h .check .ensures)) in
     rw (c .count .ensures, c .before .row-size-of .ensures) (k .head .table)
 
 returns-2 : tie.Need-returns-2
-unfolding lookupJob
 returns-2 c =
-    let z = passed-zero _ _ (c .before .before .before .enum-told .given .1) (c .before .before .before .before .before .check .ensures) in
-    simp (z, ← c .before .count .ensures, ← c .before .before .row-size-of .ensures, c .find-job .ensures)
+    let t = c .before .before .before in
+    let h = t .before .before in
+    let a = h .before .before .args in
+    let z = passed-zero _ _ (t .enum-told .given .1) (h .check .ensures) in
+    rw (← halving-finds (now (a .file)) (a .job) z, ← c .before .count .ensures, ← c .before .before .row-size-of .ensures) (c .halve .ensures .0)
 
 pub lookup-spec : {M : Type 1} → statement M
 lookup-spec =
@@ -58,5 +61,5 @@ lookup-spec =
     enum-told
     row-size-of-requires
     count-requires
-    find-job-requires
+    halve-requires
     returns-2)

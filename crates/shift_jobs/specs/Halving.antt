@@ -4,9 +4,8 @@ use mathlib.Core.Bool.{cond}
 use mathlib.Core.List.{List, [], _∷_}
 use lib.Dec.{eqb, ltb}
 use Rattle.status.specs.declared.checked.Answer.{Answer}
-use Rattle.shift_format.specs.Format.{countOf, firstEdition, newest, rowSizeOf, rowAt}
+use Rattle.shift_format.specs.Format.{rowAt}
 use Rattle.status.specs.Answers.{answer}
-use Rattle.shift_check.specs.Check.{headNumber}
 
 -- the rows that were looked at, and the answer
 pub record Walk : Type 0 where
@@ -40,11 +39,3 @@ halving jobs job s c = halvingIn jobs job c s c
 -- the job numbers of the rows, w bytes each
 abbrev pub jobsOf : ℕ → List ℕ → ℕ → ℕ
 jobsOf w f i = rowAt w f i .job
-
--- 20 to 24 alone
-abbrev pub headAnswer : List ℕ → Answer
-headAnswer f = answer (headNumber firstEdition newest f) 0
-
--- checks 20 to 24 first (a refusal there looks at no row), then all rows
-unfoldable pub searching : List ℕ → ℕ → Walk
-searching f job = cond (eqb (headAnswer f .number) 0) (halving (jobsOf (rowSizeOf f) f) job 0 (countOf f)) (ends (headAnswer f))
