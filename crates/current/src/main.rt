@@ -1,8 +1,7 @@
 // Opens the current entry of a job, the amendment's if it has the job, else the day's: current AMENDMENT DAY RING JOB.
 //
-// Prints number, file (1 the amendment, 2 the day's, 0 where neither has the job) and row on one line and, where the
-// number is 0, what the entry holds, a line for each thing (`program_reports::current`). A file that cannot be read counts as zero
-// bytes. The program takes files up to the format's 1,048,576 bytes each (longer: 20).
+// Prints status, file (1 the amendment, 2 the day's, 0 if neither has the job) and row on one line and, after status 0, a
+// line for each field of the entry (`program_reports::current`). A file that cannot be read counts as zero bytes. The program takes files up to the format's 1,048,576 bytes each (longer: 20).
 use program_files::NO_JOB;
 use program_text::read::RING_ROOM;
 

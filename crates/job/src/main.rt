@@ -1,6 +1,6 @@
 // Opens one job of a shift file: job FILE RING JOB.
 //
-// Prints number and row on one line and, where the number is 0, what the entry holds, a line for each thing (`program_reports::job`).
+// Prints status and row on one line and, after status 0, a line for each field of the entry (`program_reports::job`).
 // A file that cannot be read counts as zero bytes. The program takes files up to the format's 1,048,576 bytes (longer: 20).
 use program_files::NO_JOB;
 use program_text::read::RING_ROOM;

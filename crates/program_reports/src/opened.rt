@@ -1,6 +1,6 @@
-// Opened entries: `job` and `current`. After the answer a line for each of unit, job, suite, key number, station (in
-// edition 2), data (the associated data after job and unit) and message. Bytes are shown as text where they are text that a
-// person can read (`readable`), and else in hex.
+// Opened entries: `job` and `current`. After the answer, a line for each of unit, job, suite, key number, station (in
+// edition 2), data (the associated data after job and unit) and message. Bytes are shown as text if a person can read them
+// (`readable`), else in hex.
 use crate::readable::is_text;
 use cipher::LIMIT;
 use program_text::read::front;
@@ -86,7 +86,7 @@ fn row_lines(out: &mut [u8], at: usize, row: Row, ad: &[u8]) -> usize {
     number_line(out, at, b"key", row.key as u64)
 }
 
-// The station of a row, where its edition has one.
+// The station of a row, if its edition has one.
 fn station_line(out: &mut [u8], at: usize, file: &[u8], index: usize) -> usize
     requires { ⌜ RowIn (rowSizeOf (now file)) (now file) index ⌝ }
 {
@@ -118,7 +118,7 @@ fn lines_of(out: &mut [u8], at: usize, file: &[u8], found: Found, message: &[u8]
     entry_lines(out, at, file, i, message)
 }
 
-// Opens what the lookup found into `message`: number and row on one line and, where the number is 0, the lines of the entry.
+// Opens what the lookup found into `message`: status and row on one line and, after status 0, the lines of the entry.
 fn open_job(file: &[u8], ring: &[u8], found: Found, message: &mut [u8], out: &mut [u8]) -> usize
     requires { ⌜ FoundIn (now file) (foundAnswer found) ⌝ }
 {
@@ -142,7 +142,7 @@ pub fn job(file: &[u8], ring: &[u8], job: u32, out: &mut [u8]) -> usize {
     open_job(file, ring, found, &mut message[0..n], out)
 }
 
-// Number, file and row.
+// Status, file and row.
 fn answer_in(out: &mut [u8], answer: u8, file: u8, row: usize) -> usize {
     let at = number(out, 0, answer as u64);
     let at = and_number(out, at, file as u64);
@@ -169,7 +169,7 @@ fn open_current(
     lines_of(out, at, file, found, message)
 }
 
-// Makes room for the message of what the lookup found in `file`, and opens it.
+// Opens what the lookup found in `file`, into a buffer of the message's length.
 fn open_in(file: &[u8], ring: &[u8], named: u8, found: Found, out: &mut [u8]) -> usize
     requires { ⌜ FoundIn (now file) (foundAnswer found) ⌝ }
 {

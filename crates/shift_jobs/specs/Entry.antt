@@ -1,4 +1,4 @@
--- A job's entry: where its associated data and its text lie in the file (document 01, "The shift file").
+-- A job's entry: offsets and lengths of its associated data and its text in the file (document 01, "The shift file").
 use Prim.Native.Nat.{ℕ, _+_, _≤_}
 use mathlib.Core.Path.{_≡_}
 use mathlib.Core.Bool.{cond}
@@ -10,11 +10,11 @@ use Rattle.shift_format.specs.Format.{rowOf}
 use Rattle.shift_jobs.specs.declared.answers.Entry.{Entry}
 use Rattle.shift_jobs.specs.Lookup.{lookupJob}
 
--- where the associated data of the row that a lookup found starts; 0 where it refuses
+-- where the associated data of the row that a lookup found starts; 0 if it refuses
 unfoldable pub dataStart : List ℕ → Answer → ℕ
 dataStart f x = cond (eqb (x .number) 0) (rowOf f (x .row) .«ad_at») 0
 
--- and how long it is; the file's first zero bytes where it refuses
+-- and how long it is; the file's first zero bytes if it refuses
 unfoldable pub dataLength : List ℕ → Answer → ℕ
 dataLength f x = cond (eqb (x .number) 0) (rowOf f (x .row) .«ad_len») 0
 
@@ -45,6 +45,6 @@ pub record Lies (f : List ℕ) (x : Entry) : Type 0 where
   pub behind : x .«ad_at» + x .«ad_len» ≡ x .«text_at»
   pub ends : x .«text_at» + x .«text_len» ≤ length f
 
--- so does every entry that is given, the file's first zero bytes where the lookup refuses among them
+-- so does every entry that is given, also the file's first zero bytes if the lookup refuses
 abbrev pub EntriesLie : Type 0
 EntriesLie = (f : List ℕ) (job : ℕ) → Lies f (entryOf f job)

@@ -20,7 +20,7 @@ ends x = record { rows = []; says = x }
 abbrev pub visit : ℕ → Walk → Walk
 visit m rest = record { rows = m ∷ rest .rows; says = rest .says }
 
--- c rows at row s, whose job numbers are `jobs`, in at most k looks: 32 where c is 0; else look at row s + c/2, rounded down; stop if it has the job;
+-- c rows at row s, whose job numbers are `jobs`, in at most k looks: 32 if c is 0; else look at row s + c/2, rounded down; stop if it has the job;
 -- keep the rows after it if its job is lower, else those before
 unfoldable pub halvingIn : (ℕ → ℕ) → ℕ → ℕ → ℕ → ℕ → Walk
 halvingIn jobs job zero s c = ends (answer 32 0)

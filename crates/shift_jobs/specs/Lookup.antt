@@ -8,7 +8,7 @@ use Rattle.shift_format.specs.Format.{countOf, rowSizeOf, rowAt}
 use Rattle.status.specs.Answers.{answer}
 use Rattle.shift_check.specs.Check.{andThen, checkFile}
 
--- the first row of n from row i on that has the job; 32 where none has
+-- the first row of n from row i on that has the job; 32 if none has
 unfoldable pub findFrom : ℕ → List ℕ → ℕ → ℕ → ℕ → Answer
 findFrom w f n job i = firstOf (λ j. eqb (rowAt w f j .job) job) (answer 0) (answer 32 0) i (n - i)
 

@@ -48,8 +48,8 @@ impl JobAnswer {
     }
 }
 
-// A job's entry: the lookup's number and row, and where in the file its associated data and its text lie; 0 where the
-// lookup refuses.
+// A job's entry: the lookup's number and row, and offsets and lengths in the file of its associated data and its text; 0 if
+// the lookup refuses.
 pub struct Entry {
     pub number: u8,
     pub row: usize,
@@ -59,8 +59,8 @@ pub struct Entry {
     pub text_len: u32,
 }
 
-// A job's associated data, whose tag is right: number and row as opening the job gives them, and where in the file the
-// associated data lies; 0 after every number but 0.
+// A job's associated data, whose tag is right: number and row as opening the job gives them, and offset and length of the
+// associated data; 0 after every number but 0.
 pub struct Genuine {
     pub number: u8,
     pub row: usize,

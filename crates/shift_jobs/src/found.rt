@@ -11,7 +11,7 @@ ghost use Rattle.shift_jobs.specs.Entry.{entryAt};
 ghost use Rattle.shift_jobs.specs.Opening.{JobOpened, foundOpening};
 ghost use Rattle.shift_jobs.specs.Inside.{FoundIn};
 
-// The lookup's number and row, and where in the file the row's associated data and its text lie; 0 where it refused.
+// The lookup's number and row, and offsets and lengths of the row's associated data and its text; 0 if it refused.
 pub fn entry_found(file: &[u8], found: Found) -> Entry
     requires { ⌜ FoundIn (now file) (foundAnswer found) ⌝ }
     ensures { λ r. ⌜ r ≡ entryAt (now (file .entry)) (foundAnswer found) ⌝ }

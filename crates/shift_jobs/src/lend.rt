@@ -1,4 +1,4 @@
-// The slices of a row that sealer, opener and verifier borrow: the entry's own stretch of the file, and its key.
+// The slices of a row that sealer, opener and verifier borrow: the entry's own part of the file, and its key.
 use shift_format::body::data_of;
 use shift_format::body::tag_of;
 use shift_format::body::text_of;

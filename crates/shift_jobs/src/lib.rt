@@ -23,7 +23,8 @@ ghost use Rattle.shift_jobs.specs.Entry.{dataStart, dataLength, entryOf}
 ghost use Rattle.shift_jobs.specs.Opening.{JobOpened, jobOpening};
 ghost use Rattle.shift_jobs.specs.Genuine.{jobVerifying};
 
-// The full check, and then the row that has the job, or 32: the check has shown the jobs to rise, so binary search finds it.
+// The full check, then the row that has the job, or 32. The check has shown that the job numbers rise, so a binary search
+// finds it.
 pub fn lookup(file: &[u8], job: u32) -> Found
     ensures { λ r. ⌜ foundAnswer r ≡ lookupJob (now (file .entry)) job ⌝ }
 {
@@ -36,14 +37,14 @@ pub fn lookup(file: &[u8], job: u32) -> Found
     halving::halve(row_size_of(file), file, count(file), job).found
 }
 
-// The lookup, and where in the file the job's associated data and its text lie; 0 where the lookup refuses.
+// The lookup, and offsets and lengths of the job's associated data and its text; 0 if the lookup refuses.
 pub fn entry(file: &[u8], job: u32) -> Entry
     ensures { λ r. ⌜ r ≡ entryOf (now (file .entry)) job ⌝ }
 {
     found::entry_found(file, lookup(file, job))
 }
 
-// The associated data of a job, as a part of the file; its first zero bytes where the lookup refuses.
+// The associated data of a job, as a part of the file; its first zero bytes if the lookup refuses.
 pub fn associated(file: &[u8], job: u32) -> &[u8]
     ensures { λ r. ⌜ PartOf (file .entry) r (dataStart (now (file .entry)) (lookupJob (now (file .entry)) job)) (dataLength (now (file .entry)) (lookupJob (now (file .entry)) job)) ⌝ }
 {
@@ -58,7 +59,7 @@ pub fn open_job(file: &[u8], ring: &[u8], job: u32, out: &mut [u8]) -> JobAnswer
     found::open_found(file, ring, lookup(file, job), out)
 }
 
-// Where a job's associated data lies, once its tag is compared: the full check, 32, then 2, 8.
+// Offset and length of a job's associated data, once its tag was compared: the full check, 32, then 2, 8.
 pub fn verified(file: &[u8], ring: &[u8], job: u32) -> Genuine
     ensures { λ r. ⌜ r ≡ jobVerifying (now (file .entry)) (now (ring .entry)) job ⌝ }
 {

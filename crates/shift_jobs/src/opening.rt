@@ -31,7 +31,7 @@ pub(crate) fn open_entry(file: &[u8], ring: &[u8], index: usize, out: &mut [u8])
     JobAnswer::Done
 }
 
-// The answer of opening where the lookup found no row.
+// The answer of opening if the lookup found no row.
 pub(crate) fn stopped(found: Found) -> JobAnswer
     requires { ⌜ (foundAnswer found .number ≡ 0 → ⊥) ⌝ }
     ensures { λ r. ⌜ openedAnswer r ≡ foundAnswer found ⌝ }
