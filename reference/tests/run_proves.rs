@@ -180,7 +180,9 @@ fn another_rt_goes_first() {
     let before = proofs(&folder);
     let mut run = command(&folder, &["job", "file", "ring", "1"]);
     let run = run.stdout(Stdio::piped()).stderr(Stdio::piped()).spawn().unwrap();
+    let began = Instant::now();
     while proofs(&folder) == before {
+        assert!(began.elapsed() < Duration::from_secs(60), "no proof was started");
         std::thread::sleep(Duration::from_millis(50));
     }
     let mut gate = start("ci");
