@@ -308,9 +308,9 @@ typedef struct {
 } comet_session;
 SNOEKELDRAF_SIZE(comet_session, 72);
 
-/* Of all four functions: after every status but 0, session, out and tag are unchanged, and the call may be repeated (after
- * a refused start the session is nine zeros). *count is always written: the number of bytes written at the start of out,
- * 0 after every status but 0. Bytes of out after them are unchanged.
+/* Of the next four functions: after every status but 0, out and tag are unchanged; so is the session, and the call may be
+ * repeated, but a refused start leaves nine zeros. *count is always written: the number of bytes written at the start of
+ * out, 0 after every status but 0. Bytes of out after them are unchanged.
  */
 
 /* Starts a session. What it held before does not matter. Status: 1, 10, 2, 3, 0. */
