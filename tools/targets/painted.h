@@ -15,6 +15,8 @@ static inline __attribute__((always_inline)) volatile uint32_t *stack_pointer(vo
     volatile uint32_t *at;
 #if defined __x86_64__
     __asm__ volatile("mov %%rsp, %0" : "=r"(at));
+#elif defined __riscv
+    __asm__ volatile("mv %0, sp" : "=r"(at));
 #else
     __asm__ volatile("mov %0, sp" : "=r"(at));
 #endif
