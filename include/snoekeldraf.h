@@ -14,8 +14,8 @@
  *   - No two records are sealed with one key and one nonce.
  *
  * A length is 64 bits on every processor, also where size_t has 32. Lengths of lists count elements, all others bytes.
- * The functions keep no state between calls and allocate nothing. They call memcpy and memset of the C library and, on 32-bit
- * processors, arithmetic functions of the compiler's own library. They take less than SNOEKELDRAF_STACK_BYTES of stack
+ * The functions keep no state between calls and allocate nothing. They call memcpy and memset of the C library and, on some
+ * 32-bit processors, arithmetic functions of the compiler's own library. They take less than SNOEKELDRAF_STACK_BYTES of stack
  * (measured, not proved; docs/LIBRARY.md has the figure of each function).
  *
  *   +-----------------------------------------------------------------------------------------------------------------+
@@ -192,8 +192,8 @@ const char *snoekeldraf_words(uint32_t status);
  */
 void snoekeldraf_forget(void);
 
-/* What the deepest call of the library takes (comet_session_end: 10,736 bytes on Cortex-M0+, at most 9,392 elsewhere), and
- * 1,552 bytes more. A program with a small stack that uses few functions can measure its own need and build
+/* What the deepest call of the library takes (comet_session_end: 11,048 bytes on Cortex-M0+, at most 9,544 elsewhere), and
+ * 1,240 bytes more. A program with a small stack that uses few functions can measure its own need and build
  * library/words.c with -DSNOEKELDRAF_STACK_BYTES=that.
  */
 #ifndef SNOEKELDRAF_STACK_BYTES
