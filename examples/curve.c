@@ -1,8 +1,8 @@
 /* Seals a tightening curve while it is being measured, a few values at a time, and opens it by one call. From the root
  * of the repository:
  *
- *     ./run library aarch64                # or x86-64: the processor of this machine
- *     cc examples/curve.c -Iinclude target/aarch64/libsnoekeldraf.a -o target/curve
+ *     ./run library x86-64                 # or aarch64: the processor of this machine
+ *     cc examples/curve.c -Iinclude target/x86-64/libsnoekeldraf.a -o target/curve
  *     target/curve
  */
 #include <stdio.h>

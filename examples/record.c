@@ -1,7 +1,7 @@
 /* Seals a record and opens it again, from buffer to buffer and in place. From the root of the repository:
  *
- *     ./run library aarch64                # or x86-64: the processor of this machine
- *     cc examples/record.c -Iinclude target/aarch64/libsnoekeldraf.a -o target/record
+ *     ./run library x86-64                 # or aarch64: the processor of this machine
+ *     cc examples/record.c -Iinclude target/x86-64/libsnoekeldraf.a -o target/record
  *     target/record
  *
  * An error ends the program: a message that was refused is never used as if it were sealed.

@@ -14,8 +14,8 @@
  *   - No two records are sealed with one key and one nonce.
  *
  * A length is 64 bits on every processor, also where size_t has 32. Lengths of lists count elements, all others bytes.
- * The functions keep no state between calls and allocate nothing. They call memcpy and memset of the C library and, on 32-bit
- * processors, arithmetic functions of the compiler's own library. They take less than SNOEKELDRAF_STACK_BYTES of stack
+ * The functions keep no state between calls and allocate nothing. They call memcpy and memset of the C library and, on some
+ * 32-bit processors, arithmetic functions of the compiler's own library. They take less than SNOEKELDRAF_STACK_BYTES of stack
  * (measured, not proved; docs/LIBRARY.md has the figure of each function).
  *
  *   +-----------------------------------------------------------------------------------------------------------------+
@@ -192,12 +192,12 @@ const char *snoekeldraf_words(uint32_t status);
  */
 void snoekeldraf_forget(void);
 
-/* What the deepest call of the library takes (comet_session_end: 9,144 bytes, the most of x86-64, AArch64 and Cortex-M4),
- * and 1,096 bytes more. A program with a small stack that uses few functions can measure its own need and build
+/* What the deepest call of the library takes (comet_session_end: 11,048 bytes on Cortex-M0+, at most 9,544 elsewhere), and
+ * 1,240 bytes more. A program with a small stack that uses few functions can measure its own need and build
  * library/words.c with -DSNOEKELDRAF_STACK_BYTES=that.
  */
 #ifndef SNOEKELDRAF_STACK_BYTES
-#define SNOEKELDRAF_STACK_BYTES 10240
+#define SNOEKELDRAF_STACK_BYTES 12288
 #endif
 
 /* ---- Records ---- */
@@ -308,9 +308,9 @@ typedef struct {
 } comet_session;
 SNOEKELDRAF_SIZE(comet_session, 72);
 
-/* Of all four functions: after every status but 0, session, out and tag are unchanged, and the call may be repeated (after
- * a refused start the session is nine zeros). *count is always written: the number of bytes written at the start of out,
- * 0 after every status but 0. Bytes of out after them are unchanged.
+/* Of the next four functions: after every status but 0, out and tag are unchanged; so is the session, and the call may be
+ * repeated, but a refused start leaves nine zeros. *count is always written: the number of bytes written at the start of
+ * out, 0 after every status but 0. Bytes of out after them are unchanged.
  */
 
 /* Starts a session. What it held before does not matter. Status: 1, 10, 2, 3, 0. */

@@ -6,9 +6,15 @@
 
 #include "snoekeldraf.h"
 
-enum { WRENCH_KEY = 16, WRENCH_NONCE = 15, WRENCH_TAG = 8, WRENCH_BLOCK = 8 };
+enum {
+    WRENCH_SUITE = COMET_SPECK64,
+    WRENCH_KEY = COMET_KEY_BYTES,
+    WRENCH_NONCE = COMET_NONCE_BYTES(WRENCH_SUITE),
+    WRENCH_TAG = COMET_TAG_BYTES(WRENCH_SUITE),
+    WRENCH_BLOCK = COMET_BLOCK_BYTES(WRENCH_SUITE)
+};
 
-/* Starts a record with all of its associated data: 4, 0. */
+/* Starts a record with all of its associated data: 4, 0. After 4 the session is nine zeros, and its calls give 9. */
 uint32_t wrench_start(comet_session *session, const uint8_t key[WRENCH_KEY], const uint8_t nonce[WRENCH_NONCE],
                       const uint8_t *ad, uint32_t ad_len);
 
@@ -18,6 +24,9 @@ uint32_t wrench_part(comet_session *session, const uint8_t *part, uint32_t part_
 
 /* Ends the record: 9, 0. The call writes the last *count bytes of ciphertext, fewer than 8, to the start of out. */
 uint32_t wrench_end(comet_session *session, uint8_t out[WRENCH_BLOCK], uint8_t tag[WRENCH_TAG], uint32_t *count);
+
+/* Overwrites a session that is abandoned with nine zeros: it holds key material. */
+void wrench_wipe(comet_session *session);
 
 /* Opens a record in place: 4, 5, 8, 0. After 8 every byte of text is 0. */
 uint32_t wrench_open(const uint8_t key[WRENCH_KEY], const uint8_t nonce[WRENCH_NONCE], const uint8_t *ad, uint32_t ad_len,

@@ -1,12 +1,13 @@
 /* What a call leaves on the stack, with and without snoekeldraf_forget, and how much stack it takes.
  * Run it from the root of the repository: it reads samples/.
  *
- * Every call runs on a stack of its own that is filled with a pattern first. Afterwards the stack is searched for
- * every piece (PIECE bytes, at any offset) of the key, the message and the chaining values Y and Z, which a session with the
- * same inputs gives. A line for each call: stack bytes, pieces of key, message and state found without snoekeldraf_forget,
- * the same with it, and how many bytes that the call wrote are then still not zero.
+ * Every call runs on a stack of its own that is filled with a pattern first. Afterwards the stack is searched for every
+ * piece (PIECE bytes, at any offset, at most one of them zero) of the key, the message and the chaining values Y and Z,
+ * which a session with the same inputs gives. A line for each call: stack bytes, pieces of key, message and state found
+ * without snoekeldraf_forget, the same with it, and how many bytes that the call wrote are then still not zero.
  * Exit status 0: nothing is found with snoekeldraf_forget, something is found without it over all calls together, and no
- * call comes within MARGIN bytes of SNOEKELDRAF_STACK_BYTES. Runs on x86-64, AArch64 and Cortex-M.
+ * call comes within MARGIN bytes of SNOEKELDRAF_STACK_BYTES. Runs on x86-64, AArch64, Cortex-M and
+ * RISC-V.
  */
 #include <stdio.h>
 #include <string.h>
@@ -37,6 +38,10 @@ static void on_stack(void (*call)(void))
 #elif defined(__arm__)
     __asm__ volatile("mov r4, sp\n\tmov sp, %0\n\tblx %1\n\tmov sp, r4" : "+r"(top) : "r"(call)
                      : "r0", "r1", "r2", "r3", "r4", "r12", "lr", "cc", "memory");
+#elif defined(__riscv)
+    __asm__ volatile("mv s1, sp\n\tmv sp, %0\n\tjalr %1\n\tmv sp, s1" : "+r"(top) : "r"(call)
+                     : "s1", "ra", "t0", "t1", "t2", "t3", "t4", "t5", "t6", "a0", "a1", "a2", "a3", "a4", "a5", "a6", "a7",
+                       "memory");
 #else
 #error "no way to change the stack is known for this processor"
 #endif
@@ -62,6 +67,8 @@ static void random_bytes(uint8_t *bytes, size_t len, uint64_t seed)
 static uint8_t *here;
 #if defined(__x86_64__)
 #define NOTE_HERE __asm__ volatile("movq %%rsp, %0" : "=r"(here))
+#elif defined(__riscv)
+#define NOTE_HERE __asm__ volatile("mv %0, sp" : "=r"(here))
 #else
 #define NOTE_HERE __asm__ volatile("mov %0, sp" : "=r"(here))
 #endif
@@ -124,14 +131,22 @@ static unsigned found_piece(const uint8_t *piece)
     return times;
 }
 
-/* How many pieces of a secret stand on the stack. Pieces of zeros alone are in every session and are not counted. */
+/* Whether at most one byte of a piece is zero. A session has zeros beside the halves of Y and Z that an 8-byte block leaves
+ * unused, and a piece of zeros and one byte is found in any return address. */
+static int is_telling(const uint8_t *piece)
+{
+    unsigned zeros = 0;
+    for (size_t i = 0; i < PIECE; i++) zeros += piece[i] == 0;
+    return zeros <= 1;
+}
+
+/* How many pieces of a secret stand on the stack. */
 static unsigned found(int kind)
 {
-    static const uint8_t zeros[PIECE];
     const struct secret *s = &secrets[kind];
     unsigned pieces = 0;
     for (size_t i = 0; i + PIECE <= s->len; i++) {
-        if (memcmp(s->bytes + i, zeros, PIECE) != 0) pieces += found_piece(s->bytes + i);
+        if (is_telling(s->bytes + i)) pieces += found_piece(s->bytes + i);
     }
     return pieces;
 }

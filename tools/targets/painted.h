@@ -15,21 +15,30 @@ static inline __attribute__((always_inline)) volatile uint32_t *stack_pointer(vo
     volatile uint32_t *at;
 #if defined __x86_64__
     __asm__ volatile("mov %%rsp, %0" : "=r"(at));
+#elif defined __riscv
+    __asm__ volatile("mv %0, sp" : "=r"(at));
 #else
     __asm__ volatile("mov %0, sp" : "=r"(at));
 #endif
     return at;
 }
 
-/* Inlined, since a frame of its own would lie in the stack that it fills. */
-static inline __attribute__((always_inline)) void paint(void) {
+/* Returns where the pattern ends. Inlined, so that it has no frame of its own below the caller's. */
+static inline __attribute__((always_inline)) volatile uint32_t *paint(void) {
     volatile uint32_t *top = stack_pointer();
     for (volatile uint32_t *p = top - PAINTED_WORDS; p != top; p++) *p = PAINT;
+    return top;
 }
 
 uint32_t painted(const char *name, volatile uint32_t *top, uint32_t result);
 void print_stacks(void);
 
-#define PAINTED(f, ...) (paint(), painted(#f, stack_pointer(), (f)(__VA_ARGS__)))
+/* The stack pointer is read once: x86-64 moves it for the arguments of the call. */
+#define PAINTED(f, ...) \
+    ({ \
+        volatile uint32_t *painted_top = paint(); \
+        uint32_t painted_result = (uint32_t)(f)(__VA_ARGS__); \
+        painted(#f, painted_top, painted_result); \
+    })
 
 #endif
