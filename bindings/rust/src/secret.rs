@@ -20,7 +20,7 @@ pub(crate) fn forgetting<T>(call: impl FnOnce() -> T) -> T {
     answer
 }
 
-/// Overwrites the stack below the caller, 10 KiB of it: more than the library's deepest call takes.
+/// Overwrites the stack below the caller, 12 KiB of it: more than the library's deepest call takes.
 ///
 /// Every function of this crate that has a key does so itself. Call it after a function of your own has moved a secret: a move
 /// copies, and the copy stays in that function's frame.
