@@ -157,7 +157,7 @@ fn run_on(file: &mut [u8], call: Call, line: &mut [u8]) -> usize {
     damage(file, ring, call.job, call.third, line)
 }
 
-// Reads the file of a call into f and runs it; no line if f is too small or the input ends.
+// Reads the file of a call into file_buf and runs it; no line if file_buf is too small or the input ends.
 fn run_in(file_buf: &mut [u8], call: Call, line: &mut [u8]) -> usize {
     let n = call.first;
     if file_buf.len() < n {

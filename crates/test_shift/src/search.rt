@@ -31,7 +31,7 @@ fn searches(file: &[u8], first: u32, count: usize, line: &mut [u8]) -> usize {
     at
 }
 
-// Reads the file of a call into f and runs it; no line if f is too small or the input ends.
+// Reads the file of a call into file_buf and runs it; no line if file_buf is too small or the input ends.
 fn run_in(file_buf: &mut [u8], call: Call, line: &mut [u8]) -> usize {
     let n = call.first;
     let file = program_text::read::field(file_buf, n);
