@@ -69,7 +69,7 @@ pub struct Current<'a> {
 /// Finds the current entry of a job, not verified. An amendment is a small shift file that replaces some jobs of the day's:
 /// the current entry is the amendment's if it has the job, else the day's.
 ///
-/// Numbers, in this order: those of [`ShiftFile::check`](crate::ShiftFile::check) for the amendment (file 1), then for the
+/// Statuses, in this order: those of [`ShiftFile::check`](crate::ShiftFile::check) for the amendment (file 1), then for the
 /// day's file (file 2), also if the amendment has the job; 32, with no file, exactly if neither has the job.
 ///
 /// ```
@@ -91,7 +91,7 @@ pub fn unverified_current<'a>(amendment: &'a [u8], day: &'a [u8], job: u32) -> R
 /// Opens the current entry of a job: its message is written to `out`; which file holds it, and what its associated data says,
 /// is returned.
 ///
-/// Numbers, in this order: those of [`unverified_current`]; then, with the file that holds the entry, 6 if `out` is not as long
+/// Statuses, in this order: those of [`unverified_current`]; then, with the file that holds the entry, 6 if `out` is not as long
 /// as the message, 8 if the tag differs. On 8 every byte of `out` is 0; every other refusal leaves it unchanged.
 ///
 /// ```

@@ -126,7 +126,7 @@ impl DraftBuilder {
         self.layout.push(row, nonce.as_bytes(), [&head, data], message, &[0; 16][..suite.tag_size()]);
     }
 
-    /// The draft. Numbers, in this order, with the entry's index as the row: 3 if a nonce does not have its suite's length, 27 if
+    /// The draft. Statuses, in this order, with the entry's index as the row: 3 if a nonce does not have its suite's length, 27 if
     /// associated data is over 65,535 bytes long; then those of [`Draft::check`].
     ///
     /// ```
@@ -210,7 +210,7 @@ impl FileBuilder {
         self.layout.push(Row::new(job, station, suite, key_number), nonce, [ad, &[]], text, tag);
     }
 
-    /// The file. Numbers, in this order, with the entry's index as the row: 3 if a nonce does not have its suite's length, 7 if
+    /// The file. Statuses, in this order, with the entry's index as the row: 3 if a nonce does not have its suite's length, 7 if
     /// a tag does not, 27 if associated data is over 65,535 bytes long, 35 if a station of edition 1 is not 0; then those of
     /// [`ShiftFile::check`].
     ///

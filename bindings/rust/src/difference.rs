@@ -33,7 +33,7 @@ pub struct Difference<'l> {
 /// front of three lists; lists of [`ROWS_MAX`](crate::ROWS_MAX) elements are always long enough. Offsets do not
 /// count, and no entry is opened.
 ///
-/// Numbers, in this order: those of [`ShiftFile::check`](crate::ShiftFile::check) for the first file (file 1), then for
+/// Statuses, in this order: those of [`ShiftFile::check`](crate::ShiftFile::check) for the first file (file 1), then for
 /// the second (file 2); 36 if a list is longer than its buffer. A refusal leaves the lists unchanged; success leaves the
 /// elements after those that are written.
 ///
@@ -86,7 +86,7 @@ pub struct Differences {
     pub differ: Vec<u32>,
 }
 
-/// As [`compare`]; returns the three lists. Number 36 cannot come.
+/// As [`compare`]; returns the three lists. Status 36 cannot occur.
 ///
 /// ```
 /// use snoekeldraf::compare_vec;

@@ -19,7 +19,7 @@ pub fn moved_len(file: &[u8]) -> usize {
 /// Moves a file of edition 1 to edition 2, in which every row has a station number: 0 in all of them. The total length and
 /// every offset rise by four bytes a row; the bodies are unchanged. `out` is [`moved_len`] bytes long.
 ///
-/// Numbers, in this order: 20 to 31 and 34 as [`ShiftFile::check`](crate::ShiftFile::check), except that 21 means that
+/// Statuses, in this order: 20 to 31 and 34 as [`ShiftFile::check`](crate::ShiftFile::check), except that 21 means that
 /// the edition is not 1; 20 if the moved file would be over 1,048,576 bytes long; 6 if `out` has another length. A refusal
 /// leaves `out` unchanged.
 ///
@@ -42,7 +42,7 @@ pub fn to_edition2(file: &[u8], out: &mut [u8]) -> Result<(), Refused> {
 
 /// Moves a file of edition 2 to edition 1, which has no stations. `out` is [`moved_len`] bytes long.
 ///
-/// Numbers, in this order: 20 to 31 and 34 as [`ShiftFile::check`](crate::ShiftFile::check), except that 21 means that
+/// Statuses, in this order: 20 to 31 and 34 as [`ShiftFile::check`](crate::ShiftFile::check), except that 21 means that
 /// the edition is not 2; 35 with the first row whose station is not 0; 6 if `out` has another length. A refusal leaves `out`
 /// unchanged.
 ///

@@ -68,7 +68,7 @@ impl<'a> Entry<'a> {
     /// Opens the entry with the ring's key, without checking the file again: the message is written to `out`, which is as long
     /// as `text`, and what the associated data says is returned.
     ///
-    /// Numbers, in this order: 6 if `out` has another length; 8 if the tag differs. On 8 every byte of `out` is 0; 6 leaves it
+    /// Statuses, in this order: 6 if `out` has another length; 8 if the tag differs. On 8 every byte of `out` is 0; 6 leaves it
     /// unchanged.
     ///
     /// ```
@@ -90,7 +90,7 @@ impl<'a> Entry<'a> {
     }
 
     /// Compares the entry's tag under the ring's key, without checking the file again and without writing the message
-    /// anywhere; returns what the associated data says. Number 8 if the tag differs.
+    /// anywhere; returns what the associated data says. Status 8 if the tag differs.
     ///
     /// ```
     /// use snoekeldraf::{Reason, Ring, ShiftFile};
@@ -164,7 +164,7 @@ pub struct Verified<'a> {
 }
 
 impl<'a> Verified<'a> {
-    /// Associated data of a checked file whose tag was compared and was right; number 30 if byte 4 is no unit.
+    /// Associated data of a checked file whose tag was compared and was right; status 30 if byte 4 is no unit.
     pub(crate) fn compared(ad: &'a [u8]) -> Result<Verified<'a>, Refused> {
         Ok(Verified { ad, unit: Unit::try_from(ad[4])? })
     }

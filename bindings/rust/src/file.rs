@@ -40,7 +40,7 @@ pub struct ShiftFile<'a> {
 impl<'a> ShiftFile<'a> {
     /// The full check.
     ///
-    /// Numbers, in this order: 20 if there are fewer than 8 bytes or more than 1,048,576; 21 if the edition is not 1 or 2; 22
+    /// Statuses, in this order: 20 if there are fewer than 8 bytes or more than 1,048,576; 21 if the edition is not 1 or 2; 22
     /// if there are more than 512 rows; 23 if the total length is another; 24 if the table runs past the end. Then for each
     /// row, which the number carries: 25 if its job number is not above the row before's; 26 if its suite is not 1 to 6 or its
     /// key number is over 15; 27 if its associated data is not 5 to 1,024 bytes long or its message is over 65,536; 28 if its
@@ -89,7 +89,7 @@ impl<'a> ShiftFile<'a> {
 
     /// The job, unit and data of a job, after its tag was compared under the ring's key. No message is written anywhere.
     ///
-    /// Numbers, in this order: 32 if no row has the job; 8 if the tag differs.
+    /// Statuses, in this order: 32 if no row has the job; 8 if the tag differs.
     ///
     /// ```
     /// use snoekeldraf::{Reason, Ring, ShiftFile, Unit};
@@ -115,7 +115,7 @@ impl<'a> ShiftFile<'a> {
     /// Opens one job: its message is written to `out`, which is as long as the entry's text, and what the associated data says
     /// is returned.
     ///
-    /// Numbers, in this order: 32 if no row has the job, and no key is used then; 6 if `out` has another length; 8 if the tag
+    /// Statuses, in this order: 32 if no row has the job, and no key is used then; 6 if `out` has another length; 8 if the tag
     /// differs. On 8 every byte of `out` is 0; every other refusal leaves it unchanged.
     ///
     /// ```
@@ -151,7 +151,7 @@ impl<'a> ShiftFile<'a> {
         Entries { file: self, next: 0, count }
     }
 
-    /// The row of a job; number 32 if no row has it. [`search`](ShiftFile::search) returns the same row, sooner.
+    /// The row of a job; status 32 if no row has it. [`search`](ShiftFile::search) returns the same row, sooner.
     ///
     /// ```
     /// use snoekeldraf::ShiftFile;
@@ -182,7 +182,7 @@ impl<'a> ShiftFile<'a> {
         search(self.bytes, job)
     }
 
-    /// The entry of a job, not verified; number 32 if no row has the job.
+    /// The entry of a job, not verified; status 32 if no row has the job.
     ///
     /// ```
     /// use snoekeldraf::{ShiftFile, Suite};
@@ -199,7 +199,7 @@ impl<'a> ShiftFile<'a> {
         Ok(Entry { unverified_ad, text, ..self.row(answer.1)? })
     }
 
-    /// The associated data of a job, not verified, a part of the caller's bytes; number 32 if no row has the job.
+    /// The associated data of a job, not verified, a part of the caller's bytes; status 32 if no row has the job.
     ///
     /// ```
     /// use snoekeldraf::ShiftFile;
@@ -237,7 +237,7 @@ impl<'a> ShiftFile<'a> {
         Ok((verified, out))
     }
 
-    /// The entry of a row of a checked file; number 32 if there is no such row.
+    /// The entry of a row of a checked file; status 32 if there is no such row.
     fn row(self, row: u32) -> Result<Entry<'a>, Refused> {
         let (number, fields) = raw::row(self.bytes, row);
         done(number)?;
@@ -342,7 +342,7 @@ pub fn unverified_job(file: &[u8], row: u32) -> Result<u32, Refused> {
 /// ```
 #[derive(Clone, Copy, PartialEq, Eq, Debug)]
 pub struct Searched {
-    /// The row, or number 32 if none has the job, or 20 to 24.
+    /// The row, or status 32 if none has the job, or 20 to 24.
     pub found: Result<u32, Refused>,
     /// How many rows were looked at: at most 10, and 0 on 20 to 24.
     pub looked: u32,

@@ -41,7 +41,7 @@ impl From<[u8; 16]> for Key {
 impl TryFrom<&[u8]> for Key {
     type Error = Refused;
 
-    /// Number 2 if there are not 16 bytes.
+    /// Status 2 if there are not 16 bytes.
     fn try_from(bytes: &[u8]) -> Result<Key, Refused> {
         bytes.try_into().map(Key).map_err(|_| Refused::of(Reason::KeyLength))
     }
@@ -99,7 +99,7 @@ impl From<[u8; 256]> for Ring {
 impl TryFrom<&[u8]> for Ring {
     type Error = Refused;
 
-    /// Number 2 if there are not 256 bytes.
+    /// Status 2 if there are not 256 bytes.
     fn try_from(bytes: &[u8]) -> Result<Ring, Refused> {
         match bytes.len() {
             256 => Ok(Ring(core::array::from_fn(|k| Key(core::array::from_fn(|i| bytes[16 * k + i]))))),

@@ -41,7 +41,7 @@ pub struct Nonce(Bytes);
 
 impl Nonce {
     /// Takes bytes as a nonce that was never used with the key that it will be used with, and never will be again. The caller
-    /// answers for that. Number 3 if there are not 15 or 16 bytes.
+    /// answers for that. Status 3 if there are not 15 or 16 bytes.
     ///
     /// ```
     /// use snoekeldraf::Nonce;
@@ -133,7 +133,7 @@ const COUNT_SIZE: usize = 8;
 pub struct NonceCounter(Bytes);
 
 impl NonceCounter {
-    /// A counter that starts at 0. Number 3 if the prefix does not have 7 or 8 bytes.
+    /// A counter that starts at 0. Status 3 if the prefix does not have 7 or 8 bytes.
     ///
     /// Never start a prefix anew that was used with the same key.
     ///
@@ -154,7 +154,7 @@ impl NonceCounter {
         Ok(NonceCounter(Bytes { bytes, len: prefix.len() + COUNT_SIZE }))
     }
 
-    /// Continues from a stored state. Number 3 if it does not have 15 or 16 bytes.
+    /// Continues from a stored state. Status 3 if it does not have 15 or 16 bytes.
     ///
     /// ```
     /// use snoekeldraf::NonceCounter;

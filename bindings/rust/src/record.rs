@@ -54,7 +54,7 @@ pub struct Sealed<'a> {
 
 /// Seals a record: the ciphertext is written to `out`, and the tag is returned.
 ///
-/// Numbers, in this order: 10 if the suite is 4; 3 if the nonce does not have the suite's length; 4 if the associated data, 5
+/// Statuses, in this order: 10 if the suite is 4; 3 if the nonce does not have the suite's length; 4 if the associated data, 5
 /// if the message is over 65,536 bytes long; 6 if `out` is not as long as the message. A refusal leaves `out` unchanged, and
 /// the nonce is lost.
 ///
@@ -93,7 +93,7 @@ pub fn seal(suite: Suite, key: &Key, nonce: Nonce, record: Record, out: &mut [u8
 
 /// Opens a sealed record if its tag is right: the message is written to `out`.
 ///
-/// Numbers, in this order: 3 if the nonce does not have the suite's length; 4 if the associated data, 5 if the ciphertext is
+/// Statuses, in this order: 3 if the nonce does not have the suite's length; 4 if the associated data, 5 if the ciphertext is
 /// over 65,536 bytes long; 6 if `out` is not as long as the ciphertext; 7 if the tag does not have the suite's length; 8 if
 /// the tag differs. On 8 every byte of `out` is 0; every other refusal leaves it unchanged. Suite 4 is opened as every other.
 ///
@@ -119,7 +119,7 @@ pub fn open(suite: Suite, key: &Key, sealed: Sealed, out: &mut [u8]) -> Result<(
 /// Seals a message in place: `text` is the message before and the ciphertext after, and the tag is returned. The result is that
 /// of [`seal`].
 ///
-/// Numbers, in this order: 10 if the suite is 4; 3 if the nonce does not have the suite's length; 4 if the associated data, 5
+/// Statuses, in this order: 10 if the suite is 4; 3 if the nonce does not have the suite's length; 4 if the associated data, 5
 /// if the message is over 65,536 bytes long. **A refusal leaves `text` unchanged: it is still plaintext.** Send it only after
 /// `Ok`.
 ///
@@ -144,7 +144,7 @@ pub fn seal_in_place(suite: Suite, key: &Key, nonce: Nonce, ad: &[u8], text: &mu
 /// Opens a ciphertext in place if `tag` is its tag: `text` is the ciphertext before and the message after. The result is that
 /// of [`open`].
 ///
-/// Numbers, in this order: 3 if the nonce does not have the suite's length; 4 if the associated data, 5 if the ciphertext is
+/// Statuses, in this order: 3 if the nonce does not have the suite's length; 4 if the associated data, 5 if the ciphertext is
 /// over 65,536 bytes long; 7 if the tag does not have the suite's length; 8 if the tag differs. On 8 every byte of `text` is
 /// 0: the ciphertext is gone too. Every other refusal leaves it unchanged.
 ///
@@ -171,7 +171,7 @@ pub fn open_in_place(
 /// Checks that a sealed record is genuine and writes no message anywhere: `Ok` exactly if [`open`] with an output of the
 /// text's length opens it.
 ///
-/// Numbers, in this order: 3 if the nonce does not have the suite's length; 4 if the associated data, 5 if the ciphertext is
+/// Statuses, in this order: 3 if the nonce does not have the suite's length; 4 if the associated data, 5 if the ciphertext is
 /// over 65,536 bytes long; 7 if the tag does not have the suite's length; 8 if the tag differs.
 ///
 /// ```
@@ -193,7 +193,7 @@ pub fn verify(suite: Suite, key: &Key, sealed: Sealed) -> Result<(), Refused> {
 
 /// A result, and how many block cipher calls it took.
 ///
-/// With a and m the block counts of associated data and text, the calls are a + m + 2 on success and on number 8, and 0 on
+/// With a and m the block counts of associated data and text, the calls are a + m + 2 on success and on status 8, and 0 on
 /// every other refusal. The last block of either may be short; no bytes are no block.
 ///
 /// ```

@@ -132,7 +132,7 @@ impl Display for Reason {
 
 /// A refused call: the reason, and the row and the file at fault where the reason carries them.
 ///
-/// `Display` gives the library's words and the number. The numbers of each function stand with it, in the order in which they
+/// `Display` gives the library's words and the status. The statuses of each function are listed with it, in the order in which they
 /// are checked; the first that applies is returned.
 ///
 /// ```
@@ -143,7 +143,7 @@ impl Display for Reason {
 /// bytes[8 + 33] = 0;
 /// let refused = ShiftFile::check(&bytes).unwrap_err();
 /// assert_eq!((refused.reason, refused.number(), refused.row), (Reason::RowOrder, 25, Some(1)));
-/// assert_eq!(refused.to_string(), "the row's job number is not above the row before's (number 25, row 1)");
+/// assert_eq!(refused.to_string(), "the row's job number is not above the row before's (status 25, row 1)");
 /// ```
 #[derive(Clone, Copy, PartialEq, Eq, Hash, Debug)]
 #[non_exhaustive]
@@ -185,7 +185,7 @@ impl Refused {
 
 impl Display for Refused {
     fn fmt(&self, f: &mut Formatter) -> Written {
-        write!(f, "{} (number {}", self.words(), self.number())?;
+        write!(f, "{} (status {}", self.words(), self.number())?;
         if let Some(row) = self.row {
             write!(f, ", row {row}")?;
         }

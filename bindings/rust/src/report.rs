@@ -47,7 +47,7 @@ impl Report<'_> {
 /// Reports on a supplier's file of at most 65,280 bytes: every entry's job number, and whether its tag is right. A wrong
 /// tag does not end the report. Lists of [`ROWS_MAX`](crate::ROWS_MAX) elements are always long enough.
 ///
-/// Numbers, in this order: 20 if the file is longer; those of [`ShiftFile::check`](crate::ShiftFile::check); 6 if a list has
+/// Statuses, in this order: 20 if the file is longer; those of [`ShiftFile::check`](crate::ShiftFile::check); 6 if a list has
 /// fewer elements than the file has entries. A refusal leaves both lists unchanged; success leaves the elements after those
 /// that are written.
 ///
@@ -70,7 +70,7 @@ pub fn report<'l>(file: &[u8], ring: &Ring, jobs: &'l mut [u32], numbers: &'l mu
     Ok(Report { jobs: &jobs[..count as usize], numbers: &numbers[..count as usize] })
 }
 
-/// As [`report`]; returns each entry's job number and its 0 or 8. Number 6 cannot come.
+/// As [`report`]; returns each entry's job number and its 0 or 8. Status 6 cannot occur.
 ///
 /// ```
 /// use snoekeldraf::{report_vec, Ring};

@@ -65,7 +65,7 @@ pub struct Session {
 impl Session {
     /// Starts a session.
     ///
-    /// Numbers, in this order: 10 if the suite is 4; 3 if the nonce does not have the suite's length.
+    /// Statuses, in this order: 10 if the suite is 4; 3 if the nonce does not have the suite's length.
     ///
     /// ```
     /// use snoekeldraf::{Key, Nonce, Session, Suite};
@@ -83,7 +83,7 @@ impl Session {
 
     /// Adds a part of the associated data, of any length, until the first byte of the message.
     ///
-    /// Numbers, in this order: 9 if a byte of the message has come, for an empty part too; 4 if there would be more than
+    /// Statuses, in this order: 9 if a byte of the message has come, for an empty part too; 4 if there would be more than
     /// 65,536 bytes in all.
     ///
     /// ```
@@ -103,7 +103,7 @@ impl Session {
     /// Adds a part of the message, of any length, and returns the ciphertext of the blocks that it completes, a part of `out`.
     /// The bytes after it are unchanged. `out` has [`part_room`](Session::part_room) bytes or more.
     ///
-    /// Numbers, in this order: 5 if there would be more than 65,536 bytes of message in all; 6 if `out` is too short. A
+    /// Statuses, in this order: 5 if there would be more than 65,536 bytes of message in all; 6 if `out` is too short. A
     /// refusal leaves `out` unchanged. An empty part changes nothing and does not begin the message.
     ///
     /// ```
@@ -126,7 +126,7 @@ impl Session {
     /// Ends the session and returns the rest of the ciphertext, less than a block and a part of `out`, and the tag. `out` has
     /// 16 bytes or more (8 are enough if the block has 8).
     ///
-    /// Number 6 if `out` is too short; it is then unchanged, and the session is handed back.
+    /// Status 6 if `out` is too short; it is then unchanged, and the session is handed back.
     ///
     /// ```
     /// use snoekeldraf::{Key, Nonce, Session, Suite};
@@ -243,7 +243,7 @@ impl Debug for Session {
 /// let handed_back = session.end(&mut []).unwrap_err();
 /// assert_eq!(handed_back.to_string(), "the session was not ended");
 /// let source = handed_back.source().unwrap().to_string();
-/// assert_eq!(source, "the output does not have the required length (number 6)");
+/// assert_eq!(source, "the output does not have the required length (status 6)");
 /// let (rest, _tag) = handed_back.session.end(&mut [0; 16])?;
 /// # Ok::<(), snoekeldraf::Refused>(())
 /// ```

@@ -14,7 +14,7 @@ use core::fmt::{Display, Formatter, Result as Written};
 /// | 5 | AES-128 | version 2 | 16 | 16 |
 /// | 6 | Speck-64/128 | version 2 | 8 | 15 |
 ///
-/// Suite 4 is retired: it is opened and no longer sealed (number 10). Suites 1 and 5 index lookup tables by secret bytes: they
+/// Suite 4 is retired: it is opened and no longer sealed (status 10). Suites 1 and 5 index lookup tables by secret bytes: they
 /// are not constant-time and can leak through the cache.
 ///
 /// ```
@@ -114,7 +114,7 @@ impl Suite {
 impl TryFrom<u8> for Suite {
     type Error = Refused;
 
-    /// Number 1 if the suite is not 1 to 6.
+    /// Status 1 if the suite is not 1 to 6.
     fn try_from(number: u8) -> Result<Suite, Refused> {
         Suite::ALL.into_iter().find(|suite| suite.number() == number).ok_or(Refused::of(Reason::Suite))
     }

@@ -48,7 +48,7 @@ impl Tag {
 impl TryFrom<&[u8]> for Tag {
     type Error = Refused;
 
-    /// Number 7 if there are not 8 or 16 bytes.
+    /// Status 7 if there are not 8 or 16 bytes.
     fn try_from(given: &[u8]) -> Result<Tag, Refused> {
         if !matches!(given.len(), 8 | 16) {
             return Err(Refused::of(Reason::TagLength));

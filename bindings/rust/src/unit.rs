@@ -37,7 +37,7 @@ impl Unit {
 impl TryFrom<u8> for Unit {
     type Error = Refused;
 
-    /// Number 30 if the unit is not 1 or 2.
+    /// Status 30 if the unit is not 1 or 2.
     fn try_from(number: u8) -> Result<Unit, Refused> {
         match number {
             1 => Ok(Unit::NewtonMetres),

@@ -31,7 +31,7 @@ pub struct Draft<'a> {
 impl<'a> Draft<'a> {
     /// Checks everything that sealing requires of a draft.
     ///
-    /// Numbers, in this order: 20 to 31 and 34 as [`ShiftFile::check`](crate::ShiftFile::check), except that 21 means
+    /// Statuses, in this order: 20 to 31 and 34 as [`ShiftFile::check`](crate::ShiftFile::check), except that 21 means
     /// that the edition is not 0; 33 with the first row whose tag has a byte that is not zero; 10 with the first row of suite 4.
     ///
     /// ```
@@ -67,7 +67,7 @@ impl<'a> Draft<'a> {
     /// Seals the draft into `out`, which is as long as the draft. The edition becomes 1, ciphertext and tags are written, and
     /// every other byte is the draft's.
     ///
-    /// Number 6 if `out` has another length; it is then unchanged.
+    /// Status 6 if `out` has another length; it is then unchanged.
     ///
     /// ```
     /// use snoekeldraf::{Draft, Ring};
@@ -106,7 +106,7 @@ impl<'a> Draft<'a> {
 /// Writes the draft of a sealed file to `out`, which is as long as the file. If no entry has suite 4, sealing the draft with
 /// the same ring gives the file.
 ///
-/// Numbers, in this order: 20 to 31 and 34 as [`ShiftFile::check`](crate::ShiftFile::check), except that 21 means that
+/// Statuses, in this order: 20 to 31 and 34 as [`ShiftFile::check`](crate::ShiftFile::check), except that 21 means that
 /// the edition is not 1; 6 if `out` has another length; 8 with the first row whose tag differs. On 8 every byte of `out` is
 /// 0; every other refusal leaves it unchanged.
 ///
@@ -127,7 +127,7 @@ pub fn unseal(file: &[u8], ring: &Ring, out: &mut [u8]) -> Result<(), Refused> {
 /// nonce, associated data and message. Every other byte is kept. The other entries are copied without looking at
 /// their tags.
 ///
-/// Numbers, in this order: 20 to 31 and 34 as [`ShiftFile::check`](crate::ShiftFile::check), except that 21 means that
+/// Statuses, in this order: 20 to 31 and 34 as [`ShiftFile::check`](crate::ShiftFile::check), except that 21 means that
 /// the edition is not 1; 29 also with the lowest row that would then repeat the suite, key number and nonce of an earlier one;
 /// 6 if `out` has another length; 8 with the first row of suite 4 whose tag differs. On 8 every byte of `out` is 0; every
 /// other refusal leaves it unchanged.

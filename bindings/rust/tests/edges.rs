@@ -142,7 +142,7 @@ fn errors() {
     let mut bad = sample("day.shift");
     bad[8 + 32..8 + 36].fill(0);
     let refused = compare(&sample("day.shift"), &bad, &mut [], &mut [], &mut []).unwrap_err();
-    let words = "the row's job number is not above the row before's (number 25, row 1, file 2)";
+    let words = "the row's job number is not above the row before's (status 25, row 1, file 2)";
     assert_eq!(refused.to_string(), words);
     let boxed: Box<dyn Error> = refused.into();
     assert!(boxed.downcast_ref::<Refused>().is_some());

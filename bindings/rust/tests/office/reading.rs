@@ -91,7 +91,7 @@ fn many_files_in_one_run() {
 fn a_wrong_ring_is_asked_about() {
     let desk = Desk::new("wrong-ring");
     desk.write("other.keys", [7; 256]);
-    let words = ["8 of 8 entries have a wrong tag (number 8): jobs 4101 4102", "is it the right ring?"];
+    let words = ["8 of 8 entries have a wrong tag (status 8): jobs 4101 4102", "is it the right ring?"];
     let ran = desk.call("verify day.shift --ring other.keys").ended(1, &words);
     assert_eq!(ran.out, "day.shift: 8 entries, 8 WRONG TAG\n");
     desk.call("open day.shift 4103 --ring other.keys").ended(1, &["job 4103", "is it the right ring?"]);

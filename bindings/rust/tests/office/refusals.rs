@@ -64,24 +64,24 @@ fn a_row_is_said_with_its_job() {
     let mut day = desk.read("day.shift");
     day[suite_of_row_2] = 9;
     desk.write("bad.shift", &day);
-    desk.call("list bad.shift").ended(1, &["(number 26, row 2, job 4103)"]);
+    desk.call("list bad.shift").ended(1, &["(status 26, row 2, job 4103)"]);
     let mut draft = desk.read("day.draft");
     draft[suite_of_row_2] = 4;
     desk.write("old.draft", &draft);
     desk.call("seal old.draft out --ring ring.keys")
-        .ended(1, &["(number 10, row 2, job 4103)", "`snoekeldraf reseal`"]);
+        .ended(1, &["(status 10, row 2, job 4103)", "`snoekeldraf reseal`"]);
     let last = draft.len() - 1;
     draft[last] = 1;
     desk.write("tagged.draft", &draft);
     desk.call("seal tagged.draft out --ring ring.keys")
-        .ended(1, &["(number 33, row 6, job 4211)", "`snoekeldraf unseal` makes one"]);
+        .ended(1, &["(status 33, row 6, job 4211)", "`snoekeldraf unseal` makes one"]);
     desk.call("convert stations.shift out --to 1")
-        .ended(1, &["the row's station is not 0 (number 35, row 0, job 4101)", "keep the file in edition 2"]);
+        .ended(1, &["the row's station is not 0 (status 35, row 0, job 4101)", "keep the file in edition 2"]);
     let mut twice = desk.read("day.shift");
     let (first, second) = (8 + 32 * 2, 8 + 32 * 4); // both of suite 3 and key 2; a row's nonce is its last 16 bytes
     twice.copy_within(first + 16..first + 32, second + 16);
     desk.write("twice.shift", &twice);
-    desk.call("list twice.shift").ended(1, &["(number 29, row 4, job 4110)", "Do not use this file"]);
+    desk.call("list twice.shift").ended(1, &["(status 29, row 4, job 4110)", "Do not use this file"]);
     let mut builder = FileBuilder::edition1();
     for (job, suite) in [(7u32, Suite::Speck64), (9, Suite::Cham64)] {
         let ad = [&job.to_le_bytes()[..], &[1]].concat();
@@ -91,17 +91,17 @@ fn a_row_is_said_with_its_job() {
     desk.write("resealed.shift", builder.finish().unwrap());
     desk.call("reseal resealed.shift out --ring ring.keys").ended(
         1,
-        &["(number 29, row 1, job 9)", "Resealed as suite 3, this entry and another would have one key and nonce"],
+        &["(status 29, row 1, job 9)", "Resealed as suite 3, this entry and another would have one key and nonce"],
     );
     let day = desk.read("day.shift");
     desk.write("cut.shift", &day[..day.len() - 1]);
-    desk.call("list cut.shift").ended(1, &["(number 23)", "Copy or send the file again"]);
+    desk.call("list cut.shift").ended(1, &["(status 23)", "Copy or send the file again"]);
     let mut wrong = desk.read("day.shift");
     let last = wrong.len() - 1;
     wrong[last] ^= 1;
     desk.write("wrong.shift", &wrong);
     desk.call("unseal wrong.shift out --ring ring.keys")
-        .ended(1, &["(number 8, row 7, job 4211)", "Do not use this entry"]);
+        .ended(1, &["(status 8, row 7, job 4211)", "Do not use this entry"]);
     assert!(!desk.path("out").exists());
 }
 

@@ -75,7 +75,7 @@ fn wrong_tables_are_refused_with_their_line() {
         ("7,3,0,Nm,,", "line 3: the unit is not newton-metres (or 1) or inch-pounds (or 2)"),
         ("7,3,0,,,", "line 3: the unit is not"),
         ("7,4,0,1,,", "line 3, job 7: suite 4 is retired"),
-        ("6,3,0,1,,", "line 3, job 6: the row's job number is not above the row before's (number 25)"),
+        ("6,3,0,1,,", "line 3, job 6: the row's job number is not above the row before's (status 25)"),
         ("7,3,0,1,,a\"b", "line 3 has a quote inside a field without quotes"),
         ("7,3,0,1,,\"a", "line 3 has a quote that is not closed"),
     ] {

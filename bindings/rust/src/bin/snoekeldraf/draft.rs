@@ -61,7 +61,7 @@ fn refused_job(table: &Path, jobs: &[Job], refused: &Refused) -> Failure {
     let row = refused.row.map(|row| row as usize);
     let place = row.and_then(|row| jobs.get(row));
     let place = place.map_or(String::new(), |entry| format!(" line {}, job {}:", entry.line, entry.job));
-    let mut words = format!("{}:{place} {} (number {})", shown::name(table), refused.words(), refused.number());
+    let mut words = format!("{}:{place} {} (status {})", shown::name(table), refused.words(), refused.number());
     match (refused.reason, row.and_then(|row| jobs.get(row.checked_sub(1)?))) {
         (Reason::SuiteRetired, _) => words += "\nUse suite 3 or 6 for new records.",
         // The jobs are sorted: one that is not above the one before is the same.

@@ -12,7 +12,7 @@ use std::path::{Path, PathBuf};
 /// Bytes of a ring.
 const RING_BYTES: usize = 256;
 
-/// A file that was read: at most one byte more than the format allows, which the library refuses with number 20.
+/// A file that was read: at most one byte more than the format allows, which the library refuses with status 20.
 pub struct Input {
     pub path: PathBuf,
     pub bytes: Vec<u8>,

@@ -6,7 +6,7 @@ use crate::shown;
 use snoekeldraf::{unverified_job, Reason, Refused, Ring, ShiftFile};
 use std::path::Path;
 
-/// What a command takes: the words for number 21.
+/// What a command takes: the words for status 21.
 #[derive(Clone, Copy, PartialEq, Eq, Debug)]
 pub enum Takes {
     Draft,
@@ -69,7 +69,7 @@ fn in_words(input: &Input, takes: Takes, refused: &Refused) -> String {
         Some((row, None)) => format!(", row {row}"),
         None => String::new(),
     };
-    format!("{} (number {}{place})", refused.words(), refused.number())
+    format!("{} (status {}{place})", refused.words(), refused.number())
 }
 
 /// The job number in a row, from the library, of a refused file too. A draft's rows are those of edition 1.

@@ -58,5 +58,5 @@ pub fn wrong_tags(path: &Path, of: usize, jobs: &[u32]) -> String {
     };
     let has = if jobs.len() == 1 { "has" } else { "have" };
     let entries = shown::count(of, "entry", "entries");
-    format!("{}: {} of {entries} {has} a wrong tag (number 8): {which}\n{next}", shown::name(path), jobs.len())
+    format!("{}: {} of {entries} {has} a wrong tag (status 8): {which}\n{next}", shown::name(path), jobs.len())
 }
