@@ -3,7 +3,7 @@
  * Each figure is the least of many interleaved runs, so other work on the machine changes it little. The script `time`
  * beside this file builds and runs it. Both clocks are coarse (the time stamp counter of AMD's Zen 4 goes by steps of 26,
  * and a call without a message takes some 300), so several short calls are timed together. On x86-64 a fence stands before
- * each, so that a call does not begin before the last one ended: what is timed is a call by itself. The targets of issue 42
+ * each, so that a call does not begin before the last one ended: what is timed is a call by itself. The targets of docs/SPEED.md
  * hold there. On AArch64 there is no fence and no target. Under QEMU's emulation a time means nothing, and the program
  * refuses.
  *
