@@ -135,7 +135,7 @@ pub struct NonceCounter(Bytes);
 impl NonceCounter {
     /// A counter that starts at 0. Status 3 if the prefix does not have 7 or 8 bytes.
     ///
-    /// Never start a prefix anew that was used with the same key.
+    /// Never start a second counter with a prefix that was used with the same key.
     ///
     /// ```
     /// use snoekeldraf::{NonceCounter, Suite};
