@@ -10,7 +10,7 @@ use std::process::exit;
 
 const ARCHIVE: &str = "libsnoekeldraf.a";
 
-/// A target of `./run library`: its name there, and how Cargo describes it. A triple's start tells apart what architecture,
+/// A target of `./run library`: its name there, and how Cargo describes it. A triple's start distinguishes what architecture,
 /// system and pointer width do not.
 struct Target {
     name: &'static str,

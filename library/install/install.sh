@@ -5,9 +5,10 @@
 #
 # FOLDER is an absolute path, by default /usr/local. DESTDIR, if set, is prepended to it (for packages). The script first
 # checks SHA256SUMS; --no-check skips that. The library of this machine's processor becomes FOLDER/lib/libsnoekeldraf.a; the
-# variable TARGET chooses another one of lib/snoekeldraf/. Each file is replaced atomically.
+# variable TARGET chooses another one of lib/snoekeldraf/. Each file is replaced atomically; everyone may read it.
 # Exit status: 0 success, 1 a file differs from SHA256SUMS, 2 usage error, 3 something is missing or could not be written.
 set -eu
+umask 022
 here=$(CDPATH='' cd -- "$(dirname -- "$0")" && pwd)
 prefix=/usr/local
 check=yes
@@ -78,8 +79,9 @@ own_target() {
 }
 
 install_pkgconfig() {
-    mkdir -p -- "$to/lib/pkgconfig"
-    sed -e "s|@PREFIX@|$prefix|g" "$here/lib/pkgconfig/snoekeldraf.pc.in" >"$to/lib/pkgconfig/snoekeldraf.pc.new"
+    { mkdir -p -- "$to/lib/pkgconfig" &&
+        sed -e "s|@PREFIX@|$prefix|g" "$here/lib/pkgconfig/snoekeldraf.pc.in" >"$to/lib/pkgconfig/snoekeldraf.pc.new"; } ||
+        fail "$to/lib/pkgconfig/snoekeldraf.pc could not be written"
     place 644 "$to/lib/pkgconfig/snoekeldraf.pc"
 }
 

@@ -464,7 +464,7 @@ static void readers(void) {
     char name[80];
     for (U n = 64; n <= 512; n *= 2) {
         N len = file(f1, n, 5, 0, 0, 0);
-        snprintf(name, sizeof name, "reader asked over %u rows", n);
+        snprintf(name, sizeof name, "reader over %u rows", n);
         COUNT(name, "row", n, "ours", must(yard_cursor(f1, len, n + 1) == n, name));
     }
 }

@@ -88,7 +88,7 @@ ROUTINES = (
     "compare equal 512 rows of 2000", "compare 512 rows of 2000, all differ early",
     "compare 512 rows of 2000, no job in both", "report 512 rows 65,280 bytes", "seal_file 512 rows of 2000",
     "unseal_file 512 rows of 2000", "reseal 512 rows of 2000, all suite 4", "reseal 512 rows of 2000, none suite 4",
-    "to_edition2 512 rows of 1960", "to_edition1 512 rows of 1960", "reader asked over 512 rows",
+    "to_edition2 512 rows of 1960", "to_edition1 512 rows of 1960", "reader over 512 rows",
 )
 
 
@@ -104,7 +104,7 @@ def routines(cases):
 def by_rows(cases):
     """Instructions per row."""
     kinds = {"check, random nonces": "check {} rows random nonces", "check, counters": "check {} rows counter nonces",
-             "reader, asked to its end": "reader asked over {} rows", "compare, equal": "compare equal {} rows small",
+             "reader, to its end": "reader over {} rows", "compare, equal": "compare equal {} rows small",
              "seal_file, no text": "seal_file {} rows small"}
     many = (64, 128, 256, 512)
     rows = [[kind, *(f"{cases[name.format(n)].ran['ours'] / n:,.1f}" for n in many)] for kind, name in kinds.items()]

@@ -62,7 +62,8 @@ prepare_out() { # OUT RING
         case $place in */*) folder=${place%/*}/ ;; *) folder=./ ;; esac
     fi
     clean_up "$folder"
-    said=$(umask 077; LC_ALL=C mktemp -- "$folder$MARK$$-XXXXXX" 2>&1) || cannot_write "$1" "${said##*: }"
+    # "run": the office program removes names of two numbers that no run has locked
+    said=$(umask 077; LC_ALL=C mktemp -- "$folder$MARK$$-run-XXXXXX" 2>&1) || cannot_write "$1" "${said##*: }"
     temporary=$said
     trap 'rm -f -- "$temporary" "$temporary".*' EXIT
     trap 'exit 129' HUP

@@ -159,16 +159,16 @@ function compare(c) {
     const lists = lens.map((len) => words(len));
     const counts = [words(), words(), words()];
     const [file, row] = [words(), words()];
-    const lent = lists.flatMap((area, i) => [area.at, BigInt(lens[i])]);
-    const status = call('shift_compare', ...inputs(c, 'first', 'second'), ...lent, ...at(...counts, file, row));
+    const buffers = lists.flatMap((area, i) => [area.at, BigInt(lens[i])]);
+    const status = call('shift_compare', ...inputs(c, 'first', 'second'), ...buffers, ...at(...counts, file, row));
     const [first, second, differ] = lists.map((area, i) => list(area, one(counts[i])));
     return { status, file: one(file), row: one(row), first, second, differ };
 }
 
 function report(c) {
     const [jobs, numbers, count, row] = [words(c.jobs_len), output(c.numbers_len), words(), words()];
-    const lent = [jobs.at, BigInt(c.jobs_len), ...pair(numbers)];
-    const status = call('shift_report', ...inputs(c, 'file', 'ring'), ...lent, ...at(count, row));
+    const buffers = [jobs.at, BigInt(c.jobs_len), ...pair(numbers)];
+    const status = call('shift_report', ...inputs(c, 'file', 'ring'), ...buffers, ...at(count, row));
     const each = Array.from(view(numbers)).slice(0, one(count)).join(' ');
     return { status, row: one(row), jobs: list(jobs, one(count)), numbers: each };
 }

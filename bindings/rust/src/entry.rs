@@ -7,8 +7,8 @@ use alloc::{vec, vec::Vec};
 /// An entry of a checked shift file. The slices are parts of the file's bytes.
 ///
 /// Nothing here is verified: the check looks at the form of a file, and anyone can write a well-formed one.
-/// [`verify`](Entry::verify) and [`open`](Entry::open) compare the tag; what they return is [`Verified`]. The tag covers key
-/// number, suite, nonce, associated data and text, since with another one of these it differs. It does not cover the station.
+/// [`verify`](Entry::verify) and [`open`](Entry::open) compare the tag; what they return is [`Verified`]. The tag is computed
+/// from the key, suite, nonce, associated data and text. It does not cover the station.
 ///
 /// ```
 /// use snoekeldraf::{Ring, ShiftFile, Unit};

@@ -115,12 +115,39 @@ pub use {
 };
 
 /// The most bytes of associated data of a record, and the most of a message: 65,536 each.
+///
+/// ```
+/// use snoekeldraf::{seal_in_place, Key, Nonce, Reason, Suite, TEXT_BYTES_MAX};
+///
+/// let (key, nonce) = (Key::from([7; 16]), Nonce::assume_fresh(&[0; 16])?);
+/// let mut text = vec![0; TEXT_BYTES_MAX + 1];
+/// let refused = seal_in_place(Suite::Cham128, &key, nonce, b"", &mut text).unwrap_err();
+/// assert_eq!(refused.reason, Reason::TextLength);
+/// # Ok::<(), snoekeldraf::Refused>(())
+/// ```
 pub const TEXT_BYTES_MAX: usize = 65_536;
 
 /// The most bytes of a shift file.
+///
+/// ```
+/// use snoekeldraf::{Reason, ShiftFile, FILE_BYTES_MAX};
+///
+/// let long = vec![0; FILE_BYTES_MAX + 1];
+/// assert_eq!(ShiftFile::check(&long).unwrap_err().reason, Reason::FileLength);
+/// ```
 pub const FILE_BYTES_MAX: usize = 1_048_576;
 
 /// The most rows of a shift file: lists of so many elements hold what [`compare`] and [`report()`] write.
+///
+/// ```
+/// use snoekeldraf::{report, Ring, ROWS_MAX};
+///
+/// let ring = Ring::try_from(&std::fs::read("../../samples/ring.keys")?[..])?;
+/// let file = std::fs::read("../../samples/day.shift")?;
+/// let (mut jobs, mut numbers) = ([0; ROWS_MAX], [0; ROWS_MAX]);
+/// assert_eq!(report(&file, &ring, &mut jobs, &mut numbers)?.jobs.len(), 8);
+/// # Ok::<(), Box<dyn std::error::Error>>(())
+/// ```
 pub const ROWS_MAX: usize = 512;
 
 /// The version of the linked library, as the C header numbers it: major, minor, patch.

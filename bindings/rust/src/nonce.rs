@@ -105,22 +105,24 @@ const COUNT_SIZE: usize = 8;
 
 /// Makes nonces: a prefix, and a 64-bit count that rises by one from nonce to nonce (little-endian, after the prefix).
 ///
-/// A prefix belongs to one counter: two wrenches, or two keys' owners, that seal with one key have two prefixes. It has 8
+/// A prefix belongs to one counter: two wrenches, or two programs, that seal with one key need two prefixes. It has 8
 /// bytes for suites with 16-byte nonces, 7 for the others. A counter ends after 2^64 - 1 nonces; it does not wrap.
 ///
 /// # Across restarts
 ///
 /// Store [`state`](NonceCounter::state) before a nonce is used, and [`resume`](NonceCounter::resume) from it. A crash then
-/// loses nonces and repeats none. [`take_stored`](NonceCounter::take_stored) keeps that order:
+/// loses nonces and repeats none. [`take_stored`](NonceCounter::take_stored) keeps that order. Where power can fail, what
+/// stores the state also syncs it to the disk.
 ///
 /// ```
 /// use snoekeldraf::NonceCounter;
 ///
 /// # let path = std::env::temp_dir().join(format!("nonces-{}", std::process::id()));
-/// let mut counter = match std::fs::read(&path) {
-///     Ok(state) => NonceCounter::resume(&state)?,
-///     Err(_) => NonceCounter::new(b"wrench7")?, // the first start; a file that was lost needs a new prefix
-/// };
+/// // Once, when the wrench is set up. After a state was lost: with another prefix.
+/// std::fs::write(&path, NonceCounter::new(b"wrench7")?.state())?;
+///
+/// // At every start. A state that cannot be read is an error and never a new beginning.
+/// let mut counter = NonceCounter::resume(&std::fs::read(&path)?)?;
 /// let nonce = counter.take_stored(|state| std::fs::write(&path, state))?.ok_or("the prefix is used up")?;
 ///
 /// let after_a_crash = NonceCounter::resume(&std::fs::read(&path)?)?.take().unwrap();
@@ -135,7 +137,7 @@ pub struct NonceCounter(Bytes);
 impl NonceCounter {
     /// A counter that starts at 0. Status 3 if the prefix does not have 7 or 8 bytes.
     ///
-    /// Never start a prefix anew that was used with the same key.
+    /// Never start a second counter with a prefix that was used with the same key.
     ///
     /// ```
     /// use snoekeldraf::{NonceCounter, Suite};

@@ -16,16 +16,16 @@ use core::fmt::{Debug, Display, Formatter, Result as Written};
 /// use snoekeldraf::{open, Key, Nonce, Sealed, Session, Suite};
 ///
 /// let (key, nonce) = (Key::from([7; 16]), [2; 15]);
-/// let mut room = [0; 64];
+/// let mut buffer = [0; 64];
 /// let mut text = vec![];
 ///
 /// let mut session = Session::start(Suite::Speck64, &key, Nonce::assume_fresh(&nonce)?)?;
 /// session.data(&[7, 0, 0, 0])?;
 /// session.data(&[1])?;
 /// for measured in ["48.5 ", "48.7 48.4 ", "48.6"] {
-///     text.extend_from_slice(session.part(measured.as_bytes(), &mut room)?);
+///     text.extend_from_slice(session.part(measured.as_bytes(), &mut buffer)?);
 /// }
-/// let (rest, tag) = session.end(&mut room)?;
+/// let (rest, tag) = session.end(&mut buffer)?;
 /// text.extend_from_slice(rest);
 ///
 /// let mut message = [0; 19];
@@ -101,7 +101,7 @@ impl Session {
     }
 
     /// Adds a part of the message, of any length, and returns the ciphertext of the blocks that it completes, a part of `out`.
-    /// The bytes after it are unchanged. `out` has [`part_room`](Session::part_room) bytes or more.
+    /// The bytes after it are unchanged. `out` has [`part_out_len`](Session::part_out_len) bytes or more.
     ///
     /// Statuses, in this order: 5 if there would be more than 65,536 bytes of message in all; 6 if `out` is too short. A
     /// refusal leaves `out` unchanged. An empty part changes nothing and does not begin the message.
@@ -109,11 +109,11 @@ impl Session {
     /// ```
     /// use snoekeldraf::{Key, Nonce, Reason, Session, Suite};
     ///
-    /// let mut room = [0; 20 + 15];
+    /// let mut buffer = [0; 20 + 15];
     /// let mut session = Session::start(Suite::Aes128, &Key::from([7; 16]), Nonce::assume_fresh(&[2; 16])?)?;
-    /// let refused = session.part(&[b'm'; 20], &mut room[..34]).unwrap_err();
+    /// let refused = session.part(&[b'm'; 20], &mut buffer[..34]).unwrap_err();
     /// assert_eq!(refused.reason, Reason::OutputLength);
-    /// let text = session.part(&[b'm'; 20], &mut room)?;
+    /// let text = session.part(&[b'm'; 20], &mut buffer)?;
     /// assert_eq!(text.len(), 16); // four bytes wait for their block
     /// # Ok::<(), snoekeldraf::Refused>(())
     /// ```
@@ -131,11 +131,11 @@ impl Session {
     /// ```
     /// use snoekeldraf::{Key, Nonce, Session, Suite};
     ///
-    /// let mut room = [0; 16];
+    /// let mut buffer = [0; 16];
     /// let mut session = Session::start(Suite::Speck64, &Key::from([7; 16]), Nonce::assume_fresh(&[2; 15])?)?;
-    /// assert_eq!(session.part(b"torque", &mut room)?, []);
-    /// let handed_back = session.end(&mut room[..7]).unwrap_err();
-    /// let (rest, tag) = handed_back.session.end(&mut room)?;
+    /// assert_eq!(session.part(b"torque", &mut buffer)?, []);
+    /// let handed_back = session.end(&mut buffer[..7]).unwrap_err();
+    /// let (rest, tag) = handed_back.session.end(&mut buffer)?;
     /// assert_eq!((rest.len(), tag.as_bytes().len()), (6, 8));
     /// # Ok::<(), snoekeldraf::Refused>(())
     /// ```
@@ -167,10 +167,10 @@ impl Session {
     /// use snoekeldraf::{Key, Nonce, Session, Suite};
     ///
     /// let session = Session::start(Suite::Speck64, &Key::from([7; 16]), Nonce::assume_fresh(&[2; 15])?)?;
-    /// assert_eq!(session.part_room(20), 27);
+    /// assert_eq!(session.part_out_len(20), 27);
     /// # Ok::<(), snoekeldraf::Refused>(())
     /// ```
-    pub fn part_room(&self, len: usize) -> usize {
+    pub fn part_out_len(&self, len: usize) -> usize {
         len.saturating_add(self.suite.block_size() - 1)
     }
 
@@ -189,8 +189,8 @@ impl Session {
     /// ```
     #[cfg(feature = "alloc")]
     pub fn part_vec(&mut self, msg: &[u8], text: &mut Vec<u8>) -> Result<(), Refused> {
-        let mut room = vec![0; self.part_room(msg.len())];
-        text.extend_from_slice(self.part(msg, &mut room)?);
+        let mut buffer = vec![0; self.part_out_len(msg.len())];
+        text.extend_from_slice(self.part(msg, &mut buffer)?);
         Ok(())
     }
 
@@ -212,8 +212,8 @@ impl Session {
     /// ```
     #[cfg(feature = "alloc")]
     pub fn end_vec(self, text: &mut Vec<u8>) -> Result<Tag, HandedBack> {
-        let mut room = [0; 16];
-        let (rest, tag) = self.end(&mut room)?;
+        let mut buffer = [0; 16];
+        let (rest, tag) = self.end(&mut buffer)?;
         text.extend_from_slice(rest);
         Ok(tag)
     }

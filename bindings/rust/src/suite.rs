@@ -45,6 +45,12 @@ pub enum Suite {
 
 impl Suite {
     /// All six, in the order of their numbers.
+    ///
+    /// ```
+    /// use snoekeldraf::Suite;
+    ///
+    /// assert!(Suite::ALL.iter().all(|suite| Suite::try_from(suite.number()) == Ok(*suite)));
+    /// ```
     pub const ALL: [Suite; 6] =
         [Suite::Aes128, Suite::Cham128, Suite::Speck64, Suite::Cham64, Suite::Aes128V2, Suite::Speck64V2];
 

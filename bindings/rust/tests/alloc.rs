@@ -88,7 +88,7 @@ fn tools() {
         let (wide, narrow) = (to_edition2_vec(file), to_edition1_vec(file));
         assert_eq!(wide, borrowed(moved_len(file), |out| to_edition2(file, out)));
         assert_eq!(narrow, borrowed(moved_len(file), |out| to_edition1(file, out)));
-        // the length that is asked for is the right one
+        // `moved_len` gives the length that the move requires
         assert!([&wide, &narrow]
             .iter()
             .all(|moved| moved.as_ref().map_or_else(|refused| refused.number() != 6, |_| true)));

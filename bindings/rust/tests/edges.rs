@@ -41,12 +41,12 @@ fn empty_slices() {
         assert_eq!(number(open(suite, &key, Sealed { tag: &[], ..sealed }, &mut [])), 7);
         assert_eq!(number(seal(suite, &key, nonce(&bytes), Record { text: b"m", ..empty }, &mut [])), 6);
         let mut session = Session::start(suite, &key, nonce(&bytes)).unwrap();
-        let mut room = [0; 16];
+        let mut buffer = [0; 16];
         session.data(&[]).unwrap();
-        assert!(session.part(&[], &mut room[..15]).unwrap().is_empty());
+        assert!(session.part(&[], &mut buffer[..15]).unwrap().is_empty());
         session.data(&[]).unwrap(); // an empty part has not begun the message
         assert_eq!(number(session.part(&[], &mut [])), 6);
-        let (rest, its_tag) = session.end(&mut room).unwrap();
+        let (rest, its_tag) = session.end(&mut buffer).unwrap();
         assert!(rest.is_empty() && its_tag == tag);
     }
 }

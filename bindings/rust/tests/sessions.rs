@@ -125,7 +125,7 @@ fn long_runs() {
 #[test]
 fn limits() {
     let bytes: Vec<u8> = (0..65_536).map(|i| (i % 251) as u8).collect();
-    let mut room = vec![0; 65_536 + 7];
+    let mut buffer = vec![0; 65_536 + 7];
     let nonce = Nonce::assume_fresh(&[1; 15]).unwrap();
     let mut session = Session::start(Suite::Speck64, &Key::from([7; 16]), nonce).unwrap();
     session.data(&bytes[..65_530]).unwrap();
@@ -134,12 +134,12 @@ fn limits() {
     assert_eq!(session.data(&[0]).unwrap_err().number(), 4);
 
     let mut text = vec![];
-    text.extend_from_slice(session.part(&bytes[..65_533], &mut room).unwrap());
+    text.extend_from_slice(session.part(&bytes[..65_533], &mut buffer).unwrap());
     assert_eq!(session.part(&[0; 4], &mut []).unwrap_err().number(), 5); // 5 comes before 6
     assert_eq!(session.data(&[0]).unwrap_err().number(), 9); // 9 comes before 4
-    text.extend_from_slice(session.part(&bytes[65_533..], &mut room).unwrap());
-    assert_eq!(session.part(&[0], &mut room).unwrap_err().number(), 5);
-    let (rest, tag) = session.end(&mut room).unwrap();
+    text.extend_from_slice(session.part(&bytes[65_533..], &mut buffer).unwrap());
+    assert_eq!(session.part(&[0], &mut buffer).unwrap_err().number(), 5);
+    let (rest, tag) = session.end(&mut buffer).unwrap();
     text.extend_from_slice(rest);
 
     let (mut expected, mut its_tag) = (vec![0; 65_536], [0; 8]);

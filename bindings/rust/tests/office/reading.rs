@@ -23,7 +23,7 @@ fn a_listing_with_a_ring_verifies_units_and_never_stations() {
     assert!(listed.ends_with("stations are what the file claims.\n"));
 }
 
-/// A unit that was exchanged in the file passes the check; only the tag tells.
+/// A unit that was exchanged in the file passes the check; only the tag detects it.
 #[test]
 fn an_exchanged_unit_stays_a_claim() {
     let desk = Desk::new("exchanged");

@@ -27,7 +27,7 @@ fn an_output_that_cannot_be_written_is_an_error() {
     desk.shell("$program list day.shift > /dev/full")
         .ended(3, &["the standard output cannot be written: No space left on device"]);
     desk.shell("$program --help > /dev/full").ended(3, &["No space left"]);
-    // closed outputs: the status still tells
+    // with closed outputs the exit status is still right
     assert_eq!(desk.shell("$program verify day.shift --ring ring.keys >&-").status, Some(0));
     assert_eq!(desk.shell("$program verify day.draft --ring ring.keys >&- 2>&-").status, Some(1));
 }

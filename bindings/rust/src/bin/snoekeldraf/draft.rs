@@ -11,7 +11,7 @@ use crate::shown;
 use snoekeldraf::{DraftBuilder, DraftEntry, Reason, Refused, Suite, Unit};
 use std::path::Path;
 
-/// A table of jobs is not longer: every byte of the longest draft in hexadecimal, and room for the rest.
+/// A table of jobs is not longer: every byte of the longest draft in hexadecimal, and space for the rest.
 const TABLE_BYTES_MAX: usize = 4_194_304;
 
 const COLUMNS: &str = "job, suite, key, unit, data (or data_hex), message (or message_hex)";

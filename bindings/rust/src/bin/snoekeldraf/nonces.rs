@@ -1,6 +1,6 @@
 //! The nonce counter: a file that holds how many nonces were given out.
 //!
-//! A nonce is a random prefix, drawn anew in every run, and the count. The count is advanced and on the disk before a nonce is
+//! A nonce is a random prefix, which every run draws for itself, and the count. The count is advanced and on the disk before a nonce is
 //! used, so that no two nonces of one counter are equal, also if a run is killed. Should a counter be lost, copied or restored
 //! from a backup, two nonces are equal only if the same 7 or 8 random bytes come twice.
 
