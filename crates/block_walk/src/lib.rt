@@ -36,18 +36,18 @@ fn absorb_blocks(tables: &[AesTables], suite: u8, s: State, m: u8, b: &[u8]) -> 
         };
     }
     let last = b.len() - n;
-    let mut t = s;
-    let mut k = m;
+    let mut state = s;
+    let mut mark = m;
     let mut i: usize = 0;
     while i <= last {
-        let e = i + n;
-        t = absorb_full(tables, suite, t, k, &b[i..e]);
-        k = 0;
-        i = e;
+        let end = i + n;
+        state = absorb_full(tables, suite, state, mark, &b[i..end]);
+        mark = 0;
+        i = end;
     }
     Progress {
-        s: t,
-        mark: k,
+        s: state,
+        mark: mark,
         at: i,
     }
 }
@@ -66,18 +66,18 @@ fn verify_blocks(tables: &[AesTables], suite: u8, s: State, m: u8, b: &[u8]) -> 
         };
     }
     let last = b.len() - n;
-    let mut t = s;
-    let mut k = m;
+    let mut state = s;
+    let mut mark = m;
     let mut i: usize = 0;
     while i <= last {
-        let e = i + n;
-        t = verify_full(tables, suite, t, k, &b[i..e]);
-        k = 0;
-        i = e;
+        let end = i + n;
+        state = verify_full(tables, suite, state, mark, &b[i..end]);
+        mark = 0;
+        i = end;
     }
     Progress {
-        s: t,
-        mark: k,
+        s: state,
+        mark: mark,
         at: i,
     }
 }
@@ -115,18 +115,18 @@ fn seal_blocks(tables: &[AesTables], suite: u8, s: State, m: u8, text: &mut [u8]
         };
     }
     let last = text.len() - n;
-    let mut t = s;
-    let mut k = m;
+    let mut state = s;
+    let mut mark = m;
     let mut i: usize = 0;
     while i <= last {
-        let e = i + n;
-        t = seal_full(tables, suite, t, k, &mut text[i..e]);
-        k = 0;
-        i = e;
+        let end = i + n;
+        state = seal_full(tables, suite, state, mark, &mut text[i..end]);
+        mark = 0;
+        i = end;
     }
     Progress {
-        s: t,
-        mark: k,
+        s: state,
+        mark: mark,
         at: i,
     }
 }
@@ -146,18 +146,18 @@ fn open_blocks(tables: &[AesTables], suite: u8, s: State, m: u8, text: &mut [u8]
         };
     }
     let last = text.len() - n;
-    let mut t = s;
-    let mut k = m;
+    let mut state = s;
+    let mut mark = m;
     let mut i: usize = 0;
     while i <= last {
-        let e = i + n;
-        t = open_full(tables, suite, t, k, &mut text[i..e]);
-        k = 0;
-        i = e;
+        let end = i + n;
+        state = open_full(tables, suite, state, mark, &mut text[i..end]);
+        mark = 0;
+        i = end;
     }
     Progress {
-        s: t,
-        mark: k,
+        s: state,
+        mark: mark,
         at: i,
     }
 }

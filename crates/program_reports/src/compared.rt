@@ -25,21 +25,21 @@ fn list(out: &mut [u8], at: usize, list: &[u32], n: usize) -> usize {
     to
 }
 
-fn refusal(out: &mut [u8], t: Finding) -> usize {
+fn refusal(out: &mut [u8], finding: Finding) -> usize {
     let at = put(out, 0, b"refused");
-    let at = and_number(out, at, t.file as u64);
-    let at = and_number(out, at, t.number as u64);
-    let at = and_number(out, at, t.row as u64);
+    let at = and_number(out, at, finding.file as u64);
+    let at = and_number(out, at, finding.number as u64);
+    let at = and_number(out, at, finding.row as u64);
     end(out, at)
 }
 
-fn lists(out: &mut [u8], t: Finding, first: &[u32], second: &[u32], differ: &[u32]) -> usize {
+fn lists(out: &mut [u8], finding: Finding, first: &[u32], second: &[u32], differ: &[u32]) -> usize {
     let at = put(out, 0, b"first\n");
-    let at = list(out, at, first, t.first);
+    let at = list(out, at, first, finding.first);
     let at = put(out, at, b"second\n");
-    let at = list(out, at, second, t.second);
+    let at = list(out, at, second, finding.second);
     let at = put(out, at, b"differ\n");
-    list(out, at, differ, t.differ)
+    list(out, at, differ, finding.differ)
 }
 
 // The jobs only in the first, only in the second, and in both but different, one number to a line, under the lines "first",
@@ -49,15 +49,15 @@ pub fn differ(first: &[u8], second: &[u8], out: &mut [u8]) -> usize {
     let mut only_first = [0u32; MAX_ROWS];
     let mut only_second = [0u32; MAX_ROWS];
     let mut differ = [0u32; MAX_ROWS];
-    let t = shift_compare::compare(
+    let finding = shift_compare::compare(
         first,
         second,
         &mut only_first,
         &mut only_second,
         &mut differ,
     ).finding();
-    if t.number != 0 {
-        return refusal(out, t);
+    if finding.number != 0 {
+        return refusal(out, finding);
     }
-    lists(out, t, &only_first, &only_second, &differ)
+    lists(out, finding, &only_first, &only_second, &differ)
 }

@@ -122,10 +122,10 @@ fn lines_of(out: &mut [u8], at: usize, file: &[u8], found: Found, message: &[u8]
 fn open_job(file: &[u8], ring: &[u8], found: Found, message: &mut [u8], out: &mut [u8]) -> usize
     requires { ⌜ FoundIn (now file) (foundAnswer found) ⌝ }
 {
-    let a = open_found(file, ring, found, message).answer();
-    let at = answer(out, 0, a.number, a.row);
+    let opened = open_found(file, ring, found, message).answer();
+    let at = answer(out, 0, opened.number, opened.row);
     let at = end(out, at);
-    if a.number != 0 {
+    if opened.number != 0 {
         return at;
     }
     lines_of(out, at, file, found, message)
@@ -161,9 +161,9 @@ fn open_current(
 ) -> usize
     requires { ⌜ FoundIn (now file) (foundAnswer found) ⌝ }
 {
-    let a = open_found(file, ring, found, message).answer();
-    let at = answer_in(out, a.number, named, a.row);
-    if a.number != 0 {
+    let opened = open_found(file, ring, found, message).answer();
+    let at = answer_in(out, opened.number, named, opened.row);
+    if opened.number != 0 {
         return at;
     }
     lines_of(out, at, file, found, message)
@@ -183,9 +183,9 @@ fn open_in(file: &[u8], ring: &[u8], named: u8, found: Found, out: &mut [u8]) ->
 
 // Looks the job up in both files and opens the current entry (`open_current`). Only the lookup checks the files.
 pub fn current(amendment: &[u8], day: &[u8], ring: &[u8], job: u32, out: &mut [u8]) -> usize {
-    let x = shift_amend::look_up(amendment, day, job);
-    let file = x.file;
-    let found = x.found;
+    let looked = shift_amend::look_up(amendment, day, job);
+    let file = looked.file;
+    let found = looked.found;
     if file == 1 {
         return open_in(amendment, ring, 1, found, out);
     }

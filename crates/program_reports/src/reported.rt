@@ -31,14 +31,14 @@ fn entries(out: &mut [u8], at: usize, jobs: &[u32], numbers: &[u8], n: usize) ->
 pub fn inspect(file: &[u8], ring: &[u8], out: &mut [u8]) -> usize {
     let mut jobs = [0u32; MAX_ROWS];
     let mut numbers = [0u8; MAX_ROWS];
-    let s = shift_report::report(file, ring, &mut jobs, &mut numbers).said();
-    if s.number != 0 {
+    let summary = shift_report::report(file, ring, &mut jobs, &mut numbers).said();
+    if summary.number != 0 {
         let at = put(out, 0, b"refused ");
-        let at = answer(out, at, s.number, s.row);
+        let at = answer(out, at, summary.number, summary.row);
         return end(out, at);
     }
     let at = put(out, 0, b"entries");
-    let at = and_number(out, at, s.count as u64);
+    let at = and_number(out, at, summary.count as u64);
     let at = end(out, at);
-    entries(out, at, &jobs, &numbers, s.count)
+    entries(out, at, &jobs, &numbers, summary.count)
 }

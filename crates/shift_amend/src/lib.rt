@@ -93,16 +93,16 @@ pub fn look_up(amendment: &[u8], day: &[u8], job: u32) -> Looked
 pub fn locate(amendment: &[u8], day: &[u8], job: u32) -> Amended
     ensures { λ r. ⌜ r ≡ amendedEntry (now (amendment .entry)) (now (day .entry)) job ⌝ }
 {
-    let x = look_up(amendment, day, job);
-    let found = x.found;
-    if x.file == 1 {
+    let looked = look_up(amendment, day, job);
+    let found = looked.found;
+    if looked.file == 1 {
         return Amended {
             file: 1,
             entry: entry_found(amendment, found),
         };
     }
     Amended {
-        file: x.file,
+        file: looked.file,
         entry: entry_found(day, found),
     }
 }
@@ -112,13 +112,13 @@ pub fn locate(amendment: &[u8], day: &[u8], job: u32) -> Amended
 pub fn current<'a>(amendment: &'a [u8], day: &'a [u8], job: u32) -> &'a [u8]
     ensures { λ r. ⌜ CurrentPart (amendment .entry) (day .entry) r job ⌝ }
 {
-    let x = locate(amendment, day, job);
-    if x.entry.number != 0 {
+    let located = locate(amendment, day, job);
+    if located.entry.number != 0 {
         return stretch(amendment, 0, 0);
     }
-    let at = x.entry.ad_at as usize;
-    let len = x.entry.ad_len as usize;
-    if x.file == 2 {
+    let at = located.entry.ad_at as usize;
+    let len = located.entry.ad_len as usize;
+    if located.file == 2 {
         return stretch(day, at, len);
     }
     stretch(amendment, at, len)
@@ -129,9 +129,9 @@ pub fn open_current(amendment: &[u8], day: &[u8], ring: &[u8], job: u32, out: &m
     ensures { λ r. ⌜ _≡_ {A = AmendedOpening} (record { file = r .file; answer = openedAnswer (r .opened); out = now (out .exit) })
         (amendedOpening (now (amendment .entry)) (now (day .entry)) (now (ring .entry)) job (now (out .entry))) ⌝ }
 {
-    let x = look_up(amendment, day, job);
-    let file = x.file;
-    let found = x.found;
+    let looked = look_up(amendment, day, job);
+    let file = looked.file;
+    let found = looked.found;
     if file == 1 {
         return OpenedIn {
             file: 1,

@@ -17,10 +17,10 @@ pub fn entry_found(file: &[u8], found: Found) -> Entry
     ensures { λ r. ⌜ r ≡ entryAt (now (file .entry)) (foundAnswer found) ⌝ }
 {
     let Found::At(i) = found else {
-        let a = found.answer();
+        let answer = found.answer();
         return Entry {
-            number: a.number,
-            row: a.row,
+            number: answer.number,
+            row: answer.row,
             ad_at: 0,
             ad_len: 0,
             text_at: 0,

@@ -48,8 +48,8 @@ pub fn entry(file: &[u8], job: u32) -> Entry
 pub fn associated(file: &[u8], job: u32) -> &[u8]
     ensures { λ r. ⌜ PartOf (file .entry) r (dataStart (now (file .entry)) (lookupJob (now (file .entry)) job)) (dataLength (now (file .entry)) (lookupJob (now (file .entry)) job)) ⌝ }
 {
-    let e = entry(file, job);
-    stretch(file, e.ad_at as usize, e.ad_len as usize)
+    let located = entry(file, job);
+    stretch(file, located.ad_at as usize, located.ad_len as usize)
 }
 
 // Opens one job into out: the full check, 32, then 2, 6, 8.

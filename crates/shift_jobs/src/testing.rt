@@ -50,8 +50,8 @@ pub fn verify_found(file: &[u8], ring: &[u8], found: Found) -> Genuine
     ensures { λ r. ⌜ r ≡ foundVerifying (now (file .entry)) (now (ring .entry)) (foundAnswer found) ⌝ }
 {
     let Found::At(i) = found else {
-        let a = found.answer();
-        return withhold(a.number, a.row);
+        let answer = found.answer();
+        return withhold(answer.number, answer.row);
     };
     verify_entry(file, ring, i)
 }

@@ -11,10 +11,10 @@ use Rattle.block_walk.proofs.open_blocks.Statement.{statement}
 use Rattle.block_walk.proofs.open_blocks.Tie as tie
 
 abbrev Inv-loop : tie.InvT-loop
-Inv-loop tables suite m text₀ n last t₀ k₀ i₀ text t k i = Placed suite true m t₀ text₀ t k i text
+Inv-loop tables suite m text₀ n last state₀ mark₀ i₀ text state mark i = Placed suite true m state₀ text₀ state mark i text
 
 abbrev μ-loop : tie.MeasureT-loop
-μ-loop tables suite m text₀ n last t₀ k₀ i₀ text t k i = length text₀ - i
+μ-loop tables suite m text₀ n last state₀ mark₀ i₀ text state mark i = length text₀ - i
 
 size-of-requires : tie.Need-size-of-requires Inv-loop μ-loop
 size-of-requires c κs = search needs
@@ -28,8 +28,8 @@ sub-last c = omega arith
 loop-holds : tie.Need-loop-holds Inv-loop μ-loop
 loop-holds c = placed-start (omega arith)
 
-add-e : tie.Need-add-e Inv-loop μ-loop
-add-e c = search needs
+add-end : tie.Need-add-end Inv-loop μ-loop
+add-end c = search needs
 
 sub-open-full : tie.Need-sub-open-full Inv-loop μ-loop
 sub-open-full c = search needs
@@ -72,7 +72,7 @@ open-blocks-spec =
     returns
     sub-last
     loop-holds
-    add-e
+    add-end
     sub-open-full
     part-open-full-start
     part-open-full-end

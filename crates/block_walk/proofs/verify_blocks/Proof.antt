@@ -11,10 +11,10 @@ use Rattle.block_walk.proofs.verify_blocks.Statement.{statement}
 use Rattle.block_walk.proofs.verify_blocks.Tie as tie
 
 abbrev Inv-loop : tie.InvT-loop
-Inv-loop tables suite m b n last t₀ k₀ i₀ t k i = Going suite true m t₀ b t k i
+Inv-loop tables suite m b n last state₀ mark₀ i₀ state mark i = Going suite true m state₀ b state mark i
 
 abbrev μ-loop : tie.MeasureT-loop
-μ-loop tables suite m b n last t₀ k₀ i₀ t k i = length b - i
+μ-loop tables suite m b n last state₀ mark₀ i₀ state mark i = length b - i
 
 size-of-requires : tie.Need-size-of-requires Inv-loop μ-loop
 size-of-requires c κs = search needs
@@ -28,8 +28,8 @@ sub-last c = omega arith
 loop-holds : tie.Need-loop-holds Inv-loop μ-loop
 loop-holds c = at-start (omega arith)
 
-add-e : tie.Need-add-e Inv-loop μ-loop
-add-e c = search needs
+add-end : tie.Need-add-end Inv-loop μ-loop
+add-end c = search needs
 
 sub-verify-full : tie.Need-sub-verify-full Inv-loop μ-loop
 sub-verify-full c = search needs
@@ -66,7 +66,7 @@ verify-blocks-spec =
     returns
     sub-last
     loop-holds
-    add-e
+    add-end
     sub-verify-full
     part-verify-full-start
     part-verify-full-end

@@ -22,7 +22,7 @@ module _ (d : tie.After-put) where
   abbrev B : List ℕ
   B = now (st .args .block)
 
-  -- the first bytes of c are output
+  -- the first bytes of `output` overwrite the block
   out-is : take (length B) (wide (d .before .before .xor .result)) ≡ hidden (cipherOf (st .args .suite)) (st .args .mark) (twoOf (st .args .suite) (st .args .state)) B
   out-is =
       let a = st .args in
