@@ -39,7 +39,7 @@ fn an_exchanged_unit_stays_a_claim() {
     assert!(ran.out.contains("100  WRONG TAG\n"));
     assert_eq!(ran.out.matches("  verified\n").count(), 7);
     let ran =
-        desk.call("open day.shift 4101 --ring ring.keys").ended(1, &["job 4101", "number 8", "Do not use this entry"]);
+        desk.call("open day.shift 4101 --ring ring.keys").ended(1, &["job 4101", "status 8", "Do not use this entry"]);
     assert_eq!(ran.out, "");
     assert!(!ran.err.contains("right ring"));
     let csv = desk.call("list day.shift --ring ring.keys --csv").out;
@@ -117,7 +117,7 @@ message  gearbox 4103 bolt 1/4-28 count 6 torque 106 108 107 107 106 109
     let json = desk.call("open day.shift 4110 --ring ring.keys --json").done();
     assert!(json.contains(r#""data": {"text": ""}, "message": {"text": ""}}"#), "{json}");
     desk.call("open day.shift 4104 --ring ring.keys")
-        .ended(1, &["number 32", "`snoekeldraf list day.shift` shows the jobs"]);
+        .ended(1, &["status 32", "`snoekeldraf list day.shift` shows the jobs"]);
 }
 
 /// The message is for the owner alone, byte for byte.
@@ -138,7 +138,7 @@ fn the_current_entry_is_the_amendments() {
     assert!(amended.starts_with("file     amendment.shift\n") && amended.contains("data     quality\n"));
     let other = desk.call("current amendment.shift day.shift 4103 --ring ring.keys").done();
     assert!(other.starts_with("file     day.shift\n"));
-    let words = ["amendment.shift and day.shift", "number 32"];
+    let words = ["amendment.shift and day.shift", "status 32"];
     desk.call("current amendment.shift day.shift 4104 --ring ring.keys").ended(1, &words);
     desk.call("current amendment.shift day.draft 4102 --ring ring.keys").ended(1, &["day.draft: the file's edition"]);
     desk.write("amendment.shift", b"");

@@ -30,15 +30,15 @@ fn what_cannot_be_read_is_said_in_the_systems_words() {
 fn a_length_is_said_in_bytes() {
     let desk = Desk::new("lengths");
     desk.write("short", b"1234567");
-    desk.call("list short").ended(1, &["number 20", "short has 7 bytes."]);
+    desk.call("list short").ended(1, &["status 20", "short has 7 bytes."]);
     File::create(desk.path("huge")).unwrap().set_len(5_000_000_000).unwrap();
-    desk.call("list huge").ended(1, &["number 20", "huge has more than 1,048,576 bytes."]);
+    desk.call("list huge").ended(1, &["status 20", "huge has more than 1,048,576 bytes."]);
     desk.call("verify /dev/zero --ring ring.keys").ended(1, &["/dev/zero has more than 1,048,576 bytes."]);
     desk.call("list /dev/null").ended(1, &["/dev/null has 0 bytes."]);
     desk.write("short.keys", [0; 255]);
     desk.call("verify day.shift --ring short.keys")
-        .ended(1, &["short.keys: ", "256 bytes", "number 2", "it has 255 bytes"]);
-    desk.call("verify day.shift --ring day.shift").ended(1, &["day.shift: ", "number 2", "it has more than 256 bytes"]);
+        .ended(1, &["short.keys: ", "256 bytes", "status 2", "it has 255 bytes"]);
+    desk.call("verify day.shift --ring day.shift").ended(1, &["day.shift: ", "status 2", "it has more than 256 bytes"]);
 }
 
 #[test]
@@ -51,7 +51,7 @@ fn an_edition_is_said_by_what_the_command_takes() {
         ("convert stations.shift out --to 2", "takes edition 1 with --to 2"),
         ("convert day.shift out --to 1", "takes edition 2 with --to 1"),
     ] {
-        desk.call(line).ended(1, &["number 21", words]);
+        desk.call(line).ended(1, &["status 21", words]);
         assert!(!desk.path("out").exists());
     }
 }

@@ -95,18 +95,18 @@ fn limits_of_the_format_are_the_librarys() {
     let rows = |count: usize| (0..count).map(|job| format!("{job},6,1,1,,m\n")).collect::<String>();
     assert_eq!(listed(&desk, format!("{HEADER}{}", rows(512))).lines().count(), 512);
     desk.write("table.csv", format!("{HEADER}{}", rows(513)));
-    desk.call("draft table.csv b.draft --nonces counter").ended(1, &["number 22"]);
+    desk.call("draft table.csv b.draft --nonces counter").ended(1, &["status 22"]);
     let long = |data: usize, message: usize| format!("{HEADER}7,6,1,1,{},{}\n", "d".repeat(data), "m".repeat(message));
     assert!(listed(&desk, long(1_019, 65_536)).contains(",65536,verified"));
     for (data, message) in [(1_020, 0), (0, 65_537)] {
         desk.write("table.csv", long(data, message));
-        desk.call("draft table.csv b.draft --nonces counter").ended(1, &["line 2, job 7", "number 27"]);
+        desk.call("draft table.csv b.draft --nonces counter").ended(1, &["line 2, job 7", "status 27"]);
     }
     desk.write(
         "table.csv",
         format!("{HEADER}{}", (0..17).map(|job| format!("{job},6,1,1,,{}\n", "m".repeat(65_536))).collect::<String>()),
     );
-    desk.call("draft table.csv b.draft --nonces counter").ended(1, &["number 20"]);
+    desk.call("draft table.csv b.draft --nonces counter").ended(1, &["status 20"]);
     fs::File::create(desk.path("table.csv")).unwrap().set_len(5_000_000_000).unwrap();
     desk.call("draft table.csv b.draft --nonces counter").ended(1, &["table.csv: longer than 4,194,304 bytes"]);
     assert!(!desk.path("b.draft").exists());

@@ -64,7 +64,7 @@ fn files_of_every_length_of_the_format() {
         desk.call("reseal a.shift a.shift --ring ring.keys").done();
         let moved = desk.call("convert a.shift two.shift --to 2");
         if bytes + 4 * rows > 1_048_576 {
-            moved.ended(1, &["number 20", "moved form is longer than 1,048,576 bytes"]);
+            moved.ended(1, &["status 20", "moved form is longer than 1,048,576 bytes"]);
             continue;
         }
         moved.done();
