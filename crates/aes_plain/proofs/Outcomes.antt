@@ -28,8 +28,11 @@ pub rot-word : OneOutcome rot-word-kinds.ps rot-word-kinds.r rot-word-reads.Pre 
 rot-word κs a h x y = (bytes-inj 4 (omega arith) (omega arith) (x .ensures ∙ sym (y .ensures)), refl)
 
 pub add-round-key : OneOutcome add-round-key-kinds.ps add-round-key-kinds.r add-round-key-reads.Pre add-round-key-reads.Post
-add-round-key κs a h x y =
-    (told-only (x .result) (y .result) (omega arith, omega arith, omega arith, omega arith) (omega arith, omega arith, omega arith, omega arith) (x .ensures ∙ sym (y .ensures)), refl)
+add-round-key κs a h x y = (
+  told-only (x .result) (y .result) (omega arith, omega arith, omega arith, omega arith) (omega arith, omega arith, omega arith, omega arith)
+      (x .ensures ∙ sym (y .ensures)),
+  refl,
+)
 
 pub chained : OneOutcome chained-kinds.ps chained-kinds.r chained-reads.Pre chained-reads.Post
 chained κs a h x y =
@@ -43,8 +46,11 @@ pub next-rcon : OneOutcome next-rcon-kinds.ps next-rcon-kinds.r next-rcon-reads.
 next-rcon κs a h x y = (x .ensures ∙ sym (y .ensures), refl)
 
 pub load : OneOutcome load-kinds.ps load-kinds.r load-reads.Pre load-reads.Post
-load κs a h x y =
-    (told-only (x .result) (y .result) (omega arith, omega arith, omega arith, omega arith) (omega arith, omega arith, omega arith, omega arith) (x .ensures ∙ sym (y .ensures)), refl)
+load κs a h x y = (
+  told-only (x .result) (y .result) (omega arith, omega arith, omega arith, omega arith) (omega arith, omega arith, omega arith, omega arith)
+      (x .ensures ∙ sym (y .ensures)),
+  refl,
+)
 
 pub sbox-table : OneOutcome sbox-table-kinds.ps sbox-table-kinds.r sbox-table-reads.Pre sbox-table-reads.Post
 sbox-table κs a h x y = (table-only (x .result) (y .result) (x .ensures) (y .ensures), refl)

@@ -72,8 +72,11 @@ track-turn i tracks er ek es =
     record {
       known = λ key block p q.
           let u = tracks .known key block p q in
-          let e = ek key i (u .0) er in
-          (e, es ∙ ap₂ (λ (x y : List ℕ). addRoundKey (cond (ltb i 9) (mixColumns (shiftRows (subBytes x))) (shiftRows (subBytes x))) y) (u .1) e ∙ rw add-one refl);
+          let e = ek key i (u .0) er in (
+            e,
+            es ∙ ap₂ (λ (x y : List ℕ). addRoundKey (cond (ltb i 9) (mixColumns (shiftRows (subBytes x))) (shiftRows (subBytes x))) y) (u .1) e
+                ∙ rw add-one refl,
+          );
     }
 
 pub track-end : {k₀ b s₀ k s r : List ℕ} (key block : List ℕ) (i : ℕ) → i ≡ 10 → Tracks k₀ s₀ k s i → length key ≡ 16 → k₀ ≡ key → b ≡ block

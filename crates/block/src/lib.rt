@@ -98,15 +98,15 @@ fn put8(number: u64, out: &mut [u8])
     requires { ⌜ length (now out) ≡ 8 ⌝ }
     ensures { λ _. ⌜ now (out .exit) ≡ bytes 8 number ⌝ }
 {
-    let r = bytes8(number);
-    out[0] = r[0];
-    out[1] = r[1];
-    out[2] = r[2];
-    out[3] = r[3];
-    out[4] = r[4];
-    out[5] = r[5];
-    out[6] = r[6];
-    out[7] = r[7];
+    let spread = bytes8(number);
+    out[0] = spread[0];
+    out[1] = spread[1];
+    out[2] = spread[2];
+    out[3] = spread[3];
+    out[4] = spread[4];
+    out[5] = spread[5];
+    out[6] = spread[6];
+    out[7] = spread[7];
 }
 
 // The block of sixteen bytes, read by whole words.
@@ -148,9 +148,9 @@ pub fn put_whole(block: Block, out: &mut [u8])
 pub fn bytes_of(block: Block) -> [u8; 16]
     ensures { λ r. ⌜ r ≡ wide block ⌝ }
 {
-    let mut r = [0u8; 16];
-    put_whole(block, &mut r[0..16]);
-    r
+    let mut sixteen = [0u8; 16];
+    put_whole(block, &mut sixteen[0..16]);
+    sixteen
 }
 
 // The block of these bytes.

@@ -12,7 +12,8 @@ use Rattle.block.proofs.Tests.{both-true}
 use Rattle.aes_spec.specs.Cipher.{cipher}
 use Rattle.cham_spec.specs.Cham.{cham}
 use Rattle.speck.specs.Speck.{speck}
-use Rattle.cipher.specs.Cipher.{Version, one, two, isTwo, BlockCipher, aes128, cham128, speck64, cham64, imageOf, hasTables, Facts, facts, factsOf, sizeOf, nonceOf, engineOf, versionOf, needsTables, TablesFit, isSuite, IsSuite, retired, seals, Seals}
+use Rattle.cipher.specs.Cipher.{Version, one, two, isTwo, BlockCipher, aes128, cham128, speck64, cham64, imageOf, hasTables, Facts, facts, factsOf}
+use Rattle.cipher.specs.Cipher.{sizeOf, nonceOf, engineOf, versionOf, needsTables, TablesFit, isSuite, IsSuite, retired, seals, Seals}
 
 abbrev pub Engine : Type 0
 Engine = List ℕ → List ℕ → List ℕ

@@ -15,6 +15,9 @@ ghost use Rattle.cipher.specs.Cipher.{needsTables, Full, TablesFit, isSu
 // The most bytes of associated data, and the most of a message.
 pub const LIMIT: usize = 65536;
 
+// The bytes of a key, in every suite. Block, nonce and tag depend on the suite: `size_of` and `nonce_size`.
+pub const KEY_LEN: usize = 16;
+
 // Suite 4, over CHAM-64/128. It is retired (document 02, W7): it opens, and it does not seal.
 pub const RETIRED: u8 = 4;
 

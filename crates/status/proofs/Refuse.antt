@@ -66,7 +66,8 @@ none-bad d s k v a t o g h p =
 pub upper-stops : (t : Bool) (s k v own : ℕ) → 0 < underKey t s k v 0 → underKey t s k v 0 ≡ underKey t s k v own
 upper-stops t s k v own = rungs (not (isSuite s)) (not t) (not (eqb k 16)) (not (eqb v (nonceOf s)))
   where
-    rungs : (a b c d : Bool) → 0 < cond a 1 (cond b 10 (cond c 2 (cond d 3 0))) → cond a 1 (cond b 10 (cond c 2 (cond d 3 0))) ≡ cond a 1 (cond b 10 (cond c 2 (cond d 3 own)))
+    rungs : (a b c d : Bool) → 0 < cond a 1 (cond b 10 (cond c 2 (cond d 3 0)))
+        → cond a 1 (cond b 10 (cond c 2 (cond d 3 0))) ≡ cond a 1 (cond b 10 (cond c 2 (cond d 3 own)))
     rungs true b c d h = refl
     rungs false true c d h = refl
     rungs false false true d h = refl

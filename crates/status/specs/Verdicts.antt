@@ -23,7 +23,8 @@ numberOf Retired = 10
 abbrev pub takes : Bool → ℕ → Bool
 takes opening suite = opening || seals suite
 
--- numbers 1, 10, 2 and 3 of every call under a key (10 if the call does not accept the suite), from the suite and the lengths of key and nonce: the first that applies, else the call's own number
+-- numbers 1, 10, 2 and 3 of every call under a key (10 if the call does not accept the suite), from the suite and the
+-- lengths of key and nonce: the first that applies, else the call's own number
 abbrev pub underKey : Bool → ℕ → ℕ → ℕ → ℕ → ℕ
 underKey taken suite key nonce own =
     cond (not (isSuite suite)) 1

@@ -80,11 +80,11 @@ pub fn under_key(opening: bool, suite: u8, key: usize, nonce: usize) -> Verdict
     if !taken {
         return Verdict::Retired;
     }
-    if key != 16 {
+    if key != cipher::KEY_LEN {
         return Verdict::Key;
     }
-    let n = cipher::nonce_size(suite);
-    if nonce != n {
+    let size = cipher::nonce_size(suite);
+    if nonce != size {
         return Verdict::Nonce;
     }
     Verdict::Done

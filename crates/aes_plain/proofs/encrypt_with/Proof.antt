@@ -63,7 +63,8 @@ returns c =
     let at = c .before .before .loop in
     let l : length (first .args .key) ≡ 16 = search needs in
     let e : at .i ≡ 10 = omega (arith, at .inv .0, c .before .loop-test .left) in
-    track-end (first .args .key) (first .args .block) (at .i) e (at .inv .2) l (c .before .before .before .before .before .load .ensures) (c .before .before .before .before .load2 .ensures) (c .before .before .before .add-round-key .ensures)
+    track-end (first .args .key) (first .args .block) (at .i) e (at .inv .2) l (c .before .before .before .before .before .load .ensures)
+    (c .before .before .before .before .load2 .ensures) (c .before .before .before .add-round-key .ensures)
     (c .store4-32 .ensures)
 
 pub encrypt-with-spec : {M : Type 1} → statement M

@@ -24,7 +24,8 @@ returns c =
     let v = c .before .before .double in
     let p = c .before .rot-word2 in
     let q = c .rot-word3 in
-    mixed-column (c .before .before .before .before .args .x) (y .result) (p .result) (q .result) (v .result) (y .ensures) (v .ensures) (p .ensures) (q .ensures)
+    mixed-column (c .before .before .before .before .args .x) (y .result) (p .result) (q .result) (v .result) (y .ensures) (v .ensures) (p .ensures)
+    (q .ensures)
 
 pub mix-column-spec : {M : Type 1} → statement M
 mix-column-spec =

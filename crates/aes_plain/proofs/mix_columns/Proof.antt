@@ -21,7 +21,8 @@ mix-column-requires-4 c κs = search needs
 
 returns : tie.Need-returns
 unfolding bytes mixColumns
-returns c = four (c .before .before .before .mix-column .ensures) (c .before .before .mix-column2 .ensures) (c .before .mix-column3 .ensures) (c .mix-column4 .ensures)
+returns c =
+    four (c .before .before .before .mix-column .ensures) (c .before .before .mix-column2 .ensures) (c .before .mix-column3 .ensures) (c .mix-column4 .ensures)
 
 pub mix-columns-spec : {M : Type 1} → statement M
 mix-columns-spec =

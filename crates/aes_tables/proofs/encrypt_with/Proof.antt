@@ -83,7 +83,8 @@ returns c =
     track-end (first .args .key) (first .args .block) (at .i + 1) e
     (track-step false (at .i) (le-ltb (at .i) 9 h) (at .inv .2) (rcon-is (at .i) (at .inv .1)) (c .before .before .next-key2 .ensures)
     (c .before .before .before .shift-rows .ensures) (c .before .add-round-key3 .ensures))
-    l (c .before .before .before .before .before .before .before .before .load .ensures) (c .before .before .before .before .before .before .before .load2 .ensures)
+    l (c .before .before .before .before .before .before .before .before .load .ensures)
+    (c .before .before .before .before .before .before .before .load2 .ensures)
     (c .before .before .before .before .before .before .add-round-key .ensures) (c .store4-32 .ensures)
 
 pub encrypt-with-spec : {M : Type 1} → statement M

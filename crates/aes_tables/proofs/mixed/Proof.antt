@@ -27,7 +27,8 @@ returns c =
     let y = c .before .before .entry2 in
     let z = c .before .entry3 in
     let u = c .entry4 in
-    summed (x .result) (y .result) (z .result) (u .result) (subByte (row 0 (st .a))) (subByte (row 1 (st .b))) (subByte (row 2 (st .c))) (subByte (row 3 (st .d)))
+    summed (x .result) (y .result) (z .result) (u .result) (subByte (row 0 (st .a))) (subByte (row 1 (st .b))) (subByte (row 2 (st .c)))
+    (subByte (row 3 (st .d)))
     (x .ensures) (y .ensures) (z .ensures) (u .ensures)
 
 pub mixed-spec : {M : Type 1} → statement M

@@ -14,11 +14,11 @@ use Rattle.block.proofs.bytes_of.Tie as tie
 sub-put-whole : tie.Need-sub-put-whole
 sub-put-whole c = search needs
 
-part-r-start : tie.Need-part-r-start
-part-r-start c = search needs
+part-sixteen-start : tie.Need-part-sixteen-start
+part-sixteen-start c = search needs
 
-part-r-end : tie.Need-part-r-end
-part-r-end c = search needs
+part-sixteen-end : tie.Need-part-sixteen-end
+part-sixteen-end c = search needs
 
 put-whole-requires : tie.Need-put-whole-requires
 put-whole-requires c κs = inl refl
@@ -30,4 +30,4 @@ returns c =
 
 pub bytes-of-spec : {M : Type 1} → statement M
 bytes-of-spec =
-    tie.close (tie.spec sub-put-whole part-r-start part-r-end put-whole-requires returns)
+    tie.close (tie.spec sub-put-whole part-sixteen-start part-sixteen-end put-whole-requires returns)

@@ -22,7 +22,8 @@ block-of-requires c κs = search needs
 
 returns : tie.Need-returns
 returns c =
-    through-whole cipher (c .block-of .ensures) (c .before .encrypt-with .ensures) (c .before .before .before .before .bytes-of .ensures) (c .before .before .before .bytes-of2 .ensures)
+    through-whole cipher (c .block-of .ensures) (c .before .encrypt-with .ensures) (c .before .before .before .before .bytes-of .ensures)
+    (c .before .before .before .bytes-of2 .ensures)
 
 pub by-aes-spec : {M : Type 1} → statement M
 by-aes-spec =

@@ -19,7 +19,8 @@ block-of-requires c κs = search needs
 
 returns : tie.Need-returns
 returns c =
-    through-whole (cham 32) (c .block-of .ensures) (c .before .encrypt .ensures) (c .before .before .before .bytes-of .ensures) (c .before .before .bytes-of2 .ensures)
+    through-whole (cham 32) (c .block-of .ensures) (c .before .encrypt .ensures) (c .before .before .before .bytes-of .ensures)
+    (c .before .before .bytes-of2 .ensures)
 
 pub by-cham128-spec : {M : Type 1} → statement M
 by-cham128-spec =

@@ -19,7 +19,8 @@ number8-requires c κs = search needs
 
 returns : tie.Need-returns
 returns c =
-    through-whole (cham 16) (c .number8 .ensures) (c .before .encrypt .ensures) (c .before .before .before .bytes-of .ensures) (c .before .before .bytes8 .ensures)
+    through-whole (cham 16) (c .number8 .ensures) (c .before .encrypt .ensures) (c .before .before .before .bytes-of .ensures)
+    (c .before .before .bytes8 .ensures)
 
 pub by-cham64-spec : {M : Type 1} → statement M
 by-cham64-spec =

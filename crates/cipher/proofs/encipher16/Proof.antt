@@ -15,7 +15,8 @@ by-aes-requires c κs = c .before .before .pre .0 .full (sym (c .before .needs-t
 returns : tie.Need-returns
 returns c =
     let x = c .before .before .before .args in
-    c .by-aes .ensures ∙ sym (ap (λ (e : Engine). e (wide (x .key)) (wide (x .block))) (engine-1 (x .suite) (sym (c .before .before .needs-tables .ensures) ∙ c .before .if1 .taken)))
+    c .by-aes .ensures ∙ sym (ap (λ (e : Engine). e (wide (x .key)) (wide (x .block)))
+    (engine-1 (x .suite) (sym (c .before .before .needs-tables .ensures) ∙ c .before .if1 .taken)))
 
 by-cham128-requires : tie.Need-by-cham128-requires
 by-cham128-requires c κs = search needs
@@ -23,7 +24,8 @@ by-cham128-requires c κs = search needs
 returns-2 : tie.Need-returns-2
 returns-2 c =
     let x = c .before .before .before .args in
-    c .by-cham128 .ensures ∙ sym (ap (λ (e : Engine). e (wide (x .key)) (wide (x .block))) (engine-2 (x .suite) (sym (c .before .before .needs-tables .ensures) ∙ c .before .if1 .left) (c .before .before .before .pre .2)))
+    c .by-cham128 .ensures ∙ sym (ap (λ (e : Engine). e (wide (x .key)) (wide (x .block)))
+    (engine-2 (x .suite) (sym (c .before .before .needs-tables .ensures) ∙ c .before .if1 .left) (c .before .before .before .pre .2)))
 
 pub encipher16-spec : {M : Type 1} → statement M
 encipher16-spec =

@@ -14,7 +14,8 @@ by-cham64-requires c κs = search needs
 returns : tie.Need-returns
 returns c =
     let x = c .before .before .args in
-    c .by-cham64 .ensures ∙ sym (ap (λ (e : Engine). e (bytes 8 (x .key0) ++ bytes 8 (x .key1)) (bytes 8 (x .block))) (engine-4 (x .suite) (omega (arith, c .before .if1 .taken))))
+    c .by-cham64 .ensures ∙ sym (ap (λ (e : Engine). e (bytes 8 (x .key0) ++ bytes 8 (x .key1)) (bytes 8 (x .block)))
+    (engine-4 (x .suite) (omega (arith, c .before .if1 .taken))))
 
 by-speck-requires : tie.Need-by-speck-requires
 by-speck-requires c κs = search needs
@@ -22,7 +23,8 @@ by-speck-requires c κs = search needs
 returns-2 : tie.Need-returns-2
 returns-2 c =
     let x = c .before .before .args in
-    c .by-speck .ensures ∙ sym (ap (λ (e : Engine). e (bytes 8 (x .key0) ++ bytes 8 (x .key1)) (bytes 8 (x .block))) (engine-3 (x .suite) (c .before .before .pre .1) (λ e. omega (arith, e, c .before .if1 .left))))
+    c .by-speck .ensures ∙ sym (ap (λ (e : Engine). e (bytes 8 (x .key0) ++ bytes 8 (x .key1)) (bytes 8 (x .block)))
+    (engine-3 (x .suite) (c .before .before .pre .1) (λ e. omega (arith, e, c .before .if1 .left))))
 
 pub encipher8-spec : {M : Type 1} → statement M
 encipher8-spec =

@@ -18,7 +18,8 @@ unfolding refusal
 returns c =
     let x = c .before .before .args in
     let u = c .before .under-key in
-    u .ensures ∙ upper-stops (takes (x .opening) (x .suite)) (x .suite) (x .key) (x .nonce) (textsNumber (x .suite) (x .ad) (x .text) (x .out) (x .tag)) (omega (arith, other-some (u .result) (c .match .keys2), u .ensures))
+    u .ensures ∙ upper-stops (takes (x .opening) (x .suite)) (x .suite) (x .key) (x .nonce) (textsNumber (x .suite) (x .ad) (x .text) (x .out) (x .tag))
+    (omega (arith, other-some (u .result) (c .match .keys2), u .ensures))
 
 texts-refused-requires : tie.Need-texts-refused-requires
 texts-refused-requires c κs = search needs
@@ -29,7 +30,8 @@ returns-2 c =
     let m = c .before .before in
     let x = m .before .before .args in
     let u = m .before .under-key in
-    c .texts-refused .ensures ∙ upper-passes (takes (x .opening) (x .suite)) (x .suite) (x .key) (x .nonce) (textsNumber (x .suite) (x .ad) (x .text) (x .out) (x .tag)) (sym (u .ensures) ∙ done-zero (u .result) (m .match .keys1))
+    c .texts-refused .ensures ∙ upper-passes (takes (x .opening) (x .suite)) (x .suite) (x .key) (x .nonce)
+    (textsNumber (x .suite) (x .ad) (x .text) (x .out) (x .tag)) (sym (u .ensures) ∙ done-zero (u .result) (m .match .keys1))
 
 pub refused-spec : {M : Type 1} → statement M
 refused-spec = tie.close (tie.spec under-key-requires enum-told returns texts-refused-requires returns-2)

@@ -18,10 +18,24 @@ size-of-requires : tie.Need-size-of-requires
 size-of-requires c κs = search needs
 
 returns-4 : tie.Need-returns-4
-returns-4 c = simp (le-ltb limit _ (c .before .before .before .before .if1 .left), le-ltb limit _ (c .before .before .before .if2 .left), eq-eqb _ _ (c .before .before .if3 .left), ← c .before .size-of .ensures .0, ne-eqb _ _ (c .if4 .taken))
+returns-4 c =
+    simp (
+      le-ltb limit _ (c .before .before .before .before .if1 .left),
+      le-ltb limit _ (c .before .before .before .if2 .left),
+      eq-eqb _ _ (c .before .before .if3 .left),
+      ← c .before .size-of .ensures .0,
+      ne-eqb _ _ (c .if4 .taken),
+    )
 
 returns-5 : tie.Need-returns-5
-returns-5 c = simp (le-ltb limit _ (c .before .before .before .before .if1 .left), le-ltb limit _ (c .before .before .before .if2 .left), eq-eqb _ _ (c .before .before .if3 .left), ← c .before .size-of .ensures .0, eq-eqb _ _ (c .if4 .left))
+returns-5 c =
+    simp (
+      le-ltb limit _ (c .before .before .before .before .if1 .left),
+      le-ltb limit _ (c .before .before .before .if2 .left),
+      eq-eqb _ _ (c .before .before .if3 .left),
+      ← c .before .size-of .ensures .0,
+      eq-eqb _ _ (c .if4 .left),
+    )
 
 pub texts-refused-spec : {M : Type 1} → statement M
 texts-refused-spec = tie.close (tie.spec returns returns-2 returns-3 size-of-requires returns-4 returns-5)

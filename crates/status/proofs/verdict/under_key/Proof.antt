@@ -19,7 +19,8 @@ taken c = sym (c .before .before .takes .ensures) ∙ not-false _ (c .if2 .left)
 key : (c : tie.Else3) → eqb (c .before .before .before .before .before .args .key) 16 ≡ true
 key c = eq-eqb (c .before .before .before .before .before .args .key) 16 (c .if3 .left)
 
-nonce : (c : tie.Else4) → let x : tie.Start = c .before .before .before .before .before .before .before in eqb (x .args .nonce) (nonceOf (x .args .suite)) ≡ true
+nonce : (c : tie.Else4) → let x : tie.Start = c .before .before .before .before .before .before .before in eqb (x .args .nonce) (nonceOf (x .args .suite))
+    ≡ true
 nonce c = eq-eqb _ _ (c .if4 .left ∙ c .before .nonce-size .ensures)
 
 is-suite-requires : tie.Need-is-suite-requires
@@ -33,7 +34,8 @@ returns c = simp (← c .before .before .is-suite .ensures, c .if1 .taken)
 
 returns-2 : tie.Need-returns-2
 returns-2 c =
-    let e : takes (c .before .before .before .before .args .opening) (c .before .before .before .before .args .suite) ≡ false = sym (c .before .before .takes .ensures) ∙ not-true _ (c .if2 .taken) in
+    let e : takes (c .before .before .before .before .args .opening) (c .before .before .before .before .args .suite)
+    ≡ false = sym (c .before .before .takes .ensures) ∙ not-true _ (c .if2 .taken) in
     simp (had (c .before), e)
 
 returns-3 : tie.Need-returns-3
@@ -43,7 +45,14 @@ nonce-size-requires : tie.Need-nonce-size-requires
 nonce-size-requires c κs = search needs
 
 returns-4 : tie.Need-returns-4
-returns-4 c = simp (had (c .before .before .before .before), taken (c .before .before .before), key (c .before .before), ne-eqb (c .before .before .before .before .before .before .before .args .nonce) (nonceOf (c .before .before .before .before .before .before .before .args .suite)) (λ e. c .if4 .taken (e ∙ sym (c .before .nonce-size .ensures))))
+returns-4 c =
+    simp (
+      had (c .before .before .before .before),
+      taken (c .before .before .before),
+      key (c .before .before),
+      ne-eqb (c .before .before .before .before .before .before .before .args .nonce)
+          (nonceOf (c .before .before .before .before .before .before .before .args .suite)) (λ e. c .if4 .taken (e ∙ sym (c .before .nonce-size .ensures))),
+    )
 
 returns-5 : tie.Need-returns-5
 returns-5 c = simp (had (c .before .before .before .before), taken (c .before .before .before), key (c .before .before), nonce c)
