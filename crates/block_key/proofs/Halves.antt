@@ -118,13 +118,17 @@ double-wide a b ha hb =
     let hk : k < 2 ^ 64 = omega arith in
     let F : List ℕ = bytes 8 a ++ bytes 7 b in
     let lf : length F ≡ 15 = length-append (bytes 8 a) (bytes 7 b) ∙ omega (arith, length-bytes 8 a, length-bytes 7 b) in
-    let ez : bytes 8 a ++ bytes 8 b ≡ F ++ bytes 1 t = ap (λ (y : List ℕ). bytes 8 a ++ y) (bytes-split 7 1 b) ∙ sym (append-assoc (bytes 8 a) (bytes 7 b) (bytes 1 t)) in
-    let vf : value F ≡ x = ap value (ap (λ (y : List ℕ). bytes 8 a ++ y) (sym (bytes-mod 7 b)) ∙ sym (bytes-join 8 7 a h ha)) ∙ value-bytes 15 x (pair-fits a h ha hh) in
-    let ed : double120 x ≡ xor (l + 2 ^ 64 * u) k = sym (double120-is x (pair-fits a h ha hh)) ∙ ap₂ (λ (y c : ℕ). xor y (c * 0x245)) (twice-low a h ha hh) (twice-top a h ha hh) in
+    let ez : bytes 8 a ++ bytes 8 b ≡ F ++ bytes 1 t = ap (λ (y : List ℕ). bytes 8 a ++ y) (bytes-split 7 1 b)
+    ∙ sym (append-assoc (bytes 8 a) (bytes 7 b) (bytes 1 t)) in
+    let vf : value F ≡ x = ap value (ap (λ (y : List ℕ). bytes 8 a ++ y) (sym (bytes-mod 7 b)) ∙ sym (bytes-join 8 7 a h ha))
+    ∙ value-bytes 15 x (pair-fits a h ha hh) in
+    let ed : double120 x ≡ xor (l + 2 ^ 64 * u) k = sym (double120-is x (pair-fits a h ha hh))
+    ∙ ap₂ (λ (y c : ℕ). xor y (c * 0x245)) (twice-low a h ha hh) (twice-top a h ha hh) in
     let el : xor (l + 2 ^ 64 * u) k % 2 ^ 64 ≡ xor l k = low (l + 2 ^ 64 * u) k 64 ∙ ap₂ xor (cut-low l u hl) (small k hk .0) in
     let eu : xor (l + 2 ^ 64 * u) k / 2 ^ 64 ≡ u = high (l + 2 ^ 64 * u) k 64 ∙ ap₂ xor (cut-high l u hl) (small k hk .1) ∙ zero-r u in
     let eb : bytes 15 (double120 x) ≡ bytes 8 (xor l k) ++ bytes 7 u =
-    ap (bytes 15) ed ∙ bytes-split 8 7 (xor (l + 2 ^ 64 * u) k) ∙ ap₂ (λ (y z : List ℕ). y ++ z) (sym (bytes-mod 8 (xor (l + 2 ^ 64 * u) k)) ∙ ap (bytes 8) el) (ap (bytes 7) eu) in
+    ap (bytes 15) ed ∙ bytes-split 8 7 (xor (l + 2 ^ 64 * u) k) ∙ ap₂ (λ (y z : List ℕ). y ++ z) (sym (bytes-mod 8 (xor (l + 2 ^ 64 * u) k)) ∙ ap (bytes 8) el)
+    (ap (bytes 7) eu) in
     let et : bytes 8 (u + t * 2 ^ 56) ≡ bytes 7 u ++ bytes 1 t = ap (λ (y : ℕ). bytes 8 (u + y)) (omega arith) ∙ bytes-join 7 1 u t (upper-fits a h ha hh) in
     ap (λ (y : List ℕ). bytes 8 (xor l k) ++ y) et
     ∙ sym (append-assoc (bytes 8 (xor l k)) (bytes 7 u) (bytes 1 t))
@@ -147,7 +151,8 @@ top-is b = omega arith
 twice : (l c t : ℕ) → l + c + (l + t) ≡ l * 2 + c + t
 twice l c t = omega arith
 
-upper-is : (a b : ℕ) → b % 2 ^ 55 + a / 2 ^ 63 + (b % 2 ^ 55 + (b / 2 ^ 55 - b / 2 ^ 55 % 2) * 2 ^ 55) ≡ b % 2 ^ 56 % 2 ^ 55 * 2 + a / 2 ^ 63 + b / 2 ^ 56 * 2 ^ 56
+upper-is : (a b : ℕ) → b % 2 ^ 55 + a / 2 ^ 63 + (b % 2 ^ 55 + (b / 2 ^ 55 - b / 2 ^ 55 % 2) * 2 ^ 55)
+    ≡ b % 2 ^ 56 % 2 ^ 55 * 2 + a / 2 ^ 63 + b / 2 ^ 56 * 2 ^ 56
 upper-is a b =
     twice (b % 2 ^ 55) (a / 2 ^ 63) ((b / 2 ^ 55 - b / 2 ^ 55 % 2) * 2 ^ 55) ∙ ap₂ (λ (l t : ℕ). l * 2 + a / 2 ^ 63 + t) (below-is b) (top-is b)
 

@@ -8,10 +8,10 @@ ghost use Rattle.mode.specs.Keys.{marked, doubled, nextKey};
 ghost use Rattle.mode.specs.Walk.{blockKey, keptBehind};
 
 // Doubling of a 64-bit number: the dropped bit is 1 or 0.
-fn doubling(x: u64) -> u64
-    ensures { λ r. ⌜ r ≡ double x ⌝ }
+fn doubling(number: u64) -> u64
+    ensures { λ r. ⌜ r ≡ double number ⌝ }
 {
-    (x << 1) ^ ((x >> 63) * 0x1b)
+    (number << 1) ^ ((number >> 63) * 0x1b)
 }
 
 // Doubling of the low 120 bits across the two halves: the low 56 bits of the high half are doubled and take in the carry of the low half; the top byte is kept.
@@ -30,21 +30,21 @@ fn doubling120(z: Block) -> Block
     }
 }
 
-// The mark, XORed into byte 15, the highest of the high half.
-fn mark(z: Block, m: u8) -> Block
-    ensures { λ r. ⌜ wide r ≡ marked m (wide z) ⌝ }
+// Z with the mark XORed into byte 15, the highest of the high half.
+fn with_mark(z: Block, mark: u8) -> Block
+    ensures { λ r. ⌜ wide r ≡ marked mark (wide z) ⌝ }
 {
     Block {
         a: z.a,
-        b: z.b ^ ((m as u64) * 0x100_0000_0000_0000),
+        b: z.b ^ ((mark as u64) * 0x100_0000_0000_0000),
     }
 }
 
 // The mark, then the doubling of version 1.
-fn next_key_one(z: Block, m: u8) -> Block
-    ensures { λ r. ⌜ wide r ≡ nextKey one m (wide z) ⌝ }
+fn next_key_one(z: Block, mark: u8) -> Block
+    ensures { λ r. ⌜ wide r ≡ nextKey one mark (wide z) ⌝ }
 {
-    let marked = mark(z, m);
+    let marked = with_mark(z, mark);
     Block {
         a: doubling(marked.a),
         b: marked.b,
@@ -52,21 +52,21 @@ fn next_key_one(z: Block, m: u8) -> Block
 }
 
 // The mark, then the doubling of version 2.
-fn next_key_two(z: Block, m: u8) -> Block
-    ensures { λ r. ⌜ wide r ≡ nextKey two m (wide z) ⌝ }
+fn next_key_two(z: Block, mark: u8) -> Block
+    ensures { λ r. ⌜ wide r ≡ nextKey two mark (wide z) ⌝ }
 {
-    let marked = mark(z, m);
+    let marked = with_mark(z, mark);
     doubling120(marked)
 }
 
 // The mark, then the doubling of the suite's version.
-pub fn next_key(suite: u8, z: Block, m: u8) -> Block
-    ensures { λ r. ⌜ wide r ≡ nextKey (versionOf suite) m (wide z) ⌝ }
+pub fn next_key(suite: u8, z: Block, mark: u8) -> Block
+    ensures { λ r. ⌜ wide r ≡ nextKey (versionOf suite) mark (wide z) ⌝ }
 {
     if cipher::is_second(suite) {
-        return next_key_two(z, m);
+        return next_key_two(z, mark);
     }
-    next_key_one(z, m)
+    next_key_one(z, mark)
 }
 
 // A block's key, and the Z that is kept after the block.
@@ -75,16 +75,16 @@ pub struct Keyed {
     pub z: Block,
 }
 
-// The key of a block with the mark m, and the Z that is kept after it: version 2 applies the mark only then. The version is tested once.
-pub fn block_key(suite: u8, z: Block, m: u8) -> Keyed
-    ensures key { λ r. ⌜ wide (r .key) ≡ blockKey (versionOf suite) m (wide z) ⌝ }
-    ensures z { λ r. ⌜ wide (r .z) ≡ keptBehind (versionOf suite) m (wide (r .key)) ⌝ }
+// The key of a block with a mark, and the Z that is kept after it: version 2 applies the mark only then. The version is tested once.
+pub fn block_key(suite: u8, z: Block, mark: u8) -> Keyed
+    ensures key { λ r. ⌜ wide (r .key) ≡ blockKey (versionOf suite) mark (wide z) ⌝ }
+    ensures z { λ r. ⌜ wide (r .z) ≡ keptBehind (versionOf suite) mark (wide (r .key)) ⌝ }
 {
     if cipher::is_second(suite) {
         let key = next_key_two(z, 0);
-        let kept = mark(key, m);
+        let kept = with_mark(key, mark);
         return Keyed { key: key, z: kept };
     }
-    let key = next_key_one(z, m);
+    let key = next_key_one(z, mark);
     Keyed { key: key, z: key }
 }

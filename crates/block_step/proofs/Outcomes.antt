@@ -46,7 +46,8 @@ pub held-told : (suite : ℕ) (r q : State) (t : States) (n : ℕ) → Small r �
 held-told suite r q t n a b h k =
     let e = h .two ∙ sym (k .two) in
     state-path
-    (wide-told (r .y) (q .y) (a .ya) (a .yb) (b .ya) (b .yb) (parts-told (sizeOf suite) (wide (r .y)) (wide (q .y)) (ap (λ (w : States). w .Y) e) (h .clean ∙ sym (k .clean))))
+    (wide-told (r .y) (q .y) (a .ya) (a .yb) (b .ya) (b .yb) (parts-told (sizeOf suite) (wide (r .y)) (wide (q .y)) (ap (λ (w : States). w .Y) e)
+    (h .clean ∙ sym (k .clean))))
     (wide-told (r .z) (q .z) (a .za) (a .zb) (b .za) (b .zb) (ap (λ (w : States). w .Z) e))
     (h .made ∙ sym (k .made))
 
@@ -87,7 +88,8 @@ pub tag-of : OneOutcome tag-of-kinds.ps tag-of-kinds.r tag-of-reads.Pre tag-of-r
 tag-of κs a h x y = (
   last-path
       (wide-told (x .result .tag) (y .result .tag) (omega arith) (omega arith) (omega arith) (omega arith)
-      (parts-told (sizeOf (a .1 .0)) (wide (x .result .tag)) (wide (y .result .tag)) (x .ensures .0 ∙ sym (y .ensures .0)) (x .ensures .1 .0 ∙ sym (y .ensures .1 .0))))
+      (parts-told (sizeOf (a .1 .0)) (wide (x .result .tag)) (wide (y .result .tag)) (x .ensures .0 ∙ sym (y .ensures .0))
+      (x .ensures .1 .0 ∙ sym (y .ensures .1 .0))))
       (x .ensures .1 .1 ∙ sym (y .ensures .1 .1)),
   refl,
 )

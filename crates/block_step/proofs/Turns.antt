@@ -70,7 +70,8 @@ module _ (suite m : ℕ) (s t : State) (h : Holds suite t (imaged suite m (twoOf
   mask-out b x l e = sym (xors-take b x (sizeOf suite) l) ∙ ap (xors b) (e ∙ ap (λ (w : States). shuffle (sizeOf suite) (w .Y)) (h .two))
 
   -- the state r after v were absorbed as p
-  pub put-in : (v : List ℕ) (p : Block) (r : State) → Goes suite v p → wide (r .y) ≡ xors (wide (t .y)) (wide p) → (wide (r .z) ≡ wide (t .z)) × (r .calls ≡ t .calls)
+  pub put-in : (v : List ℕ) (p : Block) (r : State) → Goes suite v p → wide (r .y) ≡ xors (wide (t .y)) (wide p) → (wide (r .z) ≡ wide (t .z))
+      × (r .calls ≡ t .calls)
       → Holds suite r (turned (cipherOf suite) m (twoOf suite s) v) (oneMore (s .calls))
   unfolding turned
   put-in v p r g ey e =
@@ -112,7 +113,8 @@ module _ (suite m : ℕ) (s t : State) (h : Holds suite t (imaged suite m (twoOf
   out-goes e =
       let v : List ℕ = hidden (cipherOf suite) m (twoOf suite s) b in
       let is : take (sizeOf suite) (wide c) ≡ v = ap (λ (k : ℕ). take k (wide c)) (sym e) ∙ goes-out (le-of-eq e) in
-      let l : length v ≡ sizeOf suite = sym (ap length is) ∙ length-take-le (sizeOf suite) (wide c) (omega (arith, length-wide (c .a) (c .b), size-most suite)) in
+      let l : length v ≡ sizeOf suite = sym (ap length is) ∙ length-take-le (sizeOf suite) (wide c)
+      (omega (arith, length-wide (c .a) (c .b), size-most suite)) in
       record {
         front = is ∙ sym (pad-full (sizeOf suite) v l);
         clean = clean-xor suite p x c (full-goes suite b p e ep .clean) (ex .1) ec;

@@ -28,9 +28,12 @@ four-lists w P Q R S lp lq lr ls =
     let lx : length x ≡ w + w + (w + w) = length-append (P ++ Q) (R ++ S) ∙ omega arith in
     let lpqr : length ((P ++ Q) ++ R) ≡ 3 * w = length-append (P ++ Q) R ∙ omega arith in
     let e0 : word w x 0 ≡ value P = ap value (part-take w x 0 (omega arith) ∙ ap (take w) (append-assoc P Q (R ++ S)) ∙ take-at P (Q ++ (R ++ S)) w lp) in
-    let e1 : word w x w ≡ value Q = ap value (part-take w x w (omega arith) ∙ ap (take w) (ap (drop w) (append-assoc P Q (R ++ S)) ∙ drop-at P (Q ++ (R ++ S)) w lp) ∙ take-at Q (R ++ S) w lq) in
-    let e2 : word w x (2 * w) ≡ value R = ap value (part-take w x (2 * w) (omega arith) ∙ ap (take w) (drop-at (P ++ Q) (R ++ S) (2 * w) (lpq ∙ omega arith)) ∙ take-at R S w lr) in
-    let e3 : word w x (3 * w) ≡ value S = ap value (part-take w x (3 * w) (omega arith) ∙ ap (take w) (ap (drop (3 * w)) (sym (append-assoc (P ++ Q) R S)) ∙ drop-at ((P ++ Q) ++ R) S (3 * w) lpqr) ∙ take-all w S (le-of-eq ls)) in
+    let e1 : word w x w ≡ value Q = ap value (part-take w x w (omega arith)
+    ∙ ap (take w) (ap (drop w) (append-assoc P Q (R ++ S)) ∙ drop-at P (Q ++ (R ++ S)) w lp) ∙ take-at Q (R ++ S) w lq) in
+    let e2 : word w x (2 * w) ≡ value R = ap value (part-take w x (2 * w) (omega arith) ∙ ap (take w) (drop-at (P ++ Q) (R ++ S) (2 * w) (lpq ∙ omega arith))
+    ∙ take-at R S w lr) in
+    let e3 : word w x (3 * w) ≡ value S = ap value (part-take w x (3 * w) (omega arith)
+    ∙ ap (take w) (ap (drop (3 * w)) (sym (append-assoc (P ++ Q) R S)) ∙ drop-at ((P ++ Q) ++ R) S (3 * w) lpqr) ∙ take-all w S (le-of-eq ls)) in
     λ i. four (e3 i) (e2 i) (e1 i) (e0 i)
 
 -- the low bytes of a number, as a number and back
@@ -83,7 +86,8 @@ pub quarter-fits : (a : ℕ) → a < 2 ^ 64 → a / 0x1_0000_0000 / 0x1_0000 + 0
 quarter-fits a h = high-fits (a / 0x1_0000_0000 / 0x1_0000) (a % 0x1_0000_0000) (omega arith) (omega arith)
 
 -- the halves added first, and the rotated word last
-pub last-added : (a t : ℕ) → a / 0x1_0000_0000 / 0x1_0000 + 0x1_0000_0000 * (a % 0x1_0000_0000) + 0x1_0000 * t ≡ a / 0x1_0000_0000 / 0x1_0000 + 0x1_0000 * t + 0x1_0000_0000 * (a % 0x1_0000_0000)
+pub last-added : (a t : ℕ) → a / 0x1_0000_0000 / 0x1_0000 + 0x1_0000_0000 * (a % 0x1_0000_0000) + 0x1_0000 * t
+    ≡ a / 0x1_0000_0000 / 0x1_0000 + 0x1_0000 * t + 0x1_0000_0000 * (a % 0x1_0000_0000)
 last-added a t = omega arith
 
 pub join-fits : (a t : ℕ) → a < 2 ^ 64 → t < 0x1_0000 → a / 0x1_0000_0000 / 0x1_0000 + 0x1_0000_0000 * (a % 0x1_0000_0000) + 0x1_0000 * t < 2 ^ 64
@@ -134,7 +138,8 @@ pad-first k a b r h e =
     ∙ ap (λ (x : List ℕ). low ++ (1 ∷ x)) (replicate-append-replicate (8 - suc (length low)) 8 0 ∙ ap (λ (i : ℕ). replicate i 0) (sym z))
     ∙ sym (ap (pad 16) (take-append-le k (bytes 8 a) (bytes 8 b) (omega (arith, length-bytes 8 a))) ∙ pad-short 16 low (omega arith))
 
-pub pad-second : (k a b r : ℕ) → 8 ≤ k → k < 16 → bytes 8 r ≡ pad 8 (take (k - 8) (bytes 8 b)) → bytes 8 a ++ bytes 8 r ≡ pad 16 (take k (bytes 8 a ++ bytes 8 b))
+pub pad-second : (k a b r : ℕ) → 8 ≤ k → k < 16 → bytes 8 r ≡ pad 8 (take (k - 8) (bytes 8 b))
+    → bytes 8 a ++ bytes 8 r ≡ pad 16 (take k (bytes 8 a ++ bytes 8 b))
 pad-second k a b r h g e =
     let front : List ℕ = bytes 8 a in
     let lf : length front ≡ 8 = length-bytes 8 a in

@@ -23,7 +23,8 @@ pub fn absorb_full(tables: &[AesTables], suite: u8, state: State, mark: u8, bloc
 // Absorbs the message block of a full block of ciphertext, without writing it anywhere.
 pub fn verify_full(tables: &[AesTables], suite: u8, state: State, mark: u8, block: &[u8]) -> State
     requires { ⌜ TablesFit suite (now tables) × IsSuite suite × (length (now block) ≡ sizeOf suite) ⌝ }
-    ensures { λ r. ⌜ Holds suite r (turned (cipherOf suite) mark (twoOf suite state) (messageOf (cipherOf suite) true mark (twoOf suite state) (now (block .entry)))) (oneMore (state .calls)) ⌝ }
+    ensures { λ r. ⌜ Holds suite r (turned (cipherOf suite) mark (twoOf suite state)
+        (messageOf (cipherOf suite) true mark (twoOf suite state) (now (block .entry)))) (oneMore (state .calls)) ⌝ }
 {
     let enciphered = crate::state::turn(tables, suite, state, mark, block.len());
     let x = enciphered.y;
@@ -37,7 +38,8 @@ pub fn verify_full(tables: &[AesTables], suite: u8, state: State, mark: u8, bloc
 pub fn seal_full(tables: &[AesTables], suite: u8, state: State, mark: u8, block: &mut [u8]) -> State
     requires { ⌜ TablesFit suite (now tables) × IsSuite suite × (length (now block) ≡ sizeOf suite) ⌝ }
     ensures text { λ _. ⌜ now (block .exit) ≡ hidden (cipherOf suite) mark (twoOf suite state) (now (block .entry)) ⌝ }
-    ensures state { λ r. ⌜ Holds suite r (turned (cipherOf suite) mark (twoOf suite state) (messageOf (cipherOf suite) false mark (twoOf suite state) (now (block .entry)))) (oneMore (state .calls)) ⌝ }
+    ensures state { λ r. ⌜ Holds suite r (turned (cipherOf suite) mark (twoOf suite state)
+        (messageOf (cipherOf suite) false mark (twoOf suite state) (now (block .entry)))) (oneMore (state .calls)) ⌝ }
 {
     let enciphered = crate::state::turn(tables, suite, state, mark, block.len());
     let x = enciphered.y;
@@ -52,7 +54,8 @@ pub fn seal_full(tables: &[AesTables], suite: u8, state: State, mark: u8, block:
 pub fn open_full(tables: &[AesTables], suite: u8, state: State, mark: u8, block: &mut [u8]) -> State
     requires { ⌜ TablesFit suite (now tables) × IsSuite suite × (length (now block) ≡ sizeOf suite) ⌝ }
     ensures text { λ _. ⌜ now (block .exit) ≡ hidden (cipherOf suite) mark (twoOf suite state) (now (block .entry)) ⌝ }
-    ensures state { λ r. ⌜ Holds suite r (turned (cipherOf suite) mark (twoOf suite state) (messageOf (cipherOf suite) true mark (twoOf suite state) (now (block .entry)))) (oneMore (state .calls)) ⌝ }
+    ensures state { λ r. ⌜ Holds suite r (turned (cipherOf suite) mark (twoOf suite state)
+        (messageOf (cipherOf suite) true mark (twoOf suite state) (now (block .entry)))) (oneMore (state .calls)) ⌝ }
 {
     let enciphered = crate::state::turn(tables, suite, state, mark, block.len());
     let x = enciphered.y;
@@ -73,7 +76,8 @@ pub fn absorb_short(
     block: &[u8],
 ) -> State
     requires { ⌜ TablesFit suite (now tables) × IsSuite suite × (length (now block) < sizeOf suite) ⌝ }
-    ensures { λ r. ⌜ Holds suite r (turned (cipherOf suite) mark (twoOf suite state) (messageOf (cipherOf suite) opening mark (twoOf suite state) (now (block .entry)))) (oneMore (state .calls)) ⌝ }
+    ensures { λ r. ⌜ Holds suite r (turned (cipherOf suite) mark (twoOf suite state)
+        (messageOf (cipherOf suite) opening mark (twoOf suite state) (now (block .entry)))) (oneMore (state .calls)) ⌝ }
 {
     let n = cipher::size_of(suite);
     let enciphered = crate::state::turn(tables, suite, state, mark, n);
@@ -98,7 +102,8 @@ pub fn crypt_short(
 ) -> State
     requires { ⌜ TablesFit suite (now tables) × IsSuite suite × (length (now block) < sizeOf suite) ⌝ }
     ensures text { λ _. ⌜ now (block .exit) ≡ hidden (cipherOf suite) mark (twoOf suite state) (now (block .entry)) ⌝ }
-    ensures state { λ r. ⌜ Holds suite r (turned (cipherOf suite) mark (twoOf suite state) (messageOf (cipherOf suite) opening mark (twoOf suite state) (now (block .entry)))) (oneMore (state .calls)) ⌝ }
+    ensures state { λ r. ⌜ Holds suite r (turned (cipherOf suite) mark (twoOf suite state)
+        (messageOf (cipherOf suite) opening mark (twoOf suite state) (now (block .entry)))) (oneMore (state .calls)) ⌝ }
 {
     let len = block.len();
     let n = cipher::size_of(suite);

@@ -22,22 +22,25 @@ pub fn start(tables: &[AesTables], suite: u8, key: &[u8], nonce: &[u8]) -> State
     requires { ⌜ TablesFit suite (now tables) × IsSuite suite × (length (now key) ≡ 16) × (length (now nonce) ≡ nonceOf suite) ⌝ }
     ensures { λ r. ⌜ Holds suite r (origin (cipherOf suite) (now (key .entry)) (now (nonce .entry))) 1 ⌝ }
 {
-    let k = block::sixteen(key);
+    let key_block = block::sixteen(key);
     if cipher::size_of(suite) == 16 {
         let nonce_block = block::sixteen(nonce);
         // Constructed where it is borrowed: a borrowed value is spilled to the stack where it is defined, and an 8-byte block needs no spill.
-        let key = Block { a: k.a, b: k.b };
+        let key = Block {
+            a: key_block.a,
+            b: key_block.b,
+        };
         let z = cipher::encipher16(tables, suite, key, nonce_block);
         return State {
-            y: k,
+            y: key_block,
             z: z,
             calls: 1,
         };
     }
     let nonce_block = block::fifteen(nonce);
     let zero = Block { a: 0, b: 0 };
-    let y = cipher::encipher(tables, suite, k, zero);
-    let z = block::xor(k, nonce_block);
+    let y = cipher::encipher(tables, suite, key_block, zero);
+    let z = block::xor(key_block, nonce_block);
     State {
         y: y,
         z: z,
@@ -66,35 +69,35 @@ pub(crate) fn image(tables: &[AesTables], suite: u8, n: usize, key: Block, block
     }
 }
 
-// The key of a block of n bytes with the mark m; X, the encryption of Y under it, by one call; and the Z that is kept after the block.
-pub(crate) fn turn(tables: &[AesTables], suite: u8, s: State, m: u8, n: usize) -> State
+// The key of a block of n bytes with a mark; X, the encryption of Y under it, by one call; and the Z that is kept after the block.
+pub(crate) fn turn(tables: &[AesTables], suite: u8, state: State, mark: u8, n: usize) -> State
     requires { ⌜ TablesFit suite (now tables) × IsSuite suite × (n ≡ sizeOf suite) ⌝ }
-    ensures { λ r. ⌜ Holds suite r (imaged suite m (twoOf suite s)) (oneMore (s .calls)) ⌝ }
+    ensures { λ r. ⌜ Holds suite r (imaged suite mark (twoOf suite state)) (oneMore (state .calls)) ⌝ }
 {
-    let y = s.y;
-    let z0 = s.z;
-    let keyed = block_key::block_key(suite, z0, m);
+    let y = state.y;
+    let z0 = state.z;
+    let keyed = block_key::block_key(suite, z0, mark);
     let key = keyed.key;
     let z = keyed.z;
     let x = image(tables, suite, n, key, y);
     State {
         y: x,
         z: z,
-        calls: std::num::wrapping_add_u64(s.calls, 1),
+        calls: std::num::wrapping_add_u64(state.calls, 1),
     }
 }
 
 // Y = X XOR the block.
-pub(crate) fn mix(s: State, p: Block) -> State
-    ensures y { λ r. ⌜ wide (r .y) ≡ xors (wide (s .y)) (wide p) ⌝ }
-    ensures rest { λ r. ⌜ (wide (r .z) ≡ wide (s .z)) × (r .calls ≡ s .calls) ⌝ }
+pub(crate) fn mix(state: State, input: Block) -> State
+    ensures y { λ r. ⌜ wide (r .y) ≡ xors (wide (state .y)) (wide input) ⌝ }
+    ensures rest { λ r. ⌜ (wide (r .z) ≡ wide (state .z)) × (r .calls ≡ state .calls) ⌝ }
 {
-    let y = s.y;
-    let z = s.z;
-    let mixed = block::xor(y, p);
+    let y = state.y;
+    let z = state.z;
+    let mixed = block::xor(y, input);
     State {
         y: mixed,
         z: z,
-        calls: s.calls,
+        calls: state.calls,
     }
 }

@@ -107,11 +107,14 @@ module _ (κ : Cipher) (pos : 0 < κ .size) (d : Bool) (short : ℕ) where
   pub walk-short : (m : ℕ) (s : States) (x : List ℕ) → 0 < length x → length x < n
       → walked κ d m short s (blocks n x) ≡ turned κ (xor m short) s (messageOf κ d (xor m short) s x)
   unfolding walked
-  walk-short m s x h k = ap (walked κ d m short s) (one-block n pos x h k) ∙ ap (λ (j : ℕ). turned κ j s (messageOf κ d j s x)) (mark-short n m short (length x) k)
+  walk-short m s x h k =
+      ap (walked κ d m short s) (one-block n pos x h k) ∙ ap (λ (j : ℕ). turned κ j s (messageOf κ d j s x)) (mark-short n m short (length x) k)
 
   pub cover-short : (m : ℕ) (s : States) (x : List ℕ) → 0 < length x → length x < n → covered κ d m short s (blocks n x) ≡ hidden κ (xor m short) s x
   unfolding covered
-  cover-short m s x h k = ap (covered κ d m short s) (one-block n pos x h k) ∙ append-nil (hidden κ (markOf κ m short x) s x) ∙ ap (λ (j : ℕ). hidden κ j s x) (mark-short n m short (length x) k)
+  cover-short m s x h k =
+      ap (covered κ d m short s) (one-block n pos x h k) ∙ append-nil (hidden κ (markOf κ m short x) s x)
+      ∙ ap (λ (j : ℕ). hidden κ j s x) (mark-short n m short (length x) k)
 
   -- nothing
   pub walk-none : (m : ℕ) (s : States) (x : List ℕ) → length x ≡ 0 → walked κ d m short s (blocks n x) ≡ s
@@ -138,7 +141,8 @@ module _ (κ : Cipher) (pos : 0 < κ .size) (d : Bool) (short : ℕ) where
       ∙ short-walk 0 (turned κ m s (messageOf κ d m s b)) [] pos
 
   -- a loop's turn: the block from i to e of l is absorbed, under the mark m
-  module _ (l : List ℕ) (i e : ℕ) (q : e ≡ i + n) (h : e ≤ length l) (m : ℕ) (s t : States) (et : t ≡ turned κ m s (messageOf κ d m s (take (e - i) (drop i l)))) where
+  module _ (l : List ℕ) (i e : ℕ) (q : e ≡ i + n) (h : e ≤ length l) (m : ℕ) (s t : States)
+      (et : t ≡ turned κ m s (messageOf κ d m s (take (e - i) (drop i l)))) where
     abbrev block : List ℕ
     block = take (e - i) (drop i l)
 

@@ -58,7 +58,8 @@ module _ {suite : ℕ} {d : Bool} {m : ℕ} {s : State} {l : List ℕ} where
 
     -- the block from i on is absorbed
     pub turn : {r : State} → i + n ≤ length l
-        → Holds suite r (turned (cipherOf suite) k (twoOf suite t) (messageOf (cipherOf suite) d k (twoOf suite t) (take (i + n - i) (drop i l)))) (oneMore (t .calls))
+        → Holds suite r (turned (cipherOf suite) k (twoOf suite t) (messageOf (cipherOf suite) d k (twoOf suite t) (take (i + n - i) (drop i l))))
+        (oneMore (t .calls))
         → Going suite d m s l r 0 (i + n)
     turn {r} h holds =
         let e : ℕ = i + n in
@@ -113,7 +114,8 @@ module _ {suite : ℕ} {d : Bool} {m : ℕ} {s : State} {l : List ℕ} where
     -- the block from i on, which was borrowed, has come back as x
     pub placed-turn : {r : State} {x : List ℕ} → i + n ≤ length l → length x ≡ length (take (i + n - i) (drop i text))
         → (x ≡ hidden (cipherOf suite) k (twoOf suite t) (take (i + n - i) (drop i text)))
-        × Holds suite r (turned (cipherOf suite) k (twoOf suite t) (messageOf (cipherOf suite) d k (twoOf suite t) (take (i + n - i) (drop i text)))) (oneMore (t .calls))
+        × Holds suite r (turned (cipherOf suite) k (twoOf suite t) (messageOf (cipherOf suite) d k (twoOf suite t) (take (i + n - i) (drop i text))))
+        (oneMore (t .calls))
         → Placed suite d m s l r 0 (i + n) (putMid i (i + n - i) text x)
     placed-turn {r} {x} h lx made =
         let e : ℕ = i + n in
@@ -121,13 +123,16 @@ module _ {suite : ℕ} {d : Bool} {m : ℕ} {s : State} {l : List ℕ} where
         let pos : 0 < sizeOf suite = size-pos suite size in
         let came : take (e - i) (drop i text) ≡ take (e - i) (drop i l) = ap (take (e - i)) (w .old) in
         let le : length x ≡ e - i = lx ∙ ap length came ∙ block-long (sizeOf suite) pos l i e q h ∙ omega (arith, q) in
-        let holds : Holds suite r (turned (cipherOf suite) k (twoOf suite t) (messageOf (cipherOf suite) d k (twoOf suite t) (take (e - i) (drop i l)))) (oneMore (t .calls)) =
-        subst (λ (b : List ℕ). Holds suite r (turned (cipherOf suite) k (twoOf suite t) (messageOf (cipherOf suite) d k (twoOf suite t) b)) (oneMore (t .calls))) came (made .1) in
+        let holds : Holds suite r (turned (cipherOf suite) k (twoOf suite t) (messageOf (cipherOf suite) d k (twoOf suite t) (take (e - i) (drop i l))))
+        (oneMore (t .calls)) =
+        subst (λ (b : List ℕ). Holds suite r (turned (cipherOf suite) k (twoOf suite t) (messageOf (cipherOf suite) d k (twoOf suite t) b))
+        (oneMore (t .calls))) came (made .1) in
         record {
           going = turn size (w .going) h holds;
           long = same-len-mid i (e - i) text x lx ∙ w .long;
           new = λ short.
-              turn-cover (cipherOf suite) pos d short l i e q h k (twoOf suite t) (twoOf suite r) (holds .two) text x (postOf i (e - i) text) _ (omega (arith, w .long)) le
+              turn-cover (cipherOf suite) pos d short l i e q h k (twoOf suite t) (twoOf suite r) (holds .two) text x (postOf i (e - i) text) _
+              (omega (arith, w .long)) le
               (made .0 ∙ ap (hidden (cipherOf suite) k (twoOf suite t)) came) (w .new short);
           old = drop-put i e text x (omega arith) (omega (arith, w .long)) le ∙ drop-later i e text l (omega arith) (w .old);
         }

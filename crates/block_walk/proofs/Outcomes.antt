@@ -27,14 +27,17 @@ record Small (r : Progress) : Type 0 where
   zb : r .s .z .b < 2 ^ 64
 
 behind-path : {x y u v : Block} {j k p q a b : ℕ} → x ≡ y → u ≡ v → j ≡ k → p ≡ q → a ≡ b
-    → _≡_ {A = Progress} (record { s = record { y = x; z = u; calls = j }; mark = p; at = a }) (record { s = record { y = y; z = v; calls = k }; mark = q; at = b })
+    → _≡_ {A = Progress} (record { s = record { y = x; z = u; calls = j }; mark = p; at = a })
+    (record { s = record { y = y; z = v; calls = k }; mark = q; at = b })
 behind-path ey ez ec em ea = λ i. record { s = record { y = ey i; z = ez i; calls = ec i }; mark = em i; at = ea i }
 
-passed-told : (suite : ℕ) (d : Bool) (m : ℕ) (s : State) (l : List ℕ) (r q : Progress) → Small r → Small q → Passed suite d m s l r → Passed suite d m s l q → r ≡ q
+passed-told : (suite : ℕ) (d : Bool) (m : ℕ) (s : State) (l : List ℕ) (r q : Progress) → Small r → Small q → Passed suite d m s l r → Passed suite d m s l q
+    → r ≡ q
 passed-told suite d m s l r q a b h k =
     let e = h .two 0 ∙ sym (k .two 0) in
     behind-path
-    (wide-told (r .s .y) (q .s .y) (a .ya) (a .yb) (b .ya) (b .yb) (parts-told (sizeOf suite) (wide (r .s .y)) (wide (q .s .y)) (ap (λ (w : States). w .Y) e) (h .beside ∙ sym (k .beside))))
+    (wide-told (r .s .y) (q .s .y) (a .ya) (a .yb) (b .ya) (b .yb) (parts-told (sizeOf suite) (wide (r .s .y)) (wide (q .s .y)) (ap (λ (w : States). w .Y) e)
+    (h .beside ∙ sym (k .beside))))
     (wide-told (r .s .z) (q .s .z) (a .za) (a .zb) (b .za) (b .zb) (ap (λ (w : States). w .Z) e))
     (h .made ∙ sym (k .made))
     (h .next ∙ sym (k .next))

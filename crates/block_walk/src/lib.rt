@@ -23,25 +23,25 @@ pub struct Progress {
 }
 
 // Whole blocks of associated data.
-fn absorb_blocks(tables: &[AesTables], suite: u8, s: State, m: u8, b: &[u8]) -> Progress
+fn absorb_blocks(tables: &[AesTables], suite: u8, start: State, first: u8, bytes: &[u8]) -> Progress
     requires { ⌜ TablesFit suite (now tables) × IsSuite suite ⌝ }
-    ensures { λ r. ⌜ Passed suite false m s (now (b .entry)) r ⌝ }
+    ensures { λ r. ⌜ Passed suite false first start (now (bytes .entry)) r ⌝ }
 {
     let n = cipher::size_of(suite);
-    if b.len() < n {
+    if bytes.len() < n {
         return Progress {
-            s: s,
-            mark: m,
+            s: start,
+            mark: first,
             at: 0,
         };
     }
-    let last = b.len() - n;
-    let mut state = s;
-    let mut mark = m;
+    let last = bytes.len() - n;
+    let mut state = start;
+    let mut mark = first;
     let mut i: usize = 0;
     while i <= last {
         let end = i + n;
-        state = absorb_full(tables, suite, state, mark, &b[i..end]);
+        state = absorb_full(tables, suite, state, mark, &bytes[i..end]);
         mark = 0;
         i = end;
     }
@@ -53,25 +53,25 @@ fn absorb_blocks(tables: &[AesTables], suite: u8, s: State, m: u8, b: &[u8]) -> 
 }
 
 // Whole blocks of ciphertext, whose message is absorbed.
-fn verify_blocks(tables: &[AesTables], suite: u8, s: State, m: u8, b: &[u8]) -> Progress
+fn verify_blocks(tables: &[AesTables], suite: u8, start: State, first: u8, bytes: &[u8]) -> Progress
     requires { ⌜ TablesFit suite (now tables) × IsSuite suite ⌝ }
-    ensures { λ r. ⌜ Passed suite true m s (now (b .entry)) r ⌝ }
+    ensures { λ r. ⌜ Passed suite true first start (now (bytes .entry)) r ⌝ }
 {
     let n = cipher::size_of(suite);
-    if b.len() < n {
+    if bytes.len() < n {
         return Progress {
-            s: s,
-            mark: m,
+            s: start,
+            mark: first,
             at: 0,
         };
     }
-    let last = b.len() - n;
-    let mut state = s;
-    let mut mark = m;
+    let last = bytes.len() - n;
+    let mut state = start;
+    let mut mark = first;
     let mut i: usize = 0;
     while i <= last {
         let end = i + n;
-        state = verify_full(tables, suite, state, mark, &b[i..end]);
+        state = verify_full(tables, suite, state, mark, &bytes[i..end]);
         mark = 0;
         i = end;
     }
@@ -101,22 +101,29 @@ pub fn absorb(
 }
 
 // Whole blocks of a message, sealed.
-fn seal_blocks(tables: &[AesTables], suite: u8, s: State, m: u8, text: &mut [u8]) -> Progress
+fn seal_blocks(
+    tables: &[AesTables],
+    suite: u8,
+    start: State,
+    first: u8,
+    text: &mut [u8],
+) -> Progress
     requires { ⌜ TablesFit suite (now tables) × IsSuite suite ⌝ }
-    ensures text { λ _. ⌜ ((short : ℕ) → now (text .exit) ≡ covered (cipherOf suite) false m short (twoOf suite s) (wholes (sizeOf suite) (now (text .entry))) ++ rest (sizeOf suite) (now (text .entry))) ⌝ }
-    ensures state { λ r. ⌜ Passed suite false m s (now (text .entry)) r ⌝ }
+    ensures text { λ _. ⌜ ((short : ℕ) → now (text .exit) ≡ covered (cipherOf suite) false first short (twoOf suite start)
+        (wholes (sizeOf suite) (now (text .entry))) ++ rest (sizeOf suite) (now (text .entry))) ⌝ }
+    ensures state { λ r. ⌜ Passed suite false first start (now (text .entry)) r ⌝ }
 {
     let n = cipher::size_of(suite);
     if text.len() < n {
         return Progress {
-            s: s,
-            mark: m,
+            s: start,
+            mark: first,
             at: 0,
         };
     }
     let last = text.len() - n;
-    let mut state = s;
-    let mut mark = m;
+    let mut state = start;
+    let mut mark = first;
     let mut i: usize = 0;
     while i <= last {
         let end = i + n;
@@ -132,22 +139,29 @@ fn seal_blocks(tables: &[AesTables], suite: u8, s: State, m: u8, text: &mut [u8]
 }
 
 // Whole blocks of ciphertext, opened.
-fn open_blocks(tables: &[AesTables], suite: u8, s: State, m: u8, text: &mut [u8]) -> Progress
+fn open_blocks(
+    tables: &[AesTables],
+    suite: u8,
+    start: State,
+    first: u8,
+    text: &mut [u8],
+) -> Progress
     requires { ⌜ TablesFit suite (now tables) × IsSuite suite ⌝ }
-    ensures text { λ _. ⌜ ((short : ℕ) → now (text .exit) ≡ covered (cipherOf suite) true m short (twoOf suite s) (wholes (sizeOf suite) (now (text .entry))) ++ rest (sizeOf suite) (now (text .entry))) ⌝ }
-    ensures state { λ r. ⌜ Passed suite true m s (now (text .entry)) r ⌝ }
+    ensures text { λ _. ⌜ ((short : ℕ) → now (text .exit) ≡ covered (cipherOf suite) true first short (twoOf suite start)
+        (wholes (sizeOf suite) (now (text .entry))) ++ rest (sizeOf suite) (now (text .entry))) ⌝ }
+    ensures state { λ r. ⌜ Passed suite true first start (now (text .entry)) r ⌝ }
 {
     let n = cipher::size_of(suite);
     if text.len() < n {
         return Progress {
-            s: s,
-            mark: m,
+            s: start,
+            mark: first,
             at: 0,
         };
     }
     let last = text.len() - n;
-    let mut state = s;
-    let mut mark = m;
+    let mut state = start;
+    let mut mark = first;
     let mut i: usize = 0;
     while i <= last {
         let end = i + n;
@@ -172,7 +186,8 @@ pub fn crypt(
     text: &mut [u8],
 ) -> Progress
     requires { ⌜ TablesFit suite (now tables) × IsSuite suite ⌝ }
-    ensures text { λ _. ⌜ ((short : ℕ) → now (text .exit) ≡ covered (cipherOf suite) opening mark short (twoOf suite state) (wholes (sizeOf suite) (now (text .entry))) ++ rest (sizeOf suite) (now (text .entry))) ⌝ }
+    ensures text { λ _. ⌜ ((short : ℕ) → now (text .exit) ≡ covered (cipherOf suite) opening mark short (twoOf suite state)
+        (wholes (sizeOf suite) (now (text .entry))) ++ rest (sizeOf suite) (now (text .entry))) ⌝ }
     ensures state { λ r. ⌜ Passed suite opening mark state (now (text .entry)) r ⌝ }
 {
     if opening {

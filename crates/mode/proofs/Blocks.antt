@@ -102,7 +102,8 @@ module _ (n : ℕ) (pos : 0 < n) where
       elim (decLe 1 (length l)) [
         | yes p ↦
             ap sizes (blocks-more l p)
-            ∙ ap₂ (λ (x : ℕ) (r : List ℕ). x ∷ r) (length-take n l) (blocks-sizes f (drop n l) (omega (arith, length-drop n l)) ∙ ap (lengths n) (length-drop n l))
+            ∙ ap₂ (λ (x : ℕ) (r : List ℕ). x ∷ r) (length-take n l) (blocks-sizes f (drop n l) (omega (arith, length-drop n l))
+            ∙ ap (lengths n) (length-drop n l))
             ∙ sym (lengths-more (length l) p)
         | no p ↦ none-sizes l (omega arith)
       ]
@@ -146,8 +147,10 @@ module _ (n : ℕ) (pos : 0 < n) where
       let e2 : suc j * n + n ≡ n + (j * n + n) = ap (λ (x : ℕ). x + n) e ∙ add-assoc n (j * n) n in
       blocks-more l (omega arith)
       ∙ ap (λ (x : List (List ℕ)). f ∷ x) ih
-      ∙ ap₂ (λ (x : List (List ℕ)) (y : List ℕ). x ++ (take n y ∷ blocks n (drop (j * n + n) r))) (sym front) (drop-drop (j * n) n l ∙ ap (λ (x : ℕ). drop x l) (sym e))
-      ∙ ap (λ (y : List ℕ). blocks n (take (suc j * n) l) ++ (take n (drop (suc j * n) l) ∷ blocks n y)) (drop-drop (j * n + n) n l ∙ ap (λ (x : ℕ). drop x l) (sym e2))
+      ∙ ap₂ (λ (x : List (List ℕ)) (y : List ℕ). x ++ (take n y ∷ blocks n (drop (j * n + n) r))) (sym front)
+      (drop-drop (j * n) n l ∙ ap (λ (x : ℕ). drop x l) (sym e))
+      ∙ ap (λ (y : List ℕ). blocks n (take (suc j * n) l) ++ (take n (drop (suc j * n) l) ∷ blocks n y))
+      (drop-drop (j * n + n) n l ∙ ap (λ (x : ℕ). drop x l) (sym e2))
 
   -- the first j * n bytes are j blocks
   pub first-blocks : (j : ℕ) (l : List ℕ) → j * n ≤ length l → length (blocks n (take (j * n) l)) ≡ j

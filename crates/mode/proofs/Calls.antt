@@ -11,7 +11,8 @@ use Rattle.cipher.specs.Cipher.{Cipher}
 use Rattle.mode.specs.Blocks.{blocks}
 use Rattle.mode.specs.Words.{shuffle, pad}
 use Rattle.mode.specs.Keys.{marks, keys}
-use Rattle.mode.specs.Mode.{CipherCall, Chain, Trail, laterKeys, enciphered, startCall, nextCall, image, startY, startZ, start, absorbed, masked, message, trail, afterData, textOut, tagOut, calls}
+use Rattle.mode.specs.Mode.{CipherCall, Chain, Trail, laterKeys, enciphered, startCall, nextCall, image, startY, startZ, start, absorbed, masked, message}
+use Rattle.mode.specs.Mode.{trail, afterData, textOut, tagOut, calls}
 use Rattle.mode.specs.Calls.{Agree, none, more, other}
 use Rattle.mode.proofs.Blocks.{as-many}
 

@@ -81,7 +81,8 @@ module _ (κ : Cipher) (L : Lawful κ) where
   all-message true c b hb = all-masked c b hb
   all-message false c b hb = hb
 
-  pub good-message : (d : Bool) (f : ℕ) (c : Chain) (b : List ℕ) → Good κ (suc f) c → AllBytes b → length b ≤ κ .size → Good κ f (absorbed κ c (message κ d c b))
+  pub good-message : (d : Bool) (f : ℕ) (c : Chain) (b : List ℕ) → Good κ (suc f) c → AllBytes b → length b ≤ κ .size
+      → Good κ f (absorbed κ c (message κ d c b))
   good-message d f c b g hb lb = good-absorbed f c (message κ d c b) g (all-message d c b hb) (omega (arith, length-message d c b lb))
 
   pub good-after : (d : Bool) (f : ℕ) (c : Chain) {bs : List (List ℕ)} → AllBlocks (κ .size) bs → Good κ (length bs + f) c → Good κ f (after κ d c bs)
@@ -132,7 +133,8 @@ module _ (κ : Cipher) (L : Lawful κ) where
       let eu : masked κ c x ≡ b = masked-twice c b (omega arith) in
       let em : absorbed κ c (message κ (not d) c x) ≡ c′ = ap (absorbed κ c) (message-back d c b (omega arith)) in (
         ap length eo ∙ length-append x o′ ∙ omega (arith, ih .0),
-        ap (crypted κ (not d) c) eb ∙ ap₂ (λ (u : List ℕ) (v : Chain). u ++ crypted κ (not d) v (blocks n o′)) eu em ∙ ap (λ (u : List ℕ). b ++ u) (ih .1) ∙ take-append-drop n t,
+        ap (crypted κ (not d) c) eb ∙ ap₂ (λ (u : List ℕ) (v : Chain). u ++ crypted κ (not d) v (blocks n o′)) eu em ∙ ap (λ (u : List ℕ). b ++ u) (ih .1)
+            ∙ take-append-drop n t,
         ap (after κ (not d) c) eb ∙ ap (λ (v : Chain). after κ (not d) v (blocks n o′)) em ∙ ih .2 ∙ sym (ap (after κ d c) (blocks-more n pos t p)),
         subst AllBytes (sym eo) (all-append x o′ (all-masked c b (all-take n t ht)) (ih .3)),
       )
@@ -142,6 +144,7 @@ module _ (κ : Cipher) (L : Lawful κ) where
   undone (suc f) d c t h ht =
       elim (decLe 1 (length t)) [
         | yes p ↦ undo-more d c t p ht
-            (undone f d (absorbed κ c (message κ d c (take (κ .size) t))) (drop (κ .size) t) (omega (arith, length-drop (κ .size) t, some)) (all-drop (κ .size) t ht))
+            (undone f d (absorbed κ c (message κ d c (take (κ .size) t))) (drop (κ .size) t) (omega (arith, length-drop (κ .size) t, some))
+            (all-drop (κ .size) t ht))
         | no p ↦ undo-none d c t (omega arith)
       ]

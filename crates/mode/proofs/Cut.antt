@@ -16,7 +16,8 @@ module _ (n : ℕ) (pos : 0 < n) where
   pub blocks-append : (j : ℕ) (x r : List ℕ) → length x ≡ j * n → blocks n (x ++ r) ≡ blocks n x ++ blocks n r
   blocks-append zero x r e =
       let z : x ≡ [] = nil-of x (e ∙ zero-mul n) in
-      ap (λ (y : List ℕ). blocks n (y ++ r)) z ∙ sym (ap (λ (y : List ℕ). blocks n y ++ blocks n r) z ∙ ap (λ (y : List (List ℕ)). y ++ blocks n r) (blocks-nil n pos))
+      ap (λ (y : List ℕ). blocks n (y ++ r)) z ∙ sym (ap (λ (y : List ℕ). blocks n y ++ blocks n r) z
+      ∙ ap (λ (y : List (List ℕ)). y ++ blocks n r) (blocks-nil n pos))
   blocks-append (suc j) x r e =
       let e′ : length x ≡ j * n + n = e ∙ suc-mul j n in
       let lx : 0 < length x = omega arith in

@@ -54,7 +54,8 @@ module _ (κ : Cipher) (L : Lawful κ) where
   blocks-told c c′ none g g′ el e = image-told 0 c c′ g g′ el e
   blocks-told c c′ (more {b = b} {bs = bs} hb lb hbs) g g′ el e =
       absorbed-told (length bs) c c′ b g g′ hb lb el
-      (blocks-told (absorbed κ c b) (absorbed κ c′ b) hbs (good-absorbed κ L (length bs) c b g hb lb) (good-absorbed κ L (length bs) c′ b g′ hb lb) (absorbed-left c c′ b b el) e)
+      (blocks-told (absorbed κ c b) (absorbed κ c′ b) hbs (good-absorbed κ L (length bs) c b g hb lb) (good-absorbed κ L (length bs) c′ b g′ hb lb)
+      (absorbed-left c c′ b b el) e)
 
   -- two blocks of one length put different Ys
   pub block-told : (f : ℕ) (c : Chain) (b b′ : List ℕ) → Good κ (suc f) c → AllBytes b → AllBytes b′ → length b ≡ length b′ → length b ≤ κ .size
@@ -82,11 +83,13 @@ module _ (κ : Cipher) (L : Lawful κ) where
       let u = absorb κ c pre in
       let gu : Good κ (suc (length post)) u = good-after κ L false (suc (length post)) c hpre g in
       block-told (length post) u b b′ gu hb hb′ l h
-      (blocks-told (absorbed κ u b) (absorbed κ u b′) hpost (good-absorbed κ L (length post) u b gu hb h) (good-absorbed κ L (length post) u b′ gu hb′ (omega arith)) (absorbed-left u u b b′ refl)
+      (blocks-told (absorbed κ u b) (absorbed κ u b′) hpost (good-absorbed κ L (length post) u b gu hb h)
+      (good-absorbed κ L (length post) u b′ gu hb′ (omega arith)) (absorbed-left u u b b′ refl)
       (sym (ap (image κ) (absorb-append c pre (b ∷ post))) ∙ e ∙ ap (image κ) (absorb-append c pre (b′ ∷ post))))
 
   -- the tag is what the cipher makes of all blocks, those of the associated data first
-  tag-chain : (key nonce a m : List ℕ) → tag κ key nonce a m ≡ image κ (absorb κ (start κ key nonce (length a) (length m)) (blocks (κ .size) a ++ blocks (κ .size) m))
+  tag-chain : (key nonce a m : List ℕ) → tag κ key nonce a m ≡ image κ (absorb κ (start κ key nonce (length a) (length m))
+      (blocks (κ .size) a ++ blocks (κ .size) m))
   unfolding tagOut afterData
   tag-chain key nonce a m = sym (ap (image κ) (absorb-append (start κ key nonce (length a) (length m)) (blocks (κ .size) a) (blocks (κ .size) m)))
 
@@ -154,7 +157,8 @@ module _ (κ : Cipher) (L : Lawful κ) (j : ℕ) (x y : List ℕ) (hx : AllBytes
             let ey : blocks n y ≡ P ++ (b′ ∷ Q) =
             blocks-split n pos j y (omega arith) ∙ ap₂ (λ (u v : List ℕ). blocks n u ++ (b′ ∷ blocks n v)) (sym before) (sym behind) in
             let hP : AllBlocks n P = all-blocks (length (take (j * n) x)) n pos (take (j * n) x) (le-refl (length (take (j * n) x))) (all-take (j * n) x hx) in
-            let hQ : AllBlocks n Q = all-blocks (length (drop (j * n + n) x)) n pos (drop (j * n + n) x) (le-refl (length (drop (j * n + n) x))) (all-drop (j * n + n) x hx) in
+            let hQ : AllBlocks n Q = all-blocks (length (drop (j * n + n) x)) n pos (drop (j * n + n) x) (le-refl (length (drop (j * n + n) x)))
+            (all-drop (j * n + n) x hx) in
             let gx : Good κ (length (fr ++ P) + suc (length (Q ++ bk))) c =
             subst (λ (f : ℕ). Good κ f c) (ap (λ (r : List (List ℕ)). length (fr ++ (r ++ bk))) ex ∙ around-long fr P Q bk b) g in
             let same : b ≡ b′ =
@@ -176,9 +180,11 @@ module _ (κ : Cipher) (L : Lawful κ) (j : ℕ) (x y : List ℕ) (hx : AllBytes
     message-told e =
         let n = κ .size in
         let c = start κ key nonce (length other) (length x) in
-        let end : (t : List ℕ) → blocks n other ++ blocks n t ≡ blocks n other ++ (blocks n t ++ []) = λ t. ap (λ (r : List (List ℕ)). blocks n other ++ r) (sym (append-nil (blocks n t))) in
+        let end : (t : List ℕ) → blocks n other ++ blocks n t ≡ blocks n other ++ (blocks n t ++ []) = λ t. ap (λ (r : List (List ℕ)). blocks n other ++ r)
+        (sym (append-nil (blocks n t))) in
         text-told c other-blocks none
-        (subst (λ (f : ℕ). Good κ f c) (sym (ap length (sym (end x)) ∙ length-append (blocks n other) (blocks n x))) (good-start-blocks κ L key nonce hk hv lv other x))
+        (subst (λ (f : ℕ). Good κ f c) (sym (ap length (sym (end x)) ∙ length-append (blocks n other) (blocks n x)))
+        (good-start-blocks κ L key nonce hk hv lv other x))
         (ap (λ (r : List (List ℕ)). image κ (absorb κ c r)) (sym (end x))
         ∙ sym (tag-chain κ L key nonce other x) ∙ e ∙ tag-chain κ L key nonce other y
         ∙ ap₂ (λ (k : ℕ) (r : List (List ℕ)). image κ (absorb κ (start κ key nonce (length other) k) r)) (sym l) (end y))

@@ -47,7 +47,8 @@ module _ (κ : Cipher) (L : Lawful κ) (j : ℕ) where
         ∙ sym (front d (C (length y)) y hy (subst (λ (k : ℕ). j * n < k) l inside))
 
     -- two ciphertexts that differ in the last block alone: equal tags only if they are equal
-    pub last-told : Block 16 key → AllBytes nonce → length nonce ≡ nonceSize κ → AllBytes ad → tagOut κ true key nonce ad x ≡ tagOut κ true key nonce ad y → x ≡ y
+    pub last-told : Block 16 key → AllBytes nonce → length nonce ≡ nonceSize κ → AllBytes ad → tagOut κ true key nonce ad x ≡ tagOut κ true key nonce ad y
+        → x ≡ y
     last-told hk hv lv ha e =
         let n = κ .size in
         let u = textOut κ true key nonce ad x in

@@ -96,7 +96,8 @@ module _ (κ : Cipher) (L : Lawful κ) where
   next-same : (f : ℕ) (c c′ : Chain) (b : List ℕ) → Good κ (suc f) c → Good κ (suc f) c′ → c .left ≡ c′ .left → AllBytes b → length b ≡ κ .size
       → (next c b .Y ≡ next c′ b .Y) ↔ ((c .Y ≡ c′ .Y) ⊎ Complements (κ .size) (image κ c) (image κ c′))
   next-same f c c′ b g g′ el hb full =
-      let y = y-same (κ .size) (L .sizes) b (image κ c) (image κ c′) (record { long = full; bytes = hb }) (image-block κ L (suc f) c g) (image-block κ L (suc f) c′ g′) in (
+      let y = y-same (κ .size) (L .sizes) b (image κ c) (image κ c′) (record { long = full; bytes = hb }) (image-block κ L (suc f) c g)
+      (image-block κ L (suc f) c′ g′) in (
         λ e. elim (y .0 (sym (next-Y c b full) ∙ e ∙ next-Y c′ b full)) [ inl q ↦ inl (image-told κ L (suc f) c c′ g g′ el q) | inr o ↦ inr o ],
         λ w. next-Y c b full ∙ y .1 (elim w [ inl q ↦ inl (ap (image κ) (same-chain c c′ q el)) | inr o ↦ inr o ]) ∙ sym (next-Y c′ b full),
       )
@@ -150,7 +151,8 @@ module _ (κ : Cipher) (L : Lawful κ) where
     )
     tags-same c c′ (more {b = b} {bs = bs} hb lb hbs) hf g g′ el =
         let n = next-same (length bs) c c′ b g g′ el hb (hf 0 (omega arith)) in
-        let r = tags-same (next c b) (next c′ b) hbs (λ i h. hf (suc i) (omega arith)) (good-message κ L true (length bs) c b g hb lb) (good-message κ L true (length bs) c′ b g′ hb lb)
+        let r = tags-same (next c b) (next c′ b) hbs (λ i h. hf (suc i) (omega arith)) (good-message κ L true (length bs) c b g hb lb)
+        (good-message κ L true (length bs) c′ b g′ hb lb)
         (absorbed-left κ L c c′ (message κ true c b) (message κ true c′ b) el) in (
           λ e. elim (r .0 e) [
             | inl y ↦ elim (n .0 y) [ inl q ↦ inl q | inr o ↦ inr (0, omega arith, omega arith, o) ]
@@ -159,7 +161,8 @@ module _ (κ : Cipher) (L : Lawful κ) where
           λ w. r .1 (back n w),
         )
       where
-        back : ((next c b .Y ≡ next c′ b .Y) ↔ ((c .Y ≡ c′ .Y) ⊎ Complements (κ .size) (image κ c) (image κ c′))) → (c .Y ≡ c′ .Y) ⊎ Complemented 0 c c′ (b ∷ bs) (b ∷ bs)
+        back : ((next c b .Y ≡ next c′ b .Y) ↔ ((c .Y ≡ c′ .Y) ⊎ Complements (κ .size) (image κ c) (image κ c′)))
+            → (c .Y ≡ c′ .Y) ⊎ Complemented 0 c c′ (b ∷ bs) (b ∷ bs)
             → (next c b .Y ≡ next c′ b .Y) ⊎ Complemented 0 (next c b) (next c′ b) bs bs
         back n (inl y) = inl (n .1 (inl y))
         back n (inr (zero, z, h, o)) = inl (n .1 (inr o))

@@ -25,7 +25,8 @@ four-xor : (k : ℕ) (x y : Four)
     → bytesOf k (four (xor (x .X3) (y .X3)) (xor (x .X2) (y .X2)) (xor (x .X1) (y .X1)) (xor (x .X0) (y .X0))) ≡ xors (bytesOf k x) (bytesOf k y)
 four-xor k x y =
     ap₂ (λ (p q : List ℕ). p ++ q) (two-xor k (x .X0) (x .X1) (y .X0) (y .X1)) (two-xor k (x .X2) (x .X3) (y .X2) (y .X3))
-    ∙ sym (xors-append (bytes k (x .X0) ++ bytes k (x .X1)) (bytes k (x .X2) ++ bytes k (x .X3)) (bytes k (y .X0) ++ bytes k (y .X1)) (bytes k (y .X2) ++ bytes k (y .X3))
+    ∙ sym (xors-append (bytes k (x .X0) ++ bytes k (x .X1)) (bytes k (x .X2) ++ bytes k (x .X3)) (bytes k (y .X0) ++ bytes k (y .X1))
+    (bytes k (y .X2) ++ bytes k (y .X3))
     (length-two k (x .X0) (x .X1) ∙ sym (length-two k (y .X0) (y .X1))))
 
 -- a block is its four words
@@ -63,7 +64,8 @@ module _ (n : ℕ) (sizes : (n ≡ 16) ⊎ (n ≡ 8)) where
       let pos : 0 < k = quarter in
       let la : length a ≡ n = ha .long in
       let lb : length b ≡ n = hb .long in
-      let at : (i : ℕ) → i + k ≤ n → word k (xors a b) i ≡ xor (word k a i) (word k b i) = λ i h. word-xors k a b i (ha .bytes) (hb .bytes) (omega arith) (omega arith) in
+      let at : (i : ℕ) → i + k ≤ n → word k (xors a b) i ≡ xor (word k a i) (word k b i) = λ i h. word-xors k a b i (ha .bytes) (hb .bytes) (omega arith)
+      (omega arith) in
       let fits : (l : List ℕ) (i : ℕ) → AllBytes l → word k l i < 2 ^ w = λ l i h. subst (λ (m : ℕ). word k l i < m) (reach k) (word-lt k l i h) in
       let turn : rotr w 1 (word k (xors a b) (2 * k)) ≡ xor (rotr w 1 (word k a (2 * k))) (rotr w 1 (word k b (2 * k))) =
       ap (rotr w 1) (at (2 * k) (omega arith)) ∙ rotl-xor w (w - 1) (omega arith) (fits a (2 * k) (ha .bytes)) (fits b (2 * k) (hb .bytes)) in

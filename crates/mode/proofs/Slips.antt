@@ -16,7 +16,8 @@ use Rattle.block.proofs.Xors.{xors-comm, xors-inj}
 use Rattle.cipher.specs.Cipher.{Cipher, Lawful, Block}
 use Rattle.mode.specs.Blocks.{blocks}
 use Rattle.mode.specs.Words.{shuffle}
-use Rattle.mode.specs.Mode.{CipherCall, Chain, Trail, enciphered, startCall, nextCall, image, nonceSize, start, absorbed, masked, message, trail, after, absorb, afterData, tagOut, calls}
+use Rattle.mode.specs.Mode.{CipherCall, Chain, Trail, enciphered, startCall, nextCall, image, nonceSize, start, absorbed, masked, message, trail, after}
+use Rattle.mode.specs.Mode.{absorb, afterData, tagOut, calls}
 use Rattle.mode.specs.Slips.{outputAt, ComplementFrom, ChangedIn, in-data, in-text, FullFrom, SlipsThrough}
 use Rattle.mode.proofs.Blocks.{AllBlocks, all-blocks, blocks-split, as-many, first-blocks}
 use Rattle.mode.proofs.Words.{shuffle-block}
@@ -118,7 +119,8 @@ module _ (κ : Cipher) (L : Lawful κ) where
                 let lb : length b ≡ min n (length c - k) = length-take n (drop k c) ∙ ap (min n) (length-drop k c) in
                 let lb′ : length b′ ≡ min n (length c′ - k) = length-take n (drop k c′) ∙ ap (min n) (length-drop k c′) in
                 let later : Full κ L Q = λ i hi.
-                sym (ap length (ap (λ (bs : List (List ℕ)). getD bs (length P + suc i) []) ec ∙ getD-append-add P (b ∷ Q) (suc i) [])) ∙ full (length P + suc i) (omega arith) (omega arith) in
+                sym (ap length (ap (λ (bs : List (List ℕ)). getD bs (length P + suc i) []) ec ∙ getD-append-add P (b ∷ Q) (suc i) []))
+                ∙ full (length P + suc i) (omega arith) (omega arith) in
                 let s : Meets κ L d (suc (length P)) (A (length c)) (A (length c)) (P ++ (b ∷ Q)) (P ++ (b′ ∷ Q)) =
                 block-meets (A (length c)) b b′
                 (all-blocks (length p) n pos p (le-refl (length p)) (all-take k c hc))

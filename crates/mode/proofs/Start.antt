@@ -92,7 +92,8 @@ module _ (κ : Cipher) (L : Lawful κ) (key nonce : List ℕ) (hk : Block 16 key
       subst (Block 16) (sym (startZ-narrow κ key nonce e))
       (record {
         long = length-append (xors (take 15 key) nonce) (drop 15 key) ∙ omega (arith, length-drop 15 key);
-        bytes = all-append (xors (take 15 key) nonce) (drop 15 key) (all-xors (take 15 key) nonce (all-take 15 key (hk .bytes)) hv) (all-drop 15 key (hk .bytes));
+        bytes = all-append (xors (take 15 key) nonce) (drop 15 key) (all-xors (take 15 key) nonce (all-take 15 key (hk .bytes)) hv)
+            (all-drop 15 key (hk .bytes));
       })
 
   pub good-start : (a m : ℕ) → Good κ (length (lengths (κ .size) a) + length (lengths (κ .size) m)) (start κ key nonce a m)

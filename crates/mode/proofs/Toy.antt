@@ -15,7 +15,8 @@ toy-lawful : Lawful toy
 toy-lawful = record { sizes = inr refl; image = λ k b hk hb. hb; one-to-one = λ k b b′ hk hb hb′ e. e }
 
 pub toy-holds : Toy
-unfolding xor value bytes chop blocks chopLengths lengths doubleBy shuffle pad textMarks marks marked onLow nextKey keys startY startZ start absorbed masked message trail afterData tagOut calls outputAt
+unfolding xor value bytes chop blocks chopLengths lengths doubleBy shuffle pad textMarks marks marked
+    onLow nextKey keys startY startZ start absorbed masked message trail afterData tagOut calls outputAt
 toy-holds =
     record {
       lawful = toy-lawful;

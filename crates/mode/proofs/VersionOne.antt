@@ -50,7 +50,8 @@ module _ (n : ℕ) (E : List ℕ → List ℕ → List ℕ) where
   unfolding startY startZ
   begin-is key nonce = by (eqb n 16)
     where
-      by : (b : Bool) → carried (cond b key (E key (cond b nonce (replicate 8 0)))) (cond b (E key (cond b nonce (replicate 8 0))) (xors (take 15 key) nonce ++ drop 15 key))
+      by : (b : Bool) → carried (cond b key (E key (cond b nonce (replicate 8 0))))
+          (cond b (E key (cond b nonce (replicate 8 0))) (xors (take 15 key) nonce ++ drop 15 key))
           ≡ cond b (carried key (E key nonce)) (carried (E key (replicate 8 0)) (xors (take 15 key) nonce ++ drop 15 key))
       by true = refl
       by false = refl

@@ -17,8 +17,10 @@ use Rattle.cipher.specs.Cipher.{Cipher, Lawful, Block}
 use Rattle.mode.specs.Blocks.{blocks, lengths}
 use Rattle.mode.specs.Words.{shuffle, pad}
 use Rattle.mode.specs.Keys.{shortMark, textMarks, placed, marks, keys}
-use Rattle.mode.specs.Mode.{Chain, firstKey, laterKeys, start, image, absorbed, masked, message, trail, after, crypted, absorb, afterData, textOut, tagOut}
-use Rattle.mode.specs.Walk.{States, chainOf, whole, blockKey, blockZ, markOf, imageOf, turned, hidden, messageOf, walked, covered, tagged, origin, dataDone}
+use Rattle.mode.specs.Mode.{Chain, firstKey, laterKeys, start, image, absorbed, masked, message, trail, after, crypted, absorb, afterData, textOut}
+use Rattle.mode.specs.Mode.{tagOut}
+use Rattle.mode.specs.Walk.{States, chainOf, whole, blockKey, blockZ, markOf, imageOf, turned, hidden, messageOf, walked, covered, tagged, origin}
+use Rattle.mode.specs.Walk.{dataDone}
 use Rattle.mode.proofs.Blocks.{sizes, blocks-sizes, blocks-nil, blocks-more, blocks-turn, AllBlocks, none, more}
 use Rattle.mode.proofs.Words.{pad-block}
 use Rattle.mode.proofs.Keys.{short-lt}
@@ -55,7 +57,8 @@ module _ (κ : Cipher) where
   -- ---- the walk is the chain
 
   -- the chain's next key and the keys after it
-  step-left : (m : ℕ) (s : States) (ms : List ℕ) → chainOf (κ .version) s (m ∷ ms) .left ≡ blockKey (κ .version) m (s .Z) ∷ keys (κ .version) (blockZ (κ .version) m (s .Z)) (placed (κ .version) ms)
+  step-left : (m : ℕ) (s : States) (ms : List ℕ) → chainOf (κ .version) s (m ∷ ms) .left
+      ≡ blockKey (κ .version) m (s .Z) ∷ keys (κ .version) (blockZ (κ .version) m (s .Z)) (placed (κ .version) ms)
   step-left m s ms = block-step (κ .version) m (s .Z) ms
 
   pub turned-chain : (m : ℕ) (s : States) (b : List ℕ) (ms : List ℕ) → absorbed κ (chainOf (κ .version) s (m ∷ ms)) b ≡ chainOf (κ .version) (turned κ m s b) ms
@@ -71,7 +74,8 @@ module _ (κ : Cipher) where
   message-chain d m s b ms = ap (λ (o : List ℕ). cond d o b) (hidden-chain m s b ms)
 
   step-chain : (d : Bool) (m : ℕ) (s : States) (b : List ℕ) (ms : List ℕ)
-      → absorbed κ (chainOf (κ .version) s (m ∷ ms)) (message κ d (chainOf (κ .version) s (m ∷ ms)) b) ≡ chainOf (κ .version) (turned κ m s (messageOf κ d m s b)) ms
+      → absorbed κ (chainOf (κ .version) s (m ∷ ms)) (message κ d (chainOf (κ .version) s (m ∷ ms)) b)
+      ≡ chainOf (κ .version) (turned κ m s (messageOf κ d m s b)) ms
   step-chain d m s b ms = ap (absorbed κ (chainOf (κ .version) s (m ∷ ms))) (message-chain d m s b ms) ∙ turned-chain m s (messageOf κ d m s b) ms
 
   abbrev marksOf : ℕ → ℕ → List (List ℕ) → List ℕ → List ℕ
@@ -99,8 +103,10 @@ module _ (κ : Cipher) where
   -- ---- the whole of it
 
   module _ (pos : 0 < κ .size) (key nonce a t : List ℕ) where
-    marks-walk : (first short : ℕ) (l ms : List ℕ) → textMarks (κ .size) first short (lengths (κ .size) (length l)) ++ ms ≡ marksOf first short (blocks (κ .size) l) ms
-    marks-walk first short l ms = ap (λ (ks : List ℕ). textMarks (κ .size) first short ks ++ ms) (sym (blocks-sizes (κ .size) pos (length l) l (le-refl (length l))))
+    marks-walk : (first short : ℕ) (l ms : List ℕ) → textMarks (κ .size) first short (lengths (κ .size) (length l)) ++ ms
+        ≡ marksOf first short (blocks (κ .size) l) ms
+    marks-walk first short l ms =
+        ap (λ (ks : List ℕ). textMarks (κ .size) first short ks ++ ms) (sym (blocks-sizes (κ .size) pos (length l) l (le-refl (length l))))
 
     data-walk : afterData κ key nonce a (length t) ≡ chainOf (κ .version) (dataDone κ key nonce a) (marksOf 0x20 0x40 (blocks (κ .size) t) [])
     unfolding afterData start marks
@@ -158,9 +164,12 @@ module _ (κ : Cipher) where
 
       pub walked-turn : walked κ d 0 short r (blocks (κ .size) (drop e l)) ≡ walked κ d first short s (blocks (κ .size) (drop i l))
       unfolding walked
-      walked-turn = ap (λ (w : States). walked κ d 0 short w (blocks (κ .size) (drop e l))) next ∙ sym (ap (walked κ d first short s) (blocks-turn (κ .size) pos l i e h q))
+      walked-turn =
+          ap (λ (w : States). walked κ d 0 short w (blocks (κ .size) (drop e l))) next
+          ∙ sym (ap (walked κ d first short s) (blocks-turn (κ .size) pos l i e h q))
 
-      pub covered-turn : (x : List ℕ) → x ≡ hidden κ k s block → x ++ covered κ d 0 short r (blocks (κ .size) (drop e l)) ≡ covered κ d first short s (blocks (κ .size) (drop i l))
+      pub covered-turn : (x : List ℕ) → x ≡ hidden κ k s block → x ++ covered κ d 0 short r (blocks (κ .size) (drop e l))
+          ≡ covered κ d first short s (blocks (κ .size) (drop i l))
       unfolding covered
       covered-turn x ex =
           ap₂ (λ (y : List ℕ) (w : States). y ++ covered κ d 0 short w (blocks (κ .size) (drop e l))) (ex ∙ ap (λ (m : ℕ). hidden κ m s block) (sym ek)) next
@@ -202,9 +211,11 @@ module _ (κ : Cipher) where
         subst (λ (v : List ℕ). Fine (turned κ m s v)) (message-chain d m s b [])
         (turned-fine m s (message κ d c b) hm (all-message κ L d c b hb) (omega (arith, length-message κ L d c b lb)) g)
 
-    pub walked-fine : (d : Bool) (first short : ℕ) (s : States) {bs : List (List ℕ)} → first < 256 → short < 256 → AllBlocks (κ .size) bs → Fine s → Fine (walked κ d first short s bs)
+    pub walked-fine : (d : Bool) (first short : ℕ) (s : States) {bs : List (List ℕ)} → first < 256 → short < 256 → AllBlocks (κ .size) bs → Fine s
+        → Fine (walked κ d first short s bs)
     unfolding walked
     walked-fine d first short s hf hs none g = g
     walked-fine d first short s hf hs (more {b = b} hb lb hbs) g =
         let m = markOf κ first short b in
-        walked-fine d 0 short (turned κ m s (messageOf κ d m s b)) (omega arith) hs hbs (step-fine d m s b (below 8 hf (short-lt (κ .size) short (length b) hs)) hb lb g)
+        walked-fine d 0 short (turned κ m s (messageOf κ d m s b)) (omega arith) hs hbs
+        (step-fine d m s b (below 8 hf (short-lt (κ .size) short (length b) hs)) hb lb g)

@@ -1,4 +1,6 @@
--- COMET over a block cipher, in version 1 (document 01, "Bytes, words and the two states"; source 000, algorithms 1 to 3) or 2 (source 004, sections 3 and 7): the start, the chain, the ciphertext, the tag, and the cipher calls that make them. The versions differ in when a mark is applied and in the doubling, so only in the block keys.
+-- COMET over a block cipher, in version 1 (document 01, "Bytes, words and the two states"; source 000, algorithms 1 to 3) or
+-- 2 (source 004, sections 3 and 7): the start, the chain, the ciphertext, the tag, and the cipher calls that make them. The
+-- versions differ in when a mark is applied and in the doubling, so only in the block keys.
 use Prim.Native.Nat.{ℕ}
 use mathlib.Core.Bool.{Bool, false, cond}
 use mathlib.Core.List.{List, [], _∷_, _++_}

@@ -30,7 +30,8 @@ ComplementBytes =
     → Complements n x x′ ↔ ((i : ℕ) → i < n → getD x′ i 0 ≡ 255 - getD x i 0)
 
 module _ (κ : Cipher) where
-  -- the cipher's output at message block i, counted from 0, when ciphertext c with associated data ad is opened: in the list of its calls the start's comes first, then those of the associated data, then those of the message
+  -- the cipher's output at message block i, counted from 0, when ciphertext c with associated data ad is opened: in the list
+  -- of its calls the start's comes first, then those of the associated data, then those of the message
   unfoldable pub outputAt : List ℕ → List ℕ → List ℕ → List ℕ → ℕ → List ℕ
   outputAt key nonce ad c i = enciphered κ (getD (calls κ true key nonce ad c) (suc (length (blocks (κ .size) ad) + i)) (startCall κ key nonce))
 

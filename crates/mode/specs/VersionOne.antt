@@ -92,7 +92,8 @@ module _ (n : ℕ) (E : List ℕ → List ℕ → List ℕ) where
 abbrev pub Keeps : Cipher → ℕ → (List ℕ → List ℕ → List ℕ) → Type 0
 Keeps κ n E =
     (opening : Bool) (key nonce ad text : List ℕ)
-    → (textOut κ opening key nonce ad text ≡ textWas n E opening key nonce ad text) × (tagOut κ opening key nonce ad text ≡ tagWas n E opening key nonce ad text)
+    → (textOut κ opening key nonce ad text ≡ textWas n E opening key nonce ad text)
+    × (tagOut κ opening key nonce ad text ≡ tagWas n E opening key nonce ad text)
 
 -- in version 1, whatever the cipher
 abbrev pub KeptBytes : Type 0

@@ -16,14 +16,14 @@ pub fn usage(text: &[u8]) {
 pub const NO_JOB: u64 = 4294967296;
 
 // The number that the digits spell; 4,294,967,296 if they spell no number of 32 bits.
-fn digit(n: u64, byte: u8) -> u64
-    requires { ⌜ n ≤ 4294967296 ⌝ }
+fn digit(before: u64, byte: u8) -> u64
+    requires { ⌜ before ≤ 4294967296 ⌝ }
     ensures { λ r. ⌜ r ≤ 4294967296 ⌝ }
 {
     if byte < 48 || 57 < byte {
         return NO_JOB;
     }
-    let value = n * 10 + (byte - 48) as u64;
+    let value = before * 10 + (byte - 48) as u64;
     if NO_JOB < value { NO_JOB } else { value }
 }
 
@@ -42,8 +42,8 @@ fn spelled(digits: &[u8]) -> u64
 // The job that an argument spells; 4,294,967,296 if it spells no number of 32 bits.
 pub fn job(argument: usize) -> u64 {
     let mut digits = [0u8; 16];
-    let n = os::arg(argument, &mut digits);
-    spelled(&digits[..n])
+    let len = os::arg(argument, &mut digits);
+    spelled(&digits[..len])
 }
 
 fn same(first: &[u8], second: &[u8]) -> bool {
@@ -63,8 +63,8 @@ fn same(first: &[u8], second: &[u8]) -> bool {
 // Whether an argument is this word.
 pub fn is_word(argument: usize, word: &[u8]) -> bool {
     let mut given = [0u8; 16];
-    let n = os::arg(argument, &mut given);
-    same(&given[..n], word)
+    let len = os::arg(argument, &mut given);
+    same(&given[..len], word)
 }
 
 // The number of bytes in buf after fd is read to its end; 0 if they fill buf, or if a read fails.
@@ -81,8 +81,8 @@ fn read_whole(fd: i32, buf: &mut [u8]) -> usize {
 // cannot be read to its end, counts as zero bytes.
 pub fn load(argument: usize, buf: &mut [u8]) -> &[u8] {
     let mut path = io::buffer();
-    let n = os::arg(argument, &mut path);
-    let fd = os::open_read(&path[..n]);
+    let len = os::arg(argument, &mut path);
+    let fd = os::open_read(&path[..len]);
     let mut got: usize = 0;
     if 0 <= fd {
         got = read_whole(fd, buf);
@@ -99,7 +99,7 @@ pub fn answered(number: u8, row: usize, file: &[u8], argument: usize) {
         return;
     }
     let mut line = [0u8; 64];
-    let n = answer(&mut line, 0, number, row);
-    let n = end(&mut line, n);
-    program_text::text::write(&line, n);
+    let at = answer(&mut line, 0, number, row);
+    let at = end(&mut line, at);
+    program_text::text::write(&line, at);
 }

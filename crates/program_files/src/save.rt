@@ -36,25 +36,25 @@ fn renamed(name: &[u8], path: &[u8]) -> bool {
     true
 }
 
-// Creates the temporary file that the first n bytes name, and stores its name there.
-fn created(name: &mut [u8], n: usize) -> i32 {
-    if name.len() < n {
+// Creates the temporary file that the first len bytes name, and stores its name there.
+fn created(name: &mut [u8], len: usize) -> i32 {
+    if name.len() < len {
         return -1;
     }
-    os::create_temp(&mut name[0..n])
+    os::create_temp(&mut name[0..len])
 }
 
 // Replaces the file by way of a temporary file beside it. The system creates that with mode 0600: a decrypted draft is
 // never readable by others, not even while it is being written.
 fn replaced(path: &[u8], bytes: &[u8]) -> bool {
     let mut room = io::buffer();
-    let n = put(&mut room, 0, path);
-    let n = put(&mut room, n, &TEMPORARY);
-    let fd = created(&mut room, n);
+    let len = put(&mut room, 0, path);
+    let len = put(&mut room, len, &TEMPORARY);
+    let fd = created(&mut room, len);
     if fd < 0 {
         return failed(path);
     }
-    let name = front(&room, n);
+    let name = front(&room, len);
     if !filled(fd, path, bytes, true) {
         os::unlink(name);
         return false;
@@ -121,6 +121,6 @@ fn save_as(path: &[u8], bytes: &[u8]) -> bool {
 // Writes the file that an argument names; false if that fails, and then the old file is unchanged.
 pub(crate) fn save(argument: usize, bytes: &[u8]) -> bool {
     let mut path = io::buffer();
-    let n = os::arg(argument, &mut path);
-    save_as(&path[..n], bytes)
+    let len = os::arg(argument, &mut path);
+    save_as(&path[..len], bytes)
 }

@@ -49,11 +49,11 @@ fn said(good: bool) -> bool {
 
 // Reads the head of the next call; false at the end of the input, or if it ends inside the head.
 pub fn next(head: &mut [u8; HEAD_LEN]) -> bool {
-    let n = io::read_full(STDIN_FILENO, head);
-    if n == 0 {
+    let got = io::read_full(STDIN_FILENO, head);
+    if got == 0 {
         return false;
     }
-    said(n == HEAD_LEN)
+    said(got == HEAD_LEN)
 }
 
 // Writes the lines of a call, the first len bytes of a text; false if there are none: the call was bad.

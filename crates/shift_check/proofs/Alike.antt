@@ -14,7 +14,8 @@ use Rattle.shift_format.specs.declared.row.Row.{Row}
 use Rattle.shift_check.specs.Search.{anyBelow}
 use Rattle.shift_format.specs.Part.{stretch}
 use Rattle.shift_format.specs.Format.{editionOf, countOf, totalOf, rowSizeOf, rowStart, restStart, rowAt, nonceStart, nonceAt, nonceReadAt, bodyEnd}
-use Rattle.shift_check.specs.Check.{outside, notAbove, badSuite, badLength, bodyStart, misplaced, unreadSet, clash, nonceSeen, badData, bodyNumber, rowNumber, headNumber}
+use Rattle.shift_check.specs.Check.{outside, notAbove, badSuite, badLength, bodyStart, misplaced, unreadSet, clash, nonceSeen, badData, bodyNumber}
+use Rattle.shift_check.specs.Check.{rowNumber, headNumber}
 use Rattle.shift_format.proofs.Rows.{row-below, row-late}
 
 pub any-same : (p q : ℕ → Bool) (n : ℕ) → ((k : ℕ) → k < n → p k ≡ q k) → anyBelow p n ≡ anyBelow q n
@@ -41,7 +42,8 @@ module _ (f g : List ℕ) where
 
   part-same : (n at : ℕ) → Agree at n → part n f at ≡ part n g at
   part-same zero at h = refl
-  part-same (suc n) at h = ap₂ (λ (x : ℕ) (l : List ℕ). x ∷ l) (h at (omega arith) (omega arith)) (part-same n (at + 1) (λ k l m. h k (omega arith) (omega arith)))
+  part-same (suc n) at h = ap₂ (λ (x : ℕ) (l : List ℕ). x ∷ l) (h at (omega arith) (omega arith))
+      (part-same n (at + 1) (λ k l m. h k (omega arith) (omega arith)))
 
   pub word-same : (n at : ℕ) → Agree at n → word n f at ≡ word n g at
   word-same n at h = ap value (part-same n at h)
@@ -109,15 +111,18 @@ module _ (f g : List ℕ) where
         where
           clash-same : (k : ℕ) → k < n → clash w f i k ≡ clash w g i k
           clash-same k l =
-              ap₂ (λ (r q : Row). eqb (r .suite) (q .suite) && (eqb (r .key) (q .key) && sameBytes (nonceReadAt w f i) (nonceReadAt w f k))) (row-same i h) (row-same k l)
-              ∙ ap₂ (λ (s t : List ℕ). eqb (rowAt w g i .suite) (rowAt w g k .suite) && (eqb (rowAt w g i .key) (rowAt w g k .key) && sameBytes s t)) (read-same i h) (read-same k l)
+              ap₂ (λ (r q : Row). eqb (r .suite) (q .suite) && (eqb (r .key) (q .key) && sameBytes (nonceReadAt w f i) (nonceReadAt w f k))) (row-same i h)
+              (row-same k l)
+              ∙ ap₂ (λ (s t : List ℕ). eqb (rowAt w g i .suite) (rowAt w g k .suite) && (eqb (rowAt w g i .key) (rowAt w g k .key) && sameBytes s t))
+              (read-same i h) (read-same k l)
 
       -- of a row that passes in g, only 30 is left in f
       pub row-number-last : (i : ℕ) → i < n → rowNumber w g n i ≡ 0 → rowNumber w f n i ≡ cond (badData f (rowAt w g i)) 30 0
       unfolding rowNumber bodyNumber
       row-number-last i h z =
           simp (above-same i h, row-same i h, misplaced-same i h, unread-same i h, seen-same i h)
-          (ladder-last (notAbove w g i) (badSuite (rowAt w g i)) (badLength (rowAt w g i)) (misplaced w g n i) (unreadSet w g i) (nonceSeen w g i) (badData f (rowAt w g i)) (badData g (rowAt w g i)) z)
+          (ladder-last (notAbove w g i) (badSuite (rowAt w g i)) (badLength (rowAt w g i)) (misplaced w g n i) (unreadSet w g i) (nonceSeen w g i)
+          (badData f (rowAt w g i)) (badData g (rowAt w g i)) z)
 
       pub count-same : countOf f ≡ countOf g
       unfolding rowStart

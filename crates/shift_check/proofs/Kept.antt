@@ -61,7 +61,8 @@ module _ (f g : List ℕ) (long : length g ≡ length f) where
         thirty false m q e = absurd (let z : _≡_ {A = ℕ} 0 1 = ap (λ (b : Bool). cond b 1 0) (sym (ap (λ (k : ℕ). not (eqb k 0)) q) ∙ e) in omega arith)
 
   -- of an edition that is taken and whose rows are as long
-  pub check-kept : (a b low high : ℕ) → Passes low high f → outside a b (editionOf g) ≡ false → rowSizeOf g ≡ rowSizeOf f → AgreeTable g f long (rowSizeOf f) (countOf f)
+  pub check-kept : (a b low high : ℕ) → Passes low high f → outside a b (editionOf g) ≡ false → rowSizeOf g ≡ rowSizeOf f
+      → AgreeTable g f long (rowSizeOf f) (countOf f)
       → checkBetween a b g ≡ badFrom (rowSizeOf f) f g (countOf f)
   unfolding checkBetween
   check-kept a b low high p o q table =
@@ -100,7 +101,8 @@ module _ (f g : List ℕ) (long : length g ≡ length f) (low high : ℕ) (p : P
   pub body-check : checkBetween low high g ≡ cond (badData g (rowAt w f i)) (answer 30 i) (answer 0 0)
   unfolding bodyEnd
   body-check =
-      check-kept f g long low high low high p (ap (outside low high) body-edition ∙ taken low high _ (p .head .from) (p .head .to)) (ap rowSize body-edition) body-table
+      check-kept f g long low high low high p (ap (outside low high) body-edition ∙ taken low high _ (p .head .from) (p .head .to))
+      (ap rowSize body-edition) body-table
       ∙ first-only _ _ _ (countOf f) i within
       (λ j l ne.
       let s = p .walk .rows j l in
@@ -109,7 +111,8 @@ module _ (f g : List ℕ) (long : length g ≡ length f) (low high : ℕ) (p : P
 -- ---- the editions that readers take
 
 -- both editions are taken
-same-head : (e : ℕ) (f : List ℕ) → outside firstEdition newest (editionOf f) ≡ false → outside e e (editionOf f) ≡ false → headNumber firstEdition newest f ≡ headNumber e e f
+same-head : (e : ℕ) (f : List ℕ) → outside firstEdition newest (editionOf f) ≡ false → outside e e (editionOf f) ≡ false
+    → headNumber firstEdition newest f ≡ headNumber e e f
 unfolding headNumber
 same-head e f a b = simp (a, b)
 

@@ -34,7 +34,8 @@ filled-same s t l = same-case (sameBytes (filled s) (filled t)) (sameBytes s t) 
     same-case true true p q = refl
     same-case false false p q = refl
     same-case true false p q =
-        let e : s ≡ t = sym (take-append-seam s (replicate (16 - length s) 0)) ∙ ap₂ take l (same-true (filled s) (filled t) p) ∙ take-append-seam t (replicate (16 - length t) 0) in
+        let e : s ≡ t = sym (take-append-seam s (replicate (16 - length s) 0)) ∙ ap₂ take l (same-true (filled s) (filled t) p)
+        ∙ take-append-seam t (replicate (16 - length t) 0) in
         sym (same-refl t) ∙ ap (λ (u : List ℕ). sameBytes u t) (sym e) ∙ q
     same-case false true p q =
         sym p ∙ ap (λ (u : List ℕ). sameBytes (filled u) (filled t)) (same-true s t q) ∙ same-refl (filled t)

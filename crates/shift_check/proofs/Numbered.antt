@@ -12,7 +12,8 @@ use Rattle.block.proofs.Ladder.{rung}
 use Rattle.status.specs.declared.checked.Answer.{Answer}
 use Rattle.shift_format.specs.Format.{editionOf, countOf, totalOf, rowSizeOf, rowStart, rowAt}
 use Rattle.status.specs.Answers.{answer, Ranged}
-use Rattle.shift_check.specs.Check.{outside, notAbove, badSuite, badLength, misplaced, unreadSet, nonceSeen, badData, bodyStart, rowNumber, bodyNumber, headNumber, endAnswer, rowsFrom, checkBetween}
+use Rattle.shift_check.specs.Check.{outside, notAbove, badSuite, badLength, misplaced, unreadSet, nonceSeen, badData, bodyStart, rowNumber, bodyNumber}
+use Rattle.shift_check.specs.Check.{headNumber, endAnswer, rowsFrom, checkBetween}
 use Rattle.shift_check.proofs.Searches.{first-says}
 
 -- 0, or from low to high, or 34

@@ -128,7 +128,8 @@ unfolding clash markOf
 clash-marks w f i j si sj e =
     let p = both-true (eqb (rowAt w f i .suite) (rowAt w f j .suite)) _ e in
     let q = both-true (eqb (rowAt w f i .key) (rowAt w f j .key)) _ (p .1) in
-    let n : nonceAt w f i ≡ nonceAt w f j = spare-nonce w f i si ∙ ap filled (same-true (nonceReadAt w f i) (nonceReadAt w f j) (q .1)) ∙ sym (spare-nonce w f j sj) in
+    let n : nonceAt w f i ≡ nonceAt w f j = spare-nonce w f i si ∙ ap filled (same-true (nonceReadAt w f i) (nonceReadAt w f j) (q .1))
+    ∙ sym (spare-nonce w f j sj) in
     ap₂ (λ (s k : ℕ). mixed s k (nonceWord (nonceAt w f i))) (eqb-true _ _ (p .0)) (eqb-true _ _ (q .0))
     ∙ ap (λ (s : List ℕ). mixed (rowAt w f j .suite) (rowAt w f j .key) (nonceWord s)) n
 

@@ -12,7 +12,8 @@ use Rattle.block.proofs.Ladder.{not-taken}
 use Rattle.cipher.specs.Cipher.{isSuite, IsSuite, limit}
 use Rattle.shift_format.specs.declared.row.Row.{Row}
 use Rattle.shift_format.specs.Format.{editionOf, countOf, totalOf, rowSizeOf, rowStart, rowAt, bodyEnd}
-use Rattle.shift_check.specs.Check.{notAbove, outside, badSuite, badLength, bodyStart, misplaced, unreadSet, nonceSeen, badData, bodyNumber, rowNumber, headNumber}
+use Rattle.shift_check.specs.Check.{notAbove, outside, badSuite, badLength, bodyStart, misplaced, unreadSet, nonceSeen, badData, bodyNumber, rowNumber}
+use Rattle.shift_check.specs.Check.{headNumber}
 use Rattle.shift_format.specs.Inside.{TableIn}
 use Rattle.shift_format.proofs.Rows.{row-broad}
 

@@ -10,7 +10,8 @@ use Rattle.cipher.specs.Cipher.{isSuite, limit}
 use Rattle.shift_format.specs.declared.row.Row.{Row}
 use Rattle.status.specs.declared.checked.Answer.{Answer}
 use Rattle.shift_check.specs.Search.{anyBelow, firstOf}
-use Rattle.shift_format.specs.Format.{editionOf, countOf, totalOf, firstEdition, newest, rowSizeOf, rowStart, rowAt, nonceAt, nonceReadAt, bodyEnd, dataJob, unitOf, isUnit}
+use Rattle.shift_format.specs.Format.{editionOf, countOf, totalOf, firstEdition, newest, rowSizeOf, rowStart, rowAt, nonceAt, nonceReadAt, bodyEnd, dataJob}
+use Rattle.shift_format.specs.Format.{unitOf, isUnit}
 use Rattle.status.specs.Answers.{answer}
 
 -- 25: job number not above the row before (row 0: any)

@@ -19,7 +19,8 @@ ghost use Prim.Native.Nat.{_+_, _≤_, _<_};
 ghost use lib.ListN.{length};
 ghost use Rattle.shift_format.specs.Format.{rowAt};
 ghost use Rattle.status.specs.Answers.{rowNumberOf};
-ghost use Rattle.shift_check.specs.Check.{notAbove, outside, badSuite, badLength, bodyStart, misplaced, unreadSet, clash, nonceSeen, badData, bodyNumber, rowNumber};
+ghost use Rattle.shift_check.specs.Check.{notAbove, outside, badSuite, badLength, bodyStart, misplaced, unreadSet, clash, nonceSeen};
+ghost use Rattle.shift_check.specs.Check.{badData, bodyNumber, rowNumber};
 ghost use Rattle.shift_format.specs.Inside.{RowIn, TableIn};
 ghost use Rattle.shift_check.specs.Spared.{Spared};
 ghost use Rattle.shift_check.specs.Marks.{Sieved};
@@ -37,14 +38,14 @@ fn not_above(size: usize, file: &[u8], rows: usize, index: usize) -> bool
     row.job <= before.job
 }
 
-// x is outside low to high.
-pub(crate) fn outside(low: u16, high: u16, x: u16) -> bool
-    ensures { λ r. ⌜ r ≡ outside low high x ⌝ }
+// The value is outside low to high.
+pub(crate) fn outside(low: u16, high: u16, value: u16) -> bool
+    ensures { λ r. ⌜ r ≡ outside low high value ⌝ }
 {
-    if x < low {
+    if value < low {
         return true;
     }
-    high < x
+    high < value
 }
 
 // 26: no such suite, or no such key.
@@ -103,18 +104,19 @@ fn unread_set(size: usize, file: &[u8], index: usize, row: Row) -> bool
 }
 
 // Two rows have the same suite and the same key number.
-fn same_key(a: Row, b: Row) -> bool
-    ensures { λ r. ⌜ r ≡ (eqb (a .suite) (b .suite) && eqb (a .key) (b .key)) ⌝ }
+fn same_key(this: Row, earlier: Row) -> bool
+    ensures { λ r. ⌜ r ≡ (eqb (this .suite) (earlier .suite) && eqb (this .key) (earlier .key)) ⌝ }
 {
-    if a.suite != b.suite {
+    if this.suite != earlier.suite {
         return false;
     }
-    a.key == b.key
+    this.key == earlier.key
 }
 
 // Two rows clash. The bytes that a suite does not read are zero (34), so comparing all sixteen bytes compares those that it reads.
 fn clashes(size: usize, file: &[u8], rows: usize, index: usize, other: usize) -> bool
-    requires { ⌜ TableIn size (now file) rows × ((index < rows) × ((other < rows) × ((unreadSet size (now file) index ≡ false) × (unreadSet size (now file) other ≡ false)))) ⌝ }
+    requires { ⌜ TableIn size (now file) rows
+        × ((index < rows) × ((other < rows) × ((unreadSet size (now file) index ≡ false) × (unreadSet size (now file) other ≡ false)))) ⌝ }
     ensures { λ r. ⌜ r ≡ clash size (now (file .entry)) index other ⌝ }
 {
     let this = nonce_block(size, file, index);
@@ -178,7 +180,9 @@ fn check_body(
     marked: bool,
     start: usize,
 ) -> RowCheck
-    requires { ⌜ TableIn size (now file) rows × ((index < rows) × ((row ≡ rowAt size (now file) index) × ((badLength row ≡ false) × (Spared size (now file) index × (Sieved size (now file) index marked × (start ≡ bodyStart size (now file) rows index)))))) ⌝ }
+    requires { ⌜ TableIn size (now file) rows
+        × ((index < rows) × ((row ≡ rowAt size (now file) index) × ((badLength row ≡ false)
+        × (Spared size (now file) index × (Sieved size (now file) index marked × (start ≡ bodyStart size (now file) rows index)))))) ⌝ }
     ensures { λ r. ⌜ rowNumberOf r ≡ bodyNumber size (now (file .entry)) rows index ⌝ }
 {
     if misplaced(size, file, rows, index, start) {
@@ -205,7 +209,8 @@ pub(crate) fn check_row(
     marked: bool,
     start: usize,
 ) -> RowCheck
-    requires { ⌜ TableIn size (now file) rows × ((index < rows) × (Spared size (now file) index × (Sieved size (now file) index marked × (start ≡ bodyStart size (now file) rows index)))) ⌝ }
+    requires { ⌜ TableIn size (now file) rows
+        × ((index < rows) × (Spared size (now file) index × (Sieved size (now file) index marked × (start ≡ bodyStart size (now file) rows index)))) ⌝ }
     ensures { λ r. ⌜ rowNumberOf r ≡ rowNumber size (now (file .entry)) rows index ⌝ }
 {
     let row = row_at(size, file, index);

@@ -22,7 +22,8 @@ module _ (f g x y z : List ℕ) where
   unfolding comparison
   first-refused r p = simp (p, ne-eqb _ _ (refusal-some r))
 
-  pub second-refused : (r : Refusal) → checkFile f .number ≡ 0 → checkFile g ≡ refusalAnswer r → comparison f g x y z ≡ stopped (refusedIn 2 (refusalAnswer r)) x y z
+  pub second-refused : (r : Refusal) → checkFile f .number ≡ 0 → checkFile g ≡ refusalAnswer r
+      → comparison f g x y z ≡ stopped (refusedIn 2 (refusalAnswer r)) x y z
   unfolding comparison
   second-refused r p q = simp (p, q, ne-eqb _ _ (refusal-some r))
 
@@ -37,7 +38,8 @@ module _ (f g x y z : List ℕ) where
 
     -- a pass that writes nothing needs no room
     pub counting : Passable f g false x y z
-    counting = record { sound = s; first = λ w. absurd (true≢false (sym w)); second = λ w. absurd (true≢false (sym w)); differ = λ w. absurd (true≢false (sym w)) }
+    counting =
+        record { sound = s; first = λ w. absurd (true≢false (sym w)); second = λ w. absurd (true≢false (sym w)); differ = λ w. absurd (true≢false (sym w)) }
 
     pub writing : tooLong f g x y z ≡ false → Passable f g true x y z
     writing t =
@@ -46,7 +48,12 @@ module _ (f g x y z : List ℕ) where
         record { sound = s; first = λ w. ltb-false _ _ (a .0); second = λ w. ltb-false _ _ (b .0); differ = λ w. ltb-false _ _ (b .1) }
 
     pub all-listed : tooLong f g x y z ≡ false → (n : Counts) (x′ y′ z′ : List ℕ) → Passed f g true x y z n x′ y′ z′
-        → _≡_ {A = Comparison} (record { finding = record { number = 0; file = 0; row = 0; first = n .first; second = n .second; differ = n .differ }; first = x′; second = y′; differ = z′ }) (comparison f g x y z)
+        → _≡_ {A = Comparison} (record {
+          finding = record { number = 0; file = 0; row = 0; first = n .first; second = n .second; differ = n .differ };
+          first = x′;
+          second = y′;
+          differ = z′;
+        }) (comparison f g x y z)
     all-listed t n x′ y′ z′ h = simp (lists-fit t, h .counts, h .first, h .second, h .differ)
 
 -- after a pass that only counts: the counts tell whether a list is too long

@@ -28,29 +28,47 @@ module _ (whole rest buffer₀ : List ℕ) (c x : ℕ) (q : x ∷ rest ≡ drop 
       let e = q ∙ drop-cons whole c 0 more in
       ((cc), (cc))
 
-  put : (buffer : List ℕ) → length whole ≤ length buffer₀ → buffer ≡ take c whole ++ drop c buffer₀ → set buffer c x ≡ take (c + 1) whole ++ drop (c + 1) buffer₀
+  put : (buffer : List ℕ) → length whole ≤ length buffer₀ → buffer ≡ take c whole ++ drop c buffer₀
+      → set buffer c x ≡ take (c + 1) whole ++ drop (c + 1) buffer₀
   put buffer room h =
-      rw (h, add-one, take-suc whole c 0 more, drop-cons buffer₀ c 0 (omega (arith, more)), set-at (take c whole) (getD buffer₀ c 0) (drop (suc c) buffer₀) x c (length-take-le c whole (omega (arith, more))), ← next .0, append-snoc)
+      rw (
+        h,
+        add-one,
+        take-suc whole c 0 more,
+        drop-cons buffer₀ c 0 (omega (arith, more)),
+        set-at (take c whole) (getD buffer₀ c 0) (drop (suc c) buffer₀) x c (length-take-le c whole (omega (arith, more))),
+        ← next .0,
+        append-snoc,
+      )
 
 pub filled-step : (write yes : Bool) (whole rest buffer₀ buffer : List ℕ) (c x : ℕ) → (write ≡ true → length whole ≤ length buffer₀)
-    → Filled write whole (cond yes (x ∷ rest) rest) buffer₀ c buffer → Filled write whole rest buffer₀ (cond yes (c + 1) c) (cond (yes && write) (set buffer c x) buffer)
+    → Filled write whole (cond yes (x ∷ rest) rest) buffer₀ c buffer → Filled write whole rest buffer₀ (cond yes (c + 1) c)
+    (cond (yes && write) (set buffer c x) buffer)
 filled-step write false whole rest buffer₀ buffer c x room h = h
 filled-step false true whole rest buffer₀ buffer c x room h =
     record { within = omega (arith, more whole rest buffer₀ c x (h .left)); left = rw add-one (next whole rest buffer₀ c x (h .left) .1); held = h .held }
 filled-step true true whole rest buffer₀ buffer c x room h =
-    record { within = omega (arith, more whole rest buffer₀ c x (h .left)); left = rw add-one (next whole rest buffer₀ c x (h .left) .1); held = put whole rest buffer₀ c x (h .left) buffer (room refl) (h .held) }
+    record {
+      within = omega (arith, more whole rest buffer₀ c x (h .left));
+      left = rw add-one (next whole rest buffer₀ c x (h .left) .1);
+      held = put whole rest buffer₀ c x (h .left) buffer (room refl) (h .held);
+    }
 
-pub filled-length : (write : Bool) (whole rest buffer₀ buffer : List ℕ) (c : ℕ) → (write ≡ true → length whole ≤ length buffer₀) → Filled write whole rest buffer₀ c buffer → length buffer ≡ length buffer₀
+pub filled-length : (write : Bool) (whole rest buffer₀ buffer : List ℕ) (c : ℕ) → (write ≡ true → length whole ≤ length buffer₀)
+    → Filled write whole rest buffer₀ c buffer → length buffer ≡ length buffer₀
 filled-length false whole rest buffer₀ buffer c room h = ap length (h .held)
 filled-length true whole rest buffer₀ buffer c room h =
     let r = room refl in
     ap length (h .held) ∙ simp (length-append, length-take-le c whole (h .within), length-drop) (omega (arith, h .within))
 
 -- where the next is to be put, there is room
-pub filled-room : (write : Bool) (whole rest buffer₀ buffer : List ℕ) (c x : ℕ) → (write ≡ true → length whole ≤ length buffer₀) → Filled write whole (x ∷ rest) buffer₀ c buffer → write ≡ true → c < length buffer
-filled-room write whole rest buffer₀ buffer c x room h w = omega (arith, more whole rest buffer₀ c x (h .left), room w, filled-length write whole (x ∷ rest) buffer₀ buffer c room h)
+pub filled-room : (write : Bool) (whole rest buffer₀ buffer : List ℕ) (c x : ℕ) → (write ≡ true → length whole ≤ length buffer₀)
+    → Filled write whole (x ∷ rest) buffer₀ c buffer → write ≡ true → c < length buffer
+filled-room write whole rest buffer₀ buffer c x room h w =
+    omega (arith, more whole rest buffer₀ c x (h .left), room w, filled-length write whole (x ∷ rest) buffer₀ buffer c room h)
 
-pub filled-end : (write : Bool) (whole buffer₀ buffer : List ℕ) (c : ℕ) → Filled write whole [] buffer₀ c buffer → (c ≡ length whole) × (buffer ≡ cond write (onList whole buffer₀) buffer₀)
+pub filled-end : (write : Bool) (whole buffer₀ buffer : List ℕ) (c : ℕ) → Filled write whole [] buffer₀ c buffer → (c ≡ length whole)
+    × (buffer ≡ cond write (onList whole buffer₀) buffer₀)
 filled-end write whole buffer₀ buffer c h =
     let e : c ≡ length whole = omega (arith, h .within, simp length-drop at (ap length (h .left))) in
     (e, h .held ∙ rw (e, take-length))

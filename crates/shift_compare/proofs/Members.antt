@@ -108,7 +108,17 @@ same-says f g i j q =
 
 pub same-tells : (f g : List ℕ) (i j : ℕ) → Same f g i j → sameEntry f g i j ≡ true
 unfolding sameEntry sameFields
-same-tells f g i j h = simp (eq-eqb _ _ (h .suite), eq-eqb _ _ (h .key), eq-eqb _ _ (h .ad-len), eq-eqb _ _ (h .station), h .nonce, h .body, same-refl (nonceBytes g j), same-refl (bodyOf g j))
+same-tells f g i j h =
+    simp (
+      eq-eqb _ _ (h .suite),
+      eq-eqb _ _ (h .key),
+      eq-eqb _ _ (h .ad-len),
+      eq-eqb _ _ (h .station),
+      h .nonce,
+      h .body,
+      same-refl (nonceBytes g j),
+      same-refl (bodyOf g j),
+    )
 
 pub differ-has : (f g : List ℕ) (job : ℕ) → List·Memᴰ job (differing f g) → Different f g job
 unfolding differing jobAt
@@ -133,6 +143,7 @@ differ-gets f g job h =
       at = i;
       low = omega arith;
       high = omega (arith, h .first .within);
-      hit = any-hit (λ k. has g (jobAt f i) k && not (sameEntry f g i k)) j (countOf g) (h .second .within) (simp (eq-eqb (jobAt g j) (jobAt f i) (h .second .has ∙ sym (h .first .has)), other));
+      hit = any-hit (λ k. has g (jobAt f i) k && not (sameEntry f g i k)) j (countOf g) (h .second .within)
+          (simp (eq-eqb (jobAt g j) (jobAt f i) (h .second .has ∙ sym (h .first .has)), other));
       is = h .first .has;
     })

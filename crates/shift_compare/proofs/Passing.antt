@@ -46,7 +46,8 @@ module _ (write yes : Bool) (whole rest rest′ buffer₀ buffer : List ℕ) (c 
   here : Filled write whole (cond yes (x ∷ rest′) rest′) buffer₀ c buffer
   here = subst (λ (l : List ℕ). Filled write whole l buffer₀ c buffer) q h
 
-  pub go-on : (c′ : ℕ) (buffer′ : List ℕ) → c′ ≡ cond yes (c + 1) c → buffer′ ≡ cond (yes && write) (set buffer c x) buffer → Filled write whole rest′ buffer₀ c′ buffer′
+  pub go-on : (c′ : ℕ) (buffer′ : List ℕ) → c′ ≡ cond yes (c + 1) c → buffer′ ≡ cond (yes && write) (set buffer c x) buffer
+      → Filled write whole rest′ buffer₀ c′ buffer′
   go-on c′ buffer′ m e = rw (m, e) (filled-step write yes whole rest′ buffer₀ buffer c x room here)
 
   taken : yes ≡ true → Filled write whole (x ∷ rest′) buffer₀ c buffer
@@ -83,7 +84,8 @@ unfolding differFrom
 differ-end f g i h = kept-end _ _ i (countOf f) h
 
 -- nothing is left of a list
-ended : (write : Bool) (whole rest buffer₀ buffer : List ℕ) (c : ℕ) → rest ≡ [] → Filled write whole rest buffer₀ c buffer → Filled write whole [] buffer₀ c buffer
+ended : (write : Bool) (whole rest buffer₀ buffer : List ℕ) (c : ℕ) → rest ≡ [] → Filled write whole rest buffer₀ c buffer
+    → Filled write whole [] buffer₀ c buffer
 ended write whole rest buffer₀ buffer c q h = subst (λ (l : List ℕ). Filled write whole l buffer₀ c buffer) q h
 
 module _ (f g : List ℕ) (write : Bool) (x₀ y₀ z₀ : List ℕ) (total i j a b c : ℕ) (x y z : List ℕ) (h : Going f g write x₀ y₀ z₀ total i j a b c x y z) where

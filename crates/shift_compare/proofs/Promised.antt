@@ -14,7 +14,8 @@ use Rattle.shift_format.proofs.Rows.{stretch-length, station-none}
 use Rattle.shift_check.proofs.Passed.{passes, entry-in}
 use Rattle.shift_check.proofs.Searches.{any-hit, any-only}
 use Rattle.shift_compare.specs.Comparing.{bodyOf, sameEntry, jobAt, has, hasJob, differs, onlyIn, differing}
-use Rattle.shift_compare.specs.Promised.{Same, Different, ExactlyListed, ListsRise, EqualRows, WithItself, FilesExchanged, OtherLength, OtherStation, NoStation}
+use Rattle.shift_compare.specs.Promised.{Same, Different, ExactlyListed, ListsRise, EqualRows, WithItself, FilesExchanged, OtherLength, OtherStation}
+use Rattle.shift_compare.specs.Promised.{NoStation}
 use Rattle.shift_compare.proofs.Keeping.{kept-none}
 use Rattle.shift_compare.proofs.Turns.{jobs-rise, others}
 use Rattle.shift_compare.proofs.Members.{same-tells, only-has, only-gets, differ-has, differ-gets}
@@ -56,7 +57,8 @@ no-other f g same =
     kept-none (λ i. not (hasJob g (jobAt f i))) (jobAt f) 0 (countOf f)
     (λ j l h. let s = same j (omega arith) in simp (any-hit (has g (jobAt f j)) j (countOf g) (s .0) (eq-eqb _ _ (s .1))))
 
-no-difference : (f g : List ℕ) → checkFile g .number ≡ 0 → ((i : ℕ) → i < countOf f → (i < countOf g) × (rowOf g i .job ≡ rowOf f i .job) × Same f g i i) → differing f g ≡ []
+no-difference : (f g : List ℕ) → checkFile g .number ≡ 0 → ((i : ℕ) → i < countOf f → (i < countOf g) × (rowOf g i .job ≡ rowOf f i .job) × Same f g i i)
+    → differing f g ≡ []
 unfolding differing jobAt
 no-difference f g z same =
     kept-none (differs f g) (jobAt f) 0 (countOf f)
@@ -86,7 +88,14 @@ other-way : (f g : List ℕ) (job : ℕ) → Different f g job → Different g f
 other-way f g job h = record {
   first = h .second;
   second = h .first;
-  other = λ s. h .other (record { suite = sym (s .suite); key = sym (s .key); ad-len = sym (s .ad-len); nonce = sym (s .nonce); body = sym (s .body); station = sym (s .station) });
+  other = λ s. h .other (record {
+    suite = sym (s .suite);
+    key = sym (s .key);
+    ad-len = sym (s .ad-len);
+    nonce = sym (s .nonce);
+    body = sym (s .body);
+    station = sym (s .station);
+  });
 }
 
 pub files-exchanged : FilesExchanged
@@ -100,7 +109,8 @@ files-exchanged f g p q = record {
 
 -- ---- lengths
 
-body-length : (f : List ℕ) (i : ℕ) → checkFile f .number ≡ 0 → i < countOf f → length (bodyOf f i) ≡ rowOf f i .«ad_len» + rowOf f i .«text_len» + sizeOf (rowOf f i .suite)
+body-length : (f : List ℕ) (i : ℕ) → checkFile f .number ≡ 0 → i < countOf f
+    → length (bodyOf f i) ≡ rowOf f i .«ad_len» + rowOf f i .«text_len» + sizeOf (rowOf f i .suite)
 unfolding bodyEnd
 body-length f i z l =
     let b = entry-in firstEdition newest f (passes firstEdition newest f z) i l .body-in in

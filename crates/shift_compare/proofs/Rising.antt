@@ -25,7 +25,8 @@ unfolding kept
 kept-climbs p what i zero up = tt
 kept-climbs p what i (suc k) up =
     climbs-cond (what i) (kept p what (suc i) k) (p i)
-    (λ y m. let r = kept-has p what (suc i) k y m in subst (λ (z : ℕ). what i < z) (r .is) (up i (r .at) (omega arith) (omega (arith, r .low)) (omega (arith, r .high))))
+    (λ y m. let r = kept-has p what (suc i) k y m in subst (λ (z : ℕ). what i < z) (r .is)
+    (up i (r .at) (omega arith) (omega (arith, r .low)) (omega (arith, r .high))))
     (kept-climbs p what (suc i) k (λ r s l g h. up r s (omega arith) g (omega arith)))
 
 mem-at : (l : List ℕ) (i : ℕ) → i < length l → List·Memᴰ (getD l i 0) l
@@ -42,7 +43,8 @@ climbs-rise (x ∷ l) c (suc i) (suc j) h m = climbs-rise l (c .1) i j (le-of-su
 -- the first number of each is on the other, so both are the lowest
 first-same : (x y : ℕ) (l m : List ℕ) → Climbs (x ∷ l) → Climbs (y ∷ m) → List·Memᴰ x (y ∷ m) → List·Memᴰ y (x ∷ l) → x ≡ y
 first-same x y l m c d p q =
-    ⊎-elim (λ (e : x ≡ y). e) (λ a. ⊎-elim (λ (e : y ≡ x). sym e) (λ b. absurd (omega (arith, c .0 y b, d .0 x a))) (List·Memᴰ·cases-cons q)) (List·Memᴰ·cases-cons p)
+    ⊎-elim (λ (e : x ≡ y). e) (λ a. ⊎-elim (λ (e : y ≡ x). sym e) (λ b. absurd (omega (arith, c .0 y b, d .0 x a))) (List·Memᴰ·cases-cons q))
+    (List·Memᴰ·cases-cons p)
 
 -- what is after the first is on the other list, and is not its first
 behind : (x y z : ℕ) (l m : List ℕ) → Climbs (x ∷ l) → x ≡ y → List·Memᴰ z l → List·Memᴰ z (y ∷ m) → List·Memᴰ z m

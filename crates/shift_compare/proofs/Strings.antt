@@ -21,7 +21,8 @@ split (suc n) (a ∷ x) (b ∷ y) hx hy = ap (λ (t : Bool). eqb a b && t) (spli
 
 module _ (x y : List ℕ) (i e : ℕ) (q : length x ≡ length y) (h : i ≤ e) (k : e ≤ length x) where
   -- from place i on: from i to e, and from e on
-  pub same-turn : (r t : Bool) → r ≡ sameBytes (stretch x i (e - i)) (stretch y i (e - i)) → r ≡ t → sameBytes (drop i x) (drop i y) ≡ t && sameBytes (drop e x) (drop e y)
+  pub same-turn : (r t : Bool) → r ≡ sameBytes (stretch x i (e - i)) (stretch y i (e - i)) → r ≡ t
+      → sameBytes (drop i x) (drop i y) ≡ t && sameBytes (drop e x) (drop e y)
   same-turn r t p u =
       let m : i + (e - i) ≡ e = omega arith in
       split (e - i) (drop i x) (drop i y) (omega (arith, length-drop i x)) (omega (arith, length-drop i y))
@@ -41,7 +42,8 @@ module _ (x y : List ℕ) (i e : ℕ) (q : length x ≡ length y) (h : i ≤ e) 
       ∙ same-behind (stretch x i (e - i)) (stretch y i (e - i)) _ same-length
 
 -- from place i to the end
-pub same-rest : (x y : List ℕ) (i e : ℕ) → length x ≡ length y → i ≤ e → e ≡ length x → (t : Bool) → t ≡ sameBytes (stretch x i (e - i)) (stretch y i (e - i)) → t ≡ sameBytes (drop i x) (drop i y)
+pub same-rest : (x y : List ℕ) (i e : ℕ) → length x ≡ length y → i ≤ e → e ≡ length x → (t : Bool) → t ≡ sameBytes (stretch x i (e - i)) (stretch y i (e - i))
+    → t ≡ sameBytes (drop i x) (drop i y)
 same-rest x y i e q h k t p =
     sym
     (same-turn x y i e q h (omega arith) t t p refl

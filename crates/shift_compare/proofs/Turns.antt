@@ -69,13 +69,20 @@ first-case f g i j h m ahead =
       more = omega arith;
       first = kept-step (λ k. not (hasJob g (jobAt f k))) (jobAt f) i (countOf f) m ∙ simp (any-none (has g (jobAt f i)) (countOf g) no);
       second = refl;
-      differ = kept-step (differs f g) (jobAt f) i (countOf f) m ∙ simp (any-none (λ k. has g (jobAt f i) k && not (sameEntry f g i k)) (countOf g) (λ k l. simp (no k l)));
+      differ = kept-step (differs f g) (jobAt f) i (countOf f) m ∙ simp (any-none (λ k. has g (jobAt f i) k && not (sameEntry f g i k)) (countOf g)
+          (λ k l. simp (no k l)));
     }
 
 -- the second's is below the first's: the same with the files exchanged, and the third list stays
 pub second-case : (f g : List ℕ) (i j : ℕ) → At f g i j → j < countOf g → (i < countOf f → jobAt g j < jobAt f i) → Turned f g i j (secondTurn (jobAt g j) i j)
 second-case f g i j h m ahead =
-    let t = first-case g f j i (record { sound = record { first = h .sound .second; second = h .sound .first }; in-f = h .in-g; in-g = h .in-f; past-f = h .past-g; past-g = h .past-f }) m ahead in
+    let t = first-case g f j i (record {
+      sound = record { first = h .sound .second; second = h .sound .first };
+      in-f = h .in-g;
+      in-g = h .in-f;
+      past-f = h .past-g;
+      past-g = h .past-f;
+    }) m ahead in
     record {
       next = record { sound = h .sound; in-f = h .in-f; in-g = t .next .in-f; past-f = t .next .past-g; past-g = t .next .past-f };
       more = omega arith;

@@ -17,70 +17,73 @@ ghost use Rattle.shift_format.specs.Format.{rowSizeOf, bodyEnd};
 ghost use Rattle.shift_format.specs.Inside.{EntryIn};
 ghost use Rattle.shift_compare.specs.Comparing.{sameFields, sameEntry};
 
-// Whether the bytes from offset i to e, at most sixteen, are equal.
-fn same_part(x: &[u8], y: &[u8], i: usize, e: usize) -> bool
-    requires { ⌜ (length (now x) ≡ length (now y)) × (i ≤ e) × (e ≤ length (now x)) × (e - i ≤ 16) ⌝ }
-    ensures { λ r. ⌜ r ≡ sameBytes (stretch (now (x .entry)) i (e - i)) (stretch (now (y .entry)) i (e - i)) ⌝ }
+// Whether the bytes from offset `start` to `end`, at most sixteen, are equal.
+fn same_part(first: &[u8], second: &[u8], start: usize, end: usize) -> bool
+    requires { ⌜ (length (now first) ≡ length (now second)) × (start ≤ end) × (end ≤ length (now first)) × (end - start ≤ 16) ⌝ }
+    ensures { λ r. ⌜ r ≡ sameBytes (stretch (now (first .entry)) start (end - start)) (stretch (now (second .entry)) start (end - start)) ⌝ }
 {
-    same(filled(&x[i..e]), filled(&y[i..e]))
+    same(filled(&first[start..end]), filled(&second[start..end]))
 }
 
 // Whether all bytes are equal: sixteen at a time, then the rest.
-fn same_bytes(x: &[u8], y: &[u8]) -> bool
-    ensures { λ r. ⌜ r ≡ sameBytes (now (x .entry)) (now (y .entry)) ⌝ }
+fn same_bytes(first: &[u8], second: &[u8]) -> bool
+    ensures { λ r. ⌜ r ≡ sameBytes (now (first .entry)) (now (second .entry)) ⌝ }
 {
-    if x.len() != y.len() {
+    if first.len() != second.len() {
         return false;
     }
     let mut i: usize = 0;
-    while 16 <= x.len() - i {
-        if !same_part(x, y, i, i + 16) {
+    while 16 <= first.len() - i {
+        if !same_part(first, second, i, i + 16) {
             return false;
         }
         i += 16;
     }
-    same_part(x, y, i, x.len())
+    same_part(first, second, i, first.len())
 }
 
 // A row's body, as a part of the file.
-fn body_of(f: &[u8], row: Row) -> &[u8]
-    requires { ⌜ bodyEnd row ≤ length (now f) ⌝ }
-    ensures { λ r. ⌜ now r ≡ stretch (now (f .entry)) (row .«ad_at») (bodyEnd row - row .«ad_at») ⌝ }
+fn body_of(file: &[u8], row: Row) -> &[u8]
+    requires { ⌜ bodyEnd row ≤ length (now file) ⌝ }
+    ensures { λ r. ⌜ now r ≡ stretch (now (file .entry)) (row .«ad_at») (bodyEnd row - row .«ad_at») ⌝ }
 {
     let at = row.ad_at as usize;
-    stretch(f, at, body_end(row) - at)
+    stretch(file, at, body_end(row) - at)
 }
 
 // Suite, key number and associated data length of two rows are equal.
-fn same_fields(x: Row, y: Row) -> bool
-    ensures { λ r. ⌜ r ≡ sameFields x y ⌝ }
+fn same_fields(first: Row, second: Row) -> bool
+    ensures { λ r. ⌜ r ≡ sameFields first second ⌝ }
 {
-    if x.suite != y.suite {
+    if first.suite != second.suite {
         return false;
     }
-    if x.key != y.key {
+    if first.key != second.key {
         return false;
     }
-    x.ad_len == y.ad_len
+    first.ad_len == second.ad_len
 }
 
-// Rows i of f and j of g are the same entry.
-pub(crate) fn same_entry(f: &[u8], g: &[u8], i: usize, j: usize) -> bool
-    requires { ⌜ EntryIn (rowSizeOf (now f)) (now f) i × EntryIn (rowSizeOf (now g)) (now g) j ⌝ }
-    ensures { λ r. ⌜ r ≡ sameEntry (now (f .entry)) (now (g .entry)) i j ⌝ }
+// Row i of the first file and row j of the second are the same entry.
+pub(crate) fn same_entry(first: &[u8], second: &[u8], i: usize, j: usize) -> bool
+    requires { ⌜ EntryIn (rowSizeOf (now first)) (now first) i × EntryIn (rowSizeOf (now second)) (now second) j ⌝ }
+    ensures { λ r. ⌜ r ≡ sameEntry (now (first .entry)) (now (second .entry)) i j ⌝ }
 {
-    let first_size = row_size_of(f);
-    let second_size = row_size_of(g);
-    let first_row = row_at(first_size, f, i);
-    let second_row = row_at(second_size, g, j);
+    let first_size = row_size_of(first);
+    let second_size = row_size_of(second);
+    let first_row = row_at(first_size, first, i);
+    let second_row = row_at(second_size, second, j);
     if !same_fields(first_row, second_row) {
         return false;
     }
-    if station_of(f, i) != station_of(g, j) {
+    if station_of(first, i) != station_of(second, j) {
         return false;
     }
-    if !same_bytes(nonce_at(first_size, f, i), nonce_at(second_size, g, j)) {
+    if !same_bytes(
+        nonce_at(first_size, first, i),
+        nonce_at(second_size, second, j),
+    ) {
         return false;
     }
-    same_bytes(body_of(f, first_row), body_of(g, second_row))
+    same_bytes(body_of(first, first_row), body_of(second, second_row))
 }

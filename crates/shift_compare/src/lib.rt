@@ -31,14 +31,14 @@ pub enum Compared {
     Room,
 }
 
-// A refusal of file k.
-fn refused_in(k: u8, x: Refusal) -> Finding
-    ensures { λ r. ⌜ r ≡ refusedIn k (refusalAnswer x) ⌝ }
+// A refusal of the first file (1) or of the second (2).
+fn refused_in(file: u8, refusal: Refusal) -> Finding
+    ensures { λ r. ⌜ r ≡ refusedIn file (refusalAnswer refusal) ⌝ }
 {
-    let answer = x.answer();
+    let answer = refusal.answer();
     Finding {
         number: answer.number,
-        file: k,
+        file: file,
         row: answer.row,
         first: 0,
         second: 0,
@@ -74,41 +74,64 @@ impl Compared {
 }
 
 // A list is longer than its buffer.
-fn too_long(n: Counts, first: usize, second: usize, differ: usize) -> bool
-    ensures { λ r. ⌜ r ≡ longer n first second differ ⌝ }
+fn too_long(counts: Counts, first: usize, second: usize, differ: usize) -> bool
+    ensures { λ r. ⌜ r ≡ longer counts first second differ ⌝ }
 {
-    if first < n.first {
+    if first < counts.first {
         return true;
     }
-    if second < n.second {
+    if second < counts.second {
         return true;
     }
-    differ < n.differ
+    differ < counts.differ
 }
 
 // Whether a list of two files that pass is longer than its buffer. If each buffer has an element for every row, none is; otherwise the lists are counted.
-fn no_room(f: &[u8], g: &[u8], first: &mut [u32], second: &mut [u32], differ: &mut [u32]) -> bool
-    requires { ⌜ Sound (now f) (now g) ⌝ }
-    ensures { λ r. ⌜ (r ≡ tooLong (now (f .entry)) (now (g .entry)) (now (first .entry)) (now (second .entry)) (now (differ .entry)))
-        × (now (first .exit) ≡ now (first .entry)) × (now (second .exit) ≡ now (second .entry)) × (now (differ .exit) ≡ now (differ .entry)) ⌝ }
+fn no_room(
+    first: &[u8],
+    second: &[u8],
+    only_first: &mut [u32],
+    only_second: &mut [u32],
+    differ: &mut [u32],
+) -> bool
+    requires { ⌜ Sound (now first) (now second) ⌝ }
+    ensures { λ r. ⌜ (r ≡ tooLong (now (first .entry)) (now (second .entry)) (now («only_first» .entry)) (now («only_second» .entry)) (now (differ .entry)))
+        × (now («only_first» .exit) ≡ now («only_first» .entry)) × (now («only_second» .exit) ≡ now («only_second» .entry))
+        × (now (differ .exit) ≡ now (differ .entry)) ⌝ }
 {
-    if !too_long(most(f, g), first.len(), second.len(), differ.len()) {
+    if !too_long(
+        most(first, second),
+        only_first.len(),
+        only_second.len(),
+        differ.len(),
+    ) {
         return false;
     }
-    let counts = pass(f, g, false, first, second, differ);
-    too_long(counts, first.len(), second.len(), differ.len())
+    let counts = pass(first, second, false, only_first, only_second, differ);
+    too_long(counts, only_first.len(), only_second.len(), differ.len())
 }
 
 // The three lists of two files that pass, or 36, which is known before any of them is written.
-fn lists(f: &[u8], g: &[u8], first: &mut [u32], second: &mut [u32], differ: &mut [u32]) -> Compared
-    requires { ⌜ Sound (now f) (now g) ⌝ }
-    ensures { λ r. ⌜ _≡_ {A = Comparison} (record { finding = findingOf r; first = now (first .exit); second = now (second .exit); differ = now (differ .exit) })
-        (comparison (now (f .entry)) (now (g .entry)) (now (first .entry)) (now (second .entry)) (now (differ .entry))) ⌝ }
+fn lists(
+    first: &[u8],
+    second: &[u8],
+    only_first: &mut [u32],
+    only_second: &mut [u32],
+    differ: &mut [u32],
+) -> Compared
+    requires { ⌜ Sound (now first) (now second) ⌝ }
+    ensures { λ r. ⌜ _≡_ {A = Comparison} (record {
+      finding = findingOf r;
+      first = now («only_first» .exit);
+      second = now («only_second» .exit);
+      differ = now (differ .exit);
+    })
+        (comparison (now (first .entry)) (now (second .entry)) (now («only_first» .entry)) (now («only_second» .entry)) (now (differ .entry))) ⌝ }
 {
-    if no_room(f, g, first, second, differ) {
+    if no_room(first, second, only_first, only_second, differ) {
         return Compared::Room;
     }
-    let counts = pass(f, g, true, first, second, differ);
+    let counts = pass(first, second, true, only_first, only_second, differ);
     Compared::Done(counts.first, counts.second, counts.differ)
 }
 
@@ -120,7 +143,12 @@ pub fn compare(
     only_second: &mut [u32],
     differ: &mut [u32],
 ) -> Compared
-    ensures { λ r. ⌜ _≡_ {A = Comparison} (record { finding = findingOf r; first = now («only_first» .exit); second = now («only_second» .exit); differ = now (differ .exit) })
+    ensures { λ r. ⌜ _≡_ {A = Comparison} (record {
+      finding = findingOf r;
+      first = now («only_first» .exit);
+      second = now («only_second» .exit);
+      differ = now (differ .exit);
+    })
         (comparison (now (first .entry)) (now (second .entry)) (now («only_first» .entry)) (now («only_second» .entry)) (now (differ .entry))) ⌝ }
 {
     match check(first) {

@@ -30,32 +30,32 @@ pub(crate) struct Counts {
 }
 
 // How many rows a file that passes has.
-fn rows(f: &[u8]) -> usize
-    requires { ⌜ checkFile (now f) .number ≡ 0 ⌝ }
-    ensures { λ r. ⌜ (r ≡ countOf (now (f .entry))) × (r ≤ 512) ⌝ }
+fn rows(file: &[u8]) -> usize
+    requires { ⌜ checkFile (now file) .number ≡ 0 ⌝ }
+    ensures { λ r. ⌜ (r ≡ countOf (now (file .entry))) × (r ≤ 512) ⌝ }
 {
-    count(f)
+    count(file)
 }
 
 // How long the three lists can be: a job for each row of their file.
-pub(crate) fn most(f: &[u8], g: &[u8]) -> Counts
-    requires { ⌜ Sound (now f) (now g) ⌝ }
-    ensures { λ r. ⌜ (r .first ≡ countOf (now (f .entry))) × (r .second ≡ countOf (now (g .entry))) × (r .differ ≡ countOf (now (f .entry))) ⌝ }
+pub(crate) fn most(first: &[u8], second: &[u8]) -> Counts
+    requires { ⌜ Sound (now first) (now second) ⌝ }
+    ensures { λ r. ⌜ (r .first ≡ countOf (now (first .entry))) × (r .second ≡ countOf (now (second .entry))) × (r .differ ≡ countOf (now (first .entry))) ⌝ }
 {
-    let n = rows(f);
+    let n = rows(first);
     Counts {
         first: n,
-        second: rows(g),
+        second: rows(second),
         differ: n,
     }
 }
 
-// The job of its row i.
-fn job_of(f: &[u8], i: usize) -> u32
-    requires { ⌜ (checkFile (now f) .number ≡ 0) × (i < countOf (now f)) ⌝ }
-    ensures { λ r. ⌜ r ≡ jobAt (now (f .entry)) i ⌝ }
+// The job of one of its rows.
+fn job_of(file: &[u8], index: usize) -> u32
+    requires { ⌜ (checkFile (now file) .number ≡ 0) × (index < countOf (now file)) ⌝ }
+    ensures { λ r. ⌜ r ≡ jobAt (now (file .entry)) index ⌝ }
 {
-    let row = row_at(row_size_of(f), f, i);
+    let row = row_at(row_size_of(file), file, index);
     row.job
 }
 
@@ -90,19 +90,19 @@ fn second_turn(job: u32, i: usize, j: usize) -> Turn
 }
 
 // The next iteration, if both files have a row left.
-fn both_turn(f: &[u8], g: &[u8], i: usize, j: usize) -> Turn
-    requires { ⌜ At (now f) (now g) i j × (i < countOf (now f)) × (j < countOf (now g)) ⌝ }
-    ensures { λ t. ⌜ Turned (now (f .entry)) (now (g .entry)) i j t ⌝ }
+fn both_turn(first: &[u8], second: &[u8], i: usize, j: usize) -> Turn
+    requires { ⌜ At (now first) (now second) i j × (i < countOf (now first)) × (j < countOf (now second)) ⌝ }
+    ensures { λ t. ⌜ Turned (now (first .entry)) (now (second .entry)) i j t ⌝ }
 {
-    let first_job = job_of(f, i);
-    let second_job = job_of(g, j);
+    let first_job = job_of(first, i);
+    let second_job = job_of(second, j);
     if first_job < second_job {
         return first_turn(first_job, i, j);
     }
     if second_job < first_job {
         return second_turn(second_job, i, j);
     }
-    let same = same_entry(f, g, i, j);
+    let same = same_entry(first, second, i, j);
     Turn {
         job: first_job,
         first: false,
@@ -114,17 +114,17 @@ fn both_turn(f: &[u8], g: &[u8], i: usize, j: usize) -> Turn
 }
 
 // The next iteration, if at least one file has a row left.
-fn take_turn(f: &[u8], g: &[u8], i: usize, j: usize) -> Turn
-    requires { ⌜ At (now f) (now g) i j × (i + j < countOf (now f) + countOf (now g)) ⌝ }
-    ensures { λ t. ⌜ Turned (now (f .entry)) (now (g .entry)) i j t ⌝ }
+fn take_turn(first: &[u8], second: &[u8], i: usize, j: usize) -> Turn
+    requires { ⌜ At (now first) (now second) i j × (i + j < countOf (now first) + countOf (now second)) ⌝ }
+    ensures { λ t. ⌜ Turned (now (first .entry)) (now (second .entry)) i j t ⌝ }
 {
-    if rows(g) <= j {
-        return first_turn(job_of(f, i), i, j);
+    if rows(second) <= j {
+        return first_turn(job_of(first, i), i, j);
     }
-    if rows(f) <= i {
-        return second_turn(job_of(g, j), i, j);
+    if rows(first) <= i {
+        return second_turn(job_of(second, j), i, j);
     }
-    both_turn(f, g, i, j)
+    both_turn(first, second, i, j)
 }
 
 // The length of a list of `at` jobs after this iteration: one more if `yes`; the job is then written, if `write`.
@@ -144,26 +144,27 @@ fn put(out: &mut [u32], at: usize, yes: bool, write: bool, job: u32) -> usize
 
 // The pass over both tables: counts the three lists, and writes them if `write`.
 pub(crate) fn pass(
-    f: &[u8],
-    g: &[u8],
+    first: &[u8],
+    second: &[u8],
     write: bool,
-    first: &mut [u32],
-    second: &mut [u32],
+    only_first: &mut [u32],
+    only_second: &mut [u32],
     differ: &mut [u32],
 ) -> Counts
-    requires { ⌜ Passable (now f) (now g) write (now first) (now second) (now differ) ⌝ }
-    ensures { λ r. ⌜ Passed (now (f .entry)) (now (g .entry)) write (now (first .entry)) (now (second .entry)) (now (differ .entry)) r (now (first .exit)) (now (second .exit)) (now (differ .exit)) ⌝ }
+    requires { ⌜ Passable (now first) (now second) write (now «only_first») (now «only_second») (now differ) ⌝ }
+    ensures { λ r. ⌜ Passed (now (first .entry)) (now (second .entry)) write (now («only_first» .entry)) (now («only_second» .entry)) (now (differ .entry)) r
+        (now («only_first» .exit)) (now («only_second» .exit)) (now (differ .exit)) ⌝ }
 {
-    let total = rows(f) + rows(g);
+    let total = rows(first) + rows(second);
     let mut i: usize = 0;
     let mut j: usize = 0;
     let mut in_first: usize = 0;
     let mut in_second: usize = 0;
     let mut in_both: usize = 0;
     while i + j < total {
-        let turn = take_turn(f, g, i, j);
-        in_first = put(first, in_first, turn.first, write, turn.job);
-        in_second = put(second, in_second, turn.second, write, turn.job);
+        let turn = take_turn(first, second, i, j);
+        in_first = put(only_first, in_first, turn.first, write, turn.job);
+        in_second = put(only_second, in_second, turn.second, write, turn.job);
         in_both = put(differ, in_both, turn.differ, write, turn.job);
         i = turn.i;
         j = turn.j;

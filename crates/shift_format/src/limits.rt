@@ -13,7 +13,7 @@ pub const MIN_AD: u16 = 5;
 
 pub const MAX_AD: u16 = 1024;
 
-// The last key of a ring (26), and the bytes of a ring (2): sixteen keys of 16 bytes each.
+// The last key of a ring (26), and the bytes of a ring (2): sixteen keys of `cipher::KEY_LEN` bytes each.
 pub const MAX_KEY: u8 = 15;
 
 pub const RING_LEN: usize = 256;

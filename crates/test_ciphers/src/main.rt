@@ -16,9 +16,9 @@ fn read16() -> [u8; 16] {
 
 fn print_line(bytes: &[u8]) {
     let mut out = [0u8; 33];
-    let n = program_text::text::hex(&mut out, 0, bytes);
-    let n = program_text::text::end(&mut out, n);
-    program_text::text::write(&out, n);
+    let at = program_text::text::hex(&mut out, 0, bytes);
+    let at = program_text::text::end(&mut out, at);
+    program_text::text::write(&out, at);
 }
 
 fn answer(suite: u8, key: [u8; 16]) {
@@ -41,8 +41,8 @@ fn answer(suite: u8, key: [u8; 16]) {
 // Takes one record; false at the end of the input.
 fn record() -> bool {
     let mut suite = [0u8; 1];
-    let n = io::read_full(STDIN_FILENO, &mut suite);
-    if n == 0 {
+    let got = io::read_full(STDIN_FILENO, &mut suite);
+    if got == 0 {
         return false;
     }
     answer(suite[0], read16());

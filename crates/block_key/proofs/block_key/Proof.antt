@@ -14,16 +14,16 @@ is-second-requires c κs = search needs
 next-key-two-requires : tie.Need-next-key-two-requires
 next-key-two-requires c κs = search needs
 
-mark-requires : tie.Need-mark-requires
-mark-requires c κs = search needs
+with-mark-requires : tie.Need-with-mark-requires
+with-mark-requires c κs = search needs
 
 returns : tie.Need-returns
 returns c =
     let x = c .before .before .before .before .args in
     let k = c .before .next-key-two in
     let e = is-two (versionOf (x .suite)) (sym (c .before .before .before .is-second .ensures) ∙ c .before .before .if1 .taken) in (
-      k .ensures ∙ sym (ap (λ (v : Version). blockKey v (x .m) (wide (x .z))) e),
-      c .mark .ensures ∙ sym (ap (λ (v : Version). keptBehind v (x .m) (wide (k .result))) e),
+      k .ensures ∙ sym (ap (λ (v : Version). blockKey v (x .mark) (wide (x .z))) e),
+      c .with-mark .ensures ∙ sym (ap (λ (v : Version). keptBehind v (x .mark) (wide (k .result))) e),
     )
 
 next-key-one-requires : tie.Need-next-key-one-requires
@@ -34,8 +34,8 @@ returns-2 c =
     let x = c .before .before .before .args in
     let k = c .next-key-one in
     let e = is-one (versionOf (x .suite)) (sym (c .before .before .is-second .ensures) ∙ c .before .if1 .left) in (
-      k .ensures ∙ sym (ap (λ (v : Version). blockKey v (x .m) (wide (x .z))) e),
-      sym (ap (λ (v : Version). keptBehind v (x .m) (wide (k .result))) e),
+      k .ensures ∙ sym (ap (λ (v : Version). blockKey v (x .mark) (wide (x .z))) e),
+      sym (ap (λ (v : Version). keptBehind v (x .mark) (wide (k .result))) e),
     )
 
 pub block-key-spec : {M : Type 1} → statement M
@@ -44,7 +44,7 @@ block-key-spec =
     (tie.spec
     is-second-requires
     next-key-two-requires
-    mark-requires
+    with-mark-requires
     returns
     next-key-one-requires
     returns-2)

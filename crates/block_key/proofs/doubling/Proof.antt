@@ -13,8 +13,8 @@ mul-result c = search needs
 returns : tie.Need-returns
 unfolding xor
 returns c =
-    let h : c .args .x < 2 ^ 64 = omega arith in
-    double-is (c .args .x) h
+    let h : c .args .number < 2 ^ 64 = omega arith in
+    double-is (c .args .number) h
 
 pub doubling-spec : {M : Type 1} → statement M
 doubling-spec = tie.close (tie.spec mul-result returns)

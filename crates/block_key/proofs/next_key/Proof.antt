@@ -18,7 +18,7 @@ returns : tie.Need-returns
 returns c =
     let x = c .before .before .before .args in
     let e = is-two (versionOf (x .suite)) (sym (c .before .before .is-second .ensures) ∙ c .before .if1 .taken) in
-    c .next-key-two .ensures ∙ sym (ap (λ (v : Version). nextKey v (x .m) (wide (x .z))) e)
+    c .next-key-two .ensures ∙ sym (ap (λ (v : Version). nextKey v (x .mark) (wide (x .z))) e)
 
 next-key-one-requires : tie.Need-next-key-one-requires
 next-key-one-requires c κs = search needs
@@ -27,7 +27,7 @@ returns-2 : tie.Need-returns-2
 returns-2 c =
     let x = c .before .before .before .args in
     let e = is-one (versionOf (x .suite)) (sym (c .before .before .is-second .ensures) ∙ c .before .if1 .left) in
-    c .next-key-one .ensures ∙ sym (ap (λ (v : Version). nextKey v (x .m) (wide (x .z))) e)
+    c .next-key-one .ensures ∙ sym (ap (λ (v : Version). nextKey v (x .mark) (wide (x .z))) e)
 
 pub next-key-spec : {M : Type 1} → statement M
 next-key-spec = tie.close (tie.spec is-second-requires next-key-two-requires returns next-key-one-requires returns-2)

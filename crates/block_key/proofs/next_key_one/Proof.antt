@@ -11,8 +11,8 @@ use Rattle.block_key.proofs.Halves.{double-low}
 use Rattle.block_key.proofs.next_key_one.Statement.{statement}
 use Rattle.block_key.proofs.next_key_one.Tie as tie
 
-mark-requires : tie.Need-mark-requires
-mark-requires c κs = search needs
+with-mark-requires : tie.Need-with-mark-requires
+with-mark-requires c κs = search needs
 
 doubling-requires : tie.Need-doubling-requires
 doubling-requires c κs = search needs
@@ -20,10 +20,10 @@ doubling-requires c κs = search needs
 returns : tie.Need-returns
 unfolding nextKey
 returns c =
-    let k = c .before .mark in
+    let k = c .before .with-mark in
     let r = k .result in
     let h : r .a < 2 ^ 64 = omega arith in
     ap (λ (x : ℕ). bytes 8 x ++ bytes 8 (r .b)) (c .doubling .ensures) ∙ double-low (r .a) (r .b) h ∙ ap (doubled one) (k .ensures)
 
 pub next-key-one-spec : {M : Type 1} → statement M
-next-key-one-spec = tie.close (tie.spec mark-requires doubling-requires returns)
+next-key-one-spec = tie.close (tie.spec with-mark-requires doubling-requires returns)

@@ -44,7 +44,7 @@ absorb-full-requires : tie.Need-absorb-full-requires Inv-loop μ-loop
 absorb-full-requires c κs =
     let st = c .before .before .before .before .before .before in
     let at = c .before .before .loop in
-    (st .pre .0, st .pre .1, full-block (st .args .suite) (c .before .before .before .before .size-of .ensures) (now (st .args .b)) (at .i) (omega arith))
+    (st .pre .0, st .pre .1, full-block (st .args .suite) (c .before .before .before .before .size-of .ensures) (now (st .args .bytes)) (at .i) (omega arith))
 
 loop-less : tie.Need-loop-less Inv-loop μ-loop
 loop-less c = omega arith

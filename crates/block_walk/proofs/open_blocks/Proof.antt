@@ -43,8 +43,12 @@ part-open-full-end c = omega (arith, c .before .loop .inv .long)
 open-full-requires : tie.Need-open-full-requires Inv-loop μ-loop
 open-full-requires c κs =
     let st = c .before .before .before .before .before .before in
-    let at = c .before .before .loop in
-    (st .pre .0, st .pre .1, full-block (st .args .suite) (c .before .before .before .before .size-of .ensures) (at .text) (at .i) (omega (arith, at .inv .long)))
+    let at = c .before .before .loop in (
+      st .pre .0,
+      st .pre .1,
+      full-block (st .args .suite) (c .before .before .before .before .size-of .ensures) (at .text) (at .i)
+          (omega (arith, at .inv .long)),
+    )
 
 loop-less : tie.Need-loop-less Inv-loop μ-loop
 loop-less c = omega arith

@@ -34,7 +34,15 @@ unfolding headNumber
 returns-4 c =
     let p21 = c .before .before in
     let p20 = p21 .before .before .before in
-    simp (← p21 .before .before .get16 .ensures, ← p21 .before .outside .ensures, ← c .before .count .ensures, lt-ltb _ _ (c .if4 .taken), p21 .if3 .left, le-ltb _ _ (p20 .if2 .left), le-ltb _ _ (p20 .before .if1 .left))
+    simp (
+      ← p21 .before .before .get16 .ensures,
+      ← p21 .before .outside .ensures,
+      ← c .before .count .ensures,
+      lt-ltb _ _ (c .if4 .taken),
+      p21 .if3 .left,
+      le-ltb _ _ (p20 .if2 .left),
+      le-ltb _ _ (p20 .before .if1 .left),
+    )
 
 get32-requires : tie.Need-get32-requires
 get32-requires c κs = search needs
@@ -48,7 +56,17 @@ returns-5 c =
     let p22 = c .before .before in
     let p21 = p22 .before .before in
     let p20 = p21 .before .before .before in
-    simp (← p21 .before .before .get16 .ensures, ← p21 .before .outside .ensures, ← p22 .before .count .ensures, ← c .before .get32 .ensures, ne-eqb _ _ (c .if5 .taken), le-ltb _ _ (p22 .if4 .left), p21 .if3 .left, le-ltb _ _ (p20 .if2 .left), le-ltb _ _ (p20 .before .if1 .left))
+    simp (
+      ← p21 .before .before .get16 .ensures,
+      ← p21 .before .outside .ensures,
+      ← p22 .before .count .ensures,
+      ← c .before .get32 .ensures,
+      ne-eqb _ _ (c .if5 .taken),
+      le-ltb _ _ (p22 .if4 .left),
+      p21 .if3 .left,
+      le-ltb _ _ (p20 .if2 .left),
+      le-ltb _ _ (p20 .before .if1 .left),
+    )
 
 row-size-requires : tie.Need-row-size-requires
 row-size-requires c κs = search needs
@@ -63,7 +81,20 @@ returns-6 c =
     let p22 = p23 .before .before in
     let p21 = p22 .before .before in
     let p20 = p21 .before .before .before in
-    simp (← p21 .before .before .get16 .ensures, ← p21 .before .outside .ensures, ← p22 .before .count .ensures, ← p23 .before .get32 .ensures, ← c .before .before .row-size .ensures, ← c .before .row-start .ensures, lt-ltb _ _ (c .if6 .taken), eq-eqb _ _ (p23 .if5 .left), le-ltb _ _ (p22 .if4 .left), p21 .if3 .left, le-ltb _ _ (p20 .if2 .left), le-ltb _ _ (p20 .before .if1 .left))
+    simp (
+      ← p21 .before .before .get16 .ensures,
+      ← p21 .before .outside .ensures,
+      ← p22 .before .count .ensures,
+      ← p23 .before .get32 .ensures,
+      ← c .before .before .row-size .ensures,
+      ← c .before .row-start .ensures,
+      lt-ltb _ _ (c .if6 .taken),
+      eq-eqb _ _ (p23 .if5 .left),
+      le-ltb _ _ (p22 .if4 .left),
+      p21 .if3 .left,
+      le-ltb _ _ (p20 .if2 .left),
+      le-ltb _ _ (p20 .before .if1 .left),
+    )
 
 returns-7 : tie.Need-returns-7
 unfolding headNumber
@@ -72,7 +103,20 @@ returns-7 c =
     let p22 = p23 .before .before in
     let p21 = p22 .before .before in
     let p20 = p21 .before .before .before in
-    simp (← p21 .before .before .get16 .ensures, ← p21 .before .outside .ensures, ← p22 .before .count .ensures, ← p23 .before .get32 .ensures, ← c .before .before .row-size .ensures, ← c .before .row-start .ensures, le-ltb _ _ (c .if6 .left), eq-eqb _ _ (p23 .if5 .left), le-ltb _ _ (p22 .if4 .left), p21 .if3 .left, le-ltb _ _ (p20 .if2 .left), le-ltb _ _ (p20 .before .if1 .left))
+    simp (
+      ← p21 .before .before .get16 .ensures,
+      ← p21 .before .outside .ensures,
+      ← p22 .before .count .ensures,
+      ← p23 .before .get32 .ensures,
+      ← c .before .before .row-size .ensures,
+      ← c .before .row-start .ensures,
+      le-ltb _ _ (c .if6 .left),
+      eq-eqb _ _ (p23 .if5 .left),
+      le-ltb _ _ (p22 .if4 .left),
+      p21 .if3 .left,
+      le-ltb _ _ (p20 .if2 .left),
+      le-ltb _ _ (p20 .before .if1 .left),
+    )
 
 pub check-head-spec : {M : Type 1} → statement M
 check-head-spec =

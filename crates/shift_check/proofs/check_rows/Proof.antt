@@ -19,7 +19,8 @@ use Rattle.shift_check.proofs.check_rows.Statement.{statement}
 use Rattle.shift_check.proofs.check_rows.Tie as tie
 
 abbrev Inv-loop : tie.InvT-loop
-Inv-loop w f n start₀ seen₀ i₀ start seen i = (i ≤ n) × ((rowsFrom w f n 0 ≡ rowsFrom w f n i) × (Spared w f i × (Left w f i seen × (start ≡ bodyStart w f n i))))
+Inv-loop w f n start₀ seen₀ i₀ start seen i =
+    (i ≤ n) × ((rowsFrom w f n 0 ≡ rowsFrom w f n i) × (Spared w f i × (Left w f i seen × (start ≡ bodyStart w f n i))))
 
 abbrev μ-loop : tie.MeasureT-loop
 μ-loop w f n start₀ seen₀ i₀ start seen i = n - i
@@ -43,8 +44,20 @@ check-row-requires c κs =
     let l = t .before .loop in
     let s = t .before .before .before .before in
     let h = l .inv .1 .1 in
-    let q = c .has .ensures ∙ ap (has (l .seen)) (m .mark .ensures) in
-    (s .pre, (t .loop-test .taken, (h .0, (subst (Sieved (s .args .size) (now (s .args .file)) (l .i)) (sym q) (sieved (s .args .size) (now (s .args .file)) (l .i) (l .seen) (h .1 .0) (h .0)), h .1 .1))))
+    let q = c .has .ensures ∙ ap (has (l .seen)) (m .mark .ensures) in (
+      s .pre,
+      (
+        t .loop-test .taken,
+        (
+          h .0,
+          (
+            subst (Sieved (s .args .size) (now (s .args .file)) (l .i)) (sym q)
+                (sieved (s .args .size) (now (s .args .file)) (l .i) (l .seen) (h .1 .0) (h .0)),
+            h .1 .1,
+          ),
+        ),
+      ),
+    )
 
 enum-known-fault : tie.Need-enum-known-fault Inv-loop μ-loop
 enum-known-fault c = search needs
@@ -54,7 +67,8 @@ returns c =
     let p = c .before .before .before in
     let t = p .before .before .before .before in
     let a = t .before .before .before .before .args in
-    rows-bad (a .size) (now (a .file)) (a .rows) _ (c .before .fault .given .0 .0) (t .loop-test .taken) (ap rowNumberOf (sym (c .before .fault .given .1)) ∙ p .check-row .ensures)
+    rows-bad (a .size) (now (a .file)) (a .rows) _ (c .before .fault .given .0 .0) (t .loop-test .taken)
+    (ap rowNumberOf (sym (c .before .fault .given .1)) ∙ p .check-row .ensures)
     ∙ sym (t .before .loop .inv .1 .0)
 
 enum-told : tie.Need-enum-told Inv-loop μ-loop
@@ -91,7 +105,10 @@ loop-again c =
         h .0 ∙ rows-sound (a .size) (now (a .file)) (a .rows) _ (t .loop-test .taken) z,
         (
           spared-more (a .size) (now (a .file)) _ (h .1 .0) (sound (a .size) (now (a .file)) (a .rows) _ (sym z) .spare),
-          (subst (Left (a .size) (now (a .file)) (l .i + 1)) (sym q) (left-more (a .size) (now (a .file)) (l .i) (l .seen) (h .1 .1 .0)), c .body-start2 .ensures),
+          (
+            subst (Left (a .size) (now (a .file)) (l .i + 1)) (sym q) (left-more (a .size) (now (a .file)) (l .i) (l .seen) (h .1 .1 .0)),
+            c .body-start2 .ensures,
+          ),
         ),
       ),
     )

@@ -31,7 +31,8 @@ returns-2 : tie.Need-returns-2
 returns-2 c =
     let k = c .before .before .before in
     let second = k .before in
-    sym (second-refused _ _ _ _ _ (c .before .refusal2 .given .0 .0) (passed-zero _ _ (second .enum-told .given .1) (second .before .before .check .ensures)) (sym (k .check2 .ensures) ∙ ap checkedAnswer (c .before .refusal2 .given .1)))
+    sym (second-refused _ _ _ _ _ (c .before .refusal2 .given .0 .0) (passed-zero _ _ (second .enum-told .given .1) (second .before .before .check .ensures))
+    (sym (k .check2 .ensures) ∙ ap checkedAnswer (c .before .refusal2 .given .1)))
 
 enum-told-2 : tie.Need-enum-told-2
 enum-told-2 c = search needs
@@ -40,7 +41,10 @@ lists-requires : tie.Need-lists-requires
 lists-requires c κs =
     let second = c .before .before .before in
     let first = second .before .before .before in
-    record { first = passed-zero _ _ (first .enum-told .given .1) (first .before .before .check .ensures); second = passed-zero _ _ (second .enum-told2 .given .1) (second .before .before .check2 .ensures) }
+    record {
+      first = passed-zero _ _ (first .enum-told .given .1) (first .before .before .check .ensures);
+      second = passed-zero _ _ (second .enum-told2 .given .1) (second .before .before .check2 .ensures);
+    }
 
 same-length : tie.Need-same-length
 same-length c = search needs

@@ -16,8 +16,12 @@ too-long-requires c κs = search needs
 returns : tie.Need-returns
 returns c =
     let a = c .before .before .before .before .before .before .before .before .args in
-    let t = sym (c .before .too-long .ensures) ∙ not-true _ (c .if1 .taken) in
-    (sym (roomy (now (a .f)) (now (a .g)) (now (a .first)) (now (a .second)) (now (a .differ)) _ (c .before .before .most .ensures) t), refl, refl, refl)
+    let t = sym (c .before .too-long .ensures) ∙ not-true _ (c .if1 .taken) in (
+      sym (roomy (now (a .first)) (now (a .second)) (now (a .only-first)) (now (a .only-second)) (now (a .differ)) _ (c .before .before .most .ensures) t),
+      refl,
+      refl,
+      refl,
+    )
 
 pass-requires : tie.Need-pass-requires
 pass-requires c κs = counting _ _ _ _ _ (c .before .before .before .before .before .before .before .before .before .before .before .pre)

@@ -1,36 +1,19 @@
--- `vectors::main` is safe and ends: the counter falls.
-use native.Mathlib.Omega.{arith}
+-- The calls that are left fall with each turn; nothing has to hold from turn to turn. After invariant and measure come the
+-- needs in the order of the code, which search proves.
+use borrow.Author.Needs.{needs}
 use Rattle.test_ciphers.proofs.main.Statement.{statement}
 use Rattle.test_ciphers.proofs.main.Tie as tie
-
-abbrev Inv-loop : tie.InvT-loop
-Inv-loop left₀ left = Unit {0}
-
-abbrev μ-loop : tie.MeasureT-loop
-μ-loop left₀ left = left
-
-loop-holds : tie.Need-loop-holds Inv-loop μ-loop
-loop-holds c = tt
-
-record-requires : tie.Need-record-requires Inv-loop μ-loop
-record-requires c κs = tt
-
-sub-left : tie.Need-sub-left Inv-loop μ-loop
-sub-left c = omega arith
-
-loop-less : tie.Need-loop-less Inv-loop μ-loop
-loop-less c = omega arith
-
-loop-again : tie.Need-loop-again Inv-loop μ-loop
-loop-again c = tt
-
-returns : tie.Need-returns Inv-loop μ-loop
-returns c = tt
-
-returns-2 : tie.Need-returns-2 Inv-loop μ-loop
-returns-2 c = tt
 
 pub main-spec : {M : Type 1} → statement M
 main-spec =
     tie.close
-    (tie.spec Inv-loop μ-loop loop-holds record-requires sub-left loop-less loop-again returns returns-2)
+    (tie.spec
+    (λ left₀ left. Unit {0})
+    (λ left₀ left. left)
+    (λ c. search needs)
+    (λ c κs. search needs)
+    (λ c. search needs)
+    (λ c. search needs)
+    (λ c. search needs)
+    (λ c. search needs)
+    (λ c. search needs))

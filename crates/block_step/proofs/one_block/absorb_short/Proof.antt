@@ -38,7 +38,8 @@ returns c =
     let x = c .before .before .before .shuffled in
     let w = c .before .before .xor in
     let q = c .before .padded in
-    let out = goes-out (a .suite) (a .mark) (a .state) (t .result) (t .ensures) b (p .result) (x .result) (w .result) (p .ensures) (x .ensures) (w .ensures) (le-of-lt (st .pre .2)) in
+    let out = goes-out (a .suite) (a .mark) (a .state) (t .result) (t .ensures) b (p .result) (x .result) (w .result) (p .ensures) (x .ensures) (w .ensures)
+    (le-of-lt (st .pre .2)) in
     rw (c .before .before .before .before .before .if1 .taken)
     (put-in (a .suite) (a .mark) (a .state) (t .result) (t .ensures) _ (q .result) (c .mix .result)
     (cut-goes (a .suite) _ (length b) (w .result) (q .result) out (st .pre .2) (q .ensures)) (c .mix .ensures .0) (c .mix .ensures .1))
@@ -59,7 +60,8 @@ returns-2 c =
     let q = c .before .padded2 in
     rw (c .before .before .if1 .left)
     (put-in (a .suite) (a .mark) (a .state) (t .result) (t .ensures) b (q .result) (c .mix2 .result)
-    (cut-goes (a .suite) b (length b) (p .result) (q .result) (cut-in b (p .result) (p .ensures)) (st .pre .2) (q .ensures)) (c .mix2 .ensures .0) (c .mix2 .ensures .1))
+    (cut-goes (a .suite) b (length b) (p .result) (q .result) (cut-in b (p .result) (p .ensures)) (st .pre .2) (q .ensures)) (c .mix2 .ensures .0)
+    (c .mix2 .ensures .1))
 
 pub absorb-short-spec : {M : Type 1} → statement M
 absorb-short-spec =

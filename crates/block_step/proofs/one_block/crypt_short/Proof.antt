@@ -23,14 +23,16 @@ module _ (d : tie.After-put) where
   B = now (st .args .block)
 
   -- the first bytes of `output` overwrite the block
-  out-is : take (length B) (wide (d .before .before .xor .result)) ≡ hidden (cipherOf (st .args .suite)) (st .args .mark) (twoOf (st .args .suite) (st .args .state)) B
+  out-is : take (length B) (wide (d .before .before .xor .result)) ≡ hidden (cipherOf (st .args .suite)) (st .args .mark)
+      (twoOf (st .args .suite) (st .args .state)) B
   out-is =
       let a = st .args in
       let t = d .before .before .before .before .before .before .before .turn in
       let p = d .before .before .before .before .filled in
       let x = d .before .before .before .shuffled in
       let w = d .before .before .xor in
-      goes-out (a .suite) (a .mark) (a .state) (t .result) (t .ensures) B (p .result) (x .result) (w .result) (p .ensures) (x .ensures) (w .ensures) (le-of-lt (st .pre .2))
+      goes-out (a .suite) (a .mark) (a .state) (t .result) (t .ensures) B (p .result) (x .result) (w .result) (p .ensures) (x .ensures) (w .ensures)
+      (le-of-lt (st .pre .2))
 
 size-of-requires : tie.Need-size-of-requires
 size-of-requires c κs = search needs
@@ -93,7 +95,8 @@ returns-2 c =
       d .put .ensures ∙ out-is d,
       rw (c .before .before .if1 .left)
           (put-in (a .suite) (a .mark) (a .state) (t .result) (t .ensures) _ (q .result) (c .mix2 .result)
-          (cut-goes (a .suite) (B d) (length (B d)) (p .result) (q .result) (cut-in (B d) (p .result) (p .ensures)) (st d .pre .2) (q .ensures)) (c .mix2 .ensures .0) (c .mix2 .ensures .1)),
+          (cut-goes (a .suite) (B d) (length (B d)) (p .result) (q .result) (cut-in (B d) (p .result) (p .ensures)) (st d .pre .2) (q .ensures))
+          (c .mix2 .ensures .0) (c .mix2 .ensures .1)),
     )
 
 pub crypt-short-spec : {M : Type 1} → statement M

@@ -14,7 +14,7 @@ padded8-requires c κs = search needs
 returns : tie.Need-returns
 returns c =
     let x = c .before .before .args in
-    pad-first (x .k) (x .x .a) (x .x .b) (c .padded8 .result) (c .before .if1 .taken) (c .padded8 .ensures)
+    pad-first (x .len) (x .block .a) (x .block .b) (c .padded8 .result) (c .before .if1 .taken) (c .padded8 .ensures)
 
 cast-padded8-2 : tie.Need-cast-padded8-2
 cast-padded8-2 c = search needs
@@ -25,7 +25,7 @@ padded8-requires-2 c κs = search needs
 returns-2 : tie.Need-returns-2
 returns-2 c =
     let x = c .before .before .args in
-    pad-second (x .k) (x .x .a) (x .x .b) (c .padded82 .result) (omega (arith, c .before .if1 .left)) (c .before .before .pre) (c .padded82 .ensures)
+    pad-second (x .len) (x .block .a) (x .block .b) (c .padded82 .result) (omega (arith, c .before .if1 .left)) (c .before .before .pre) (c .padded82 .ensures)
 
 pub padded-spec : {M : Type 1} → statement M
 padded-spec =

@@ -14,7 +14,8 @@ place k = (1 * 2 ^ (8 * k)) % 2 ^ 64
 
 place-some : (k : ℕ) → k < 8 → 0 < place k
 unfolding place
-place-some k h = subst (λ (q : ℕ). 0 < q) (sym (place-is k h)) (omega (arith, native.Mathlib.Nat.pow-le-pow-right {n = 256} (omega arith) {i = 0} {j = k} (omega arith)))
+place-some k h =
+    subst (λ (q : ℕ). 0 < q) (sym (place-is k h)) (omega (arith, native.Mathlib.Nat.pow-le-pow-right {n = 256} (omega arith) {i = 0} {j = k} (omega arith)))
 
 sum-fits : (k x : ℕ) → k < 8 → x % place k + place k < 2 ^ 64
 unfolding place
@@ -31,14 +32,14 @@ shl-marker c = search needs
 
 rem-result : tie.Need-rem-result
 unfolding place
-rem-result c = place-some (c .args .k) (c .pre)
+rem-result c = place-some (c .args .len) (c .pre)
 
 add-result : tie.Need-add-result
 unfolding place
-add-result c = record { fits = sum-fits (c .args .k) (c .args .x) (c .pre) }
+add-result c = record { fits = sum-fits (c .args .len) (c .args .number) (c .pre) }
 
 returns : tie.Need-returns
-returns c = pad-low 8 (c .args .k) (c .args .x) _ (c .pre) (place-is (c .args .k) (c .pre))
+returns c = pad-low 8 (c .args .len) (c .args .number) _ (c .pre) (place-is (c .args .len) (c .pre))
 
 pub padded8-spec : {M : Type 1} → statement M
 padded8-spec = tie.close (tie.spec mul-marker cast-marker shl-marker rem-result add-result returns)

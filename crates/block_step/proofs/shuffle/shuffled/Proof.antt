@@ -22,7 +22,8 @@ returns c =
     let x = st .args .x in
     let r = c .shuffled16 .result in
     let en : sizeOf (st .args .suite) ≡ 16 = sym (st .pre) ∙ c .before .if1 .taken in (
-      rw en (take-all 16 (wide r) (le-of-eq (length-wide (r .a) (r .b))) ∙ c .shuffled16 .ensures ∙ ap (shuffle 16) (sym (take-all 16 (wide x) (le-of-eq (length-wide (x .a) (x .b)))))),
+      rw en (take-all 16 (wide r) (le-of-eq (length-wide (r .a) (r .b))) ∙ c .shuffled16 .ensures
+          ∙ ap (shuffle 16) (sym (take-all 16 (wide x) (le-of-eq (length-wide (x .a) (x .b)))))),
       clean-16 (st .args .suite) r en,
     )
 

@@ -28,8 +28,8 @@ returns c =
     record {
       two =
           states-path
-          (c .before .image .ensures .0 ∙ ap (λ (k : List ℕ). cipherOf (x .suite) .E k (take n (wide (x .s .y)))) (e .0))
-          (e .1 ∙ ap (keptBehind (versionOf (x .suite)) (x .m)) (e .0));
+          (c .before .image .ensures .0 ∙ ap (λ (k : List ℕ). cipherOf (x .suite) .E k (take n (wide (x .state .y)))) (e .0))
+          (e .1 ∙ ap (keptBehind (versionOf (x .suite)) (x .mark)) (e .0));
       clean = c .before .image .ensures .1;
       made = c .wrapping-add-u64 .ensures;
     }

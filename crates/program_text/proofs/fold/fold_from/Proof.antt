@@ -41,7 +41,8 @@ loop-again c =
     let h : at .i < length b = omega arith in (
       omega arith,
       c .folded .ensures .1,
-      rw add-one (ap (λ (v : ℕ). foldFrom v (drop (suc (at .i)) b)) (c .folded .ensures .0) ∙ sym (ap (foldFrom (at .sum)) (drop-cons b (at .i) 0 h)) ∙ at .inv .2),
+      rw add-one (ap (λ (v : ℕ). foldFrom v (drop (suc (at .i)) b)) (c .folded .ensures .0) ∙ sym (ap (foldFrom (at .sum)) (drop-cons b (at .i) 0 h))
+          ∙ at .inv .2),
     )
 
 returns : tie.Need-returns Inv-loop μ-loop

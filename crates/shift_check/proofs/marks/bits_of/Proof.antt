@@ -11,7 +11,7 @@ shl-result-2 : tie.Need-shl-result-2
 shl-result-2 c = search needs
 
 returns : tie.Need-returns
-returns c = ones-up (c .args .x)
+returns c = ones-up (c .args .hash)
 
 pub bits-of-spec : {M : Type 1} → statement M
 bits-of-spec = tie.close (tie.spec shl-result shl-result-2 returns)

@@ -36,14 +36,22 @@ unfolding bodyNumber
 returns-3 c =
     let p34 = c .before .before in
     let p28 = p34 .before .before in
-    simp (← p28 .before .misplaced .ensures, p28 .if1 .left, ← p34 .before .unread-set .ensures, p34 .if2 .left, ← c .before .seen-before .ensures, c .if3 .taken)
+    simp (
+      ← p28 .before .misplaced .ensures,
+      p28 .if1 .left,
+      ← p34 .before .unread-set .ensures,
+      p34 .if2 .left,
+      ← c .before .seen-before .ensures,
+      c .if3 .taken,
+    )
 
 bad-data-requires : tie.Need-bad-data-requires
 bad-data-requires c κs =
     let p28 = c .before .before .before .before in
     let s = p28 .before .before .before in
     let q = s .pre .1 .1 .0 in
-    rw q (head-in (s .args .size) (now (s .args .file)) (s .args .rows) (s .args .index) (rw q at (s .pre .1 .1 .1 .0)) (sym (p28 .before .misplaced .ensures) ∙ p28 .if1 .left))
+    rw q (head-in (s .args .size) (now (s .args .file)) (s .args .rows) (s .args .index) (rw q at (s .pre .1 .1 .1 .0))
+    (sym (p28 .before .misplaced .ensures) ∙ p28 .if1 .left))
 
 returns-4 : tie.Need-returns-4
 unfolding bodyNumber
@@ -51,7 +59,17 @@ returns-4 c =
     let p29 = c .before .before in
     let p34 = p29 .before .before in
     let p28 = p34 .before .before in
-    simp (← p28 .before .before .before .pre .1 .1 .0, ← p28 .before .misplaced .ensures, p28 .if1 .left, ← p34 .before .unread-set .ensures, p34 .if2 .left, ← p29 .before .seen-before .ensures, p29 .if3 .left, ← c .before .bad-data .ensures, c .if4 .taken)
+    simp (
+      ← p28 .before .before .before .pre .1 .1 .0,
+      ← p28 .before .misplaced .ensures,
+      p28 .if1 .left,
+      ← p34 .before .unread-set .ensures,
+      p34 .if2 .left,
+      ← p29 .before .seen-before .ensures,
+      p29 .if3 .left,
+      ← c .before .bad-data .ensures,
+      c .if4 .taken,
+    )
 
 returns-5 : tie.Need-returns-5
 unfolding bodyNumber
@@ -59,7 +77,17 @@ returns-5 c =
     let p29 = c .before .before in
     let p34 = p29 .before .before in
     let p28 = p34 .before .before in
-    simp (← p28 .before .before .before .pre .1 .1 .0, ← p28 .before .misplaced .ensures, p28 .if1 .left, ← p34 .before .unread-set .ensures, p34 .if2 .left, ← p29 .before .seen-before .ensures, p29 .if3 .left, ← c .before .bad-data .ensures, c .if4 .left)
+    simp (
+      ← p28 .before .before .before .pre .1 .1 .0,
+      ← p28 .before .misplaced .ensures,
+      p28 .if1 .left,
+      ← p34 .before .unread-set .ensures,
+      p34 .if2 .left,
+      ← p29 .before .seen-before .ensures,
+      p29 .if3 .left,
+      ← c .before .bad-data .ensures,
+      c .if4 .left,
+    )
 
 pub check-body-spec : {M : Type 1} → statement M
 check-body-spec =

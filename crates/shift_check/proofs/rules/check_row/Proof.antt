@@ -33,12 +33,22 @@ unfolding rowNumber
 returns-3 c =
     let p26 = c .before .before in
     let p25 = p26 .before .before in
-    simp (← p25 .before .before .row-at .ensures, ← p25 .before .not-above .ensures, p25 .if1 .left, ← p26 .before .bad-suite .ensures, p26 .if2 .left, ← c .before .bad-length .ensures, c .if3 .taken)
+    simp (
+      ← p25 .before .before .row-at .ensures,
+      ← p25 .before .not-above .ensures,
+      p25 .if1 .left,
+      ← p26 .before .bad-suite .ensures,
+      p26 .if2 .left,
+      ← c .before .bad-length .ensures,
+      c .if3 .taken,
+    )
 
 check-body-requires : tie.Need-check-body-requires
 check-body-requires c κs =
-    let row = c .before .before .before .before .before .before in
-    (row .before .before .pre .0, (row .before .before .pre .1 .0, (row .row-at .ensures, (sym (c .before .bad-length .ensures) ∙ c .if3 .left, row .before .before .pre .1 .1))))
+    let row = c .before .before .before .before .before .before in (
+      row .before .before .pre .0,
+      (row .before .before .pre .1 .0, (row .row-at .ensures, (sym (c .before .bad-length .ensures) ∙ c .if3 .left, row .before .before .pre .1 .1))),
+    )
 
 returns-4 : tie.Need-returns-4
 unfolding rowNumber
@@ -46,7 +56,16 @@ returns-4 c =
     let p27 = c .before in
     let p26 = p27 .before .before in
     let p25 = p26 .before .before in
-    simp (← p25 .before .before .row-at .ensures, ← p25 .before .not-above .ensures, p25 .if1 .left, ← p26 .before .bad-suite .ensures, p26 .if2 .left, ← p27 .before .bad-length .ensures, p27 .if3 .left, c .check-body .ensures)
+    simp (
+      ← p25 .before .before .row-at .ensures,
+      ← p25 .before .not-above .ensures,
+      p25 .if1 .left,
+      ← p26 .before .bad-suite .ensures,
+      p26 .if2 .left,
+      ← p27 .before .bad-length .ensures,
+      p27 .if3 .left,
+      c .check-body .ensures,
+    )
 
 pub check-row-spec : {M : Type 1} → statement M
 check-row-spec =

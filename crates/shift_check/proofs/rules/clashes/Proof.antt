@@ -34,7 +34,8 @@ returns c =
     let e = sym (ap₂ sameBytes (m .before .before .nonce-block .ensures) (m .before .nonce-block2 .ensures)) ∙ sym (m .same .ensures) ∙ t .if1 .taken in
     let p = s .pre in
     c .same-key .ensures
-    ∙ clash-keys (s .args .size) (now (s .args .file)) (s .args .index) (s .args .other) (row-in _ _ _ _ (p .0) (p .1 .0)) (row-in _ _ _ _ (p .0) (p .1 .1 .0)) (p .1 .1 .1 .0) (p .1 .1 .1 .1) _ _ (c .before .before .row-at .ensures) (c .before .row-at2 .ensures) e
+    ∙ clash-keys (s .args .size) (now (s .args .file)) (s .args .index) (s .args .other) (row-in _ _ _ _ (p .0) (p .1 .0)) (row-in _ _ _ _ (p .0) (p .1 .1 .0))
+    (p .1 .1 .1 .0) (p .1 .1 .1 .1) _ _ (c .before .before .row-at .ensures) (c .before .row-at2 .ensures) e
 
 returns-2 : tie.Need-returns-2
 returns-2 c =
@@ -42,7 +43,8 @@ returns-2 c =
     let s = m .before .before .before .before in
     let e = sym (ap₂ sameBytes (m .before .before .nonce-block .ensures) (m .before .nonce-block2 .ensures)) ∙ sym (m .same .ensures) ∙ c .if1 .left in
     let p = s .pre in
-    clash-none (s .args .size) (now (s .args .file)) (s .args .index) (s .args .other) (row-in _ _ _ _ (p .0) (p .1 .0)) (row-in _ _ _ _ (p .0) (p .1 .1 .0)) (p .1 .1 .1 .0) (p .1 .1 .1 .1) e
+    clash-none (s .args .size) (now (s .args .file)) (s .args .index) (s .args .other) (row-in _ _ _ _ (p .0) (p .1 .0)) (row-in _ _ _ _ (p .0) (p .1 .1 .0))
+    (p .1 .1 .1 .0) (p .1 .1 .1 .1) e
 
 pub clashes-spec : {M : Type 1} → statement M
 clashes-spec =

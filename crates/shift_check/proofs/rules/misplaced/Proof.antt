@@ -21,7 +21,13 @@ body-end-requires c κs = search needs
 
 returns-2 : tie.Need-returns-2
 unfolding misplaced
-returns-2 c = simp (← c .before .before .before .row-at .ensures, ← c .before .before .before .before .before .pre .1 .1, eq-eqb _ _ (c .before .if1 .left), ← c .body-end .ensures)
+returns-2 c =
+    simp (
+      ← c .before .before .before .row-at .ensures,
+      ← c .before .before .before .before .before .pre .1 .1,
+      eq-eqb _ _ (c .before .if1 .left),
+      ← c .body-end .ensures,
+    )
 
 pub misplaced-spec : {M : Type 1} → statement M
 misplaced-spec =

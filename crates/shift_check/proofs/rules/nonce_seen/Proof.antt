@@ -20,8 +20,13 @@ loop-holds c = yet-start
 clashes-requires : tie.Need-clashes-requires Inv-loop μ-loop
 clashes-requires c κs =
     let s = c .before .before .before in
-    let l = c .loop-test .taken in
-    (s .pre .0, (s .pre .1 .0, (omega (arith, l, s .pre .1 .0), (s .pre .1 .1 .spare (s .args .index) (omega arith), s .pre .1 .1 .spare (c .before .loop .j) (omega (arith, l))))))
+    let l = c .loop-test .taken in (
+      s .pre .0,
+      (
+        s .pre .1 .0,
+        (omega (arith, l, s .pre .1 .0), (s .pre .1 .1 .spare (s .args .index) (omega arith), s .pre .1 .1 .spare (c .before .loop .j) (omega (arith, l)))),
+      ),
+    )
 
 returns : tie.Need-returns Inv-loop μ-loop
 unfolding nonceSeen

@@ -20,7 +20,7 @@ abbrev μ-loop : tie.MeasureT-loop
 μ-loop x y i₀ i = length x - i
 
 returns : tie.Need-returns Inv-loop μ-loop
-returns c = let a = c .before .before .before .args in sym (unequal (now (a .x)) (now (a .y)) (c .if1 .taken))
+returns c = let a = c .before .before .before .args in sym (unequal (now (a .first)) (now (a .second)) (c .if1 .taken))
 
 loop-holds : tie.Need-loop-holds Inv-loop μ-loop
 loop-holds c = (c .if1 .left, omega arith, refl)
@@ -37,7 +37,8 @@ same-part-requires c κs = (c .before .loop .inv .0, omega arith, omega arith, o
 returns-2 : tie.Need-returns-2 Inv-loop μ-loop
 returns-2 c =
     let at = c .before .before .before .loop in
-    sym (sym (at .inv .2) ∙ same-turn _ _ (at .i) (at .i + 16) (at .inv .0) (omega arith) (omega arith) _ false (c .before .same-part .ensures) (not-true _ (c .if2 .taken)))
+    sym (sym (at .inv .2) ∙ same-turn _ _ (at .i) (at .i + 16) (at .inv .0) (omega arith) (omega arith) _ false (c .before .same-part .ensures)
+    (not-true _ (c .if2 .taken)))
 
 add-i : tie.Need-add-i Inv-loop μ-loop
 add-i c = search needs

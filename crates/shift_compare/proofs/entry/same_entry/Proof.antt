@@ -27,7 +27,12 @@ unfolding sameEntry
 returns c =
     let r = c .before .before in
     let w = r .before .before in
-    let q = simp (r .row-at2 .ensures, r .before .row-at .ensures, w .row-size-of2 .ensures, w .before .row-size-of .ensures) at (sym (c .before .same-fields .ensures) ∙ not-true _ (c .if1 .taken)) in
+    let q = simp (
+      r .row-at2 .ensures,
+      r .before .row-at .ensures,
+      w .row-size-of2 .ensures,
+      w .before .row-size-of .ensures,
+    ) at (sym (c .before .same-fields .ensures) ∙ not-true _ (c .if1 .taken)) in
     simp q
 
 station-of-requires : tie.Need-station-of-requires
@@ -43,7 +48,12 @@ returns-2 c =
     let k = s .before .before in
     let r = k .before .before in
     let w = r .before .before in
-    let q = simp (r .row-at2 .ensures, r .before .row-at .ensures, w .row-size-of2 .ensures, w .before .row-size-of .ensures) at (sym (k .before .same-fields .ensures) ∙ not-false _ (k .if1 .left)) in
+    let q = simp (
+      r .row-at2 .ensures,
+      r .before .row-at .ensures,
+      w .row-size-of2 .ensures,
+      w .before .row-size-of .ensures,
+    ) at (sym (k .before .same-fields .ensures) ∙ not-false _ (k .if1 .left)) in
     let t = ne-eqb _ _ (λ e. c .if2 .taken (s .before .station-of .ensures ∙ e ∙ sym (s .station-of2 .ensures))) in
     simp (q, t)
 
@@ -69,9 +79,19 @@ returns-3 c =
     let k = s .before .before in
     let r = k .before .before in
     let w = r .before .before in
-    let q = simp (r .row-at2 .ensures, r .before .row-at .ensures, w .row-size-of2 .ensures, w .before .row-size-of .ensures) at (sym (k .before .same-fields .ensures) ∙ not-false _ (k .if1 .left)) in
+    let q = simp (
+      r .row-at2 .ensures,
+      r .before .row-at .ensures,
+      w .row-size-of2 .ensures,
+      w .before .row-size-of .ensures,
+    ) at (sym (k .before .same-fields .ensures) ∙ not-false _ (k .if1 .left)) in
     let t = eq-eqb _ _ (sym (s .before .station-of .ensures) ∙ d .if2 .left ∙ s .station-of2 .ensures) in
-    let u = simp (n .nonce-at2 .ensures .0 .bytes, n .before .nonce-at .ensures .0 .bytes, w .row-size-of2 .ensures, w .before .row-size-of .ensures) at (sym (c .before .same-bytes .ensures) ∙ not-true _ (c .if3 .taken)) in
+    let u = simp (
+      n .nonce-at2 .ensures .0 .bytes,
+      n .before .nonce-at .ensures .0 .bytes,
+      w .row-size-of2 .ensures,
+      w .before .row-size-of .ensures,
+    ) at (sym (c .before .same-bytes .ensures) ∙ not-true _ (c .if3 .taken)) in
     simp (q, t, u)
 
 body-of-requires : tie.Need-body-of-requires
@@ -99,11 +119,28 @@ returns-4 c =
     let k = s .before .before in
     let r = k .before .before in
     let w = r .before .before in
-    let q = simp (r .row-at2 .ensures, r .before .row-at .ensures, w .row-size-of2 .ensures, w .before .row-size-of .ensures) at (sym (k .before .same-fields .ensures) ∙ not-false _ (k .if1 .left)) in
+    let q = simp (
+      r .row-at2 .ensures,
+      r .before .row-at .ensures,
+      w .row-size-of2 .ensures,
+      w .before .row-size-of .ensures,
+    ) at (sym (k .before .same-fields .ensures) ∙ not-false _ (k .if1 .left)) in
     let t = eq-eqb _ _ (sym (s .before .station-of .ensures) ∙ d .if2 .left ∙ s .station-of2 .ensures) in
-    let u = simp (n .nonce-at2 .ensures .0 .bytes, n .before .nonce-at .ensures .0 .bytes, w .row-size-of2 .ensures, w .before .row-size-of .ensures) at (sym (m .before .same-bytes .ensures) ∙ not-false _ (m .if3 .left)) in
+    let u = simp (
+      n .nonce-at2 .ensures .0 .bytes,
+      n .before .nonce-at .ensures .0 .bytes,
+      w .row-size-of2 .ensures,
+      w .before .row-size-of .ensures,
+    ) at (sym (m .before .same-bytes .ensures) ∙ not-false _ (m .if3 .left)) in
     simp (q, t, u)
-    (simp (c .before .body-of2 .ensures, c .before .before .body-of .ensures, r .row-at2 .ensures, r .before .row-at .ensures, w .row-size-of2 .ensures, w .before .row-size-of .ensures) at (c .same-bytes2 .ensures))
+    (simp (
+      c .before .body-of2 .ensures,
+      c .before .before .body-of .ensures,
+      r .row-at2 .ensures,
+      r .before .row-at .ensures,
+      w .row-size-of2 .ensures,
+      w .before .row-size-of .ensures,
+    ) at (c .same-bytes2 .ensures))
 
 pub same-entry-spec : {M : Type 1} → statement M
 same-entry-spec =

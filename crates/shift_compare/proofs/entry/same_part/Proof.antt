@@ -37,7 +37,7 @@ returns : tie.Need-returns
 returns c =
     let st = c .before .before .before .before .before .before .before in
     c .same .ensures
-    ∙ same-filled (now (st .args .x)) (now (st .args .y)) (st .args .i) (st .args .e) (st .pre .0) (st .pre .1) (st .pre .2)
+    ∙ same-filled (now (st .args .first)) (now (st .args .second)) (st .args .start) (st .args .end) (st .pre .0) (st .pre .1) (st .pre .2)
     _ _ (c .before .before .before .filled .ensures) (c .before .filled2 .ensures)
 
 pub same-part-spec : {M : Type 1} → statement M

@@ -18,7 +18,7 @@ job-of-requires-2 c κs = search needs
 first-turn-requires : tie.Need-first-turn-requires
 first-turn-requires c κs =
     let p = c .before .before .before .before .before in
-    omega (arith, p .pre .1, few-rows (now (p .args .f)) (p .pre .0 .sound .first))
+    omega (arith, p .pre .1, few-rows (now (p .args .first)) (p .pre .0 .sound .first))
 
 returns : tie.Need-returns
 returns c =
@@ -30,7 +30,7 @@ returns c =
 second-turn-requires : tie.Need-second-turn-requires
 second-turn-requires c κs =
     let p = c .before .before .before .before .before .before in
-    omega (arith, p .pre .2, few-rows (now (p .args .g)) (p .pre .0 .sound .second))
+    omega (arith, p .pre .2, few-rows (now (p .args .second)) (p .pre .0 .sound .second))
 
 returns-2 : tie.Need-returns-2
 returns-2 c =
@@ -42,18 +42,20 @@ returns-2 c =
 same-entry-requires : tie.Need-same-entry-requires
 same-entry-requires c κs =
     let p = c .before .before .before .before .before .before in
-    let s = p .pre .0 .sound in
-    (entry-in firstEdition newest _ (passes firstEdition newest _ (s .first)) _ (p .pre .1), entry-in firstEdition newest _ (passes firstEdition newest _ (s .second)) _ (p .pre .2))
+    let s = p .pre .0 .sound in (
+      entry-in firstEdition newest _ (passes firstEdition newest _ (s .first)) _ (p .pre .1),
+      entry-in firstEdition newest _ (passes firstEdition newest _ (s .second)) _ (p .pre .2),
+    )
 
 add-t9 : tie.Need-add-t9
 add-t9 c =
     let p = c .before .before .before .before .before .before .before in
-    omega (arith, p .pre .1, few-rows (now (p .args .f)) (p .pre .0 .sound .first))
+    omega (arith, p .pre .1, few-rows (now (p .args .first)) (p .pre .0 .sound .first))
 
 add-t10 : tie.Need-add-t10
 add-t10 c =
     let p = c .before .before .before .before .before .before .before in
-    omega (arith, p .pre .2, few-rows (now (p .args .g)) (p .pre .0 .sound .second))
+    omega (arith, p .pre .2, few-rows (now (p .args .second)) (p .pre .0 .sound .second))
 
 returns-3 : tie.Need-returns-3
 returns-3 c =

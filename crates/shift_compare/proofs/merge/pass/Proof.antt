@@ -8,7 +8,8 @@ use Rattle.shift_compare.proofs.merge.pass.Statement.{statement}
 use Rattle.shift_compare.proofs.merge.pass.Tie as tie
 
 abbrev Inv-loop : tie.InvT-loop
-Inv-loop f g write first₀ second₀ differ₀ total i₀ j₀ in-first₀ in-second₀ in-both₀ first second differ i j in-first in-second in-both = Going f g write first₀ second₀ differ₀ total i j in-first in-second in-both first second differ
+Inv-loop f g write first₀ second₀ differ₀ total i₀ j₀ in-first₀ in-second₀ in-both₀ first second differ i j in-first in-second in-both =
+    Going f g write first₀ second₀ differ₀ total i j in-first in-second in-both first second differ
 
 abbrev μ-loop : tie.MeasureT-loop
 μ-loop f g write first₀ second₀ differ₀ total i₀ j₀ in-first₀ in-second₀ in-both₀ first second differ i j in-first in-second in-both = total - (i + j)
@@ -29,7 +30,7 @@ add-loop : tie.Need-add-loop Inv-loop μ-loop
 add-loop c =
     let a = c .before .before .before .before .before .before .before .before .args in
     let at = c .loop .inv .at in
-    omega (arith, at .in-f, at .in-g, few-rows (now (a .f)) (at .sound .first), few-rows (now (a .g)) (at .sound .second))
+    omega (arith, at .in-f, at .in-g, few-rows (now (a .first)) (at .sound .first), few-rows (now (a .second)) (at .sound .second))
 
 take-turn-requires : tie.Need-take-turn-requires Inv-loop μ-loop
 take-turn-requires c κs = (c .before .loop .inv .at, omega (arith, c .before .loop .inv .sum, c .loop-test .taken))

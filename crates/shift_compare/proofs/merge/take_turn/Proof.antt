@@ -16,7 +16,7 @@ job-of-requires c κs = search needs
 first-turn-requires : tie.Need-first-turn-requires
 first-turn-requires c κs =
     let p = c .before .before .before .before .before in
-    omega (arith, p .pre .1, c .before .before .rows .ensures .0, c .before .if1 .taken, few-rows (now (p .args .f)) (p .pre .0 .sound .first))
+    omega (arith, p .pre .1, c .before .before .rows .ensures .0, c .before .if1 .taken, few-rows (now (p .args .first)) (p .pre .0 .sound .first))
 
 returns : tie.Need-returns
 returns c =
@@ -40,7 +40,8 @@ returns-2 c =
     let t = c .before .before in
     let p = t .before .before .before .before .before .before in
     rw (c .second-turn .ensures, c .before .job-of2 .ensures)
-    (second-case _ _ _ _ (p .pre .0) (omega (arith, t .before .before .before .rows .ensures .0, t .before .before .if1 .left)) (λ m. absurd (omega (arith, t .before .rows2 .ensures .0, t .if2 .taken))))
+    (second-case _ _ _ _ (p .pre .0) (omega (arith, t .before .before .before .rows .ensures .0, t .before .before .if1 .left))
+    (λ m. absurd (omega (arith, t .before .rows2 .ensures .0, t .if2 .taken))))
 
 both-turn-requires : tie.Need-both-turn-requires
 both-turn-requires c κs = search needs

@@ -31,7 +31,8 @@ returns c =
     let a = n .before .before .before .args in
     let f = now (a .file) in
     c .filled .ensures
-    ∙ ap filled (c .before .stretch .ensures .0 .bytes ∙ ap₂ (λ (p k : ℕ). stretch f p k) (n .before .nonce-start .ensures .0) (n .nonce-size .ensures) ∙ read-bytes (a .size) f (a .index) (a .suite))
+    ∙ ap filled (c .before .stretch .ensures .0 .bytes ∙ ap₂ (λ (p k : ℕ). stretch f p k) (n .before .nonce-start .ensures .0) (n .nonce-size .ensures)
+    ∙ read-bytes (a .size) f (a .index) (a .suite))
 
 pub read-block-spec : {M : Type 1} → statement M
 read-block-spec = tie.close (tie.spec nonce-start-requires nonce-size-requires stretch-requires filled-requires returns)
