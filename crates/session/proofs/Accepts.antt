@@ -60,7 +60,8 @@ module _ (suite : ℕ) (key nonce : List ℕ) (still : Seals suite) (a m : List 
   unfolding textPart soFar
   takes-text p out h r =
       ap (λ (k : ℕ). answered k (textDone at p out) at out [] .number)
-      (text-is suite (length a) (length m) (length p) (length out) true false false goes-on (le-ltb (limit - length m) (length p) (omega arith)) (le-ltb (length out) (length p + (n - 1)) r))
+      (text-is suite (length a) (length m) (length p) (length out) true false false goes-on (le-ltb (limit - length m) (length p) (omega arith))
+      (le-ltb (length out) (length p + (n - 1)) r))
       ∙ done-number at p out
 
   held-16 : length (at .held) ≡ 16
@@ -87,7 +88,8 @@ module _ (suite : ℕ) (key nonce : List ℕ) (still : Seals suite) (a m : List 
   done-count [] out = sym none-given
   done-count (x ∷ p) out = part-count at held-16 (x ∷ p)
 
-  counts-text : (k : ℕ) (p out : List ℕ) → answered k (textDone at p out) at out [] .number ≡ 0 → answered k (textDone at p out) at out [] .count ≡ given (length p)
+  counts-text : (k : ℕ) (p out : List ℕ) → answered k (textDone at p out) at out [] .number ≡ 0
+      → answered k (textDone at p out) at out [] .count ≡ given (length p)
   counts-text zero p out e = done-count p out
   counts-text (suc k) p out e = absurd (suc-ne-zero k e)
 

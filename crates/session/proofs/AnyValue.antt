@@ -12,7 +12,8 @@ use Rattle.cipher.specs.Cipher.{isSuite, seals, cipherOf, limit}
 use Rattle.cipher.proofs.Lawful.{lawful}
 use Rattle.cipher.proofs.Suites.{size-most}
 use Rattle.mode.proofs.Chain.{some}
-use Rattle.session.specs.Value.{Value, sound, answered, gave, startNumber, fresh, over, starting, dataNumber, dataIn, dataPart, textNumber, textDone, textPart, endNumber, endDone, ending}
+use Rattle.session.specs.Value.{Value, sound, answered, gave, startNumber, fresh, over, starting, dataNumber, dataIn, dataPart, textNumber, textDone}
+use Rattle.session.specs.Value.{textPart, endNumber, endDone, ending}
 use Rattle.session.proofs.Refuse.{answer-kept, data-closed, text-passed, text-is, end-is}
 use Rattle.session.proofs.Count.{part-count, end-count}
 
@@ -34,11 +35,13 @@ data-shut v p h = answer-kept 9 _ _ v [] [] nine-not (sym (data-closed (v .suite
 
 pub text-shut : (v : Value) (p out : List ℕ) → 255 < v .suite → gave 9 0 v out [] ≡ textPart v p out
 unfolding textPart
-text-shut v p out h = answer-kept 9 _ _ v out [] nine-not (sym (text-is (v .suite) (v .«ad_total») (v .«text_total») (length p) (length out) false _ _ (unsound v h) refl refl))
+text-shut v p out h =
+    answer-kept 9 _ _ v out [] nine-not (sym (text-is (v .suite) (v .«ad_total») (v .«text_total») (length p) (length out) false _ _ (unsound v h) refl refl))
 
 pub end-shut : (v : Value) (out tag : List ℕ) → 255 < v .suite → gave 9 0 v out tag ≡ ending v out tag
 unfolding ending
-end-shut v out tag h = answer-kept 9 _ _ v out tag nine-not (sym (end-is (v .suite) (v .«ad_total») (v .«text_total») (length out) (length tag) false _ _ (unsound v h) refl refl))
+end-shut v out tag h =
+    answer-kept 9 _ _ v out tag nine-not (sym (end-is (v .suite) (v .«ad_total») (v .«text_total») (length out) (length tag) false _ _ (unsound v h) refl refl))
 
 -- ---- counts
 

@@ -59,7 +59,8 @@ module _ (v : Value) (held : length (v .held) ≡ 16) where
   unfolding partOut blocksOut
   part-count p =
       let l : List ℕ = heldOf κ v (v .«text_total») ++ p in
-      covered-long κ (lawful (v .suite)) 0x40 (length (whole (κ .size) l)) (firstMark κ 0x20 (v .«text_total»)) (begun κ v) (whole (κ .size) l) (le-refl (length (whole (κ .size) l)))
+      covered-long κ (lawful (v .suite)) 0x40 (length (whole (κ .size) l)) (firstMark κ 0x20 (v .«text_total»)) (begun κ v) (whole (κ .size) l)
+      (le-refl (length (whole (κ .size) l)))
       ∙ length-whole (κ .size) (some κ (lawful (v .suite))) l
       ∙ ap (λ (k : ℕ). k / κ .size * κ .size) (length-append (heldOf κ v (v .«text_total»)) p ∙ ap (λ (k : ℕ). k + length p) held-long)
 

@@ -32,7 +32,8 @@ module _ (κ : Cipher) (v : Value) where
     begun-none e z =
         let p : 0 < κ .size = omega arith in
         let z′ : v .«ad_total» % κ .size ≡ 0 = subst (λ (k : ℕ). v .«ad_total» % k ≡ 0) en z in
-        begun-first e ∙ walk-none κ p false 0x10 (firstMark κ 0x08 (v .«ad_total»)) (states κ v) (heldOf κ v (v .«ad_total»)) (ap (λ (k : ℕ). length (take k (v .held))) z′)
+        begun-first e ∙ walk-none κ p false 0x10 (firstMark κ 0x08 (v .«ad_total»)) (states κ v) (heldOf κ v (v .«ad_total»))
+        (ap (λ (k : ℕ). length (take k (v .held))) z′)
 
     -- the short block as the code lends it, under the mark m that the code found
     pub begun-short : n ≤ 16 → length (v .held) ≡ 16 → v .«text_total» ≡ 0 → (v .«ad_total» % n ≡ 0 → ⊥) → (m : ℕ) → m ≡ firstMark κ 0x08 (v .«ad_total»)

@@ -93,7 +93,8 @@ module _ (κ : Cipher) (pos : 0 < κ .size) (short : ℕ) where
   n = κ .size
 
   -- held bytes x and the first bytes of p make a block: k of b's bytes, and j of those after, as the code lends them
-  module _ (x p b : List ℕ) (h need : ℕ) (lx : length x ≡ h) (ln : h + need ≡ n) (lp : need ≤ length p) (most : n ≤ 16) (eb : b ≡ filled (x ++ take (need - 0) (drop 0 p))) where
+  module _ (x p b : List ℕ) (h need : ℕ) (lx : length x ≡ h) (ln : h + need ≡ n) (lp : need ≤ length p) (most : n ≤ 16)
+      (eb : b ≡ filled (x ++ take (need - 0) (drop 0 p))) where
     lt : length (take need p) ≡ need
     lt = length-take-le need p lp
 
@@ -117,10 +118,12 @@ module _ (κ : Cipher) (pos : 0 < κ .size) (short : ℕ) where
         → r ≡ walked κ false 0 short t (blocks n (whole n (take (length p - need) (drop need p))))
         → r ≡ walked κ false m short s (blocks n (whole n (x ++ p)))
     more-walk m k s t r ek et er =
-        let in-first = et ∙ ap (λ (l : List ℕ). walked κ false m short s (blocks n (whole n l))) (block-is k ek) ∙ one-walk κ pos false short m s (x ++ take need p) lb in
+        let in-first = et ∙ ap (λ (l : List ℕ). walked κ false m short s (blocks n (whole n l))) (block-is k ek)
+        ∙ one-walk κ pos false short m s (x ++ take need p) lb in
         er
         ∙ ap₂ (λ (y : States) (l : List ℕ). walked κ false 0 short y (blocks n (whole n l))) in-first behind
-        ∙ sym (ap (λ (l : List ℕ). walked κ false m short s (blocks n (whole n l))) split ∙ front-walk κ pos false short m s (x ++ take need p) (drop need p) lb)
+        ∙ sym (ap (λ (l : List ℕ). walked κ false m short s (blocks n (whole n l))) split
+        ∙ front-walk κ pos false short m s (x ++ take need p) (drop need p) lb)
 
     pub more-rest : (r : List ℕ) → r ≡ filled (rest n (take (length p - need) (drop need p))) → r ≡ filled (rest n (x ++ p))
     more-rest r e =

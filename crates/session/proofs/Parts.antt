@@ -9,7 +9,8 @@ use Rattle.block.specs.Blocks.{filled}
 use Rattle.cipher.specs.Cipher.{Cipher, cipherOf}
 use Rattle.mode.specs.Blocks.{blocks}
 use Rattle.mode.specs.Walk.{States, whole, rest, walked, covered, tagged}
-use Rattle.session.specs.Value.{Value, valueOf, written, gave, firstMark, begun, textStates, blocksOut, textIn, partOut, textGiven, textDone, endOut, endTag, endDone, over}
+use Rattle.session.specs.Value.{Value, valueOf, written, gave, firstMark, begun, textStates, blocksOut, textIn, partOut, textGiven, textDone, endOut}
+use Rattle.session.specs.Value.{endTag, endDone, over}
 
 -- two, n and m are what the code found for the states, the block's size and the first mark
 module _ (v : Value) (two : States) (n m : ℕ)
@@ -56,7 +57,8 @@ module _ (v : Value) (two : States) (n m : ℕ)
   end-tag-is = λ i. tagged κ (walked κ false (em i) 0x40 (e2 i) (blocks (κ .size) (take (v .«text_total» % en i) (v .held))))
 
   pub end-given : (out o t : List ℕ) (count : ℕ) (next : Value) (su : States) → o ≡ written (covered κ false m 0x40 two (blocks (κ .size) last)) out
-      → count ≡ length (covered κ false m 0x40 two (blocks (κ .size) last)) → next ≡ over → su ≡ walked κ false m 0x40 two (blocks (κ .size) last) → t ≡ tagged κ su
+      → count ≡ length (covered κ false m 0x40 two (blocks (κ .size) last)) → next ≡ over → su ≡ walked κ false m 0x40 two (blocks (κ .size) last)
+      → t ≡ tagged κ su
       → gave 0 count next o t ≡ endDone v out
   end-given out o t count next su eo ec e es et =
       let et′ : t ≡ endTag κ v = et ∙ ap (tagged κ) es ∙ end-tag-is in

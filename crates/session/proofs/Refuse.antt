@@ -52,14 +52,19 @@ module _ (s c t l o : ℕ) where
   unfolding textNumber
   text-passed e =
       let p = not-taken (not (sound s c t)) 9 (cond (ltb (limit - t) l) 5 (cond (ltb o (l + (sizeOf s - 1))) 6 0)) (lit< tt) e in
-      let q = not-taken (ltb (limit - t) l) 5 (cond (ltb o (l + (sizeOf s - 1))) 6 0) (lit< tt) (p .1) in
-      (sound-told s c t (not-false (sound s c t) (p .0)), ltb-false (limit - t) l (q .0), ltb-false o (l + (sizeOf s - 1)) (not-taken (ltb o (l + (sizeOf s - 1))) 6 0 (lit< tt) (q .1) .0))
+      let q = not-taken (ltb (limit - t) l) 5 (cond (ltb o (l + (sizeOf s - 1))) 6 0) (lit< tt) (p .1) in (
+        sound-told s c t (not-false (sound s c t) (p .0)),
+        ltb-false (limit - t) l (q .0),
+        ltb-false o (l + (sizeOf s - 1)) (not-taken (ltb o (l + (sizeOf s - 1))) 6 0 (lit< tt) (q .1) .0),
+      )
 
   -- the ladder, its tests given
-  pub text-is : (b d f : Bool) → sound s c t ≡ b → ltb (limit - t) l ≡ d → ltb o (l + (sizeOf s - 1)) ≡ f → textNumber s c t l o ≡ cond (not b) 9 (cond d 5 (cond f 6 0))
+  pub text-is : (b d f : Bool) → sound s c t ≡ b → ltb (limit - t) l ≡ d → ltb o (l + (sizeOf s - 1)) ≡ f
+      → textNumber s c t l o ≡ cond (not b) 9 (cond d 5 (cond f 6 0))
   unfolding textNumber
   text-is b d f eb ed ef =
-      ap₂ (λ (x y : Bool). cond (not x) 9 (cond y 5 (cond (ltb o (l + (sizeOf s - 1))) 6 0))) eb ed ∙ ap (λ (z : Bool). cond (not b) 9 (cond d 5 (cond z 6 0))) ef
+      ap₂ (λ (x y : Bool). cond (not x) 9 (cond y 5 (cond (ltb o (l + (sizeOf s - 1))) 6 0))) eb ed
+      ∙ ap (λ (z : Bool). cond (not b) 9 (cond d 5 (cond z 6 0))) ef
 
 module _ (s c t o g : ℕ) where
   pub end-passed : endNumber s c t o g ≡ 0 → Sound s c t × (sizeOf s ≤ o) × (g ≡ sizeOf s)
@@ -72,10 +77,12 @@ module _ (s c t o g : ℕ) where
         eqb-true g (sizeOf s) (not-false (eqb g (sizeOf s)) (not-taken (not (eqb g (sizeOf s))) 7 0 (lit< tt) (q .1) .0)),
       )
 
-  pub end-is : (b d f : Bool) → sound s c t ≡ b → ltb o (sizeOf s) ≡ d → eqb g (sizeOf s) ≡ f → endNumber s c t o g ≡ cond (not b) 9 (cond d 6 (cond (not f) 7 0))
+  pub end-is : (b d f : Bool) → sound s c t ≡ b → ltb o (sizeOf s) ≡ d → eqb g (sizeOf s) ≡ f
+      → endNumber s c t o g ≡ cond (not b) 9 (cond d 6 (cond (not f) 7 0))
   unfolding endNumber
   end-is b d f eb ed ef =
-      ap₂ (λ (x y : Bool). cond (not x) 9 (cond y 6 (cond (not (eqb g (sizeOf s))) 7 0))) eb ed ∙ ap (λ (z : Bool). cond (not b) 9 (cond d 6 (cond (not z) 7 0))) ef
+      ap₂ (λ (x y : Bool). cond (not x) 9 (cond y 6 (cond (not (eqb g (sizeOf s))) 7 0))) eb ed
+      ∙ ap (λ (z : Bool). cond (not b) 9 (cond d 6 (cond (not z) 7 0))) ef
 
 module _ (s k v : ℕ) where
   pub start-passed : startNumber s k v ≡ 0 → Seals s × (k ≡ 16) × (v ≡ nonceOf s)

@@ -19,7 +19,8 @@ use Rattle.mode.proofs.Blocks.{blocks-nil, all-blocks}
 use Rattle.mode.proofs.Chain.{some}
 use Rattle.mode.proofs.Start.{suite-nonce, y-block, z-block}
 use Rattle.mode.specs.Walk.{States, whole, rest, walked, covered, tagged, origin, dataDone}
-use Rattle.session.specs.Value.{Value, fresh, states, heldOf, firstMark, dataStates, dataIn, begun, textStates, blocksOut, textIn, partOut, endOut, endTag}
+use Rattle.session.specs.Value.{Value, fresh, states, heldOf, firstMark, dataStates, dataIn, begun, textStates, blocksOut, textIn, partOut, endOut}
+use Rattle.session.specs.Value.{endTag}
 use Rattle.session.proofs.Joined.{dataSoFar, textSoFar, outSoFar, statesSoFar, soFar}
 use Rattle.mode.proofs.Cut.{length-rest, whole-short, rest-short, blocks-whole-rest, blocks-more-bytes, rest-more}
 use Rattle.block_step.proofs.Turns.{states-path}
@@ -44,13 +45,15 @@ module _ (κ : Cipher) (pos : 0 < κ .size) (first short : ℕ) (s : States) (l 
       ap (λ (m : ℕ). covered κ false first short s (blocks n (whole n l)) ++ covered κ false m short upTo xs) (sym (later-first n first pos l))
       ∙ sym (covered-append κ false first short s (blocks n (whole n l)) xs)
 
-  pub walk-more : (p : List ℕ) → walked κ false (firstMark κ first (length l)) short upTo (blocks n (whole n (rest n l ++ p))) ≡ walked κ false first short s (blocks n (whole n (l ++ p)))
+  pub walk-more : (p : List ℕ) → walked κ false (firstMark κ first (length l)) short upTo (blocks n (whole n (rest n l ++ p)))
+      ≡ walked κ false first short s (blocks n (whole n (l ++ p)))
   walk-more p = on (blocks n (whole n (rest n l ++ p))) ∙ ap (walked κ false first short s) (sym (blocks-more-bytes n pos l p))
 
   pub walk-last : walked κ false (firstMark κ first (length l)) short upTo (blocks n (rest n l)) ≡ walked κ false first short s (blocks n l)
   walk-last = on (blocks n (rest n l)) ∙ ap (walked κ false first short s) (blocks-whole-rest n pos l)
 
-  pub out-more : (p : List ℕ) → covered κ false first short s (blocks n (whole n l)) ++ covered κ false (firstMark κ first (length l)) short upTo (blocks n (whole n (rest n l ++ p)))
+  pub out-more : (p : List ℕ) → covered κ false first short s (blocks n (whole n l)) ++ covered κ false (firstMark κ first (length l)) short upTo
+      (blocks n (whole n (rest n l ++ p)))
       ≡ covered κ false first short s (blocks n (whole n (l ++ p)))
   out-more p = out-on (blocks n (whole n (rest n l ++ p))) ∙ ap (covered κ false first short s) (sym (blocks-more-bytes n pos l p))
 
@@ -88,7 +91,8 @@ module _ (suite : ℕ) (key nonce : List ℕ) (hk : Block 16 key) (hv : AllBytes
 
   so-far-fine : (a m : List ℕ) → AllBytes a → AllBytes m → Fine κ (statesSoFar κ key nonce a m)
   so-far-fine a [] ha hm = walked-fine κ L false 0x08 0x10 (origin κ key nonce) (omega arith) (omega arith) (bytes-in _ (whole-bytes a ha)) origin-fine
-  so-far-fine a (x ∷ m) ha hm = walked-fine κ L false 0x20 0x40 (dataDone κ key nonce a) (omega arith) (omega arith) (bytes-in _ (whole-bytes (x ∷ m) hm)) (done-fine a ha)
+  so-far-fine a (x ∷ m) ha hm = walked-fine κ L false 0x20 0x40 (dataDone κ key nonce a) (omega arith) (omega arith) (bytes-in _ (whole-bytes (x ∷ m) hm))
+      (done-fine a ha)
 
   -- the states are read back from the value
   pub states-are : (a m : List ℕ) → AllBytes a → AllBytes m → states κ (value a m) ≡ statesSoFar κ key nonce a m
@@ -144,11 +148,13 @@ module _ (suite : ℕ) (key nonce : List ℕ) (hk : Block 16 key) (hv : AllBytes
       (states κ v)) (ne-eqb (length (x ∷ m)) 0 (λ e. omega arith))
       ∙ states-are a (x ∷ m) ha hm
 
-  text-states : (a m l : List ℕ) → AllBytes a → AllBytes m → textStates κ (value a m) l ≡ walked κ false (firstMark κ 0x20 (length m)) 0x40 (textSoFar κ key nonce a m) (blocks (κ .size) l)
+  text-states : (a m l : List ℕ) → AllBytes a → AllBytes m → textStates κ (value a m) l
+      ≡ walked κ false (firstMark κ 0x20 (length m)) 0x40 (textSoFar κ key nonce a m) (blocks (κ .size) l)
   unfolding textStates soFar
   text-states a m l ha hm = ap (λ (s : States). walked κ false (firstMark κ 0x20 (length m)) 0x40 s (blocks (κ .size) l)) (begun-is a m ha hm)
 
-  text-out : (a m l : List ℕ) → AllBytes a → AllBytes m → blocksOut κ (value a m) l ≡ covered κ false (firstMark κ 0x20 (length m)) 0x40 (textSoFar κ key nonce a m) (blocks (κ .size) l)
+  text-out : (a m l : List ℕ) → AllBytes a → AllBytes m → blocksOut κ (value a m) l
+      ≡ covered κ false (firstMark κ 0x20 (length m)) 0x40 (textSoFar κ key nonce a m) (blocks (κ .size) l)
   unfolding blocksOut soFar
   text-out a m l ha hm = ap (λ (s : States). covered κ false (firstMark κ 0x20 (length m)) 0x40 s (blocks (κ .size) l)) (begun-is a m ha hm)
 
@@ -198,7 +204,9 @@ module _ (suite : ℕ) (key nonce : List ℕ) (hk : Block 16 key) (hv : AllBytes
 
   pub fresh-is : fresh suite key nonce ≡ value [] []
   unfolding soFar walked
-  fresh-is = value-path {h = []} (ap (walked κ false 0x08 0x10 (origin κ key nonce)) (sym (ap (blocks (κ .size)) (whole-short (κ .size) pos [] pos) ∙ blocks-nil (κ .size) pos)))
+  fresh-is =
+      value-path {h = []} (ap (walked κ false 0x08 0x10 (origin κ key nonce))
+      (sym (ap (blocks (κ .size)) (whole-short (κ .size) pos [] pos) ∙ blocks-nil (κ .size) pos)))
       (sym (rest-short (κ .size) pos [] pos)) refl refl
 
   -- no message byte, no ciphertext

@@ -14,9 +14,11 @@ use Rattle.block.proofs.Lists.{nil-of, all-append, all-nil}
 use Rattle.cipher.proofs.Suites.{seals-has}
 use Rattle.cipher.specs.Cipher.{Block, isSuite, seals, Seals, cipherOf, nonceOf, limit}
 use Rattle.mode.specs.Mode.{ciphertext, tag}
-use Rattle.session.specs.Value.{Value, Given, over, answered, gave, written, startNumber, starting, dataNumber, dataPart, textNumber, textDone, textPart, endNumber, endDone, ending, dataIn, partOut, endOut, fresh}
+use Rattle.session.specs.Value.{Value, Given, over, answered, gave, written, startNumber, starting, dataNumber, dataPart, textNumber, textDone, textPart}
+use Rattle.session.specs.Value.{endNumber, endDone, ending, dataIn, partOut, endOut, fresh}
 use Rattle.session.proofs.Joined.{outSoFar, soFar}
-use Rattle.session.specs.Calls.{SessionCall, associated, message, finish, InBytes, AllInBytes, Run, accepted, endedBy, step, run, runOf, joined, Starts, Shut, RefusedShut, Next, Goes, Whatever}
+use Rattle.session.specs.Calls.{SessionCall, associated, message, finish, InBytes, AllInBytes, Run, accepted, endedBy, step, run, runOf, joined, Starts}
+use Rattle.session.specs.Calls.{Shut, RefusedShut, Next, Goes, Whatever}
 use Rattle.session.proofs.Refuse.{data-passed, text-passed, start-passed, start-is}
 use Rattle.session.proofs.Accepts.{next-is}
 use Rattle.session.proofs.SoFar.{data-more, part-out, text-more, end-out, end-tag, fresh-is, none-out}
@@ -139,12 +141,19 @@ module _ (suite : ℕ) (key nonce : List ℕ) (hk : Block 16 key) (hv : AllBytes
   H = Kept suite key nonce
 
   end-go : (k : ℕ) (a m o out tag : List ℕ) (b : Bool) → b ≡ false → S (value a m) a m o
-      → let g : Given = answered k (endDone (value a m) out) (value a m) out tag in H (record { now = g .next; ad = a; msg = m; out = o ++ take (g .count) (g .out); ended = endedBy (g .number) b })
+      → let g : Given = answered k (endDone (value a m) out) (value a m) out tag in H
+      (record { now = g .next; ad = a; msg = m; out = o ++ take (g .count) (g .out); ended = endedBy (g .number) b })
   end-go (suc k) a m o out tag b eb s = stands (same refl refl (sym (append-nil o)) s) eb
   end-go zero a m o out tag b eb s = closed refl refl
 
   end-step : (a m o out tag : List ℕ) (b : Bool) → b ≡ false → S (value a m) a m o
-      → let g : Given = ending (value a m) out tag in H (record { now = g .next; ad = a; msg = m; out = o ++ take (g .count) (g .out); ended = endedBy (g .number) b })
+      → let g : Given = ending (value a m) out tag in H (record {
+        now = g .next;
+        ad = a;
+        msg = m;
+        out = o ++ take (g .count) (g .out);
+        ended = endedBy (g .number) b;
+      })
   unfolding ending soFar
   end-step a m o out tag b eb s = end-go (endNumber suite (length a) (length m) (length out) (length tag)) a m o out tag b eb s
 
@@ -160,7 +169,8 @@ module _ (suite : ℕ) (key nonce : List ℕ) (hk : Block 16 key) (hv : AllBytes
   unfolding step
   over-ended r (associated p) e t = t
   over-ended r (message p out) e t = t
-  over-ended r (finish out tag) e t = ap (λ (v : Value). endedBy (ending v out tag .number) (r .ended)) e ∙ ap (λ (k : ℕ). endedBy k (r .ended)) (over-shut .2 out tag) ∙ t
+  over-ended r (finish out tag) e t = ap (λ (v : Value). endedBy (ending v out tag .number) (r .ended)) e
+      ∙ ap (λ (k : ℕ). endedBy k (r .ended)) (over-shut .2 out tag) ∙ t
 
   abbrev runAt : Value → List ℕ → List ℕ → List ℕ → Bool → Run
   runAt v a m o b = record { now = v; ad = a; msg = m; out = o; ended = b }
@@ -193,7 +203,8 @@ module _ (suite : ℕ) (key nonce : List ℕ) (hk : Block 16 key) (hv : AllBytes
   unfolding soFar
   last-go (suc k) a m o out tag₀ s e = absurd (suc-ne-zero k e)
   last-go zero a m o out tag₀ s e = (
-    ap₂ (λ (i j : List ℕ). i ++ j) (s .out) (front (endOut (cipherOf suite) (value a m)) out) ∙ end-out suite key nonce hk hv lv a m (s .dataBytes) (s .textBytes),
+    ap₂ (λ (i j : List ℕ). i ++ j) (s .out) (front (endOut (cipherOf suite) (value a m)) out)
+        ∙ end-out suite key nonce hk hv lv a m (s .dataBytes) (s .textBytes),
     end-tag suite key nonce hk hv lv a m (s .dataBytes) (s .textBytes),
   )
 
@@ -201,7 +212,8 @@ module _ (suite : ℕ) (key nonce : List ℕ) (hk : Block 16 key) (hv : AllBytes
   unfolding ending soFar
   last-step a m o out tag₀ s e = last-go (endNumber suite (length a) (length m) (length out) (length tag₀)) a m o out tag₀ s e
 
-  pub last : (r : Run) (out tag₀ : List ℕ) → H r → ending (r .now) out tag₀ .number ≡ 0 → Last (ending (r .now) out tag₀) (r .ad) (r .msg) (r .out) × S (r .now) (r .ad) (r .msg) (r .out)
+  pub last : (r : Run) (out tag₀ : List ℕ) → H r → ending (r .now) out tag₀ .number ≡ 0 → Last (ending (r .now) out tag₀) (r .ad) (r .msg) (r .out)
+      × S (r .now) (r .ad) (r .msg) (r .out)
   last r out tag₀ (closed c t) e =
       let z : _≡_ {A = ℕ} 9 0 = sym (over-shut .2 out tag₀) ∙ sym (ap (λ (v : Value). ending v out tag₀ .number) c) ∙ e in
       absurd (suc-ne-zero 8 z)
@@ -236,7 +248,8 @@ pub starts : Starts
 unfolding starting
 starts suite key nonce hs hk hv =
     ap (λ (k : ℕ). answered k (gave 0 0 (fresh suite key nonce) [] []) over [] [] .number)
-    (start-is suite (length key) (length nonce) true true true true (seals-has suite hs) hs (eq-eqb (length key) 16 hk) (eq-eqb (length nonce) (nonceOf suite) hv))
+    (start-is suite (length key) (length nonce) true true true true (seals-has suite hs) hs (eq-eqb (length key) 16 hk)
+    (eq-eqb (length nonce) (nonceOf suite) hv))
 
 shut-go : (k : ℕ) (done : Value) → (answered k (gave 0 0 done [] []) over [] [] .number ≡ 0 → ⊥) → Shut (answered k (gave 0 0 done [] []) over [] [] .next)
 shut-go zero done h = absurd (h refl)
@@ -248,7 +261,8 @@ refused-shut suite key nonce h = shut-go (startNumber suite (length key) (length
 
 -- ---- a whole run
 
-module _ (suite : ℕ) (key nonce : List ℕ) (cs : List SessionCall) (hk : AllBytes key) (hv : AllBytes nonce) (hc : AllInBytes cs) (e0 : starting suite key nonce .number ≡ 0) where
+module _ (suite : ℕ) (key nonce : List ℕ) (cs : List SessionCall) (hk : AllBytes key) (hv : AllBytes nonce) (hc : AllInBytes cs)
+    (e0 : starting suite key nonce .number ≡ 0) where
   abbrev all : Run
   all = runOf suite key nonce cs
 
@@ -288,7 +302,8 @@ module _ (suite : ℕ) (key nonce : List ℕ) (cs : List SessionCall) (hk : AllB
   shut (stands s eb) f = absurd (not-both f eb)
 
 pub goes : Goes
-goes suite key nonce cs hk hv hc e0 = (going suite key nonce cs hk hv hc e0 (kept suite key nonce cs hk hv hc e0), shut suite key nonce cs hk hv hc e0 (kept suite key nonce cs hk hv hc e0))
+goes suite key nonce cs hk hv hc e0 =
+    (going suite key nonce cs hk hv hc e0 (kept suite key nonce cs hk hv hc e0), shut suite key nonce cs hk hv hc e0 (kept suite key nonce cs hk hv hc e0))
 
 -- where the end answered 0: the outputs, and what stood before it
 pub finished : (suite : ℕ) (key nonce : List ℕ) (cs : List SessionCall) (out₀ tag₀ : List ℕ) (hk : AllBytes key) (hv : AllBytes nonce) (hc : AllInBytes cs)
@@ -298,7 +313,8 @@ pub finished : (suite : ℕ) (key nonce : List ℕ) (cs : List SessionCall) (out
     ((joined r e ≡ ciphertext (cipherOf suite) key nonce (r .ad) (r .msg)) × (e .tag ≡ tag (cipherOf suite) key nonce (r .ad) (r .msg)))
     × Stands suite key nonce (r .now) (r .ad) (r .msg) (r .out)
 finished suite key nonce cs out₀ tag₀ hk hv hc e0 e1 =
-    last suite key nonce (bk suite key nonce cs hk hv hc e0) hv (st suite key nonce cs hk hv hc e0 .nonceRight) (runOf suite key nonce cs) out₀ tag₀ (kept suite key nonce cs hk hv hc e0) e1
+    last suite key nonce (bk suite key nonce cs hk hv hc e0) hv (st suite key nonce cs hk hv hc e0 .nonceRight) (runOf suite key nonce cs) out₀ tag₀
+    (kept suite key nonce cs hk hv hc e0) e1
 
 pub whatever : Whatever
 whatever suite key nonce cs out₀ tag₀ hk hv hc e0 e1 =

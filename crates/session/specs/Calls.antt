@@ -109,7 +109,8 @@ Goes =
     → (runOf suite key nonce cs .ended ≡ false → Next suite (runOf suite key nonce cs))
     × (runOf suite key nonce cs .ended ≡ true → Shut (runOf suite key nonce cs .now))
 
--- whatever the cutting: if the start and the end answered 0, the joined ciphertext and the tag are those of the joined associated data and message, which are within the limits
+-- whatever the cutting: if the start and the end answered 0, the joined ciphertext and the tag are those of the joined
+-- associated data and message, which are within the limits
 abbrev pub Whatever : Type 0
 Whatever =
     (suite : ℕ) (key nonce : List ℕ) (cs : List SessionCall) (out₀ tag₀ : List ℕ) → AllBytes key → AllBytes nonce → AllInBytes cs

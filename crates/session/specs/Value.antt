@@ -60,7 +60,8 @@ module _ (κ : Cipher) where
 
   -- the states when the message begins or continues: if it begins, the associated data's last bytes are absorbed first, as a short block if there are any
   unfoldable pub begun : Value → States
-  begun v = cond (eqb (v .«text_total») 0) (walked κ false (firstMark 0x08 (v .«ad_total»)) 0x10 (states v) (blocks (κ .size) (heldOf v (v .«ad_total»)))) (states v)
+  begun v =
+      cond (eqb (v .«text_total») 0) (walked κ false (firstMark 0x08 (v .«ad_total»)) 0x10 (states v) (blocks (κ .size) (heldOf v (v .«ad_total»)))) (states v)
 
   -- the states after message blocks are absorbed, and their ciphertext
   unfoldable pub textStates : Value → List ℕ → States
@@ -132,7 +133,8 @@ dataPart v p = answered (dataNumber (v .suite) (v .«ad_total») (v .«text_tota
 
 -- 9 (not in progress), 5, 6, for a part of l bytes and an output of o bytes
 unfoldable pub textNumber : ℕ → ℕ → ℕ → ℕ → ℕ → ℕ
-textNumber suite ad-total text-total l o = cond (not (sound suite ad-total text-total)) 9 (cond (ltb (limit - text-total) l) 5 (cond (ltb o (l + (sizeOf suite - 1))) 6 0))
+textNumber suite ad-total text-total l o =
+    cond (not (sound suite ad-total text-total)) 9 (cond (ltb (limit - text-total) l) 5 (cond (ltb o (l + (sizeOf suite - 1))) 6 0))
 
 abbrev pub textGiven : Value → List ℕ → List ℕ → Given
 textGiven v p out =

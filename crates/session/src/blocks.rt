@@ -23,27 +23,28 @@ pub(crate) struct Absorbed {
     pub held: [u8; 16],
 }
 
-// The first h bytes of held, then p, and zeros.
-fn joined(held: [u8; 16], h: usize, p: &[u8]) -> [u8; 16]
-    requires { ⌜ h + length (now p) ≤ 16 ⌝ }
-    ensures { λ r. ⌜ r ≡ filled (take h held ++ now (p .entry)) ⌝ }
+// The first `count` bytes of held, then a part, and zeros.
+fn joined(held: [u8; 16], count: usize, part: &[u8]) -> [u8; 16]
+    requires { ⌜ count + length (now part) ≤ 16 ⌝ }
+    ensures { λ r. ⌜ r ≡ filled (take count held ++ now (part .entry)) ⌝ }
 {
-    let mut sixteen = byte_runs::filled_bytes(&held[0..h]);
+    let mut sixteen = byte_runs::filled_bytes(&held[0..count]);
     let mut j: usize = 0;
-    while j < p.len() {
-        sixteen[h + j] = p[j];
+    while j < part.len() {
+        sixteen[count + j] = part[j];
         j += 1;
     }
     sixteen
 }
 
 // Absorbs the whole blocks of ad, none of them the first, and buffers the rest.
-fn absorb_blocks(tables: &[AesTables], suite: u8, s: State, ad: &[u8]) -> Absorbed
+fn absorb_blocks(tables: &[AesTables], suite: u8, start: State, ad: &[u8]) -> Absorbed
     requires { ⌜ TablesFit suite (now tables) × IsSuite suite ⌝ }
-    ensures states { λ r. ⌜ twoOf suite (r .s) ≡ walked (cipherOf suite) false 0 0x10 (twoOf suite s) (blocks (sizeOf suite) (whole (sizeOf suite) (now (ad .entry)))) ⌝ }
+    ensures states { λ r. ⌜ twoOf suite (r .s) ≡ walked (cipherOf suite) false 0 0x10 (twoOf suite start)
+        (blocks (sizeOf suite) (whole (sizeOf suite) (now (ad .entry)))) ⌝ }
     ensures held { λ r. ⌜ r .held ≡ filled (rest (sizeOf suite) (now (ad .entry))) ⌝ }
 {
-    let whole = block_walk::absorb(tables, false, suite, s, 0, ad);
+    let whole = block_walk::absorb(tables, false, suite, start, 0, ad);
     let state = whole.s;
     let at = whole.at;
     let rest = byte_runs::filled_bytes(&ad[at..ad.len()]);
@@ -53,54 +54,56 @@ fn absorb_blocks(tables: &[AesTables], suite: u8, s: State, ad: &[u8]) -> Absorb
     }
 }
 
-// Absorbs the whole blocks of h buffered bytes followed by ad, which completes one, the first under the mark m, and buffers the rest.
+// Absorbs the whole blocks of `count` buffered bytes followed by ad, which completes one, the first under the mark, and buffers the rest.
 fn absorb_past(
     tables: &[AesTables],
     suite: u8,
-    s: State,
-    m: u8,
+    state: State,
+    mark: u8,
     held: [u8; 16],
-    h: usize,
+    count: usize,
     ad: &[u8],
 ) -> Absorbed
-    requires { ⌜ TablesFit suite (now tables) × IsSuite suite × (h < sizeOf suite) × (sizeOf suite ≤ h + length (now ad)) ⌝ }
-    ensures states { λ r. ⌜ twoOf suite (r .s) ≡ walked (cipherOf suite) false m 0x10 (twoOf suite s) (blocks (sizeOf suite) (whole (sizeOf suite) (take h held ++ now (ad .entry)))) ⌝ }
-    ensures held { λ r. ⌜ r .held ≡ filled (rest (sizeOf suite) (take h held ++ now (ad .entry))) ⌝ }
+    requires { ⌜ TablesFit suite (now tables) × IsSuite suite × (count < sizeOf suite) × (sizeOf suite ≤ count + length (now ad)) ⌝ }
+    ensures states { λ r. ⌜ twoOf suite (r .s) ≡ walked (cipherOf suite) false mark 0x10 (twoOf suite state)
+        (blocks (sizeOf suite) (whole (sizeOf suite) (take count held ++ now (ad .entry)))) ⌝ }
+    ensures held { λ r. ⌜ r .held ≡ filled (rest (sizeOf suite) (take count held ++ now (ad .entry))) ⌝ }
 {
     let n = cipher::size_of(suite);
-    let need = n - h;
-    let first = joined(held, h, &ad[0..need]);
-    let whole = block_walk::absorb(tables, false, suite, s, m, &first[0..n]);
+    let need = n - count;
+    let first = joined(held, count, &ad[0..need]);
+    let whole = block_walk::absorb(tables, false, suite, state, mark, &first[0..n]);
     absorb_blocks(tables, suite, whole.s, &ad[need..ad.len()])
 }
 
-// Absorbs the whole blocks of h buffered bytes followed by ad, the first under the mark m, and buffers the rest. Tables are
+// Absorbs the whole blocks of `count` buffered bytes followed by ad, the first under the mark, and buffers the rest. Tables are
 // constructed only if a block is completed.
 pub(crate) fn absorb_part(
     suite: u8,
-    s: State,
-    m: u8,
+    state: State,
+    mark: u8,
     held: [u8; 16],
-    h: usize,
+    count: usize,
     ad: &[u8],
 ) -> Absorbed
-    requires { ⌜ IsSuite suite × (h < sizeOf suite) ⌝ }
-    ensures states { λ r. ⌜ twoOf suite (r .s) ≡ walked (cipherOf suite) false m 0x10 (twoOf suite s) (blocks (sizeOf suite) (whole (sizeOf suite) (take h held ++ now (ad .entry)))) ⌝ }
-    ensures held { λ r. ⌜ r .held ≡ filled (rest (sizeOf suite) (take h held ++ now (ad .entry))) ⌝ }
+    requires { ⌜ IsSuite suite × (count < sizeOf suite) ⌝ }
+    ensures states { λ r. ⌜ twoOf suite (r .s) ≡ walked (cipherOf suite) false mark 0x10 (twoOf suite state)
+        (blocks (sizeOf suite) (whole (sizeOf suite) (take count held ++ now (ad .entry)))) ⌝ }
+    ensures held { λ r. ⌜ r .held ≡ filled (rest (sizeOf suite) (take count held ++ now (ad .entry))) ⌝ }
 {
     let n = cipher::size_of(suite);
-    if ad.len() < n - h {
-        let buffered = joined(held, h, ad);
+    if ad.len() < n - count {
+        let buffered = joined(held, count, ad);
         return Absorbed {
-            s: s,
+            s: state,
             held: buffered,
         };
     }
     if cipher::needs_tables(suite) {
         let tables = cipher::tables(suite);
-        return absorb_past(&tables, suite, s, m, held, h, ad);
+        return absorb_past(&tables, suite, state, mark, held, count, ad);
     }
-    absorb_past(&[], suite, s, m, held, h, ad)
+    absorb_past(&[], suite, state, mark, held, count, ad)
 }
 
 // The two states, the buffered bytes, and how many bytes were output.
@@ -110,60 +113,64 @@ pub(crate) struct Sealed {
     pub count: usize,
 }
 
-// The first h bytes of held, then p, into an output of their length.
-fn gather(held: [u8; 16], h: usize, p: &[u8], out: &mut [u8])
-    requires { ⌜ (h ≤ 16) × (length (now out) ≡ h + length (now p)) ⌝ }
-    ensures { λ _. ⌜ now (out .exit) ≡ take h held ++ now (p .entry) ⌝ }
+// The first `count` bytes of held, then a part, into an output of their length.
+fn gather(held: [u8; 16], count: usize, part: &[u8], out: &mut [u8])
+    requires { ⌜ (count ≤ 16) × (length (now out) ≡ count + length (now part)) ⌝ }
+    ensures { λ _. ⌜ now (out .exit) ≡ take count held ++ now (part .entry) ⌝ }
 {
     let end = out.len();
-    byte_runs::copy(&held[0..h], &mut out[0..h]);
-    byte_runs::copy(p, &mut out[h..end]);
+    byte_runs::copy(&held[0..count], &mut out[0..count]);
+    byte_runs::copy(part, &mut out[count..end]);
 }
 
-// Seals the whole blocks of text in place, the first under the mark m, with the tables that the cipher needs.
-fn crypt_blocks(suite: u8, s: State, m: u8, text: &mut [u8]) -> Progress
+// Seals the whole blocks of text in place, the first under the mark, with the tables that the cipher needs.
+fn crypt_blocks(suite: u8, state: State, mark: u8, text: &mut [u8]) -> Progress
     requires { ⌜ IsSuite suite ⌝ }
-    ensures text { λ _. ⌜ ((short : ℕ) → now (text .exit) ≡ covered (cipherOf suite) false m short (twoOf suite s) (wholes (sizeOf suite) (now (text .entry))) ++ rest (sizeOf suite) (now (text .entry))) ⌝ }
-    ensures state { λ r. ⌜ Passed suite false m s (now (text .entry)) r ⌝ }
+    ensures text { λ _. ⌜ ((short : ℕ) → now (text .exit) ≡ covered (cipherOf suite) false mark short (twoOf suite state)
+        (wholes (sizeOf suite) (now (text .entry))) ++ rest (sizeOf suite) (now (text .entry))) ⌝ }
+    ensures state { λ r. ⌜ Passed suite false mark state (now (text .entry)) r ⌝ }
 {
     if cipher::needs_tables(suite) {
         let tables = cipher::tables(suite);
-        return block_walk::crypt(&tables, false, suite, s, m, text);
+        return block_walk::crypt(&tables, false, suite, state, mark, text);
     }
-    block_walk::crypt(&[], false, suite, s, m, text)
+    block_walk::crypt(&[], false, suite, state, mark, text)
 }
 
-// Seals the whole blocks of h buffered bytes followed by part, the first under the mark m, and outputs their ciphertext; the
+// Seals the whole blocks of `count` buffered bytes followed by part, the first under the mark, and outputs their ciphertext; the
 // rest is buffered. Tables are constructed only if a block is completed.
 pub(crate) fn crypt_part(
     suite: u8,
-    s: State,
-    m: u8,
+    start: State,
+    mark: u8,
     held: [u8; 16],
-    h: usize,
+    count: usize,
     part: &[u8],
     out: &mut [u8],
 ) -> Sealed
-    requires { ⌜ IsSuite suite × (h < sizeOf suite) × (length (now part) + (sizeOf suite - 1) ≤ length (now out)) ⌝ }
-    ensures text { λ _. ⌜ now (out .exit) ≡ written (covered (cipherOf suite) false m 0x40 (twoOf suite s) (blocks (sizeOf suite) (whole (sizeOf suite) (take h held ++ now (part .entry))))) (now (out .entry)) ⌝ }
-    ensures count { λ r. ⌜ r .count ≡ length (covered (cipherOf suite) false m 0x40 (twoOf suite s) (blocks (sizeOf suite) (whole (sizeOf suite) (take h held ++ now (part .entry))))) ⌝ }
-    ensures states { λ r. ⌜ twoOf suite (r .s) ≡ walked (cipherOf suite) false m 0x40 (twoOf suite s) (blocks (sizeOf suite) (whole (sizeOf suite) (take h held ++ now (part .entry)))) ⌝ }
-    ensures held { λ r. ⌜ r .held ≡ filled (rest (sizeOf suite) (take h held ++ now (part .entry))) ⌝ }
+    requires { ⌜ IsSuite suite × (count < sizeOf suite) × (length (now part) + (sizeOf suite - 1) ≤ length (now out)) ⌝ }
+    ensures text { λ _. ⌜ now (out .exit) ≡ written (covered (cipherOf suite) false mark 0x40 (twoOf suite start)
+        (blocks (sizeOf suite) (whole (sizeOf suite) (take count held ++ now (part .entry))))) (now (out .entry)) ⌝ }
+    ensures count { λ r. ⌜ r .count ≡ length (covered (cipherOf suite) false mark 0x40 (twoOf suite start)
+        (blocks (sizeOf suite) (whole (sizeOf suite) (take count held ++ now (part .entry))))) ⌝ }
+    ensures states { λ r. ⌜ twoOf suite (r .s) ≡ walked (cipherOf suite) false mark 0x40 (twoOf suite start)
+        (blocks (sizeOf suite) (whole (sizeOf suite) (take count held ++ now (part .entry)))) ⌝ }
+    ensures held { λ r. ⌜ r .held ≡ filled (rest (sizeOf suite) (take count held ++ now (part .entry))) ⌝ }
 {
     let n = cipher::size_of(suite);
-    let all = h + part.len();
+    let all = count + part.len();
     if all < n {
-        let buffered = joined(held, h, part);
+        let buffered = joined(held, count, part);
         return Sealed {
-            s: s,
+            s: start,
             held: buffered,
             count: 0,
         };
     }
     let whole = all - all % n;
-    let taken = whole - h;
-    gather(held, h, &part[0..taken], &mut out[0..whole]);
-    let done = crypt_blocks(suite, s, m, &mut out[0..whole]);
+    let taken = whole - count;
+    gather(held, count, &part[0..taken], &mut out[0..whole]);
+    let done = crypt_blocks(suite, start, mark, &mut out[0..whole]);
     let state = done.s;
     let buffered = byte_runs::filled_bytes(&part[taken..part.len()]);
     Sealed {
@@ -173,24 +180,32 @@ pub(crate) fn crypt_part(
     }
 }
 
-// Seals the h buffered bytes of message as a short block, if there are any, and outputs their ciphertext.
+// Seals the `count` buffered bytes of message as a short block, if there are any, and outputs their ciphertext.
 pub(crate) fn last_in(
     tables: &[AesTables],
     suite: u8,
-    s: State,
-    m: u8,
+    state: State,
+    mark: u8,
     held: [u8; 16],
-    h: usize,
+    count: usize,
     out: &mut [u8],
 ) -> State
-    requires { ⌜ TablesFit suite (now tables) × IsSuite suite × (h < sizeOf suite) × (sizeOf suite ≤ length (now out)) ⌝ }
-    ensures text { λ _. ⌜ now (out .exit) ≡ written (covered (cipherOf suite) false m 0x40 (twoOf suite s) (blocks (sizeOf suite) (take h held))) (now (out .entry)) ⌝ }
-    ensures count { λ _. ⌜ h ≡ length (covered (cipherOf suite) false m 0x40 (twoOf suite s) (blocks (sizeOf suite) (take h held))) ⌝ }
-    ensures state { λ r. ⌜ twoOf suite r ≡ walked (cipherOf suite) false m 0x40 (twoOf suite s) (blocks (sizeOf suite) (take h held)) ⌝ }
+    requires { ⌜ TablesFit suite (now tables) × IsSuite suite × (count < sizeOf suite) × (sizeOf suite ≤ length (now out)) ⌝ }
+    ensures text { λ _. ⌜ now (out .exit) ≡ written (covered (cipherOf suite) false mark 0x40 (twoOf suite state) (blocks (sizeOf suite) (take count held)))
+        (now (out .entry)) ⌝ }
+    ensures count { λ _. ⌜ count ≡ length (covered (cipherOf suite) false mark 0x40 (twoOf suite state) (blocks (sizeOf suite) (take count held))) ⌝ }
+    ensures state { λ r. ⌜ twoOf suite r ≡ walked (cipherOf suite) false mark 0x40 (twoOf suite state) (blocks (sizeOf suite) (take count held)) ⌝ }
 {
-    if h == 0 {
-        return s;
+    if count == 0 {
+        return state;
     }
-    byte_runs::copy(&held[0..h], &mut out[0..h]);
-    crypt_short(tables, false, suite, s, m ^ MARK_SHORT_TEXT, &mut out[0..h])
+    byte_runs::copy(&held[0..count], &mut out[0..count]);
+    crypt_short(
+        tables,
+        false,
+        suite,
+        state,
+        mark ^ MARK_SHORT_TEXT,
+        &mut out[0..count],
+    )
 }

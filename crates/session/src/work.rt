@@ -18,7 +18,8 @@ ghost use Rattle.block.specs.Blocks.{wide, filled};
 ghost use Rattle.cipher.specs.Cipher.{TablesFit, IsSuite, sizeOf, cipherOf};
 ghost use Rattle.mode.specs.Walk.{turned, messageOf};
 ghost use Rattle.block_step.specs.Two.{twoOf, Holds, oneMore};
-ghost use Rattle.session.specs.Value.{valueOf, over, gave, firstMark, begun, startNumber, starting, dataNumber, dataPart, textNumber, textPart, endNumber, ending};
+ghost use Rattle.session.specs.Value.{valueOf, over, gave, firstMark, begun, startNumber, starting, dataNumber, dataPart, textNumber};
+ghost use Rattle.session.specs.Value.{textPart, endNumber, ending};
 ghost use Rattle.session.specs.Structs.{asValue, gives};
 
 // The bytes that the suite does not use are zero.
@@ -32,13 +33,13 @@ fn clean(suite: u8, y: Block) -> Block
 }
 
 // A session of these states, held bytes and totals.
-fn packed(suite: u8, f: Absorbed, ad_total: usize, text_total: usize) -> Session
-    ensures { λ r. ⌜ asValue r ≡ valueOf suite (twoOf suite (f .s)) (f .held) «ad_total» «text_total» ⌝ }
+fn packed(suite: u8, absorbed: Absorbed, ad_total: usize, text_total: usize) -> Session
+    ensures { λ r. ⌜ asValue r ≡ valueOf suite (twoOf suite (absorbed .s)) (absorbed .held) «ad_total» «text_total» ⌝ }
 {
-    let state = f.s;
+    let state = absorbed.s;
     let y0 = state.y;
     let z = state.z;
-    let held = f.held;
+    let held = absorbed.held;
     let y = clean(suite, y0);
     Session {
         suite: suite,
@@ -66,13 +67,13 @@ fn ended() -> Session
 }
 
 // A start that was refused.
-pub(crate) fn refused(k: u8) -> Step
-    ensures { λ r. ⌜ gives r [] [] ≡ gave k 0 over [] [] ⌝ }
+pub(crate) fn refused(number: u8) -> Step
+    ensures { λ r. ⌜ gives r [] [] ≡ gave number 0 over [] [] ⌝ }
 {
     let none = ended();
     Step {
         next: none,
-        number: k,
+        number: number,
         count: 0,
     }
 }
@@ -100,25 +101,25 @@ pub(crate) fn started(tables: &[AesTables], suite: u8, key: &[u8], nonce: &[u8])
     }
 }
 
-// The mark of the next whole block: m if none was absorbed yet.
-fn first_mark(suite: u8, m: u8, total: usize) -> u8
-    ensures { λ r. ⌜ r ≡ firstMark (cipherOf suite) m total ⌝ }
+// The mark of the next whole block: `mark` if none was absorbed yet.
+fn first_mark(suite: u8, mark: u8, total: usize) -> u8
+    ensures { λ r. ⌜ r ≡ firstMark (cipherOf suite) mark total ⌝ }
 {
     let n = cipher::size_of(suite);
-    if total < n { m } else { 0 }
+    if total < n { mark } else { 0 }
 }
 
 // Absorbs a part of the associated data.
-pub(crate) fn take_in(s: Session, part: &[u8]) -> Step
-    requires { ⌜ dataNumber (s .suite) (s .«ad_total») (s .«text_total») (length (now part)) ≡ 0 ⌝ }
-    ensures { λ r. ⌜ gives r [] [] ≡ dataPart (asValue s) (now (part .entry)) ⌝ }
+pub(crate) fn take_in(session: Session, part: &[u8]) -> Step
+    requires { ⌜ dataNumber (session .suite) (session .«ad_total») (session .«text_total») (length (now part)) ≡ 0 ⌝ }
+    ensures { λ r. ⌜ gives r [] [] ≡ dataPart (asValue session) (now (part .entry)) ⌝ }
 {
-    let suite = s.suite;
-    let y = s.y;
-    let z = s.z;
-    let held = s.held;
-    let ad_total = s.ad_total;
-    let text_total = s.text_total;
+    let suite = session.suite;
+    let y = session.y;
+    let z = session.z;
+    let held = session.held;
+    let ad_total = session.ad_total;
+    let text_total = session.text_total;
     let n = cipher::size_of(suite);
     let mark = first_mark(suite, MARK_FIRST_DATA, ad_total);
     let held_len = ad_total % n;
@@ -137,28 +138,29 @@ pub(crate) fn take_in(s: Session, part: &[u8]) -> Step
 }
 
 // Absorbs the associated data's last bytes as a short block, with the tables that the cipher needs.
-fn absorb_last(suite: u8, s: State, m: u8, b: &[u8]) -> State
-    requires { ⌜ IsSuite suite × (length (now b) < sizeOf suite) ⌝ }
-    ensures { λ r. ⌜ Holds suite r (turned (cipherOf suite) m (twoOf suite s) (messageOf (cipherOf suite) false m (twoOf suite s) (now (b .entry)))) (oneMore (s .calls)) ⌝ }
+fn absorb_last(suite: u8, state: State, mark: u8, bytes: &[u8]) -> State
+    requires { ⌜ IsSuite suite × (length (now bytes) < sizeOf suite) ⌝ }
+    ensures { λ r. ⌜ Holds suite r (turned (cipherOf suite) mark (twoOf suite state)
+        (messageOf (cipherOf suite) false mark (twoOf suite state) (now (bytes .entry)))) (oneMore (state .calls)) ⌝ }
 {
     if cipher::needs_tables(suite) {
         let tables = cipher::tables(suite);
-        return absorb_short(&tables, false, suite, s, m, b);
+        return absorb_short(&tables, false, suite, state, mark, bytes);
     }
-    absorb_short(&[], false, suite, s, m, b)
+    absorb_short(&[], false, suite, state, mark, bytes)
 }
 
 // The states when the message begins or continues: if it begins, the associated data's last bytes are absorbed first.
-fn begin(s: Session) -> State
-    requires { ⌜ IsSuite (s .suite) ⌝ }
-    ensures { λ r. ⌜ twoOf (s .suite) r ≡ begun (cipherOf (s .suite)) (asValue s) ⌝ }
+fn begin(session: Session) -> State
+    requires { ⌜ IsSuite (session .suite) ⌝ }
+    ensures { λ r. ⌜ twoOf (session .suite) r ≡ begun (cipherOf (session .suite)) (asValue session) ⌝ }
 {
-    let suite = s.suite;
-    let y = s.y;
-    let z = s.z;
-    let held = s.held;
-    let ad_total = s.ad_total;
-    let text_total = s.text_total;
+    let suite = session.suite;
+    let y = session.y;
+    let z = session.z;
+    let held = session.held;
+    let ad_total = session.ad_total;
+    let text_total = session.text_total;
     let two = State {
         y: y,
         z: z,
@@ -177,13 +179,13 @@ fn begin(s: Session) -> State
 }
 
 // The same as `begin`, without a call if the message has begun.
-fn going(s: Session) -> State
-    requires { ⌜ IsSuite (s .suite) ⌝ }
-    ensures { λ r. ⌜ twoOf (s .suite) r ≡ begun (cipherOf (s .suite)) (asValue s) ⌝ }
+fn going(session: Session) -> State
+    requires { ⌜ IsSuite (session .suite) ⌝ }
+    ensures { λ r. ⌜ twoOf (session .suite) r ≡ begun (cipherOf (session .suite)) (asValue session) ⌝ }
 {
-    let y = s.y;
-    let z = s.z;
-    let text_total = s.text_total;
+    let y = session.y;
+    let z = session.z;
+    let text_total = session.text_total;
     if text_total != 0 {
         return State {
             y: y,
@@ -191,19 +193,20 @@ fn going(s: Session) -> State
             calls: 0,
         };
     }
-    begin(s)
+    begin(session)
 }
 
 // Seals a part of the message, at least one byte, and outputs the ciphertext of the blocks that it completes.
-pub(crate) fn seal_in(s: Session, part: &[u8], out: &mut [u8]) -> Step
-    requires { ⌜ (textNumber (s .suite) (s .«ad_total») (s .«text_total») (length (now part)) (length (now out)) ≡ 0) × (0 < length (now part)) ⌝ }
-    ensures { λ r. ⌜ gives r (now (out .exit)) [] ≡ textPart (asValue s) (now (part .entry)) (now (out .entry)) ⌝ }
+pub(crate) fn seal_in(session: Session, part: &[u8], out: &mut [u8]) -> Step
+    requires { ⌜ (textNumber (session .suite) (session .«ad_total») (session .«text_total») (length (now part)) (length (now out)) ≡ 0)
+        × (0 < length (now part)) ⌝ }
+    ensures { λ r. ⌜ gives r (now (out .exit)) [] ≡ textPart (asValue session) (now (part .entry)) (now (out .entry)) ⌝ }
 {
-    let suite = s.suite;
-    let ad_total = s.ad_total;
-    let text_total = s.text_total;
-    let held = s.held;
-    let two = going(s);
+    let suite = session.suite;
+    let ad_total = session.ad_total;
+    let text_total = session.text_total;
+    let held = session.held;
+    let two = going(session);
     let n = cipher::size_of(suite);
     let mark = first_mark(suite, MARK_FIRST_TEXT, text_total);
     let held_len = text_total % n;
@@ -227,14 +230,15 @@ pub(crate) fn seal_in(s: Session, part: &[u8], out: &mut [u8]) -> Step
 }
 
 // The end's work: the rest of the ciphertext, and the tag.
-pub(crate) fn close(tables: &[AesTables], s: Session, out: &mut [u8], tag: &mut [u8]) -> Step
-    requires { ⌜ TablesFit (s .suite) (now tables) × (endNumber (s .suite) (s .«ad_total») (s .«text_total») (length (now out)) (length (now tag)) ≡ 0) ⌝ }
-    ensures { λ r. ⌜ gives r (now (out .exit)) (now (tag .exit)) ≡ ending (asValue s) (now (out .entry)) (now (tag .entry)) ⌝ }
+pub(crate) fn close(tables: &[AesTables], session: Session, out: &mut [u8], tag: &mut [u8]) -> Step
+    requires { ⌜ TablesFit (session .suite) (now tables) × (endNumber (session .suite) (session .«ad_total») (session .«text_total») (length (now out))
+        (length (now tag)) ≡ 0) ⌝ }
+    ensures { λ r. ⌜ gives r (now (out .exit)) (now (tag .exit)) ≡ ending (asValue session) (now (out .entry)) (now (tag .entry)) ⌝ }
 {
-    let suite = s.suite;
-    let text_total = s.text_total;
-    let held = s.held;
-    let two = begin(s);
+    let suite = session.suite;
+    let text_total = session.text_total;
+    let held = session.held;
+    let two = begin(session);
     let n = cipher::size_of(suite);
     let mark = first_mark(suite, MARK_FIRST_TEXT, text_total);
     let held_len = text_total % n;

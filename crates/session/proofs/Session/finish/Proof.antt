@@ -21,7 +21,8 @@ returns c =
     let v = asValue (x .self) in
     let o = now (x .out) in
     let t = now (x .tag) in
-    answer-kept (c .before .end-number .result) (endNumber (v .suite) (v .«ad_total») (v .«text_total») (length o) (length t)) (endDone v o) v o t (c .if1 .taken) (c .before .end-number .ensures)
+    answer-kept (c .before .end-number .result) (endNumber (v .suite) (v .«ad_total») (v .«text_total») (length o) (length t)) (endDone v o) v o t
+    (c .if1 .taken) (c .before .end-number .ensures)
 
 needs-tables-requires : tie.Need-needs-tables-requires
 needs-tables-requires c κs = search needs
@@ -34,8 +35,11 @@ slice-aggregate-close : tie.Need-slice-aggregate-close
 slice-aggregate-close c = search needs
 
 close-requires : tie.Need-close-requires
-close-requires c κs =
-    (c .before .before .before .tables .ensures, sym (c .before .before .before .before .before .before .before .end-number .ensures) ∙ c .before .before .before .before .before .before .if1 .left)
+close-requires c κs = (
+  c .before .before .before .tables .ensures,
+  sym (c .before .before .before .before .before .before .before .end-number .ensures)
+      ∙ c .before .before .before .before .before .before .if1 .left,
+)
 
 same-length : tie.Need-same-length
 same-length c = search needs
@@ -66,4 +70,6 @@ returns-3 : tie.Need-returns-3
 returns-3 c = search needs
 
 pub finish-spec : {M : Type 1} → statement M
-finish-spec = tie.close (tie.spec end-number-requires returns needs-tables-requires tables-requires slice-aggregate-close close-requires same-length same-length-2 returns-2 slice-aggregate-close-2 close-requires-2 same-length-3 same-length-4 returns-3)
+finish-spec =
+    tie.close (tie.spec end-number-requires returns needs-tables-requires tables-requires slice-aggregate-close close-requires same-length same-length-2
+    returns-2 slice-aggregate-close-2 close-requires-2 same-length-3 same-length-4 returns-3)

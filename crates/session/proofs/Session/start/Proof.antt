@@ -56,4 +56,6 @@ returns-3 : tie.Need-returns-3
 returns-3 c = search needs
 
 pub start-spec : {M : Type 1} → statement M
-start-spec = tie.close (tie.spec start-number-requires refused-requires returns needs-tables-requires tables-requires slice-aggregate-started started-requires returns-2 slice-aggregate-started-2 started-requires-2 returns-3)
+start-spec =
+    tie.close (tie.spec start-number-requires refused-requires returns needs-tables-requires tables-requires slice-aggregate-started started-requires returns-2
+    slice-aggregate-started-2 started-requires-2 returns-3)

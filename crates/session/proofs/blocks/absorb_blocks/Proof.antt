@@ -20,13 +20,15 @@ sub-filled-bytes : tie.Need-sub-filled-bytes
 sub-filled-bytes c =
     let st = c .before .before .before in
     let w = c .before .absorb in
-    left-within (sizeOf (st .args .suite)) (some (cipherOf (st .args .suite)) (lawful (st .args .suite))) (now (st .args .ad)) (w .result .at) (w .ensures .gone)
+    left-within (sizeOf (st .args .suite)) (some (cipherOf (st .args .suite)) (lawful (st .args .suite))) (now (st .args .ad)) (w .result .at)
+    (w .ensures .gone)
 
 part-filled-bytes-start : tie.Need-part-filled-bytes-start
 part-filled-bytes-start c =
     let st = c .before .before .before in
     let w = c .before .absorb in
-    left-within (sizeOf (st .args .suite)) (some (cipherOf (st .args .suite)) (lawful (st .args .suite))) (now (st .args .ad)) (w .result .at) (w .ensures .gone)
+    left-within (sizeOf (st .args .suite)) (some (cipherOf (st .args .suite)) (lawful (st .args .suite))) (now (st .args .ad)) (w .result .at)
+    (w .ensures .gone)
 
 part-filled-bytes-end : tie.Need-part-filled-bytes-end
 part-filled-bytes-end c = search needs
@@ -42,8 +44,11 @@ returns : tie.Need-returns
 returns c =
     let st = c .before .before .before .before .before in
     let suite = st .args .suite in
-    let w = c .before .before .before .absorb in
-    (w .ensures .two 0x10, c .filled-bytes .ensures ∙ ap filled (left (sizeOf suite) (some (cipherOf suite) (lawful suite)) (now (st .args .ad)) (w .result .at) (w .ensures .gone)))
+    let w = c .before .before .before .absorb in (
+      w .ensures .two 0x10,
+      c .filled-bytes .ensures ∙ ap filled (left (sizeOf suite) (some (cipherOf suite) (lawful suite)) (now (st .args .ad)) (w .result .at)
+          (w .ensures .gone)),
+    )
 
 pub absorb-blocks-spec : {M : Type 1} → statement M
 absorb-blocks-spec =

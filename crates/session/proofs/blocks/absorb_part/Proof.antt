@@ -33,12 +33,15 @@ returns c =
     let size = c .before .before .size-of in
     let en : size .result ≡ sizeOf suite = size .ensures .0 in
     let pos : 0 < sizeOf suite = omega (arith, size .ensures .1 .0) in
-    let x : List ℕ = take (st .args .h) (st .args .held) in
+    let x : List ℕ = take (st .args .count) (st .args .held) in
     let part = now (st .args .ad) in
     let lh : length (st .args .held) ≡ 16 = search needs in
-    let lx : length x ≡ st .args .h = length-take-le (st .args .h) (st .args .held) (omega (arith, st .pre .1, size .ensures .1 .1)) in
-    let l : length (x ++ part) < sizeOf suite = omega (arith, length-append x part, c .before .if1 .taken) in
-    (sym (short-walk (cipherOf suite) pos false 0x10 (st .args .m) (twoOf suite (st .args .s)) (x ++ part) l), c .joined .ensures ∙ ap filled (sym (rest-short (sizeOf suite) pos (x ++ part) l)))
+    let lx : length x ≡ st .args .count = length-take-le (st .args .count) (st .args .held) (omega (arith, st .pre .1, size .ensures .1 .1)) in
+    let l : length (x ++ part) < sizeOf suite = omega (arith, length-append x part, c .before .if1 .taken) in (
+      sym (short-walk (cipherOf suite) pos false 0x10 (st .args .mark) (twoOf suite (st .args .state)) (x ++ part) l),
+      c .joined .ensures
+          ∙ ap filled (sym (rest-short (sizeOf suite) pos (x ++ part) l)),
+    )
 
 needs-tables-requires : tie.Need-needs-tables-requires
 needs-tables-requires c κs = search needs
@@ -62,8 +65,12 @@ slice-aggregate-absorb-past-2 c = search needs
 
 absorb-past-requires-2 : tie.Need-absorb-past-requires-2
 absorb-past-requires-2 c κs =
-    let st = c .before .before .before .before .before .before in
-    (none-ready (st .args .suite) (sym (c .before .before .needs-tables .ensures) ∙ c .before .if2 .left), st .pre .0, st .pre .1, omega (arith, c .before .before .before .if1 .left))
+    let st = c .before .before .before .before .before .before in (
+      none-ready (st .args .suite) (sym (c .before .before .needs-tables .ensures) ∙ c .before .if2 .left),
+      st .pre .0,
+      st .pre .1,
+      omega (arith, c .before .before .before .if1 .left),
+    )
 
 returns-3 : tie.Need-returns-3
 returns-3 c = search needs

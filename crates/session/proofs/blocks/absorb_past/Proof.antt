@@ -61,7 +61,7 @@ returns c =
     let st = c .before .before .before .before .before .before .before .before .before in
     let suite = st .args .suite in
     let size = c .before .before .before .before .before .before .before .size-of in
-    let h = st .args .h in
+    let h = st .args .count in
     let en : size .result ≡ sizeOf suite = size .ensures .0 in
     let pos : 0 < sizeOf suite = omega (arith, size .ensures .1 .0) in
     let most : sizeOf suite ≤ 16 = omega (arith, size .ensures .1 .1) in
@@ -75,7 +75,8 @@ returns c =
     let lp : need ≤ length part = omega (arith, st .pre .3) in
     let j = c .before .before .before .before .before .joined in
     let k = cipherOf suite in (
-      more-walk k pos 0x10 x part (j .result) h need lx ln lp most (j .ensures) (st .args .m) (size .result) (twoOf suite (st .args .s)) (twoOf suite (c .before .before .absorb .result .s)) _ en
+      more-walk k pos 0x10 x part (j .result) h need lx ln lp most (j .ensures) (st .args .mark) (size .result) (twoOf suite (st .args .state))
+          (twoOf suite (c .before .before .absorb .result .s)) _ en
           (c .before .before .absorb .ensures .two 0x10) (c .absorb-blocks .ensures .0),
       more-rest k pos 0x10 x part (j .result) h need lx ln lp most (j .ensures) _ (c .absorb-blocks .ensures .1),
     )

@@ -38,4 +38,6 @@ returns-2 : tie.Need-returns-2
 returns-2 c = search needs
 
 pub crypt-blocks-spec : {M : Type 1} → statement M
-crypt-blocks-spec = tie.close (tie.spec needs-tables-requires tables-requires slice-aggregate-crypt crypt-requires same-length returns slice-aggregate-crypt-2 crypt-requires-2 same-length-2 returns-2)
+crypt-blocks-spec =
+    tie.close (tie.spec needs-tables-requires tables-requires slice-aggregate-crypt crypt-requires same-length returns slice-aggregate-crypt-2 crypt-requires-2
+    same-length-2 returns-2)

@@ -49,10 +49,10 @@ module _ (d : tie.Else1) where
   part = now (st .args .part)
 
   abbrev x : List ℕ
-  x = take (st .args .h) (st .args .held)
+  x = take (st .args .count) (st .args .held)
 
   abbrev w : ℕ
-  w = st .args .h + length part - (st .args .h + length part) % k
+  w = st .args .count + length part - (st .args .count + length part) % k
 
   en : k ≡ sizeOf suite
   en = d .before .size-of .ensures .0
@@ -60,28 +60,28 @@ module _ (d : tie.Else1) where
   pos : 0 < sizeOf suite
   pos = omega (arith, en, d .before .size-of .ensures .1 .0)
 
-  lx : length x ≡ st .args .h
-  lx = length-take-le (st .args .h) (st .args .held) (omega (arith, st .pre .1, d .before .size-of .ensures .1 .1, en, held-long st))
+  lx : length x ≡ st .args .count
+  lx = length-take-le (st .args .count) (st .args .held) (omega (arith, st .pre .1, d .before .size-of .ensures .1 .1, en, held-long st))
 
-  mod-most : (st .args .h + length part) % k < k
-  mod-most = mod-lt (st .args .h + length part) (d .before .size-of .ensures .1 .0)
+  mod-most : (st .args .count + length part) % k < k
+  mod-most = mod-lt (st .args .count + length part) (d .before .size-of .ensures .1 .0)
 
-  long : length (x ++ part) ≡ st .args .h + length part
+  long : length (x ++ part) ≡ st .args .count + length part
   long = length-append x part ∙ omega (arith, lx)
 
   w-is : w ≡ length (x ++ part) / sizeOf suite * sizeOf suite
   w-is =
-      let e : w ≡ (st .args .h + length part) / k * k = omega (arith, div-add-mod' (st .args .h + length part) k) in
+      let e : w ≡ (st .args .count + length part) / k * k = omega (arith, div-add-mod' (st .args .count + length part) k) in
       e ∙ ap₂ (λ (a b : ℕ). a / b * b) (sym long) en
 
   -- at least one block
   w-some : k ≤ w
-  w-some = blocks-some (st .args .h + length part) k (d .before .size-of .ensures .1 .0) (omega (arith, d .if1 .left))
+  w-some = blocks-some (st .args .count + length part) k (d .before .size-of .ensures .1 .0) (omega (arith, d .if1 .left))
 
-  h-within : st .args .h ≤ w
+  h-within : st .args .count ≤ w
   h-within = omega (arith, w-some, st .pre .1, en)
 
-  w-within : w ≤ st .args .h + length part
+  w-within : w ≤ st .args .count + length part
   w-within = omega arith
 
   room : w ≤ length (now (st .args .out))
@@ -103,18 +103,18 @@ returns c =
     let size = c .before .before .size-of in
     let en : size .result ≡ sizeOf suite = size .ensures .0 in
     let pos : 0 < sizeOf suite = omega (arith, size .ensures .1 .0) in
-    let x : List ℕ = take (st .args .h) (st .args .held) in
+    let x : List ℕ = take (st .args .count) (st .args .held) in
     let part = now (st .args .part) in
     let lh : length (st .args .held) ≡ 16 = held-long st in
-    let lx : length x ≡ st .args .h = length-take-le (st .args .h) (st .args .held) (omega (arith, st .pre .1, size .ensures .1 .1)) in
+    let lx : length x ≡ st .args .count = length-take-le (st .args .count) (st .args .held) (omega (arith, st .pre .1, size .ensures .1 .1)) in
     let l : length (x ++ part) < sizeOf suite = omega (arith, length-append x part, c .before .if1 .taken) in
     let k = cipherOf suite in
-    let ec = sym (short-cover k pos false 0x40 (st .args .m) (twoOf suite (st .args .s)) (x ++ part) l) in (
+    let ec = sym (short-cover k pos false 0x40 (st .args .mark) (twoOf suite (st .args .start)) (x ++ part) l) in (
       ap (λ (w : List ℕ). written w (now (st .args .out))) ec,
       (
         ap length ec,
         (
-          sym (short-walk k pos false 0x40 (st .args .m) (twoOf suite (st .args .s)) (x ++ part) l),
+          sym (short-walk k pos false 0x40 (st .args .mark) (twoOf suite (st .args .start)) (x ++ part) l),
           c .joined .ensures ∙ ap filled (sym (rest-short (sizeOf suite) pos (x ++ part) l)),
         ),
       ),
@@ -124,7 +124,12 @@ rem-whole : tie.Need-rem-whole
 rem-whole c = search needs
 
 sub-whole : tie.Need-sub-whole
-sub-whole c = omega (arith, div-add-mod' (c .before .before .before .before .args .h + length (now (c .before .before .before .before .args .part))) (c .before .size-of .result))
+sub-whole c =
+    omega (
+      arith,
+      div-add-mod' (c .before .before .before .before .args .count + length (now (c .before .before .before .before .args .part)))
+          (c .before .size-of .result),
+    )
 
 sub-taken : tie.Need-sub-taken
 sub-taken c = h-within c
@@ -150,9 +155,10 @@ part-gather-end-2 c = search needs
 gather-requires : tie.Need-gather-requires
 gather-requires c κs =
     let d = c .before .before in
-    let e = w d - st d .args .h in (
+    let e = w d - st d .args .count in (
       omega (arith, st d .pre .1, d .before .size-of .ensures .1 .1, en d),
-      length-take-le (w d - 0) (drop 0 (now (st d .args .out))) (omega (arith, room d)) ∙ omega (arith, h-within d, length-take-le (e - 0) (drop 0 (part d)) (omega (arith, w-within d))),
+      length-take-le (w d - 0) (drop 0 (now (st d .args .out))) (omega (arith, room d))
+          ∙ omega (arith, h-within d, length-take-le (e - 0) (drop 0 (part d)) (omega (arith, w-within d))),
     )
 
 sub-crypt-blocks : tie.Need-sub-crypt-blocks
@@ -181,7 +187,7 @@ filled-bytes-requires c κs =
     let d = c .before .before .before .before .before .before .before .before .before .before .before in
     omega (
       arith,
-      ap length (rest-is (sizeOf (suite d)) (pos d) (x d) (part d) (st d .args .h) (w d) (lx d) (w-is d) (h-within d)),
+      ap length (rest-is (sizeOf (suite d)) (pos d) (x d) (part d) (st d .args .count) (w d) (lx d) (w-is d) (h-within d)),
       rest-less (sizeOf (suite d)) (pos d) (x d ++ part d),
       d .before .size-of .ensures .1 .1,
       en d,
@@ -196,12 +202,12 @@ returns-2 c =
     let n = sizeOf (suite d) in
     let κ = cipherOf (suite d) in
     let l = x d ++ part d in
-    let S = twoOf (suite d) (st d .args .s) in
-    let m = st d .args .m in
+    let S = twoOf (suite d) (st d .args .start) in
+    let m = st d .args .mark in
     let out = now (st d .args .out) in
     let g = c .before .before .before .before .before .before .before .before .before .gather in
     let y = g .last .1 .1 .1 .0 in
-    let ey : y ≡ whole n l = g .ensures ∙ whole-is n (pos d) (x d) (part d) (st d .args .h) (w d) (lx d) (w-is d) (h-within d) in
+    let ey : y ≡ whole n l = g .ensures ∙ whole-is n (pos d) (x d) (part d) (st d .args .count) (w d) (lx d) (w-is d) (h-within d) in
     let ly : length y ≡ w d = ap length ey ∙ length-whole n (pos d) l ∙ sym (w-is d) in
     let call = c .before .before .before .before .before .crypt-blocks in
     let o = call .last .1 .1 .1 .0 in
@@ -216,8 +222,9 @@ returns-2 c =
       (
         sym lo ∙ ap length ec,
         (
-          call .ensures .1 .two 0x40 ∙ ap (λ (b : List ℕ). walked κ false m 0x40 S (blocks n (whole n b))) el ∙ ap (λ (b : List ℕ). walked κ false m 0x40 S (blocks n b)) (whole-alone n (pos d) l .0),
-          c .filled-bytes .ensures ∙ ap filled (rest-is n (pos d) (x d) (part d) (st d .args .h) (w d) (lx d) (w-is d) (h-within d)),
+          call .ensures .1 .two 0x40 ∙ ap (λ (b : List ℕ). walked κ false m 0x40 S (blocks n (whole n b))) el
+              ∙ ap (λ (b : List ℕ). walked κ false m 0x40 S (blocks n b)) (whole-alone n (pos d) l .0),
+          c .filled-bytes .ensures ∙ ap filled (rest-is n (pos d) (x d) (part d) (st d .args .count) (w d) (lx d) (w-is d) (h-within d)),
         ),
       ),
     )

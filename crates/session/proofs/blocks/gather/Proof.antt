@@ -55,7 +55,7 @@ same-length c = search needs
 returns : tie.Need-returns
 returns c =
     let st = c .before .before .before .before .before .before .before .before .before .before .before .before in
-    let h = st .args .h in
+    let h = st .args .count in
     let held = st .args .t1 in
     let out = now (st .args .out) in
     let first = c .before .before .before .before .before .before .copy in

@@ -33,13 +33,13 @@ part-filled-bytes-end c = search needs
 filled-bytes-requires : tie.Need-filled-bytes-requires Inv-loop μ-loop
 filled-bytes-requires c κs =
     let st = c .before .before .before in
-    let h = st .args .h in
+    let h = st .args .count in
     omega (arith, length-take (h - 0) (drop 0 (st .args .t1)))
 
 loop-holds : tie.Need-loop-holds Inv-loop μ-loop
 loop-holds c =
     let st = c .before .before .before .before in
-    (omega arith, paste-zero (c .filled-bytes .result) (st .args .h) (now (st .args .p)))
+    (omega arith, paste-zero (c .filled-bytes .result) (st .args .count) (now (st .args .part)))
 
 shared-slice-read-sixteen : tie.Need-shared-slice-read-sixteen Inv-loop μ-loop
 shared-slice-read-sixteen c = search needs
@@ -61,19 +61,22 @@ loop-again c =
     let st = c .before .before .before .before .before .before .before in
     let at = c .before .before .loop in
     let r₀ = c .before .before .before .filled-bytes .result in
-    let h = st .args .h in
-    let p = now (st .args .p) in
+    let h = st .args .count in
+    let p = now (st .args .part) in
     let j = at .j in
-    let lr : length r₀ ≡ 16 = search needs in
-    (omega arith, ap (λ (l : List ℕ). set l (h + j) (getD p j 0)) (at .inv .1) ∙ paste-suc r₀ h p j 0 (omega arith) (omega arith) ∙ ap (paste r₀ h p) (sym (add-one j)))
+    let lr : length r₀ ≡ 16 = search needs in (
+      omega arith,
+      ap (λ (l : List ℕ). set l (h + j) (getD p j 0)) (at .inv .1) ∙ paste-suc r₀ h p j 0 (omega arith) (omega arith)
+          ∙ ap (paste r₀ h p) (sym (add-one j)),
+    )
 
 returns : tie.Need-returns Inv-loop μ-loop
 returns c =
     let st = c .before .before .before .before .before .before in
     let at = c .before .loop in
     let f = c .before .before .filled-bytes in
-    let h = st .args .h in
-    let p = now (st .args .p) in
+    let h = st .args .count in
+    let p = now (st .args .part) in
     let held = st .args .t1 in
     let lh : length held ≡ 16 = search needs in
     let ej : at .j ≡ length p = omega arith in

@@ -31,12 +31,12 @@ returns c =
     let st = c .before .before in
     let suite = st .args .suite in
     let k = cipherOf suite in
-    let s = twoOf suite (st .args .s) in
+    let s = twoOf suite (st .args .state) in
     let pos : 0 < sizeOf suite = omega (arith, st .pre .2) in
-    let x : List ℕ = take (st .args .h) (st .args .t5) in
+    let x : List ℕ = take (st .args .count) (st .args .t5) in
     let e : length x ≡ 0 = ap (λ (i : ℕ). length (take i (st .args .t5))) (c .if1 .taken) in
-    let ec = sym (cover-none k pos false 0x40 (st .args .m) s x e) in
-    (ap (λ (w : List ℕ). written w (now (st .args .out))) ec, (c .if1 .taken ∙ ap length ec, sym (walk-none k pos false 0x40 (st .args .m) s x e)))
+    let ec = sym (cover-none k pos false 0x40 (st .args .mark) s x e) in
+    (ap (λ (w : List ℕ). written w (now (st .args .out))) ec, (c .if1 .taken ∙ ap length ec, sym (walk-none k pos false 0x40 (st .args .mark) s x e)))
 
 sub-copy : tie.Need-sub-copy
 sub-copy c = search needs
@@ -83,8 +83,8 @@ returns-2 c =
     let st = c .before .before .before .before .before .before .before .before .before .before .before .before in
     let suite = st .args .suite in
     let k = cipherOf suite in
-    let s = twoOf suite (st .args .s) in
-    let h = st .args .h in
+    let s = twoOf suite (st .args .state) in
+    let h = st .args .count in
     let held = st .args .t5 in
     let out = now (st .args .out) in
     let l16 : length held ≡ 16 = held-long st in
@@ -104,13 +104,13 @@ returns-2 c =
     let call = c .before .before .crypt-short in
     let o = call .last .1 .1 .1 .1 .1 .0 in
     let ex : take (h - 0) (drop 0 (putMid 0 (h - 0) out y)) ≡ x = lent-again out y h ly ho ∙ ey in
-    let ec : o ≡ covered k false (st .args .m) 0x40 s (blocks (sizeOf suite) x) = call .ensures .0 ∙ ap (hidden k (xor (st .args .m) 0x40) s) ex
-    ∙ sym (cover-short k pos false 0x40 (st .args .m) s x px (omega arith)) in
+    let ec : o ≡ covered k false (st .args .mark) 0x40 s (blocks (sizeOf suite) x) = call .ensures .0 ∙ ap (hidden k (xor (st .args .mark) 0x40) s) ex
+    ∙ sym (cover-short k pos false 0x40 (st .args .mark) s x px (omega arith)) in
     let lo : length o ≡ h = call .kept .1 .1 .1 .1 .1 .0 ∙ ap length ex ∙ lx in (
       twice-written out y h ly ho o _ (call .kept .1 .1 .1 .1 .1 .0) ec,
       (
         sym lo ∙ ap length ec,
-        call .ensures .1 .two ∙ ap (turned k (xor (st .args .m) 0x40) s) ex ∙ sym (walk-short k pos false 0x40 (st .args .m) s x px (omega arith)),
+        call .ensures .1 .two ∙ ap (turned k (xor (st .args .mark) 0x40) s) ex ∙ sym (walk-short k pos false 0x40 (st .args .mark) s x px (omega arith)),
       ),
     )
 

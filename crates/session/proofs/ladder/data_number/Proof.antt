@@ -31,13 +31,15 @@ sub-if3 c =
 returns-3 : tie.Need-returns-3
 returns-3 c =
     let x = c .before .before .before .before .args in
-    sym (data-limit (x .suite) (x .ad-total) (x .text-total) (x .part) true (sym (c .before .before .before .goes-on .ensures) ∙ not-false _ (c .before .before .if1 .left))
+    sym (data-limit (x .suite) (x .ad-total) (x .text-total) (x .part) true
+    (sym (c .before .before .before .goes-on .ensures) ∙ not-false _ (c .before .before .if1 .left))
     (eq-eqb (x .text-total) 0 (c .before .if2 .left)) (lt-ltb _ _ (c .if3 .taken)))
 
 returns-4 : tie.Need-returns-4
 returns-4 c =
     let x = c .before .before .before .before .args in
-    sym (data-limit (x .suite) (x .ad-total) (x .text-total) (x .part) false (sym (c .before .before .before .goes-on .ensures) ∙ not-false _ (c .before .before .if1 .left))
+    sym (data-limit (x .suite) (x .ad-total) (x .text-total) (x .part) false
+    (sym (c .before .before .before .goes-on .ensures) ∙ not-false _ (c .before .before .if1 .left))
     (eq-eqb (x .text-total) 0 (c .before .if2 .left)) (le-ltb _ _ (c .if3 .left)))
 
 pub data-number-spec : {M : Type 1} → statement M

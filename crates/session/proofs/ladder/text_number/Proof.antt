@@ -17,7 +17,8 @@ goes-on-requires c κs = search needs
 returns : tie.Need-returns
 returns c =
     let x = c .before .before .args in
-    sym (text-is (x .suite) (x .ad-total) (x .text-total) (x .part) (x .out) false _ _ (sym (c .before .goes-on .ensures) ∙ not-true _ (c .if1 .taken)) refl refl)
+    sym (text-is (x .suite) (x .ad-total) (x .text-total) (x .part) (x .out) false _ _
+    (sym (c .before .goes-on .ensures) ∙ not-true _ (c .if1 .taken)) refl refl)
 
 sub-if2 : tie.Need-sub-if2
 sub-if2 c =
@@ -45,7 +46,8 @@ returns-3 c =
     let n = c .before .size-of in
     let h : x .out < x .part + (sizeOf (x .suite) - 1) = omega (arith, c .if3 .taken, n .ensures .0) in
     sym (text-is (x .suite) (x .ad-total) (x .text-total) (x .part) (x .out) true false true
-    (sym (c .before .before .before .before .goes-on .ensures) ∙ not-false _ (c .before .before .before .if1 .left)) (le-ltb _ _ (c .before .before .if2 .left)) (lt-ltb _ _ h))
+    (sym (c .before .before .before .before .goes-on .ensures) ∙ not-false _ (c .before .before .before .if1 .left)) (le-ltb _ _ (c .before .before .if2 .left))
+    (lt-ltb _ _ h))
 
 returns-4 : tie.Need-returns-4
 returns-4 c =
@@ -53,7 +55,8 @@ returns-4 c =
     let n = c .before .size-of in
     let h : x .part + (sizeOf (x .suite) - 1) ≤ x .out = omega (arith, c .if3 .left, n .ensures .0) in
     sym (text-is (x .suite) (x .ad-total) (x .text-total) (x .part) (x .out) true false false
-    (sym (c .before .before .before .before .goes-on .ensures) ∙ not-false _ (c .before .before .before .if1 .left)) (le-ltb _ _ (c .before .before .if2 .left)) (le-ltb _ _ h))
+    (sym (c .before .before .before .before .goes-on .ensures) ∙ not-false _ (c .before .before .before .if1 .left)) (le-ltb _ _ (c .before .before .if2 .left))
+    (le-ltb _ _ h))
 
 pub text-number-spec : {M : Type 1} → statement M
 text-number-spec =

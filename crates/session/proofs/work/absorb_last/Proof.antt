@@ -34,4 +34,6 @@ returns-2 : tie.Need-returns-2
 returns-2 c = search needs
 
 pub absorb-last-spec : {M : Type 1} → statement M
-absorb-last-spec = tie.close (tie.spec needs-tables-requires tables-requires slice-aggregate-absorb-short absorb-short-requires returns slice-aggregate-absorb-short-2 absorb-short-requires-2 returns-2)
+absorb-last-spec =
+    tie.close (tie.spec needs-tables-requires tables-requires slice-aggregate-absorb-short absorb-short-requires returns slice-aggregate-absorb-short-2
+    absorb-short-requires-2 returns-2)

@@ -14,12 +14,12 @@ use borrow.Author.Needs.{needs}
 use Rattle.session.proofs.work.begin.Statement.{statement}
 use Rattle.session.proofs.work.begin.Tie as tie
 
-held-long : (st : tie.Start) → length (st .args .s .held) ≡ 16
+held-long : (st : tie.Start) → length (st .args .session .held) ≡ 16
 held-long st = search needs
 
 returns : tie.Need-returns
 returns c =
-    let s = c .before .before .before .before .args .s in
+    let s = c .before .before .before .before .args .session in
     sym (begun-on (cipherOf (s .suite)) (asValue s) (c .if1 .taken))
 
 size-of-requires : tie.Need-size-of-requires
@@ -30,7 +30,7 @@ rem-held-len c = search needs
 
 returns-2 : tie.Need-returns-2
 returns-2 c =
-    let s = c .before .before .before .before .before .before .args .s in
+    let s = c .before .before .before .before .before .before .args .session in
     let n = c .before .size-of in
     sym (begun-none (cipherOf (s .suite)) (asValue s) (n .result) (n .ensures .0) (n .ensures .1 .0) (c .before .before .if1 .left) (c .if2 .taken))
 
@@ -45,7 +45,7 @@ part-absorb-last-start c = search needs
 
 part-absorb-last-end : tie.Need-part-absorb-last-end
 part-absorb-last-end c =
-    let s = c .before .before .before .before .before .before .before .before .args .s in
+    let s = c .before .before .before .before .before .before .before .before .args .session in
     let n = c .before .before .before .size-of in
     let lh : s .«ad_total» % n .result < n .result = mod-lt (s .«ad_total») (n .ensures .1 .0) in
     let l16 : length (s .held) ≡ 16 = search needs in
@@ -54,7 +54,7 @@ part-absorb-last-end c =
 absorb-last-requires : tie.Need-absorb-last-requires
 absorb-last-requires c κs =
     let st = c .before .before .before .before .before .before .before .before .before in
-    let s = st .args .s in
+    let s = st .args .session in
     let n = c .before .before .before .before .size-of in
     let h = s .«ad_total» % n .result in
     let lh : h < n .result = mod-lt (s .«ad_total») (n .ensures .1 .0) in
@@ -64,7 +64,7 @@ returns-3 : tie.Need-returns-3
 unfolding xor
 returns-3 c =
     let st = c .before .before .before .before .before .before .before .before .before .before in
-    let s = st .args .s in
+    let s = st .args .session in
     let n = c .before .before .before .before .before .size-of in
     c .absorb-last .ensures .two
     ∙ begun-short (cipherOf (s .suite)) (asValue s) (n .result) (n .ensures .0) (n .ensures .1 .0) (n .ensures .1 .1) (held-long st)

@@ -20,7 +20,7 @@ use Rattle.session.proofs.work.close.Tie as tie
 begin-requires : tie.Need-begin-requires
 begin-requires c κs =
     let st = c .before .before .before in
-    let s = st .args .s in
+    let s = st .args .session in
     end-passed (s .suite) (s .«ad_total») (s .«text_total») (length (now (st .args .out))) (length (now (st .args .tag))) (st .pre .1) .0 .known
 
 size-of-requires : tie.Need-size-of-requires
@@ -35,7 +35,7 @@ rem-held-len c = search needs
 last-in-requires : tie.Need-last-in-requires
 last-in-requires c κs =
     let st = c .before .before .before .before .before .before .before in
-    let s = st .args .s in
+    let s = st .args .session in
     let n = c .before .before .size-of in
     let p = end-passed (s .suite) (s .«ad_total») (s .«text_total») (length (now (st .args .out))) (length (now (st .args .tag))) (st .pre .1) in
     (st .pre .0, p .0 .known, subst (λ (k : ℕ). s .«text_total» % n .result < k) (n .ensures .0) (mod-lt (s .«text_total») (n .ensures .1 .0)), p .1)
@@ -43,13 +43,13 @@ last-in-requires c κs =
 tag-of-requires : tie.Need-tag-of-requires
 tag-of-requires c κs =
     let st = c .before .before .before .before .before .before .before .before .before .before in
-    let s = st .args .s in
+    let s = st .args .session in
     (st .pre .0, end-passed (s .suite) (s .«ad_total») (s .«text_total») (length (now (st .args .out))) (length (now (st .args .tag))) (st .pre .1) .0 .known)
 
 put-requires : tie.Need-put-requires
 put-requires c κs =
     let st = c .before .before .before .before .before .before .before .before .before .before .before .before .before in
-    let s = st .args .s in
+    let s = st .args .session in
     let p = end-passed (s .suite) (s .«ad_total») (s .«text_total») (length (now (st .args .out))) (length (now (st .args .tag))) (st .pre .1) in
     omega (arith, p .2, size-most (s .suite))
 
@@ -66,7 +66,7 @@ returns : tie.Need-returns
 unfolding ending
 returns c =
     let st = c .before .before .before .before .before .before .before .before .before .before .before .before .before .before .before .before .before in
-    let s = st .args .s in
+    let s = st .args .session in
     let v = asValue s in
     let o = now (st .args .out) in
     let t = now (st .args .tag) in
@@ -82,4 +82,6 @@ returns c =
     ∙ answer-done 0 (endNumber (v .suite) (v .«ad_total») (v .«text_total») (length o) (length t)) (endDone v o) v o t refl (sym (st .pre .1))
 
 pub close-spec : {M : Type 1} → statement M
-close-spec = tie.close (tie.spec begin-requires size-of-requires first-mark-requires rem-held-len last-in-requires tag-of-requires put-requires ended-requires same-length same-length-2 returns)
+close-spec =
+    tie.close (tie.spec begin-requires size-of-requires first-mark-requires rem-held-len last-in-requires tag-of-requires put-requires ended-requires
+    same-length same-length-2 returns)

@@ -14,12 +14,12 @@ size-of-requires c κs = search needs
 returns : tie.Need-returns
 returns c =
     let x = c .before .before .args in
-    sym (ap (λ (t : Bool). cond t (x .m) 0) (lt-ltb (x .total) (sizeOf (x .suite)) (omega (arith, c .before .size-of .ensures .0, c .if1 .taken))))
+    sym (ap (λ (t : Bool). cond t (x .mark) 0) (lt-ltb (x .total) (sizeOf (x .suite)) (omega (arith, c .before .size-of .ensures .0, c .if1 .taken))))
 
 returns-2 : tie.Need-returns-2
 returns-2 c =
     let x = c .before .before .args in
-    sym (ap (λ (t : Bool). cond t (x .m) 0) (le-ltb (x .total) (sizeOf (x .suite)) (omega (arith, c .before .size-of .ensures .0, c .if1 .left))))
+    sym (ap (λ (t : Bool). cond t (x .mark) 0) (le-ltb (x .total) (sizeOf (x .suite)) (omega (arith, c .before .size-of .ensures .0, c .if1 .left))))
 
 pub first-mark-spec : {M : Type 1} → statement M
 first-mark-spec = tie.close (tie.spec size-of-requires returns returns-2)

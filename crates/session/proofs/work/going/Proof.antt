@@ -9,7 +9,7 @@ use Rattle.session.proofs.work.going.Tie as tie
 
 returns : tie.Need-returns
 returns c =
-    let s = c .before .before .before .args .s in
+    let s = c .before .before .before .args .session in
     sym (begun-on (cipherOf (s .suite)) (asValue s) (c .if1 .taken))
 
 begin-requires : tie.Need-begin-requires

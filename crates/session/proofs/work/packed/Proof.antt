@@ -13,7 +13,14 @@ clean-requires c κs = search needs
 returns : tie.Need-returns
 returns c =
     let x = c .before .before .before .before .before .args in
-    ap (λ (y : List ℕ). record { suite = x .suite; Y = y; Z = wide (x .f .s .z); held = x .f .held; «ad_total» = x .ad-total; «text_total» = x .text-total }) (c .clean .ensures)
+    ap (λ (y : List ℕ). record {
+      suite = x .suite;
+      Y = y;
+      Z = wide (x .absorbed .s .z);
+      held = x .absorbed .held;
+      «ad_total» = x .ad-total;
+      «text_total» = x .text-total;
+    }) (c .clean .ensures)
 
 pub packed-spec : {M : Type 1} → statement M
 packed-spec = tie.close (tie.spec clean-requires returns)

@@ -11,7 +11,7 @@ ended-requires c κs = search needs
 
 returns : tie.Need-returns
 returns c =
-    ap (λ (v : Value). gave (c .before .args .k) 0 v [] []) (c .ended .ensures)
+    ap (λ (v : Value). gave (c .before .args .number) 0 v [] []) (c .ended .ensures)
 
 pub refused-spec : {M : Type 1} → statement M
 refused-spec = tie.close (tie.spec ended-requires returns)

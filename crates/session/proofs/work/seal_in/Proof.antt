@@ -19,7 +19,7 @@ use Rattle.session.proofs.work.seal_in.Tie as tie
 going-requires : tie.Need-going-requires
 going-requires c κs =
     let st = c .before .before .before in
-    let s = st .args .s in
+    let s = st .args .session in
     text-passed (s .suite) (s .«ad_total») (s .«text_total») (length (now (st .args .part))) (length (now (st .args .out))) (st .pre .0) .0 .known
 
 size-of-requires : tie.Need-size-of-requires
@@ -34,7 +34,7 @@ rem-held-len c = search needs
 crypt-part-requires : tie.Need-crypt-part-requires
 crypt-part-requires c κs =
     let st = c .before .before .before .before .before .before .before in
-    let s = st .args .s in
+    let s = st .args .session in
     let n = c .before .before .size-of in
     let p = text-passed (s .suite) (s .«ad_total») (s .«text_total») (length (now (st .args .part))) (length (now (st .args .out))) (st .pre .0) in
     (p .0 .known, subst (λ (k : ℕ). s .«text_total» % n .result < k) (n .ensures .0) (mod-lt (s .«text_total») (n .ensures .1 .0)), p .2)
@@ -42,7 +42,7 @@ crypt-part-requires c κs =
 add-packed : tie.Need-add-packed
 add-packed c =
     let st = c .before .before .before .before .before .before .before .before .before .before .before .before in
-    let s = st .args .s in
+    let s = st .args .session in
     let p = text-passed (s .suite) (s .«ad_total») (s .«text_total») (length (now (st .args .part))) (length (now (st .args .out))) (st .pre .0) in
     omega (arith, p .0 .text-most, p .1)
 
@@ -56,7 +56,7 @@ returns : tie.Need-returns
 unfolding textPart
 returns c =
     let st = c .before .before .before .before .before .before .before .before .before .before .before .before .before in
-    let s = st .args .s in
+    let s = st .args .session in
     let v = asValue s in
     let p = now (st .args .part) in
     let o = now (st .args .out) in
@@ -70,4 +70,5 @@ returns c =
     ∙ answer-done 0 (textNumber (v .suite) (v .«ad_total») (v .«text_total») (length p) (length o)) (textDone v p o) v o [] refl (sym (st .pre .0))
 
 pub seal-in-spec : {M : Type 1} → statement M
-seal-in-spec = tie.close (tie.spec going-requires size-of-requires first-mark-requires rem-held-len crypt-part-requires add-packed packed-requires same-length returns)
+seal-in-spec =
+    tie.close (tie.spec going-requires size-of-requires first-mark-requires rem-held-len crypt-part-requires add-packed packed-requires same-length returns)

@@ -27,7 +27,8 @@ returns c =
     let x = st .args in
     let v = c .packed .ensures ∙ ap (λ (s : States). valueOf (x .suite) s (replicate 16 0) 0 0) (c .before .start .ensures .two) in
     ap (λ (w : Value). gave 0 0 w [] []) v
-    ∙ answer-done 0 (startNumber (x .suite) (length (now (x .key))) (length (now (x .nonce)))) (gave 0 0 (fresh (x .suite) (now (x .key)) (now (x .nonce))) [] []) over [] [] refl (sym (st .pre .1))
+    ∙ answer-done 0 (startNumber (x .suite) (length (now (x .key))) (length (now (x .nonce))))
+    (gave 0 0 (fresh (x .suite) (now (x .key)) (now (x .nonce))) [] []) over [] [] refl (sym (st .pre .1))
 
 pub started-spec : {M : Type 1} → statement M
 started-spec = tie.close (tie.spec start-requires packed-requires returns)

@@ -31,7 +31,7 @@ rem-held-len c = search needs
 absorb-part-requires : tie.Need-absorb-part-requires
 absorb-part-requires c κs =
     let st = c .before .before .before .before .before .before in
-    let s = st .args .s in
+    let s = st .args .session in
     let n = c .before .size-of in
     let p = data-passed (s .suite) (s .«ad_total») (s .«text_total») (length (now (st .args .part))) (st .pre) in
     (p .0 .known, subst (λ (k : ℕ). s .«ad_total» % n .result < k) (n .ensures .0) (mod-lt (s .«ad_total») (n .ensures .1 .0)))
@@ -39,7 +39,7 @@ absorb-part-requires c κs =
 add-packed : tie.Need-add-packed
 add-packed c =
     let st = c .before .before .before .before .before .before .before in
-    let s = st .args .s in
+    let s = st .args .session in
     let p = data-passed (s .suite) (s .«ad_total») (s .«text_total») (length (now (st .args .part))) (st .pre) in
     omega (arith, p .0 .data-most, p .2)
 
@@ -50,9 +50,9 @@ returns : tie.Need-returns
 unfolding dataIn dataStates dataPart
 returns c =
     let st = c .before .before .before .before .before .before .before .before in
-    let v = asValue (st .args .s) in
-    let k = cipherOf (st .args .s .suite) in
-    let n = sizeOf (st .args .s .suite) in
+    let v = asValue (st .args .session) in
+    let k = cipherOf (st .args .session .suite) in
+    let n = sizeOf (st .args .session .suite) in
     let size = c .before .before .before .size-of in
     let p = now (st .args .part) in
     let x : ℕ → List ℕ = λ j. take (v .«ad_total» % j) (v .held) ++ p in
@@ -60,7 +60,8 @@ returns c =
     let es = f .ensures .0
     ∙ ap₂ (λ (m j : ℕ). walked k false m 0x10 (states k v) (blocks n (whole n (x j)))) (c .before .before .first-mark .ensures) (size .ensures .0) in
     let eh = f .ensures .1 ∙ ap (λ (j : ℕ). filled (rest n (x j))) (size .ensures .0) in
-    ap (λ (w : Value). gave 0 0 w [] []) (c .packed .ensures ∙ ap₂ (λ (s : States) (h : List ℕ). valueOf (v .suite) s h (v .«ad_total» + length p) (v .«text_total»)) es eh)
+    ap (λ (w : Value). gave 0 0 w [] [])
+    (c .packed .ensures ∙ ap₂ (λ (s : States) (h : List ℕ). valueOf (v .suite) s h (v .«ad_total» + length p) (v .«text_total»)) es eh)
     ∙ answer-done 0 (dataNumber (v .suite) (v .«ad_total») (v .«text_total») (length p)) (gave 0 0 (dataIn k v p) [] []) v [] [] refl (sym (st .pre))
 
 pub take-in-spec : {M : Type 1} → statement M
