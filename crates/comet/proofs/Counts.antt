@@ -66,10 +66,12 @@ module _ (d : Bool) (s : ℕ) (k v a t : List ℕ) (o g n : ℕ) (e : n ≡ refu
   calls-all z = ap (λ (j : ℕ). countedAs j (length (calls (cipherOf s) d k v a t))) (sym z ∙ e)
 
 -- with a text that is its own output
-pub sealing-same : (s : ℕ) (k v a m o t : List ℕ) → refusal false s (length k) (length v) (length a) (length m) (length o) (length t) ≡ 0 → sealingCounted s k v a m m t ≡ sealingCounted s k v a m o t
+pub sealing-same : (s : ℕ) (k v a m o t : List ℕ) → refusal false s (length k) (length v) (length a) (length m) (length o) (length t) ≡ 0
+    → sealingCounted s k v a m m t ≡ sealingCounted s k v a m o t
 sealing-same s k v a m o t z =
     counting (sealing-over s k v a m o t z) (ap (λ (n : ℕ). callsOf false s k v a m n (length t)) (sym (passed false s _ _ _ _ _ _ z .room)))
 
-pub opening-same : (s : ℕ) (k v a c g o : List ℕ) → refusal true s (length k) (length v) (length a) (length c) (length o) (length g) ≡ 0 → openingCounted s k v a c g c ≡ openingCounted s k v a c g o
+pub opening-same : (s : ℕ) (k v a c g o : List ℕ) → refusal true s (length k) (length v) (length a) (length c) (length o) (length g) ≡ 0
+    → openingCounted s k v a c g c ≡ openingCounted s k v a c g o
 opening-same s k v a c g o z =
     counting (opening-over s k v a c g o z) (ap (λ (n : ℕ). callsOf true s k v a c n (length g)) (sym (passed true s _ _ _ _ _ _ z .room)))

@@ -41,7 +41,8 @@ module _ (s : ℕ) (k v a m o t : List ℕ) (n : ℕ) (e : n ≡ refusal false s
       written = λ i. record { number = 0; out = ex i; tag = ey i }
 
 -- where nothing is refused, the output's old bytes do not matter: a text that is sealed in place is its own output
-pub sealing-over : (s : ℕ) (k v a m o t : List ℕ) → refusal false s (length k) (length v) (length a) (length m) (length o) (length t) ≡ 0 → sealing s k v a m m t ≡ sealing s k v a m o t
+pub sealing-over : (s : ℕ) (k v a m o t : List ℕ) → refusal false s (length k) (length v) (length a) (length m) (length o) (length t) ≡ 0
+    → sealing s k v a m m t ≡ sealing s k v a m o t
 unfolding sealing
 sealing-over s k v a m o t z =
     ap (λ (j : ℕ). sealedAs j (ciphertext (cipherOf s) k v a m) (tag (cipherOf s) k v a m) m t)
@@ -67,7 +68,8 @@ module _ (s : ℕ) (k v a c g o : List ℕ) (n : ℕ) (e : n ≡ refusal true s 
       ∙ ap (λ (j : ℕ). openedAs j (sameBytes (tagOut (cipherOf s) true k v a c) g) (textOut (cipherOf s) true k v a c) o) e
 
   -- b is what the comparison gave
-  pub opening-done : n ≡ 0 → (b : Bool) → b ≡ sameBytes (tagOut (cipherOf s) true k v a c) g → openedAs 0 b (textOut (cipherOf s) true k v a c) o ≡ opening s k v a c g o
+  pub opening-done : n ≡ 0 → (b : Bool) → b ≡ sameBytes (tagOut (cipherOf s) true k v a c) g
+      → openedAs 0 b (textOut (cipherOf s) true k v a c) o ≡ opening s k v a c g o
   unfolding opening
   opening-done z b eb = ap₂ (λ (j : ℕ) (d : Bool). openedAs j d (textOut (cipherOf s) true k v a c) o) (sym z ∙ e) eb
 
@@ -76,7 +78,8 @@ over-same true x o o′ e = refl
 over-same false x o o′ e = λ i. record { number = 8; out = replicate (e i) 0 }
 
 -- as `sealing-over`
-pub opening-over : (s : ℕ) (k v a c g o : List ℕ) → refusal true s (length k) (length v) (length a) (length c) (length o) (length g) ≡ 0 → opening s k v a c g c ≡ opening s k v a c g o
+pub opening-over : (s : ℕ) (k v a c g o : List ℕ) → refusal true s (length k) (length v) (length a) (length c) (length o) (length g) ≡ 0
+    → opening s k v a c g c ≡ opening s k v a c g o
 unfolding opening
 opening-over s k v a c g o z =
     let room : length o ≡ length c = passed true s _ _ _ _ _ _ z .room in

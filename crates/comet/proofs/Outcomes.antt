@@ -29,14 +29,17 @@ counted-told p q = λ i. record { verdict = p i; calls = q i }
 pub seal-counted : OneOutcome seal-counted-kinds.ps seal-counted-kinds.r seal-counted-reads.Pre seal-counted-reads.Post
 seal-counted κs a h x y =
     let e = x .ensures ∙ sym (y .ensures) in (
-      counted-told (number-tells (x .result .verdict) (y .result .verdict) (ap (λ (w : Counting Sealed). w .leaves .number) e)) (ap (λ (w : Counting Sealed). w .calls) e),
-      ap₂ (λ (o t : List ℕ). (tt, (tt, (tt, (tt, (tt, (o, (t, tt)))))))) (ap (λ (w : Counting Sealed). w .leaves .out) e) (ap (λ (w : Counting Sealed). w .leaves .tag) e),
+      counted-told (number-tells (x .result .verdict) (y .result .verdict) (ap (λ (w : Counting Sealed). w .leaves .number) e))
+          (ap (λ (w : Counting Sealed). w .calls) e),
+      ap₂ (λ (o t : List ℕ). (tt, (tt, (tt, (tt, (tt, (o, (t, tt)))))))) (ap (λ (w : Counting Sealed). w .leaves .out) e)
+          (ap (λ (w : Counting Sealed). w .leaves .tag) e),
     )
 
 pub unseal-counted : OneOutcome unseal-counted-kinds.ps unseal-counted-kinds.r unseal-counted-reads.Pre unseal-counted-reads.Post
 unseal-counted κs a h x y =
     let e = x .ensures ∙ sym (y .ensures) in (
-      counted-told (number-tells (x .result .verdict) (y .result .verdict) (ap (λ (w : Counting Opened). w .leaves .number) e)) (ap (λ (w : Counting Opened). w .calls) e),
+      counted-told (number-tells (x .result .verdict) (y .result .verdict) (ap (λ (w : Counting Opened). w .leaves .number) e))
+          (ap (λ (w : Counting Opened). w .calls) e),
       ap (λ (o : List ℕ). (tt, (tt, (tt, (tt, (tt, (tt, (o, tt)))))))) (ap (λ (w : Counting Opened). w .leaves .out) e),
     )
 

@@ -58,7 +58,8 @@ module _ (κ : Cipher) (pos : 0 < κ .size) (d : Bool) (first short : ℕ) (s : 
     none-walk = sym (walk-on ∙ walk-none κ pos d short k u (rest n l) none)
 
   -- text holds what was output for the whole blocks, and after it, from i on, what is left
-  module _ (text : List ℕ) (i : ℕ) (et : text ≡ covered κ d first short s (wholes n l) ++ rest n l) (lt : length text ≡ length l) (ei : i ≡ length (whole n l)) where
+  module _ (text : List ℕ) (i : ℕ) (et : text ≡ covered κ d first short s (wholes n l) ++ rest n l) (lt : length text ≡ length l)
+      (ei : i ≡ length (whole n l)) where
     abbrev front : List ℕ
     front = covered κ d first short s (wholes n l)
 
@@ -72,9 +73,11 @@ module _ (κ : Cipher) (pos : 0 < κ .size) (d : Bool) (first short : ℕ) (s : 
         ∙ take-all (length l - i) (rest n l) (le-of-eq (left-long n pos l i ei))
 
     -- a short block came back as o
-    pub last-out : 0 < length (rest n l) → (o : List ℕ) → o ≡ hidden κ (xor k short) u (take (length l - i) (drop i text)) → putMid i (length l - i) text o ≡ covered κ d first short s (blocks n l)
+    pub last-out : 0 < length (rest n l) → (o : List ℕ) → o ≡ hidden κ (xor k short) u (take (length l - i) (drop i text))
+        → putMid i (length l - i) text o ≡ covered κ d first short s (blocks n l)
     last-out some o eo =
-        let nothing : postOf i (length l - i) text ≡ [] = post-is i (length l) text (left-within n pos l i ei) ∙ drop-of-length-le text {i = length l} (le-of-eq lt) in
+        let nothing : postOf i (length l - i) text ≡ [] = post-is i (length l) text (left-within n pos l i ei)
+        ∙ drop-of-length-le text {i = length l} (le-of-eq lt) in
         ap₂ (λ (a b : List ℕ). a ++ (o ++ b)) (ap (take i) et ∙ take-at front (rest n l) i long) nothing
         ∙ ap (λ (b : List ℕ). front ++ b) (append-nil o)
         ∙ last-cover (take (length l - i) (drop i text)) lent some o eo

@@ -65,28 +65,30 @@ fn crypt_core(
     ad: &[u8],
     text: &mut [u8],
 ) -> TagAndCalls
-    requires { ⌜ TablesFit suite (now tables) × IsSuite suite × (length (now key) ≡ 16) × (length (now nonce) ≡ nonceOf suite) × (length (now ad) ≤ limit) × (length (now text) ≤ limit) ⌝ }
+    requires { ⌜ TablesFit suite (now tables) × IsSuite suite × (length (now key) ≡ 16) × (length (now nonce) ≡ nonceOf suite) × (length (now ad) ≤ limit)
+        × (length (now text) ≤ limit) ⌝ }
     ensures text { λ _. ⌜ now (text .exit) ≡ textOut (cipherOf suite) opening (now (key .entry)) (now (nonce .entry)) (now (ad .entry)) (now (text .entry)) ⌝ }
-    ensures tag { λ r. ⌜ take (sizeOf suite) (wide (r .tag)) ≡ tagOut (cipherOf suite) opening (now (key .entry)) (now (nonce .entry)) (now (ad .entry)) (now (text .entry)) ⌝ }
+    ensures tag { λ r. ⌜ take (sizeOf suite) (wide (r .tag)) ≡ tagOut (cipherOf suite) opening (now (key .entry)) (now (nonce .entry)) (now (ad .entry))
+        (now (text .entry)) ⌝ }
     ensures rest { λ r. ⌜ Clean suite (r .tag)
         × (r .calls ≡ length (calls (cipherOf suite) opening (now (key .entry)) (now (nonce .entry)) (now (ad .entry)) (now (text .entry)))) ⌝ }
 {
-    let mut s = block_step::state::start(tables, suite, key, nonce);
+    let mut state = block_step::state::start(tables, suite, key, nonce);
     if ad.len() != 0 {
-        s = text::absorb_all(
+        state = text::absorb_all(
             tables,
             false,
             suite,
-            s,
+            state,
             MARK_FIRST_DATA,
             MARK_SHORT_DATA,
             ad,
         );
     }
     if 0 < text.len() {
-        s = text::crypt_all(tables, opening, suite, s, text);
+        state = text::crypt_all(tables, opening, suite, state, text);
     }
-    block_step::tag::tag_of(tables, suite, s)
+    block_step::tag::tag_of(tables, suite, state)
 }
 
 // `crypt_core` under the tables that the suite needs: only suites 1 and 5 spend time on filling them. Their 4 KiB are in this
@@ -101,7 +103,8 @@ fn crypt(
 ) -> TagAndCalls
     requires { ⌜ IsSuite suite × (length (now key) ≡ 16) × (length (now nonce) ≡ nonceOf suite) × (length (now ad) ≤ limit) × (length (now text) ≤ limit) ⌝ }
     ensures text { λ _. ⌜ now (text .exit) ≡ textOut (cipherOf suite) opening (now (key .entry)) (now (nonce .entry)) (now (ad .entry)) (now (text .entry)) ⌝ }
-    ensures tag { λ r. ⌜ take (sizeOf suite) (wide (r .tag)) ≡ tagOut (cipherOf suite) opening (now (key .entry)) (now (nonce .entry)) (now (ad .entry)) (now (text .entry)) ⌝ }
+    ensures tag { λ r. ⌜ take (sizeOf suite) (wide (r .tag)) ≡ tagOut (cipherOf suite) opening (now (key .entry)) (now (nonce .entry)) (now (ad .entry))
+        (now (text .entry)) ⌝ }
     ensures rest { λ r. ⌜ Clean suite (r .tag)
         × (r .calls ≡ length (calls (cipherOf suite) opening (now (key .entry)) (now (nonce .entry)) (now (ad .entry)) (now (text .entry)))) ⌝ }
 {
@@ -121,8 +124,12 @@ fn seal_checked(
     text: &mut [u8],
     tag: &mut [u8],
 ) -> Counted
-    requires { ⌜ refusal false suite (length (now key)) (length (now nonce)) (length (now ad)) (length (now text)) (length (now text)) (length (now tag)) ≡ 0 ⌝ }
-    ensures { λ r. ⌜ _≡_ {A = Counting Sealed} (record { leaves = record { number = numberOf (r .verdict); out = now (text .exit); tag = now (tag .exit) }; calls = r .calls })
+    requires { ⌜ refusal false suite (length (now key)) (length (now nonce)) (length (now ad)) (length (now text)) (length (now text)) (length (now tag))
+        ≡ 0 ⌝ }
+    ensures { λ r. ⌜ _≡_ {A = Counting Sealed} (record {
+      leaves = record { number = numberOf (r .verdict); out = now (text .exit); tag = now (tag .exit) };
+      calls = r .calls;
+    })
         (sealingCounted suite (now (key .entry)) (now (nonce .entry)) (now (ad .entry)) (now (text .entry)) (now (text .entry)) (now (tag .entry))) ⌝ }
 {
     let done = crypt(false, suite, key, nonce, ad, text);
@@ -144,7 +151,10 @@ pub fn seal_counted(
     out: &mut [u8],
     tag: &mut [u8],
 ) -> Counted
-    ensures { λ r. ⌜ _≡_ {A = Counting Sealed} (record { leaves = record { number = numberOf (r .verdict); out = now (out .exit); tag = now (tag .exit) }; calls = r .calls })
+    ensures { λ r. ⌜ _≡_ {A = Counting Sealed} (record {
+      leaves = record { number = numberOf (r .verdict); out = now (out .exit); tag = now (tag .exit) };
+      calls = r .calls;
+    })
         (sealingCounted suite (now (key .entry)) (now (nonce .entry)) (now (ad .entry)) (now (msg .entry)) (now (out .entry)) (now (tag .entry))) ⌝ }
 {
     let verdict = refused_for(
@@ -327,40 +337,42 @@ fn tag_core(
     text: &[u8],
 ) -> Block
     requires { ⌜ TablesFit suite (now tables) × IsSuite suite × (length (now key) ≡ 16) × (length (now nonce) ≡ nonceOf suite) ⌝ }
-    ensures tag { λ r. ⌜ take (sizeOf suite) (wide r) ≡ tagOut (cipherOf suite) true (now (key .entry)) (now (nonce .entry)) (now (ad .entry)) (now (text .entry)) ⌝ }
+    ensures tag { λ r. ⌜ take (sizeOf suite) (wide r) ≡ tagOut (cipherOf suite) true (now (key .entry)) (now (nonce .entry)) (now (ad .entry))
+        (now (text .entry)) ⌝ }
     ensures rest { λ r. ⌜ Clean suite r ⌝ }
 {
-    let mut s = block_step::state::start(tables, suite, key, nonce);
+    let mut state = block_step::state::start(tables, suite, key, nonce);
     if ad.len() != 0 {
-        s = text::absorb_all(
+        state = text::absorb_all(
             tables,
             false,
             suite,
-            s,
+            state,
             MARK_FIRST_DATA,
             MARK_SHORT_DATA,
             ad,
         );
     }
     if text.len() != 0 {
-        s = text::absorb_all(
+        state = text::absorb_all(
             tables,
             true,
             suite,
-            s,
+            state,
             MARK_FIRST_TEXT,
             MARK_SHORT_TEXT,
             text,
         );
     }
-    let last = block_step::tag::tag_of(tables, suite, s);
+    let last = block_step::tag::tag_of(tables, suite, state);
     last.tag
 }
 
 // `tag_core` under the tables that the suite needs.
 fn tag_under(suite: u8, key: &[u8], nonce: &[u8], ad: &[u8], text: &[u8]) -> Block
     requires { ⌜ IsSuite suite × (length (now key) ≡ 16) × (length (now nonce) ≡ nonceOf suite) ⌝ }
-    ensures tag { λ r. ⌜ take (sizeOf suite) (wide r) ≡ tagOut (cipherOf suite) true (now (key .entry)) (now (nonce .entry)) (now (ad .entry)) (now (text .entry)) ⌝ }
+    ensures tag { λ r. ⌜ take (sizeOf suite) (wide r) ≡ tagOut (cipherOf suite) true (now (key .entry)) (now (nonce .entry)) (now (ad .entry))
+        (now (text .entry)) ⌝ }
     ensures rest { λ r. ⌜ Clean suite r ⌝ }
 {
     if cipher::needs_tables(suite) {

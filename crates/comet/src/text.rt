@@ -14,28 +14,35 @@ ghost use Rattle.mode.specs.Blocks.{blocks};
 ghost use Rattle.mode.specs.Walk.{walked, covered};
 ghost use Rattle.block_step.specs.Two.{twoOf};
 
-// Absorbs all blocks of b, one cipher call each, the first under the mark `first` and a short one also under the mark `short`; nothing is written.
+// Absorbs all blocks of the bytes, one cipher call each, the first under the mark `first` and a short one also under the mark `short`; nothing is written.
 pub(crate) fn absorb_all(
     tables: &[AesTables],
     opening: bool,
     suite: u8,
-    s: State,
+    start: State,
     first: u8,
     short: u8,
-    b: &[u8],
+    bytes: &[u8],
 ) -> State
     requires { ⌜ TablesFit suite (now tables) × IsSuite suite ⌝ }
-    ensures state { λ r. ⌜ twoOf suite r ≡ walked (cipherOf suite) opening first short (twoOf suite s) (blocks (sizeOf suite) (now (b .entry))) ⌝ }
-    ensures calls { λ r. ⌜ r .calls ≡ add 64 (s .calls) (length (blocks (sizeOf suite) (now (b .entry)))) ⌝ }
+    ensures state { λ r. ⌜ twoOf suite r ≡ walked (cipherOf suite) opening first short (twoOf suite start) (blocks (sizeOf suite) (now (bytes .entry))) ⌝ }
+    ensures calls { λ r. ⌜ r .calls ≡ add 64 (start .calls) (length (blocks (sizeOf suite) (now (bytes .entry)))) ⌝ }
 {
-    let whole = block_walk::absorb(tables, opening, suite, s, first, b);
-    let state = whole.s;
+    let whole = block_walk::absorb(tables, opening, suite, start, first, bytes);
+    let absorbed = whole.s;
     let mark = whole.mark;
     let at = whole.at;
-    if at < b.len() {
-        return absorb_short(tables, opening, suite, state, mark ^ short, &b[at..b.len()]);
+    if at < bytes.len() {
+        return absorb_short(
+            tables,
+            opening,
+            suite,
+            absorbed,
+            mark ^ short,
+            &bytes[at..bytes.len()],
+        );
     }
-    state
+    absorbed
 }
 
 // Seals or opens all blocks of a nonempty text in place, one cipher call each.
@@ -43,13 +50,13 @@ pub(crate) fn crypt_all(
     tables: &[AesTables],
     opening: bool,
     suite: u8,
-    s: State,
+    start: State,
     text: &mut [u8],
 ) -> State
     requires { ⌜ TablesFit suite (now tables) × IsSuite suite × (0 < length (now text)) ⌝ }
-    ensures text { λ _. ⌜ now (text .exit) ≡ covered (cipherOf suite) opening 0x20 0x40 (twoOf suite s) (blocks (sizeOf suite) (now (text .entry))) ⌝ }
-    ensures state { λ r. ⌜ (twoOf suite r ≡ walked (cipherOf suite) opening 0x20 0x40 (twoOf suite s) (blocks (sizeOf suite) (now (text .entry))))
-        × (r .calls ≡ add 64 (s .calls) (length (blocks (sizeOf suite) (now (text .entry))))) ⌝ }
+    ensures text { λ _. ⌜ now (text .exit) ≡ covered (cipherOf suite) opening 0x20 0x40 (twoOf suite start) (blocks (sizeOf suite) (now (text .entry))) ⌝ }
+    ensures state { λ r. ⌜ (twoOf suite r ≡ walked (cipherOf suite) opening 0x20 0x40 (twoOf suite start) (blocks (sizeOf suite) (now (text .entry))))
+        × (r .calls ≡ add 64 (start .calls) (length (blocks (sizeOf suite) (now (text .entry))))) ⌝ }
 {
     let end = text.len();
     if end < cipher::size_of(suite) {
@@ -57,12 +64,12 @@ pub(crate) fn crypt_all(
             tables,
             opening,
             suite,
-            s,
+            start,
             MARK_FIRST_TEXT ^ MARK_SHORT_TEXT,
             text,
         );
     }
-    let whole = block_walk::crypt(tables, opening, suite, s, MARK_FIRST_TEXT, text);
+    let whole = block_walk::crypt(tables, opening, suite, start, MARK_FIRST_TEXT, text);
     let state = whole.s;
     let mark = whole.mark;
     let at = whole.at;

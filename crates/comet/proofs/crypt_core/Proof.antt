@@ -31,10 +31,12 @@ use Rattle.comet.proofs.crypt_core.Tie as tie
 
 -- at most 65,536 blocks each
 data-most : (st : tie.Start) → length (blocks (sizeOf (st .args .suite)) (now (st .args .ad))) ≤ 65536
-data-most st = omega (arith, count-most (sizeOf (st .args .suite)) (some (cipherOf (st .args .suite)) (lawful (st .args .suite))) (now (st .args .ad)), st .pre .4)
+data-most st =
+    omega (arith, count-most (sizeOf (st .args .suite)) (some (cipherOf (st .args .suite)) (lawful (st .args .suite))) (now (st .args .ad)), st .pre .4)
 
 text-most : (st : tie.Start) → length (blocks (sizeOf (st .args .suite)) (now (st .args .text))) ≤ 65536
-text-most st = omega (arith, count-most (sizeOf (st .args .suite)) (some (cipherOf (st .args .suite)) (lawful (st .args .suite))) (now (st .args .text)), st .pre .5)
+text-most st =
+    omega (arith, count-most (sizeOf (st .args .suite)) (some (cipherOf (st .args .suite)) (lawful (st .args .suite))) (now (st .args .text)), st .pre .5)
 
 -- what is not longer than nothing is empty
 none : (n : ℕ) → n ≤ 0 → n ≡ 0
@@ -61,8 +63,8 @@ module _ (j : tie.Joined1) where
   pos : 0 < sizeOf suite
   pos = some (cipherOf suite) (lawful suite)
 
-  pub read-is : (twoOf suite (j .if1 .s) ≡ walked (cipherOf suite) false 0x08 0x10 (twoOf suite begun) (blocks (sizeOf suite) ad))
-      × (j .if1 .s .calls ≡ add 64 (begun .calls) (length (blocks (sizeOf suite) ad)))
+  pub read-is : (twoOf suite (j .if1 .state) ≡ walked (cipherOf suite) false 0x08 0x10 (twoOf suite begun) (blocks (sizeOf suite) ad))
+      × (j .if1 .state .calls ≡ add 64 (begun .calls) (length (blocks (sizeOf suite) ad)))
   read-is =
       ⊎-elim
       (λ w. (ap (twoOf suite) (w .2) ∙ w .1 .ensures .0, ap (λ (s : State). s .calls) (w .2) ∙ w .1 .ensures .1))
@@ -83,9 +85,9 @@ module _ (k : tie.Joined2) where
   abbrev d : Bool
   d = st j .args .opening
 
-  pub done-is : (k .if2 .text ≡ covered (cipherOf (suite j)) d 0x20 0x40 (twoOf (suite j) (j .if1 .s)) (blocks (sizeOf (suite j)) text))
-      × (twoOf (suite j) (k .if2 .s) ≡ walked (cipherOf (suite j)) d 0x20 0x40 (twoOf (suite j) (j .if1 .s)) (blocks (sizeOf (suite j)) text))
-      × (k .if2 .s .calls ≡ add 64 (j .if1 .s .calls) (length (blocks (sizeOf (suite j)) text)))
+  pub done-is : (k .if2 .text ≡ covered (cipherOf (suite j)) d 0x20 0x40 (twoOf (suite j) (j .if1 .state)) (blocks (sizeOf (suite j)) text))
+      × (twoOf (suite j) (k .if2 .state) ≡ walked (cipherOf (suite j)) d 0x20 0x40 (twoOf (suite j) (j .if1 .state)) (blocks (sizeOf (suite j)) text))
+      × (k .if2 .state .calls ≡ add 64 (j .if1 .state .calls) (length (blocks (sizeOf (suite j)) text)))
       × (length (k .if2 .text) ≡ length text)
   done-is =
       ⊎-elim
@@ -96,9 +98,12 @@ module _ (k : tie.Joined2) where
         ap length (w .5) ∙ w .2 .kept .1 .1 .1 .1 .0,
       ))
       (λ w. (
-        w .1 ∙ nil-of text (none (length text) (w .0 .left)) ∙ sym (cover-none (cipherOf (suite j)) (pos j) d 0x40 0x20 (twoOf (suite j) (j .if1 .s)) text (none (length text) (w .0 .left))),
-        ap (twoOf (suite j)) (w .2) ∙ sym (walk-none (cipherOf (suite j)) (pos j) d 0x40 0x20 (twoOf (suite j) (j .if1 .s)) text (none (length text) (w .0 .left))),
-        ap (λ (s : State). s .calls) (w .2) ∙ empty-count (sizeOf (suite j)) (pos j) text (j .if1 .s .calls) (none (length text) (w .0 .left)) (small (j .if1 .s .calls) _ _ (read-is j .1)),
+        w .1 ∙ nil-of text (none (length text) (w .0 .left)) ∙ sym (cover-none (cipherOf (suite j)) (pos j) d 0x40 0x20 (twoOf (suite j) (j .if1 .state)) text
+            (none (length text) (w .0 .left))),
+        ap (twoOf (suite j)) (w .2) ∙ sym (walk-none (cipherOf (suite j)) (pos j) d 0x40 0x20 (twoOf (suite j) (j .if1 .state)) text
+            (none (length text) (w .0 .left))),
+        ap (λ (s : State). s .calls) (w .2) ∙ empty-count (sizeOf (suite j)) (pos j) text (j .if1 .state .calls) (none (length text) (w .0 .left))
+            (small (j .if1 .state .calls) _ _ (read-is j .1)),
         ap length (w .1),
       ))
       (k .if2 .came)
@@ -134,13 +139,16 @@ returns c =
     let read = read-is j in
     let done = done-is k in
     let pos = some κ (lawful suite) in
-    let e : twoOf suite (j .if1 .s) ≡ dataDone κ key nonce ad = read .0 ∙ ap (λ (s : States). walked κ false 0x08 0x10 s (blocks (sizeOf suite) ad)) (begun .ensures .two) in (
+    let e : twoOf suite (j .if1 .state) ≡ dataDone κ key nonce ad = read .0 ∙ ap (λ (s : States). walked κ false 0x08 0x10 s (blocks (sizeOf suite) ad))
+    (begun .ensures .two) in (
       done .0 ∙ ap (λ (s : States). covered κ d 0x20 0x40 s (blocks (sizeOf suite) text)) e ∙ sym (text-walk κ pos key nonce ad text d),
       (
-        c .tag-of .ensures .0 ∙ ap (tagged κ) (done .1 ∙ ap (λ (s : States). walked κ d 0x20 0x40 s (blocks (sizeOf suite) text)) e) ∙ sym (tag-walk κ pos key nonce ad text d),
+        c .tag-of .ensures .0 ∙ ap (tagged κ) (done .1 ∙ ap (λ (s : States). walked κ d 0x20 0x40 s (blocks (sizeOf suite) text)) e)
+            ∙ sym (tag-walk κ pos key nonce ad text d),
         (
           c .tag-of .ensures .1 .0,
-          count-all (length (blocks (sizeOf suite) ad)) (length (blocks (sizeOf suite) text)) (j .if1 .s .calls) (k .if2 .s .calls) _ (data-most st) (text-most st)
+          count-all (length (blocks (sizeOf suite) ad)) (length (blocks (sizeOf suite) text)) (j .if1 .state .calls) (k .if2 .state .calls) _ (data-most st)
+              (text-most st)
               (read .1 ∙ ap (λ (n : ℕ). add 64 n (length (blocks (sizeOf suite) ad))) (begun .ensures .made)) (done .2) (c .tag-of .ensures .1 .1)
               ∙ sym (calls-count κ d key nonce ad text),
         ),

@@ -38,15 +38,19 @@ returns c =
     let x = c .before .before .before .before .before .before .before .before .args in
     let a = c .before .refused-for .result in
     counting
-    (sealing-kept (x .suite) (now (x .key)) (now (x .nonce)) (now (x .ad)) (now (x .msg)) (now (x .out)) (now (x .tag)) (numberOf a) (c .before .refused-for .ensures)
+    (sealing-kept (x .suite) (now (x .key)) (now (x .nonce)) (now (x .ad)) (now (x .msg)) (now (x .out)) (now (x .tag)) (numberOf a)
+    (c .before .refused-for .ensures)
     (other-some a (c .match .keys2)))
-    (calls-none false (x .suite) (now (x .key)) (now (x .nonce)) (now (x .ad)) (now (x .msg)) _ _ (numberOf a) (c .before .refused-for .ensures) (other-some a (c .match .keys2)))
+    (calls-none false (x .suite) (now (x .key)) (now (x .nonce)) (now (x .ad)) (now (x .msg)) _ _ (numberOf a) (c .before .refused-for .ensures)
+    (other-some a (c .match .keys2)))
 
 copy-requires : tie.Need-copy-requires
 copy-requires c κs = room (c .before .before)
 
 seal-checked-requires : tie.Need-seal-checked-requires
-seal-checked-requires c κs = copy-passes _ _ _ _ _ _ _ _ (zero (c .before .before .before .before .before .before .before)) _ (ap length (c .before .before .before .before .copy .ensures))
+seal-checked-requires c κs =
+    copy-passes _ _ _ _ _ _ _ _ (zero (c .before .before .before .before .before .before .before)) _
+    (ap length (c .before .before .before .before .copy .ensures))
 
 same-length : tie.Need-same-length
 same-length c = search needs

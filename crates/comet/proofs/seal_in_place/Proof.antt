@@ -20,7 +20,8 @@ returns : tie.Need-returns
 returns c =
     let x = c .before .before .before .before .before .before .before .args in
     let a = c .before .refused-for .result in
-    sealing-kept (x .suite) (now (x .key)) (now (x .nonce)) (now (x .ad)) (now (x .text)) (now (x .text)) (now (x .tag)) (numberOf a) (c .before .refused-for .ensures) (other-some a (c .match .keys2))
+    sealing-kept (x .suite) (now (x .key)) (now (x .nonce)) (now (x .ad)) (now (x .text)) (now (x .text)) (now (x .tag)) (numberOf a)
+    (c .before .refused-for .ensures) (other-some a (c .match .keys2))
 
 seal-checked-requires : tie.Need-seal-checked-requires
 seal-checked-requires c κs =

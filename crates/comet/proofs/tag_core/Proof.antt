@@ -40,17 +40,18 @@ returns c =
     let ad = now (st .args .ad) in
     let text = now (st .args .text) in
     let begun = j .before .start in
-    let read : twoOf suite (j .if1 .s) ≡ walked κ false 0x08 0x10 (twoOf suite (begun .result)) (blocks (sizeOf suite) ad) =
+    let read : twoOf suite (j .if1 .state) ≡ walked κ false 0x08 0x10 (twoOf suite (begun .result)) (blocks (sizeOf suite) ad) =
     ⊎-elim
     (λ w. ap (twoOf suite) (w .2) ∙ w .1 .ensures .0)
     (λ w. ap (twoOf suite) (w .1) ∙ sym (walk-none κ pos false 0x10 0x08 (twoOf suite (begun .result)) ad (w .0 .left)))
     (j .if1 .came) in
-    let done : twoOf suite (k .if2 .s) ≡ walked κ true 0x20 0x40 (twoOf suite (j .if1 .s)) (blocks (sizeOf suite) text) =
+    let done : twoOf suite (k .if2 .state) ≡ walked κ true 0x20 0x40 (twoOf suite (j .if1 .state)) (blocks (sizeOf suite) text) =
     ⊎-elim
     (λ w. ap (twoOf suite) (w .2) ∙ w .1 .ensures .0)
-    (λ w. ap (twoOf suite) (w .1) ∙ sym (walk-none κ pos true 0x40 0x20 (twoOf suite (j .if1 .s)) text (w .0 .left)))
+    (λ w. ap (twoOf suite) (w .1) ∙ sym (walk-none κ pos true 0x40 0x20 (twoOf suite (j .if1 .state)) text (w .0 .left)))
     (k .if2 .came) in
-    let e : twoOf suite (j .if1 .s) ≡ dataDone κ key nonce ad = read ∙ ap (λ (s : States). walked κ false 0x08 0x10 s (blocks (sizeOf suite) ad)) (begun .ensures .two) in (
+    let e : twoOf suite (j .if1 .state) ≡ dataDone κ key nonce ad = read ∙ ap (λ (s : States). walked κ false 0x08 0x10 s (blocks (sizeOf suite) ad))
+    (begun .ensures .two) in (
       c .before .tag-of .ensures .0
           ∙ ap (tagged κ) (done ∙ ap (λ (s : States). walked κ true 0x20 0x40 s (blocks (sizeOf suite) text)) e)
           ∙ sym (tag-walk κ pos key nonce ad text true),

@@ -30,23 +30,29 @@ module _ (d : tie.After-same) where
   x = d .before .before .before .before .before .before .before .before .before .before .before
 
   -- what the comparison compared
-  same-is : d .same .result ≡ sameBytes (tagOut (cipherOf (x .args .suite)) true (now (x .args .key)) (now (x .args .nonce)) (now (x .args .ad)) (now (x .args .text))) (now (x .args .tag))
+  same-is : d .same .result ≡ sameBytes (tagOut (cipherOf (x .args .suite)) true (now (x .args .key)) (now (x .args .nonce)) (now (x .args .ad))
+      (now (x .args .text))) (now (x .args .tag))
   same-is =
       d .same .ensures
       ∙ ap (λ (l : List ℕ). sameBytes l (now (x .args .tag)))
-      (ap (λ (n : ℕ). take n (wide (d .before .before .before .before .crypt .result .tag))) (ok x .tag) ∙ d .before .before .before .before .crypt .ensures .1 .0)
+      (ap (λ (n : ℕ). take n (wide (d .before .before .before .before .crypt .result .tag))) (ok x .tag)
+      ∙ d .before .before .before .before .crypt .ensures .1 .0)
 
   -- every length is right, and the comparison gave b
   done : (b : Bool) → d .same .result ≡ b
-      → openedAs 0 b (textOut (cipherOf (x .args .suite)) true (now (x .args .key)) (now (x .args .nonce)) (now (x .args .ad)) (now (x .args .text))) (now (x .args .text))
-      ≡ opening (x .args .suite) (now (x .args .key)) (now (x .args .nonce)) (now (x .args .ad)) (now (x .args .text)) (now (x .args .tag)) (now (x .args .text))
+      → openedAs 0 b (textOut (cipherOf (x .args .suite)) true (now (x .args .key)) (now (x .args .nonce)) (now (x .args .ad)) (now (x .args .text)))
+      (now (x .args .text))
+      ≡ opening (x .args .suite) (now (x .args .key)) (now (x .args .nonce)) (now (x .args .ad)) (now (x .args .text)) (now (x .args .tag))
+      (now (x .args .text))
   done b e =
-      opening-done (x .args .suite) (now (x .args .key)) (now (x .args .nonce)) (now (x .args .ad)) (now (x .args .text)) (now (x .args .tag)) (now (x .args .text)) 0 (sym (x .pre))
+      opening-done (x .args .suite) (now (x .args .key)) (now (x .args .nonce)) (now (x .args .ad)) (now (x .args .text)) (now (x .args .tag))
+      (now (x .args .text)) 0 (sym (x .pre))
       refl b (sym e ∙ same-is)
 
   -- what was counted
   count-is : d .before .before .before .before .crypt .result .calls
-      ≡ callsOf true (x .args .suite) (now (x .args .key)) (now (x .args .nonce)) (now (x .args .ad)) (now (x .args .text)) (length (now (x .args .text))) (length (now (x .args .tag)))
+      ≡ callsOf true (x .args .suite) (now (x .args .key)) (now (x .args .nonce)) (now (x .args .ad)) (now (x .args .text)) (length (now (x .args .text)))
+      (length (now (x .args .tag)))
   count-is =
       d .before .before .before .before .crypt .ensures .1 .1 .1
       ∙ calls-all true (x .args .suite) (now (x .args .key)) (now (x .args .nonce)) (now (x .args .ad)) (now (x .args .text)) _ _ 0 (sym (x .pre)) refl
@@ -85,7 +91,10 @@ same-length-2 c = search needs
 returns-2 : tie.Need-returns-2
 returns-2 c =
     let d = c .before in
-    let path : _≡_ {A = Opened} (record { number = 0; out = _ }) (record { number = 0; out = _ }) = λ i. record { number = 0; out = d .before .before .before .before .crypt .ensures .0 i } in
+    let path : _≡_ {A = Opened} (record { number = 0; out = _ }) (record { number = 0; out = _ }) = λ i. record {
+      number = 0;
+      out = d .before .before .before .before .crypt .ensures .0 i;
+    } in
     counting (path ∙ done d true (not-false _ (c .if1 .left))) (count-is d)
 
 pub unseal-checked-spec : {M : Type 1} → statement M

@@ -38,15 +38,18 @@ returns c =
     let x = c .before .before .before .before .before .before .before .before .args in
     let a = c .before .refused-for .result in
     counting
-    (opening-kept (x .suite) (now (x .key)) (now (x .nonce)) (now (x .ad)) (now (x .text)) (now (x .tag)) (now (x .out)) (numberOf a) (c .before .refused-for .ensures)
+    (opening-kept (x .suite) (now (x .key)) (now (x .nonce)) (now (x .ad)) (now (x .text)) (now (x .tag)) (now (x .out)) (numberOf a)
+    (c .before .refused-for .ensures)
     (other-some a (c .match .keys2)))
-    (calls-none true (x .suite) (now (x .key)) (now (x .nonce)) (now (x .ad)) (now (x .text)) _ _ (numberOf a) (c .before .refused-for .ensures) (other-some a (c .match .keys2)))
+    (calls-none true (x .suite) (now (x .key)) (now (x .nonce)) (now (x .ad)) (now (x .text)) _ _ (numberOf a) (c .before .refused-for .ensures)
+    (other-some a (c .match .keys2)))
 
 copy-requires : tie.Need-copy-requires
 copy-requires c κs = room (c .before .before)
 
 unseal-checked-requires : tie.Need-unseal-checked-requires
-unseal-checked-requires c κs = copy-passes _ _ _ _ _ _ _ _ (zero (c .before .before .before .before .before .before)) _ (ap length (c .before .before .before .copy .ensures))
+unseal-checked-requires c κs =
+    copy-passes _ _ _ _ _ _ _ _ (zero (c .before .before .before .before .before .before)) _ (ap length (c .before .before .before .copy .ensures))
 
 same-length : tie.Need-same-length
 same-length c = search needs
@@ -56,7 +59,8 @@ returns-2 c =
     let m = c .before .before .before .before .before .before .before .before .before in
     let a = x m .args in
     c .before .before .unseal-checked .ensures
-    ∙ ap (λ (l : List ℕ). openingCounted (a .suite) (now (a .key)) (now (a .nonce)) (now (a .ad)) l (now (a .tag)) l) (c .before .before .before .before .before .before .copy .ensures)
+    ∙ ap (λ (l : List ℕ). openingCounted (a .suite) (now (a .key)) (now (a .nonce)) (now (a .ad)) l (now (a .tag)) l)
+    (c .before .before .before .before .before .before .copy .ensures)
     ∙ opening-same (a .suite) (now (a .key)) (now (a .nonce)) (now (a .ad)) (now (a .text)) (now (a .tag)) (now (a .out)) (zero m)
 
 pub unseal-counted-spec : {M : Type 1} → statement M

@@ -20,7 +20,8 @@ returns : tie.Need-returns
 returns c =
     let x = c .before .before .before .before .before .before .before .args in
     let a = c .before .refused-for .result in
-    opening-kept (x .suite) (now (x .key)) (now (x .nonce)) (now (x .ad)) (now (x .text)) (now (x .tag)) (now (x .text)) (numberOf a) (c .before .refused-for .ensures) (other-some a (c .match .keys2))
+    opening-kept (x .suite) (now (x .key)) (now (x .nonce)) (now (x .ad)) (now (x .text)) (now (x .tag)) (now (x .text)) (numberOf a)
+    (c .before .refused-for .ensures) (other-some a (c .match .keys2))
 
 unseal-checked-requires : tie.Need-unseal-checked-requires
 unseal-checked-requires c κs =

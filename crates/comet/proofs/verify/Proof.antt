@@ -40,16 +40,20 @@ module _ (d : tie.After-same) where
 
   -- the comparison gave b
   done : (b : Bool) → d .same .result ≡ b
-      → openedAs 0 b (textOut (cipherOf (x m .args .suite)) true (now (x m .args .key)) (now (x m .args .nonce)) (now (x m .args .ad)) (now (x m .args .text))) (now (x m .args .text)) .number
+      → openedAs 0 b (textOut (cipherOf (x m .args .suite)) true (now (x m .args .key)) (now (x m .args .nonce)) (now (x m .args .ad)) (now (x m .args .text)))
+      (now (x m .args .text)) .number
       ≡ verifying (x m .args .suite) (now (x m .args .key)) (now (x m .args .nonce)) (now (x m .args .ad)) (now (x m .args .text)) (now (x m .args .tag))
   unfolding verifying
   done b e =
       let a = x m .args in
-      let same-is : d .same .result ≡ sameBytes (tagOut (cipherOf (a .suite)) true (now (a .key)) (now (a .nonce)) (now (a .ad)) (now (a .text))) (now (a .tag)) =
+      let same-is : d .same .result ≡ sameBytes (tagOut (cipherOf (a .suite)) true (now (a .key)) (now (a .nonce)) (now (a .ad)) (now (a .text)))
+      (now (a .tag)) =
       d .same .ensures
-      ∙ ap (λ (l : List ℕ). sameBytes l (now (a .tag))) (ap (λ (n : ℕ). take n (wide (d .before .tag-under .result))) (ok m .tag) ∙ d .before .tag-under .ensures .0) in
+      ∙ ap (λ (l : List ℕ). sameBytes l (now (a .tag))) (ap (λ (n : ℕ). take n (wide (d .before .tag-under .result))) (ok m .tag)
+      ∙ d .before .tag-under .ensures .0) in
       ap (λ (w : Opened). w .number)
-      (opening-done (a .suite) (now (a .key)) (now (a .nonce)) (now (a .ad)) (now (a .text)) (now (a .tag)) (now (a .text)) 0 (sym (zero m)) refl b (sym e ∙ same-is))
+      (opening-done (a .suite) (now (a .key)) (now (a .nonce)) (now (a .ad)) (now (a .text)) (now (a .tag)) (now (a .text)) 0 (sym (zero m)) refl b
+      (sym e ∙ same-is))
 
 refused-for-requires : tie.Need-refused-for-requires
 refused-for-requires c κs = search needs

@@ -33,7 +33,7 @@ absorb-short-requires c κs =
     let st = c .before .before .before .before .before in
     let w = c .before .before .before .absorb in
     let suite = st .args .suite in
-    (st .pre .0, st .pre .1, left-short (sizeOf suite) (some (cipherOf suite) (lawful suite)) (now (st .args .b)) (w .result .at) (w .ensures .gone))
+    (st .pre .0, st .pre .1, left-short (sizeOf suite) (some (cipherOf suite) (lawful suite)) (now (st .args .bytes)) (w .result .at) (w .ensures .gone))
 
 returns : tie.Need-returns
 unfolding xor
@@ -41,14 +41,14 @@ returns c =
     let a = c .before .before .before .before .before .before .args in
     let w = c .before .before .before .before .absorb in
     let n = sizeOf (a .suite) in
-    let b = now (a .b) in
+    let b = now (a .bytes) in
     let i = w .result .at in
     let pos = some (cipherOf (a .suite)) (lawful (a .suite)) in
     let more : 0 < length (rest n b) = omega (arith, left-long n pos b i (w .ensures .gone), c .before .before .if1 .taken) in (
-      last-walk (cipherOf (a .suite)) pos (a .opening) (a .first) (a .short) (twoOf (a .suite) (a .s)) b (twoOf (a .suite) (w .result .s)) (w .result .mark)
+      last-walk (cipherOf (a .suite)) pos (a .opening) (a .first) (a .short) (twoOf (a .suite) (a .start)) b (twoOf (a .suite) (w .result .s)) (w .result .mark)
           (w .ensures .two (a .short)) (w .ensures .next)
           _ (left n pos b i (w .ensures .gone)) more _ (c .absorb-short .ensures .two),
-      last-count n pos b (w .result .s .calls) (a .s .calls) (w .ensures .made) more _ (c .absorb-short .ensures .made),
+      last-count n pos b (w .result .s .calls) (a .start .calls) (w .ensures .made) more _ (c .absorb-short .ensures .made),
     )
 
 returns-2 : tie.Need-returns-2
@@ -56,13 +56,13 @@ returns-2 c =
     let a = c .before .before .before .before .args in
     let w = c .before .before .absorb in
     let n = sizeOf (a .suite) in
-    let b = now (a .b) in
+    let b = now (a .bytes) in
     let i = w .result .at in
     let pos = some (cipherOf (a .suite)) (lawful (a .suite)) in
     let none : length (rest n b) ≡ 0 = omega (arith, left-long n pos b i (w .ensures .gone), c .if1 .left) in (
-      none-walk (cipherOf (a .suite)) pos (a .opening) (a .first) (a .short) (twoOf (a .suite) (a .s)) b (twoOf (a .suite) (w .result .s)) (w .result .mark)
+      none-walk (cipherOf (a .suite)) pos (a .opening) (a .first) (a .short) (twoOf (a .suite) (a .start)) b (twoOf (a .suite) (w .result .s)) (w .result .mark)
           (w .ensures .two (a .short)) (w .ensures .next) none,
-      none-count n pos b (w .result .s .calls) (a .s .calls) (w .ensures .made) none,
+      none-count n pos b (w .result .s .calls) (a .start .calls) (w .ensures .made) none,
     )
 
 pub absorb-all-spec : {M : Type 1} → statement M

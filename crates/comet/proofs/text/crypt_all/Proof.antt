@@ -34,7 +34,7 @@ module _ (g : tie.After-crypt) where
   pos = some κ (lawful (st .args .suite))
 
   abbrev S : States
-  S = twoOf (st .args .suite) (st .args .s)
+  S = twoOf (st .args .suite) (st .args .start)
 
   abbrev U : States
   U = twoOf (st .args .suite) (g .crypt .result .s)
@@ -52,7 +52,8 @@ module _ (g : tie.After-crypt) where
   lent-is : take (length l - i) (drop i o) ≡ rest n l
   lent-is =
       let w = g .crypt .ensures .1 in
-      lent κ pos (st .args .opening) 0x20 0x40 S l U (g .crypt .result .mark) (w .two 0x40) (w .next) o i (g .crypt .ensures .0 0x40) (g .crypt .kept .1 .1 .1 .1 .1 .0) (w .gone)
+      lent κ pos (st .args .opening) 0x20 0x40 S l U (g .crypt .result .mark) (w .two 0x40) (w .next) o i (g .crypt .ensures .0 0x40)
+      (g .crypt .kept .1 .1 .1 .1 .1 .0) (w .gone)
 
 size-of-requires : tie.Need-size-of-requires
 size-of-requires c κs = search needs
@@ -73,11 +74,15 @@ returns c =
     let l = now (a .text) in
     let call = c .before .before .crypt-short in
     let more : 0 < length l = c .before .before .before .before .before .before .before .pre .2 in
-    let less : length l < sizeOf (a .suite) = omega (arith, c .before .before .before .before .if1 .taken, c .before .before .before .before .before .size-of .ensures .0) in (
-      call .ensures .0 ∙ sym (cover-short (cipherOf (a .suite)) pos (a .opening) 0x40 0x20 (twoOf (a .suite) (a .s)) l more less),
+    let less : length l < sizeOf (a .suite) = omega (
+      arith,
+      c .before .before .before .before .if1 .taken,
+      c .before .before .before .before .before .size-of .ensures .0,
+    ) in (
+      call .ensures .0 ∙ sym (cover-short (cipherOf (a .suite)) pos (a .opening) 0x40 0x20 (twoOf (a .suite) (a .start)) l more less),
       (
-        call .ensures .1 .two ∙ sym (walk-short (cipherOf (a .suite)) pos (a .opening) 0x40 0x20 (twoOf (a .suite) (a .s)) l more less),
-        short-count (sizeOf (a .suite)) pos l (a .s .calls) more less _ (call .ensures .1 .made),
+        call .ensures .1 .two ∙ sym (walk-short (cipherOf (a .suite)) pos (a .opening) 0x40 0x20 (twoOf (a .suite) (a .start)) l more less),
+        short-count (sizeOf (a .suite)) pos l (a .start .calls) more less _ (call .ensures .1 .made),
       ),
     )
 
@@ -110,10 +115,11 @@ returns-2 c =
     let d = st g .args .opening in
     let call = c .before .before .crypt-short2 in
     let more : 0 < length (rest (n g) (l g)) = omega (arith, left-long (n g) (pos g) (l g) (i g) (w .gone), c .before .before .before .before .if2 .taken) in (
-      last-out (κ g) (pos g) d 0x20 0x40 (S g) (l g) (U g) m (w .two 0x40) (w .next) (o g) (i g) (g .crypt .ensures .0 0x40) (g .crypt .kept .1 .1 .1 .1 .1 .0) (w .gone) more _ (call .ensures .0),
+      last-out (κ g) (pos g) d 0x20 0x40 (S g) (l g) (U g) m (w .two 0x40) (w .next) (o g) (i g) (g .crypt .ensures .0 0x40) (g .crypt .kept .1 .1 .1 .1 .1 .0)
+          (w .gone) more _ (call .ensures .0),
       (
         last-walk (κ g) (pos g) d 0x20 0x40 (S g) (l g) (U g) m (w .two 0x40) (w .next) _ (lent-is g) more _ (call .ensures .1 .two),
-        last-count (n g) (pos g) (l g) (g .crypt .result .s .calls) (st g .args .s .calls) (w .made) more _ (call .ensures .1 .made),
+        last-count (n g) (pos g) (l g) (g .crypt .result .s .calls) (st g .args .start .calls) (w .made) more _ (call .ensures .1 .made),
       ),
     )
 
@@ -127,10 +133,11 @@ returns-3 c =
     let m = g .crypt .result .mark in
     let d = st g .args .opening in
     let none : length (rest (n g) (l g)) ≡ 0 = omega (arith, left-long (n g) (pos g) (l g) (i g) (w .gone), c .if2 .left) in (
-      none-out (κ g) (pos g) d 0x20 0x40 (S g) (l g) (U g) m (w .two 0x40) (w .next) (o g) (i g) (g .crypt .ensures .0 0x40) (g .crypt .kept .1 .1 .1 .1 .1 .0) (w .gone) none,
+      none-out (κ g) (pos g) d 0x20 0x40 (S g) (l g) (U g) m (w .two 0x40) (w .next) (o g) (i g) (g .crypt .ensures .0 0x40) (g .crypt .kept .1 .1 .1 .1 .1 .0)
+          (w .gone) none,
       (
         none-walk (κ g) (pos g) d 0x20 0x40 (S g) (l g) (U g) m (w .two 0x40) (w .next) none,
-        none-count (n g) (pos g) (l g) (g .crypt .result .s .calls) (st g .args .s .calls) (w .made) none,
+        none-count (n g) (pos g) (l g) (g .crypt .result .s .calls) (st g .args .start .calls) (w .made) none,
       ),
     )
 
