@@ -30,7 +30,8 @@ use Rattle.shift_draft.proofs.Back.{plain-file}
 use Rattle.shift_draft.proofs.Answers.{right-test, unsealing}
 
 -- files that are alike outside of a stretch, and in it, are alike
-same-file : (f g : List ℕ) (at n : ℕ) → length g ≡ length f → ((k : ℕ) → (k < at) ⊎ (at + n ≤ k) → getD g k 0 ≡ getD f k 0) → stretch f at n ≡ stretch g at n → g ≡ f
+same-file : (f g : List ℕ) (at n : ℕ) → length g ≡ length f → ((k : ℕ) → (k < at) ⊎ (at + n ≤ k) → getD g k 0 ≡ getD f k 0) → stretch f at n ≡ stretch g at n
+    → g ≡ f
 same-file f g at n long same q =
     ext-getD 0 g f long
     (λ k c. elim (decLt k at) [
@@ -40,7 +41,8 @@ same-file f g at n long same q =
         | yes b ↦
             let m : k - at < n = omega arith in
             let s : at + (k - at) ≡ k = omega arith in
-            let e : getD g (at + (k - at)) 0 ≡ getD f (at + (k - at)) 0 = sym (stretch-at g at n (k - at) m) ∙ ap (λ (x : List ℕ). getD x (k - at) 0) (sym q) ∙ stretch-at f at n (k - at) m in
+            let e : getD g (at + (k - at)) 0 ≡ getD f (at + (k - at)) 0 = sym (stretch-at g at n (k - at) m) ∙ ap (λ (x : List ℕ). getD x (k - at) 0) (sym q)
+            ∙ stretch-at f at n (k - at) m in
             rw s at e
       ]
     ])
@@ -86,7 +88,8 @@ module _ (f g ring : List ℕ) (lent : WithRing f ring) (hg : AllBytes g) (genui
       let r = rowOf f k in
       let kept : (at n : ℕ) → r .«ad_at» ≤ at → at + n ≤ bodyEnd r → stretch g at n ≡ stretch f at n =
       λ at n a b. stretch-same g f long at n (λ p c d. body-other f g long firstEdition firstEdition P i l outside k m ne p (omega arith) (omega arith)) in
-      tag-same f g ring k true (textOf f r) (g-row k m) (g-nonce k m) (kept (r .«ad_at») (r .«ad_len») (omega arith) (omega arith)) (kept (r .«ad_at» + r .«ad_len») (r .«text_len») (omega arith) (omega arith))
+      tag-same f g ring k true (textOf f r) (g-row k m) (g-nonce k m) (kept (r .«ad_at») (r .«ad_len») (omega arith) (omega arith))
+      (kept (r .«ad_at» + r .«ad_len») (r .«text_len») (omega arith) (omega arith))
       ∙ genuine .right k m
       ∙ sym (ap (tagOf g) (g-row k m) ∙ kept (r .«ad_at» + r .«ad_len» + r .«text_len») (sizeOf (r .suite)) (omega arith) (omega arith))
 
@@ -101,7 +104,8 @@ module _ (f g ring : List ℕ) (lent : WithRing f ring) (hg : AllBytes g) (genui
     thirty : badData g (rowOf f i) ≡ true → fileUnsealing g ring out ≡ writes (answer 30 i) out
     thirty b =
         let q : checkAs firstEdition g ≡ answer 30 i = rw b at g-check in
-        unsealing g ring out .checked (λ e. let w : _≡_ {A = ℕ} 30 0 = sym (ap (λ (x : Answer). x .number) q) ∙ e in omega arith) ∙ ap (λ (x : Answer). writes x out) q
+        unsealing g ring out .checked (λ e. let w : _≡_ {A = ℕ} 30 0 = sym (ap (λ (x : Answer). x .number) q) ∙ e in omega arith)
+        ∙ ap (λ (x : Answer). writes x out) q
 
     eight : badData g (rowOf f i) ≡ false → entryRight g ring i ≡ false → fileUnsealing g ring out ≡ writes (answer 8 i) (replicate (length out) 0)
     unfolding tagRight entryTag
@@ -119,14 +123,16 @@ text-altered f g ring out i j lent hg o genuine l from last a =
     let r = rowOf f i in
     let n = sizeOf (r .suite) in
     let s = r .«ad_at» + r .«ad_len» in
-    let same : (k : ℕ) → (k < r .«ad_at») ⊎ (r .«ad_at» + r .«ad_len» + r .«text_len» ≤ k) → getD g k 0 ≡ getD f k 0 = λ k. ⊎-elim (λ b. a .same k (inl (omega arith))) (λ b. a .same k (inr b)) in
+    let same : (k : ℕ) → (k < r .«ad_at») ⊎ (r .«ad_at» + r .«ad_len» + r .«text_len» ≤ k)
+    → getD g k 0 ≡ getD f k 0 = λ k. ⊎-elim (λ b. a .same k (inl (omega arith))) (λ b. a .same k (inr b)) in
     let z′ = z f g ring lent hg genuine i l (a .long) same in
     let near : (k : ℕ) → r .«ad_at» ≤ k → k < s → getD g k 0 ≡ getD f k 0 = λ k b c. a .same k (inl (omega arith)) in
     let held = passes firstEdition firstEdition f z′ .walk .rows i l in
     let fine = data-held f g (rowSizeOf f) i (held .held) (λ k b c. near k b (omega (arith, held .size .ad-low))) in
     eight f g ring lent hg genuine i l (a .long) same out o fine
     (text-wrong f g ring i (taken f g ring lent hg genuine i l (a .long) same) (lent .ring-long) (lent .file-bytes) hg (lent .ring-bytes) (a .long)
-    (g-row f g ring lent hg genuine i l (a .long) same i l) (g-nonce f g ring lent hg genuine i l (a .long) same i l) (g-tag f g ring lent hg genuine i l (a .long) same) (was-right f g ring lent hg genuine i l (a .long) same)
+    (g-row f g ring lent hg genuine i l (a .long) same i l) (g-nonce f g ring lent hg genuine i l (a .long) same i l)
+    (g-tag f g ring lent hg genuine i l (a .long) same) (was-right f g ring lent hg genuine i l (a .long) same)
     j (stretch-same g f (a .long) (r .«ad_at») (r .«ad_len») near)
     (λ q. a .changed (same-file f g s (r .«text_len») (a .long) (λ k. ⊎-elim (λ b. a .same k (inl (omega arith))) (λ b. a .same k (inr b))) q))
     from last
@@ -138,13 +144,16 @@ pub data-altered : DataAltered
 data-altered f g ring out i j to lent hg o genuine l empty block inside a =
     let r = rowOf f i in
     let n = sizeOf (r .suite) in
-    let same : (k : ℕ) → (k < r .«ad_at») ⊎ (r .«ad_at» + r .«ad_len» + r .«text_len» ≤ k) → getD g k 0 ≡ getD f k 0 = λ k. ⊎-elim (λ b. a .same k (inl (omega arith))) (λ b. a .same k (inr (omega arith))) in (
+    let same : (k : ℕ) → (k < r .«ad_at») ⊎ (r .«ad_at» + r .«ad_len» + r .«text_len» ≤ k)
+    → getD g k 0 ≡ getD f k 0 = λ k. ⊎-elim (λ b. a .same k (inl (omega arith))) (λ b. a .same k (inr (omega arith))) in (
       (λ fine.
           eight f g ring lent hg genuine i l (a .long) same out o fine
           (data-wrong f g ring i (taken f g ring lent hg genuine i l (a .long) same) (lent .ring-long) (lent .file-bytes) hg (lent .ring-bytes) (a .long)
-          (g-row f g ring lent hg genuine i l (a .long) same i l) (g-nonce f g ring lent hg genuine i l (a .long) same i l) (g-tag f g ring lent hg genuine i l (a .long) same) (was-right f g ring lent hg genuine i l (a .long) same)
+          (g-row f g ring lent hg genuine i l (a .long) same i l) (g-nonce f g ring lent hg genuine i l (a .long) same i l)
+          (g-tag f g ring lent hg genuine i l (a .long) same) (was-right f g ring lent hg genuine i l (a .long) same)
           j empty
-          (λ q. a .changed (same-file f g (r .«ad_at») (r .«ad_len») (a .long) (λ k. ⊎-elim (λ b. a .same k (inl (omega arith))) (λ b. a .same k (inr (omega arith)))) q))
+          (λ q. a .changed (same-file f g (r .«ad_at») (r .«ad_len») (a .long)
+          (λ k. ⊎-elim (λ b. a .same k (inl (omega arith))) (λ b. a .same k (inr (omega arith)))) q))
           (λ k. ⊎-elim (λ b. a .same k (inl b)) (λ b. a .same k (inr (omega arith)))))),
       thirty f g ring lent hg genuine i l (a .long) same out o,
     )

@@ -23,7 +23,8 @@ use Rattle.shift_check.proofs.Searches.{first-says, first-none, first-at}
 use Rattle.shift_check.proofs.Passed.{both-zero}
 use Rattle.shift_check.proofs.Numbered.{check-numbered}
 use Rattle.shift_draft.specs.Files.{draftEdition, sealedFile, draftFile}
-use Rattle.shift_draft.specs.Answers.{tagSet, rowRetired, tagRight, setFrom, retiredFrom, wrongFrom, lentAnswer, sealAnswer, openAnswer, unsealAnswer, writes, leaves, fileSealing, fileUnsealing}
+use Rattle.shift_draft.specs.Answers.{tagSet, rowRetired, tagRight, setFrom, retiredFrom, wrongFrom, lentAnswer, sealAnswer, openAnswer, unsealAnswer}
+use Rattle.shift_draft.specs.Answers.{writes, leaves, fileSealing, fileUnsealing}
 use Rattle.shift_draft.specs.Promised.{ZeroTag, RightTag, Valid, AllSeal, SealCases, UnsealCases, Sealing, Unsealing, SealNumbers, UnsealNumbers}
 
 -- ---- a tag's two tests
@@ -57,7 +58,8 @@ pub record FirstNot (Keeps : ℕ → Type 0) (m n : ℕ) (x : Answer) : Type 0 w
   pub number : (x ≡ answer 0 0) ⊎ (x .number ≡ m)
 
 -- by a test that is false exactly for the rows that keep the rule
-module _ (Keeps : ℕ → Type 0) (hit : ℕ → Bool) (m n : ℕ) (some : 0 < m) (told : (i : ℕ) → hit i ≡ false → Keeps i) (test : (i : ℕ) → Keeps i → hit i ≡ false) where
+module _ (Keeps : ℕ → Type 0) (hit : ℕ → Bool) (m n : ℕ) (some : 0 < m) (told : (i : ℕ) → hit i ≡ false → Keeps i)
+    (test : (i : ℕ) → Keeps i → hit i ≡ false) where
   abbrev found : Answer
   found = firstOf hit (answer m) (answer 0 0) 0 (n - 0)
 
@@ -106,7 +108,8 @@ module _ (f : List ℕ) where
         first-not (RightTag f ring) (λ j. not (tagRight f ring j)) 8 (countOf f) (lit< tt)
         (λ i e. right-told f i ring (not-false _ e)) (λ i q. ap not (right-test f i ring q))
 
-    pub wrong-leaves : (done a b : List ℕ) → length a ≡ length b → leaves (wrongFrom f ring (countOf f) 0) done a ≡ leaves (wrongFrom f ring (countOf f) 0) done b
+    pub wrong-leaves : (done a b : List ℕ) → length a ≡ length b → leaves (wrongFrom f ring (countOf f) 0) done a
+        ≡ leaves (wrongFrom f ring (countOf f) 0) done b
     wrong-leaves = eight-leaves (wrongFrom f ring (countOf f) 0) (wrong-rows .number)
 
 -- ---- the lengths of ring and output
@@ -124,7 +127,8 @@ module _ (file ring out : ℕ) where
       out-case true e h = eqb-true _ _ e
       out-case false e h = absurd (omega arith)
 
-      ring-case : (b : Bool) → eqb ring 256 ≡ b → cond (not b) (answer 2 0) (cond (not (eqb out file)) (answer 6 0) (answer 0 0)) .number ≡ 0 → Room file ring out
+      ring-case : (b : Bool) → eqb ring 256 ≡ b → cond (not b) (answer 2 0) (cond (not (eqb out file)) (answer 6 0) (answer 0 0)) .number ≡ 0
+          → Room file ring out
       ring-case true e h = record { ring-long = eqb-true _ _ e; out-long = out-case (eqb out file) refl h }
       ring-case false e h = absurd (omega arith)
 
@@ -144,7 +148,8 @@ module _ (file ring out : ℕ) where
   unfolding lentAnswer
   lent-number = lent-case (eqb ring 256) (eqb out file)
     where
-      lent-case : (a b : Bool) → let x : Answer = cond (not a) (answer 2 0) (cond (not b) (answer 6 0) (answer 0 0)) in (x ≡ answer 0 0) ⊎ (x ≡ answer 2 0) ⊎ (x ≡ answer 6 0)
+      lent-case : (a b : Bool) → let x : Answer = cond (not a) (answer 2 0)
+          (cond (not b) (answer 6 0) (answer 0 0)) in (x ≡ answer 0 0) ⊎ (x ≡ answer 2 0) ⊎ (x ≡ answer 6 0)
       lent-case false b = inr (inl refl)
       lent-case true false = inr (inr refl)
       lent-case true true = inl refl
@@ -187,7 +192,8 @@ module _ (draft : List ℕ) (ring out : ℕ) where
   seal-numbers : SealOne
   seal-numbers = check-case (eqb (checkAs draftEdition draft .number) 0) refl
     where
-      lent-case : checkAs draftEdition draft .number ≡ 0 → setFrom draft (countOf draft) 0 ≡ answer 0 0 → retiredFrom draft (countOf draft) 0 ≡ answer 0 0 → SealOne
+      lent-case : checkAs draftEdition draft .number ≡ 0 → setFrom draft (countOf draft) 0 ≡ answer 0 0 → retiredFrom draft (countOf draft) 0 ≡ answer 0 0
+          → SealOne
       lent-case z q r =
           let e : sealAnswer draft ring out .number ≡ lentAnswer (length draft) ring out .number = ap (λ (x : Answer). x .number) (sym (seal-lent z q r)) in
           ⊎-elim
@@ -237,7 +243,12 @@ module _ (draft : List ℕ) (ring out : ℕ) where
       let b = both-zero (setFrom draft (countOf draft) 0) r y in
       let x = rw (b .1) at y in
       let d = both-zero (retiredFrom draft (countOf draft) 0) l x in
-      record { passed = a .0; zeros = set-rows draft .all (b .0); all-seal = retired-rows draft .all (d .0); room = room-told (length draft) ring out (rw (d .1) at x) }
+      record {
+        passed = a .0;
+        zeros = set-rows draft .all (b .0);
+        all-seal = retired-rows draft .all (d .0);
+        room = room-told (length draft) ring out (rw (d .1) at x);
+      }
 
 module _ (file : List ℕ) (ring out : ℕ) where
   open-checked : (checkAs firstEdition file .number ≡ 0 → ⊥) → openAnswer file ring out ≡ checkAs firstEdition file
@@ -248,11 +259,13 @@ module _ (file : List ℕ) (ring out : ℕ) where
   unfolding openAnswer
   open-lent z = simp (eq-eqb _ _ z)
 
-  open-numbers : let n : ℕ = openAnswer file ring out .number in (openAnswer file ring out ≡ answer 0 0) ⊎ (n ≡ 2) ⊎ (n ≡ 6) ⊎ (openAnswer file ring out ≡ checkAs firstEdition file)
+  open-numbers : let n : ℕ = openAnswer file ring out .number in (openAnswer file ring out ≡ answer 0 0) ⊎ (n ≡ 2) ⊎ (n ≡ 6)
+      ⊎ (openAnswer file ring out ≡ checkAs firstEdition file)
   open-numbers = check-case (eqb (checkAs firstEdition file .number) 0) refl
     where
       check-case : (b : Bool) → eqb (checkAs firstEdition file .number) 0 ≡ b
-          → let n : ℕ = openAnswer file ring out .number in (openAnswer file ring out ≡ answer 0 0) ⊎ (n ≡ 2) ⊎ (n ≡ 6) ⊎ (openAnswer file ring out ≡ checkAs firstEdition file)
+          → let n : ℕ = openAnswer file ring out .number in (openAnswer file ring out ≡ answer 0 0) ⊎ (n ≡ 2) ⊎ (n ≡ 6)
+          ⊎ (openAnswer file ring out ≡ checkAs firstEdition file)
       check-case false e = inr (inr (inr (open-checked (eqb-false _ _ e))))
       check-case true e =
           let q = sym (open-lent (eqb-true _ _ e)) in
@@ -304,7 +317,9 @@ module _ (draft ring out₀ : List ℕ) where
 
   -- a refusal
   pub sealing-kept : (x : Answer) → x ≡ S → (x .number ≡ 0 → ⊥) → fileSealing draft ring out₀ ≡ writes x out₀
-  sealing-kept x q n = sealing-is x q ∙ kept x (sealedFile draft ring) out₀ n (λ e. seal-not-eight draft (length ring) (length out₀) (ap (λ (y : Answer). y .number) (sym q) ∙ e))
+  sealing-kept x q n =
+      sealing-is x q ∙ kept x (sealedFile draft ring) out₀ n (λ e. seal-not-eight draft (length ring) (length out₀)
+      (ap (λ (y : Answer). y .number) (sym q) ∙ e))
 
   cases : SealCases draft ring out₀
   cases = record {
@@ -314,14 +329,17 @@ module _ (draft ring out₀ : List ℕ) where
         sealing-is (answer 33 i) (seal-set draft (length ring) (length out₀) z (answer 33 i) (sym q) (λ w. omega arith));
     retired = λ v i l n b.
         let q = retired-rows draft .first i l n b in
-        sealing-is (answer 10 i) (seal-retired draft (length ring) (length out₀) (ap (λ (x : Answer). x .number) (v .checked)) (set-rows draft .none (v .zeros)) (answer 10 i) (sym q) (λ w. omega arith));
+        sealing-is (answer 10 i) (seal-retired draft (length ring) (length out₀) (ap (λ (x : Answer). x .number) (v .checked)) (set-rows draft .none (v .zeros))
+        (answer 10 i) (sym q) (λ w. omega arith));
     ring-wrong = λ v a n. sealing-is (answer 2 0) (sym (ring-wrong (length draft) (length ring) (length out₀) n) ∙ lent v a);
     room-wrong = λ v a r n. sealing-is (answer 6 0) (sym (out-wrong (length draft) (length ring) (length out₀) r n) ∙ lent v a);
     done = λ v a r o. sealing-is (answer 0 0) (sym (room-right (length draft) (length ring) (length out₀) r o) ∙ lent v a);
   }
     where
       lent : Valid draft → AllSeal draft → lentAnswer (length draft) (length ring) (length out₀) ≡ S
-      lent v a = seal-lent draft (length ring) (length out₀) (ap (λ (x : Answer). x .number) (v .checked)) (set-rows draft .none (v .zeros)) (retired-rows draft .none a)
+      lent v a =
+          seal-lent draft (length ring) (length out₀) (ap (λ (x : Answer). x .number) (v .checked)) (set-rows draft .none (v .zeros))
+          (retired-rows draft .none a)
 
 module _ (file ring out₀ : List ℕ) where
   abbrev O : Answer
@@ -344,8 +362,12 @@ module _ (file ring out₀ : List ℕ) where
   unseal-cases : UnsealCases file ring out₀
   unseal-cases = record {
     checked = λ n. unsealing-kept _ (sym (open-checked file (length ring) (length out₀) n)) n;
-    ring-wrong = λ z n. unsealing-kept (answer 2 0) (sym (ring-wrong (length file) (length ring) (length out₀) n) ∙ open-lent file (length ring) (length out₀) z) (λ w. omega arith);
-    room-wrong = λ z r n. unsealing-kept (answer 6 0) (sym (out-wrong (length file) (length ring) (length out₀) r n) ∙ open-lent file (length ring) (length out₀) z) (λ w. omega arith);
+    ring-wrong =
+        λ z n. unsealing-kept (answer 2 0) (sym (ring-wrong (length file) (length ring) (length out₀) n) ∙ open-lent file (length ring) (length out₀) z)
+        (λ w. omega arith);
+    room-wrong =
+        λ z r n. unsealing-kept (answer 6 0) (sym (out-wrong (length file) (length ring) (length out₀) r n) ∙ open-lent file (length ring) (length out₀) z)
+        (λ w. omega arith);
     tags = λ z r o i l n b. tags-are z r o (answer 8 i) (wrong-rows file ring .first i l n b);
     done = λ g r o. tags-are (ap (λ (x : Answer). x .number) (g .checked)) r o (answer 0 0) (wrong-rows file ring .none (g .right));
   }
@@ -373,7 +395,8 @@ unseal-number file ring out₀ =
     number-case (eqb (openAnswer file (length ring) (length out₀) .number) 0) refl
   where
     number-case : (b : Bool) → eqb (openAnswer file (length ring) (length out₀) .number) 0 ≡ b
-        → let x : Answer = unsealAnswer file ring (length out₀) in (x .number ≡ 0) ⊎ (x .number ≡ 2) ⊎ (x .number ≡ 6) ⊎ (x .number ≡ 8) ⊎ (x ≡ checkAs firstEdition file)
+        → let x : Answer = unsealAnswer file ring (length out₀) in (x .number ≡ 0) ⊎ (x .number ≡ 2) ⊎ (x .number ≡ 6) ⊎ (x .number ≡ 8)
+        ⊎ (x ≡ checkAs firstEdition file)
     number-case true e =
         let q = unseal-tags file ring (length out₀) (eqb-true _ _ e) in
         ⊎-elim

@@ -106,7 +106,8 @@ module _ (draft ring : List ℕ) (lent : WithRing draft ring) (z : checkAs draft
   sealed-genuine = record {
     checked = new-passes draftEdition firstEdition plain-draft plain-file false draft ring lent z (entryTag false draft ring) right-long;
     right = λ i l.
-        let m : i < countOf draft = rw (sym (new-count draftEdition firstEdition plain-draft plain-file false draft ring lent z (entryTag false draft ring) right-long)) l in
+        let m : i < countOf draft = rw (sym (new-count draftEdition firstEdition plain-draft plain-file false draft ring lent z
+        (entryTag false draft ring) right-long)) l in
         other-tag draftEdition firstEdition plain-draft plain-file false draft ring lent z (entryTag false draft ring) right-long i m
         ∙ sym (new-tag draftEdition firstEdition plain-draft plain-file false draft ring lent z (entryTag false draft ring) right-long i m);
   }
@@ -117,7 +118,8 @@ module _ (draft ring : List ℕ) (lent : WithRing draft ring) (z : checkAs draft
       there-again draftEdition firstEdition plain-draft plain-file false draft ring lent z (entryTag false draft ring) right-long
       (λ i. replicate (sizeOf (rowOf sealed i .suite)) 0)
       (λ i l.
-      ap (λ (r : Row). replicate (sizeOf (r .suite)) 0) (new-row draftEdition firstEdition plain-draft plain-file false draft ring lent z (entryTag false draft ring) right-long i l)
+      ap (λ (r : Row). replicate (sizeOf (r .suite)) 0) (new-row draftEdition firstEdition plain-draft plain-file false draft ring lent z
+      (entryTag false draft ring) right-long i l)
       ∙ sym (v .zeros i l))
 
 -- ---- unsealing: the tag is zeros
@@ -145,7 +147,8 @@ module _ (file ring : List ℕ) (lent : WithRing file ring) (z : checkAs firstEd
     zeros = λ i l.
         let m : i < countOf file = rw (sym (new-count firstEdition draftEdition plain-file plain-draft true file ring lent z zeros zeros-long)) l in
         new-tag firstEdition draftEdition plain-file plain-draft true file ring lent z zeros zeros-long i m
-        ∙ ap (λ (r : Row). replicate (sizeOf (r .suite)) 0) (sym (new-row firstEdition draftEdition plain-file plain-draft true file ring lent z zeros zeros-long i m));
+        ∙ ap (λ (r : Row). replicate (sizeOf (r .suite)) 0)
+        (sym (new-row firstEdition draftEdition plain-file plain-draft true file ring lent z zeros zeros-long i m));
   }
 
   opened-seals : AllSeal file → AllSeal opened

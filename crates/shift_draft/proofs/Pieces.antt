@@ -48,7 +48,8 @@ module _ (f ring : List ℕ) (i : ℕ) (h : EntryIn (rowSizeOf f) f i) (g : leng
   unfolding entryOut
   out-long d =
       let r = rowOf f i in
-      text-length (cipherOf (r .suite)) (lawful (r .suite)) (ringKey ring (r .key)) (nonceRead f i) (dataOf f r) d (textOf f r) text-all ∙ text-long f ring i h g
+      text-length (cipherOf (r .suite)) (lawful (r .suite)) (ringKey ring (r .key)) (nonceRead f i) (dataOf f r) d (textOf f r) text-all
+      ∙ text-long f ring i h g
 
   pub tag-size : (d : Bool) → length (entryTag d f ring i) ≡ sizeOf (rowOf f i .suite)
   unfolding entryTag

@@ -159,7 +159,8 @@ module _ (e₀ : ℕ) (f : List ℕ) (p₀ : Plain e₀) (z : checkAs e₀ f .nu
 
     new-edition : editionOf g ≡ e
     new-edition =
-        let o : (k : ℕ) → k < 2 → getD g k 0 ≡ getD (inEdition e f) k 0 = λ k b. all-outside (pieceStart f) piece (countOf f) (inEdition e f) pieces-apart (countOf f) (omega arith) k (head-outside k (omega (arith, row-late (rowSizeOf f) (countOf f)))) in
+        let o : (k : ℕ) → k < 2 → getD g k 0 ≡ getD (inEdition e f) k 0 = λ k b. all-outside (pieceStart f) piece (countOf f) (inEdition e f) pieces-apart
+        (countOf f) (omega arith) k (head-outside k (omega (arith, row-late (rowSizeOf f) (countOf f)))) in
         pair-is g e (p .1) (o 0 (omega arith) ∙ edition-low e f (head .long)) (o 1 (omega arith) ∙ edition-high e f (head .long))
 
     -- rows are as long unchanged
@@ -186,18 +187,21 @@ module _ (e₀ : ℕ) (f : List ℕ) (p₀ : Plain e₀) (z : checkAs e₀ f .nu
     pub piece-is : (i : ℕ) → i < countOf f → stretch g (pieceStart f i) (pieceSize f i) ≡ piece i
     piece-is i l = ap (stretch g (pieceStart f i)) (sym (long i l)) ∙ piece-stretch (pieceStart f) piece (countOf f) (inEdition e f) pieces-apart i l
 
-    pub parts-are : (i : ℕ) → i < countOf f → (x y : List ℕ) → piece i ≡ x ++ y → length x ≡ rowOf f i .«text_len» → (textOf g (rowOf f i) ≡ x) × (tagOf g (rowOf f i) ≡ y)
+    pub parts-are : (i : ℕ) → i < countOf f → (x y : List ℕ) → piece i ≡ x ++ y → length x ≡ rowOf f i .«text_len» → (textOf g (rowOf f i) ≡ x)
+        × (tagOf g (rowOf f i) ≡ y)
     unfolding pieceStart
     parts-are i l x y q s =
         let r = rowOf f i in
-        let t : stretch g (pieceStart f i) (r .«text_len») ++ stretch g (pieceStart f i + r .«text_len») (sizeOf (r .suite)) ≡ x ++ y = sym (two-parts g (pieceStart f i) (r .«text_len») (sizeOf (r .suite))) ∙ piece-is i l ∙ q in
+        let t : stretch g (pieceStart f i) (r .«text_len») ++ stretch g (pieceStart f i + r .«text_len») (sizeOf (r .suite))
+        ≡ x ++ y = sym (two-parts g (pieceStart f i) (r .«text_len») (sizeOf (r .suite))) ∙ piece-is i l ∙ q in
         append-inj _ _ x y (stretch-length g (pieceStart f i) (r .«text_len») (omega (arith, same-length, piece-in i l)) ∙ sym s) t
 
     -- ---- the check
 
     pub passes-again : checkAs e g ≡ answer 0 0
     passes-again =
-        check-kept f g same-length e e e₀ e₀ (passes e₀ e₀ f z) (ap (outside e e) new-edition ∙ taken e e e (omega arith) (omega arith)) same-row-size same-table
+        check-kept f g same-length e e e₀ e₀ (passes e₀ e₀ f z) (ap (outside e e) new-edition ∙ taken e e e (omega arith) (omega arith)) same-row-size
+        same-table
         ∙ first-none _ _ _ (countOf f)
         (λ j m.
         let s = row-sound j m in
@@ -238,7 +242,8 @@ module _ (e₀ : ℕ) (f : List ℕ) (p₀ : Plain e₀) (z : checkAs e₀ f .nu
       let q : k ≡ pieceStart new i + m = omega (arith, x .from) in
       let r : pieceStart f i + m ≡ k = omega (arith, x .from) in
       ap (λ (j : ℕ). getD (rewritten e₀ old new) j 0) q
-      ∙ all-inside (pieceStart new) old (countOf new) (inEdition e₀ new) back-apart (countOf new) (omega arith) i (rw count-new (x .below)) m (omega (arith, old-long i (x .below)))
+      ∙ all-inside (pieceStart new) old (countOf new) (inEdition e₀ new) back-apart (countOf new) (omega arith) i (rw count-new (x .below)) m
+      (omega (arith, old-long i (x .below)))
       ∙ ap (λ (l : List ℕ). getD l m 0) (own i (x .below))
       ∙ getD-take (pieceSize f i) (drop (pieceStart f i) f) m 0 n
       ∙ getD-drop (pieceStart f i) f m 0

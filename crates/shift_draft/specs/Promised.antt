@@ -71,13 +71,15 @@ pub record SealCases (draft ring out₀ : List ℕ) : Type 0 where
       → fileSealing draft ring out₀ ≡ writes (answer 10 i) out₀
   pub ring-wrong : Valid draft → AllSeal draft → (length ring ≡ 256 → ⊥) → fileSealing draft ring out₀ ≡ writes (answer 2 0) out₀
   pub room-wrong : Valid draft → AllSeal draft → length ring ≡ 256 → (length out₀ ≡ length draft → ⊥) → fileSealing draft ring out₀ ≡ writes (answer 6 0) out₀
-  pub done : Valid draft → AllSeal draft → length ring ≡ 256 → length out₀ ≡ length draft → fileSealing draft ring out₀ ≡ writes (answer 0 0) (sealedFile draft ring)
+  pub done : Valid draft → AllSeal draft → length ring ≡ 256 → length out₀ ≡ length draft
+      → fileSealing draft ring out₀ ≡ writes (answer 0 0) (sealedFile draft ring)
 
 -- the status of unsealing: the check's refusal; 2; 6; 8 with the first row whose tag is wrong, and an output of zeros; 0
 pub record UnsealCases (file ring out₀ : List ℕ) : Type 0 where
   pub checked : (checkAs firstEdition file .number ≡ 0 → ⊥) → fileUnsealing file ring out₀ ≡ writes (checkAs firstEdition file) out₀
   pub ring-wrong : checkAs firstEdition file .number ≡ 0 → (length ring ≡ 256 → ⊥) → fileUnsealing file ring out₀ ≡ writes (answer 2 0) out₀
-  pub room-wrong : checkAs firstEdition file .number ≡ 0 → length ring ≡ 256 → (length out₀ ≡ length file → ⊥) → fileUnsealing file ring out₀ ≡ writes (answer 6 0) out₀
+  pub room-wrong : checkAs firstEdition file .number ≡ 0 → length ring ≡ 256 → (length out₀ ≡ length file → ⊥)
+      → fileUnsealing file ring out₀ ≡ writes (answer 6 0) out₀
   pub tags : checkAs firstEdition file .number ≡ 0 → length ring ≡ 256 → length out₀ ≡ length file
       → (i : ℕ) → i < countOf file → (RightTag file ring i → ⊥) → ((k : ℕ) → k < i → RightTag file ring k)
       → fileUnsealing file ring out₀ ≡ writes (answer 8 i) (replicate (length out₀) 0)
@@ -130,7 +132,8 @@ abbrev pub TextAltered : Type 0
 TextAltered =
     (file other ring out : List ℕ) (i j : ℕ) → WithRing file ring → AllBytes other → length out ≡ length file → Genuine file ring → i < countOf file →
     let n : ℕ = sizeOf (rowOf file i .suite) in
-    j * n < rowOf file i .«text_len» → rowOf file i .«text_len» ≤ j * n + n → Altered file other (pieceStart file i + j * n) (pieceStart file i + rowOf file i .«text_len»)
+    j * n < rowOf file i .«text_len» → rowOf file i .«text_len» ≤ j * n + n
+    → Altered file other (pieceStart file i + j * n) (pieceStart file i + rowOf file i .«text_len»)
     → fileUnsealing other ring out ≡ writes (answer 8 i) (replicate (length out) 0)
 
 -- inside block j of the associated data of row i, whose message is empty: the same, if job number and unit still pass; else it is the check's 30

@@ -50,7 +50,8 @@ inside f g at n a b same k ne =
     let alike : (at + k < at + a) ⊎ (at + b ≤ at + k) → ⊥ =
     λ o. ne (elim (decLt k n) [
       | yes l ↦ stretch-at f at n k l ∙ sym (same (at + k) o) ∙ sym (stretch-at g at n k l)
-      | no l ↦ List·getD-eq-default (stretch f at n) 0 {n = k} (omega (arith, length-take n (drop at f))) ∙ sym (List·getD-eq-default (stretch g at n) 0 {n = k} (omega (arith, length-take n (drop at g))))
+      | no l ↦ List·getD-eq-default (stretch f at n) 0 {n = k} (omega (arith, length-take n (drop at f)))
+          ∙ sym (List·getD-eq-default (stretch g at n) 0 {n = k} (omega (arith, length-take n (drop at g))))
     ]) in
     elim (decLt k a) [
       | yes l ↦ absurd (alike (inl (omega arith)))
@@ -61,19 +62,23 @@ inside f g at n a b same k ne =
     ]
 
 -- row i stands in both files, with its nonce and its tag
-module _ (f g ring : List ℕ) (i : ℕ) (h : EntryIn (rowSizeOf f) f i) (full : length ring ≡ 256) (hf : AllBytes f) (hg : AllBytes g) (hr : AllBytes ring) (long : length g ≡ length f)
-    (row : rowOf g i ≡ rowOf f i) (nonce : nonceAt (rowSizeOf g) g i ≡ nonceAt (rowSizeOf f) f i) (tag : tagOf g (rowOf f i) ≡ tagOf f (rowOf f i)) (right : entryRight f ring i ≡ true) where
+module _ (f g ring : List ℕ) (i : ℕ) (h : EntryIn (rowSizeOf f) f i) (full : length ring ≡ 256) (hf : AllBytes f) (hg : AllBytes g) (hr : AllBytes ring)
+    (long : length g ≡ length f)
+    (row : rowOf g i ≡ rowOf f i) (nonce : nonceAt (rowSizeOf g) g i ≡ nonceAt (rowSizeOf f) f i) (tag : tagOf g (rowOf f i) ≡ tagOf f (rowOf f i))
+    (right : entryRight f ring i ≡ true) where
   -- the tag that the opener computes of associated data and text
   abbrev worked : List ℕ → List ℕ → List ℕ
   worked ad text = tagOut (cipherOf (rowOf f i .suite)) true (ringKey ring (rowOf f i .key)) (nonceRead f i) ad text
 
   right-other : entryRight g ring i ≡ sameBytes (worked (dataOf g (rowOf f i)) (textOf g (rowOf f i))) (tagOf f (rowOf f i))
   right-other =
-      (λ t. sameBytes (tagOut (cipherOf (row t .suite)) true (ringKey ring (row t .key)) (take (nonceOf (row t .suite)) (nonce t)) (dataOf g (row t)) (textOf g (row t))) (tagOf g (row t)))
+      (λ t. sameBytes (tagOut (cipherOf (row t .suite)) true (ringKey ring (row t .key)) (take (nonceOf (row t .suite)) (nonce t)) (dataOf g (row t))
+      (textOf g (row t))) (tagOf g (row t)))
       ∙ ap (sameBytes (worked (dataOf g (rowOf f i)) (textOf g (rowOf f i)))) tag
 
   -- where it is another, the tag is wrong
-  pub wrong-other : (worked (dataOf f (rowOf f i)) (textOf f (rowOf f i)) ≡ worked (dataOf g (rowOf f i)) (textOf g (rowOf f i)) → ⊥) → entryRight g ring i ≡ false
+  pub wrong-other : (worked (dataOf f (rowOf f i)) (textOf f (rowOf f i)) ≡ worked (dataOf g (rowOf f i)) (textOf g (rowOf f i)) → ⊥)
+      → entryRight g ring i ≡ false
   wrong-other ne = wrong (entryRight g ring i) refl
     where
       wrong : (b : Bool) → entryRight g ring i ≡ b → b ≡ false
@@ -86,7 +91,8 @@ module _ (f g ring : List ℕ) (i : ℕ) (h : EntryIn (rowSizeOf f) f i) (full :
 
   -- changed inside block j of the associated data, of an entry with an empty message
   pub data-wrong : (j : ℕ) → rowOf f i .«text_len» ≡ 0 → (dataOf f (rowOf f i) ≡ dataOf g (rowOf f i) → ⊥)
-      → ((k : ℕ) → (k < rowOf f i .«ad_at» + j * sizeOf (rowOf f i .suite)) ⊎ (rowOf f i .«ad_at» + (j * sizeOf (rowOf f i .suite) + sizeOf (rowOf f i .suite)) ≤ k) → getD g k 0 ≡ getD f k 0)
+      → ((k : ℕ) → (k < rowOf f i .«ad_at» + j * sizeOf (rowOf f i .suite))
+      ⊎ (rowOf f i .«ad_at» + (j * sizeOf (rowOf f i .suite) + sizeOf (rowOf f i .suite)) ≤ k) → getD g k 0 ≡ getD f k 0)
       → entryRight g ring i ≡ false
   unfolding bodyEnd
   data-wrong j empty ne same =
@@ -102,13 +108,15 @@ module _ (f g ring : List ℕ) (i : ℕ) (h : EntryIn (rowSizeOf f) f i) (full :
       let no-text : (z : List ℕ) → textOf z r ≡ [] = λ z. ap (stretch z (r .«ad_at» + r .«ad_len»)) empty in
       wrong-other (λ e. ne
       (data-told κ (lawful (r .suite)) j x y (all-stretch f (r .«ad_at») (r .«ad_len») hf) (all-stretch g (r .«ad_at») (r .«ad_len») hg) l
-      (same-before n j x y l only) (same-behind n j x y l only) key v [] (key-block f ring i h full hr) (nonce-bytes f i hf) (nonce-full f ring i h full) all-nil
+      (same-before n j x y l only) (same-behind n j x y l only) key v [] (key-block f ring i h full hr) (nonce-bytes f i hf)
+      (nonce-full f ring i h full) all-nil
       (sym (empty-tag κ key v x) ∙ ap (worked x) (sym (no-text f)) ∙ e ∙ ap (worked y) (no-text g) ∙ empty-tag κ key v y)))
 
   -- changed inside the last block of the ciphertext, which is block j
   pub text-wrong : (j : ℕ) → dataOf g (rowOf f i) ≡ dataOf f (rowOf f i) → (textOf f (rowOf f i) ≡ textOf g (rowOf f i) → ⊥)
       → j * sizeOf (rowOf f i .suite) < rowOf f i .«text_len» → rowOf f i .«text_len» ≤ j * sizeOf (rowOf f i .suite) + sizeOf (rowOf f i .suite)
-      → ((k : ℕ) → (k < rowOf f i .«ad_at» + rowOf f i .«ad_len» + j * sizeOf (rowOf f i .suite)) ⊎ (rowOf f i .«ad_at» + rowOf f i .«ad_len» + (j * sizeOf (rowOf f i .suite) + sizeOf (rowOf f i .suite)) ≤ k) → getD g k 0 ≡ getD f k 0)
+      → ((k : ℕ) → (k < rowOf f i .«ad_at» + rowOf f i .«ad_len» + j * sizeOf (rowOf f i .suite))
+      ⊎ (rowOf f i .«ad_at» + rowOf f i .«ad_len» + (j * sizeOf (rowOf f i .suite) + sizeOf (rowOf f i .suite)) ≤ k) → getD g k 0 ≡ getD f k 0)
       → entryRight g ring i ≡ false
   unfolding bodyEnd
   text-wrong j kept ne from last same =

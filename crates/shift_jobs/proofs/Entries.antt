@@ -22,7 +22,8 @@ use Rattle.shift_jobs.specs.Opening.{ringKey, nonceRead, entrySealingAs,
 use Rattle.shift_jobs.specs.Inside.{Lendable}
 
 -- on the entry's own bytes, the opener's status and output are the definition's
-pub lent : (f ring : List ℕ) (i : ℕ) (r : Row) (x : Opened) (key nonce ad text tag out : List ℕ) → x ≡ opening (r .suite) key nonce ad text tag out → r ≡ rowOf f i
+pub lent : (f ring : List ℕ) (i : ℕ) (r : Row) (x : Opened) (key nonce ad text tag out : List ℕ) → x ≡ opening (r .suite) key nonce ad text tag out
+    → r ≡ rowOf f i
     → key ≡ ringKey ring (r .key) → nonce ≡ take (nonceOf (r .suite)) (nonceAt (rowSizeOf f) f i)
     → ad ≡ dataOf f r → text ≡ textOf f r → tag ≡ tagOf f r → x ≡ entryOpening f ring i out
 unfolding entryOpening
@@ -40,7 +41,8 @@ unfolding entryVerifying entryOpening verifying
 test-number f ring i = refl
 
 -- and so does the sealer, of any text under any suite
-pub lent-sealer : (f ring : List ℕ) (i suite : ℕ) (r : Row) (x : Sealed) (key nonce ad text out tag : List ℕ) → x ≡ sealing suite key nonce ad text out tag → r ≡ rowOf f i
+pub lent-sealer : (f ring : List ℕ) (i suite : ℕ) (r : Row) (x : Sealed) (key nonce ad text out tag : List ℕ) → x ≡ sealing suite key nonce ad text out tag
+    → r ≡ rowOf f i
     → key ≡ ringKey ring (r .key) → nonce ≡ take (nonceOf suite) (nonceAt (rowSizeOf f) f i)
     → ad ≡ dataOf f r → x ≡ entrySealingAs f ring i suite text out tag
 lent-sealer f ring i suite r x key nonce ad text out tag e q ek en ea = e ∙ simp (ek, en, ea, q)
@@ -78,7 +80,8 @@ module _ (f ring : List ℕ) (i : ℕ) (h : EntryIn (rowSizeOf f) f i) (g : leng
   tag-long = stretch-length f (rowOf f i .«ad_at» + rowOf f i .«ad_len» + rowOf f i .«text_len») (sizeOf (rowOf f i .suite)) (h .body-in)
 
   -- suite and lengths are right but for the output's, which is what it is
-  entry-lengths : (out : List ℕ) → refusal true (rowOf f i .suite) (length (ringKey ring (rowOf f i .key))) (length (nonceRead f i)) (length (dataOf f (rowOf f i)))
+  entry-lengths : (out : List ℕ) → refusal true (rowOf f i .suite) (length (ringKey ring (rowOf f i .key))) (length (nonceRead f i))
+      (length (dataOf f (rowOf f i)))
       (length (textOf f (rowOf f i))) (length out) (length (tagOf f (rowOf f i))) ≡ cond (not (eqb (length out) (rowOf f i .«text_len»))) 6 0
   unfolding refusal
   entry-lengths out =
@@ -94,7 +97,8 @@ module _ (f ring : List ℕ) (i : ℕ) (h : EntryIn (rowSizeOf f) f i) (g : leng
       )
 
   -- so the opener goes by the output's length and the tag alone
-  pub entry-opened : (out : List ℕ) → entryOpening f ring i out ≡ openedAs (cond (not (eqb (length out) (rowOf f i .«text_len»))) 6 0) (entryRight f ring i) (entryText f ring i) out
+  pub entry-opened : (out : List ℕ) → entryOpening f ring i out ≡ openedAs (cond (not (eqb (length out) (rowOf f i .«text_len»))) 6 0) (entryRight f ring i)
+      (entryText f ring i) out
   unfolding entryOpening opening
   entry-opened out = ap (λ (n : ℕ). openedAs n (entryRight f ring i) (entryText f ring i) out) (entry-lengths out)
 
@@ -106,16 +110,19 @@ module _ (f ring : List ℕ) (i : ℕ) (h : EntryIn (rowSizeOf f) f i) (g : leng
       opened : Bool → Opened
       opened b = openedAs (cond (not b) 6 0) (entryRight f ring i) (entryText f ring i) out
 
-      room-case : (b : Bool) → left (answer (opened b .number) 0) (opened b .out) ≡ cond (not b) (left (answer 6 0) out) (left (answer (opened b .number) 0) (opened b .out))
+      room-case : (b : Bool) → left (answer (opened b .number) 0) (opened b .out)
+          ≡ cond (not b) (left (answer 6 0) out) (left (answer (opened b .number) 0) (opened b .out))
       room-case true = refl
       room-case false = refl
 
   -- what the opener gave and left is what the row's answer is made of
-  pub row-told : (m : ℕ) (x out : List ℕ) → _≡_ {A = Opened} (record { number = m; out = x }) (entryOpening f ring i out) → left (answer m 0) x ≡ rowOpening f ring i out
+  pub row-told : (m : ℕ) (x out : List ℕ) → _≡_ {A = Opened} (record { number = m; out = x }) (entryOpening f ring i out)
+      → left (answer m 0) x ≡ rowOpening f ring i out
   row-told m x out e = ap (λ (y : Opened). left (answer (y .number) 0) (y .out)) e ∙ row-opens out
 
   -- where the output has room, a number above 0 is 8
-  pub row-eight : (m : ℕ) (x out : List ℕ) → length out ≡ rowOf f i .«text_len» → _≡_ {A = Opened} (record { number = m; out = x }) (entryOpening f ring i out) → 0 < m → m ≡ 8
+  pub row-eight : (m : ℕ) (x out : List ℕ) → length out ≡ rowOf f i .«text_len» → _≡_ {A = Opened} (record { number = m; out = x }) (entryOpening f ring i out)
+      → 0 < m → m ≡ 8
   row-eight m x out o e l =
       let q : entryOpening f ring i out ≡ openedAs 0 (entryRight f ring i) (entryText f ring i) out = rw (eq-eqb _ _ o) at (entry-opened out) in
       eight (entryRight f ring i) (ap (λ (y : Opened). y .number) (e ∙ q))

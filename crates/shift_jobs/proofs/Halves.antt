@@ -30,7 +30,8 @@ module _ (jobs : ℕ → ℕ) (job : ℕ) where
   in-none (suc k) s = refl
 
   in-some : (k s c : ℕ) → 0 < c → halvingIn jobs job (suc k) s c
-      ≡ step (eqb (jobs (s + c / 2)) job) (ltb (jobs (s + c / 2)) job) (s + c / 2) (halvingIn jobs job k (s + c / 2 + 1) (c - c / 2 - 1)) (halvingIn jobs job k s (c / 2))
+      ≡ step (eqb (jobs (s + c / 2)) job) (ltb (jobs (s + c / 2)) job) (s + c / 2) (halvingIn jobs job k (s + c / 2 + 1) (c - c / 2 - 1))
+      (halvingIn jobs job k s (c / 2))
   unfolding halvingIn
   in-some k s c some = let n : c ≡ 0 → ⊥ = λ q. omega arith in simp (ne-eqb _ _ n)
 
@@ -56,12 +57,14 @@ module _ (jobs : ℕ → ℕ) (job : ℕ) where
 
   -- some rows: one look, and then the rule again
   pub halving-some : (s c : ℕ) → 0 < c → halving jobs job s c
-      ≡ step (eqb (jobs (s + c / 2)) job) (ltb (jobs (s + c / 2)) job) (s + c / 2) (halving jobs job (s + c / 2 + 1) (c - c / 2 - 1)) (halving jobs job s (c / 2))
+      ≡ step (eqb (jobs (s + c / 2)) job) (ltb (jobs (s + c / 2)) job) (s + c / 2) (halving jobs job (s + c / 2 + 1) (c - c / 2 - 1))
+      (halving jobs job s (c / 2))
   halving-some s zero some = absurd (not-suc-le-zero some)
   halving-some s (suc c) some =
       in-some c s (suc c) some
       ∙ ap₂ (step (eqb (jobs (s + suc c / 2)) job) (ltb (jobs (s + suc c / 2)) job) (s + suc c / 2))
-      (enough c (suc c - suc c / 2 - 1) (s + suc c / 2 + 1) (suc c - suc c / 2 - 1) (omega arith) (omega arith)) (enough c (suc c / 2) s (suc c / 2) (omega arith) (omega arith))
+      (enough c (suc c - suc c / 2 - 1) (s + suc c / 2 + 1) (suc c - suc c / 2 - 1) (omega arith) (omega arith))
+      (enough c (suc c / 2) s (suc c / 2) (omega arith) (omega arith))
 
   module _ (s c : ℕ) (some : 0 < c) where
     pub halving-hit : jobs (s + c / 2) ≡ job → halving jobs job s c ≡ visit (s + c / 2) (ends (answer 0 (s + c / 2)))
@@ -121,7 +124,8 @@ module _ (jobs : ℕ → ℕ) (job n : ℕ) where
         let g = halving-down jobs job s c some l in
         record { within = omega (arith, h .within); few = omega (arith, h .few); same = h .same ∙ ap saysOf g; count = omega (arith, h .count, ap lookedOf g) }
 
-  pub halfway-end : (s c looked : ℕ) → c ≤ 0 → Halfway jobs job n s c looked → (answer 32 0 ≡ halving jobs job 0 n .says) × (looked ≡ length (halving jobs job 0 n .rows))
+  pub halfway-end : (s c looked : ℕ) → c ≤ 0 → Halfway jobs job n s c looked → (answer 32 0 ≡ halving jobs job 0 n .says)
+      × (looked ≡ length (halving jobs job 0 n .rows))
   halfway-end s c looked z h =
       let q : c ≡ 0 = omega arith in
       let g : halving jobs job s c ≡ ends (answer 32 0) = rw q (halving-none jobs job s) in
@@ -193,7 +197,8 @@ halved-number jobs job (suc k) s c l =
 
 -- ---- only the rows of the stretch are read
 
-pub jobs-same : (jobs other : ℕ → ℕ) (job k s c : ℕ) → c ≤ k → ((i : ℕ) → s ≤ i → i < s + c → jobs i ≡ other i) → halvingIn jobs job k s c ≡ halvingIn other job k s c
+pub jobs-same : (jobs other : ℕ → ℕ) (job k s c : ℕ) → c ≤ k → ((i : ℕ) → s ≤ i → i < s + c → jobs i ≡ other i)
+    → halvingIn jobs job k s c ≡ halvingIn other job k s c
 jobs-same jobs other job zero s c l h =
     let z : c ≡ 0 = omega arith in
     rw z (in-none jobs job 0 s ∙ sym (in-none other job 0 s))
@@ -205,7 +210,8 @@ jobs-same jobs other job (suc k) s c l h =
           let down = jobs-same jobs other job k s (c / 2) (omega arith) (λ i a b. h i (omega arith) (omega arith)) in
           in-some jobs job k s c some
           ∙ ap₂ (step (eqb (jobs m) job) (ltb (jobs m) job) m) up down
-          ∙ ap (λ (j : ℕ). step (eqb j job) (ltb j job) m (halvingIn other job k (m + 1) (c - c / 2 - 1)) (halvingIn other job k s (c / 2))) (h m (omega arith) (omega arith))
+          ∙ ap (λ (j : ℕ). step (eqb j job) (ltb j job) m (halvingIn other job k (m + 1) (c - c / 2 - 1)) (halvingIn other job k s (c / 2)))
+          (h m (omega arith) (omega arith))
           ∙ sym (in-some other job k s c some)
       | no none ↦
           let z : c ≡ 0 = omega arith in
@@ -234,10 +240,12 @@ visited-same jobs other job (suc k) s c l h =
           e ∙ sym (halving-hit other job s c some (sym (of _ e .0) ∙ q)))
           (λ low.
           let e = halving-up jobs job s c some low in
-          e ∙ ap (visit m) (visited-same jobs other job k (m + 1) (c - c / 2 - 1) (omega arith) (of _ e .1)) ∙ sym (halving-up other job s c some (rw (sym (of _ e .0)) low)))
+          e ∙ ap (visit m) (visited-same jobs other job k (m + 1) (c - c / 2 - 1) (omega arith) (of _ e .1))
+          ∙ sym (halving-up other job s c some (rw (sym (of _ e .0)) low)))
           (λ high.
           let e = halving-down jobs job s c some high in
-          e ∙ ap (visit m) (visited-same jobs other job k s (c / 2) (omega arith) (of _ e .1)) ∙ sym (halving-down other job s c some (rw (sym (of _ e .0)) high)))
+          e ∙ ap (visit m) (visited-same jobs other job k s (c / 2) (omega arith) (of _ e .1))
+          ∙ sym (halving-down other job s c some (rw (sym (of _ e .0)) high)))
       | no none ↦
           let z : c ≡ 0 = omega arith in
           rw z (halving-none jobs job s ∙ sym (halving-none other job s))
@@ -258,7 +266,8 @@ module _ (jobs : ℕ → ℕ) (job : ℕ) where
     pub none : (i : ℕ) → s ≤ i → i < s + c → jobs i ≡ job → ⊥
     pub gives : x ≡ answer 32 0
 
-  pub says : (k s c n : ℕ) → c ≤ k → s + c ≤ n → ((i j : ℕ) → i < j → j < n → jobs i < jobs j) → Row s c (halving jobs job s c .says) ⊎ Gap s c (halving jobs job s c .says)
+  pub says : (k s c n : ℕ) → c ≤ k → s + c ≤ n → ((i j : ℕ) → i < j → j < n → jobs i < jobs j)
+      → Row s c (halving jobs job s c .says) ⊎ Gap s c (halving jobs job s c .says)
   says zero s c n l w rise =
       let z : c ≡ 0 = omega arith in
       inr (record { none = λ i a b q. omega arith; gives = rw z (ap saysOf (halving-none jobs job s)) })

@@ -73,7 +73,13 @@ opened-back : (x : JobAnswer) → openedOf (openedAnswer x) ≡ x
 opened-back opened.Done = refl
 opened-back opened.Missing = refl
 opened-back (opened.Refused x) =
-    simp (ne-eqb _ _ (refusal-some x), unlike x 2 (inl (lit< tt)) refl, unlike x 6 (inl (lit< tt)) refl, unlike x 8 (inl (lit< tt)) refl, unlike x 32 (inr (lit< tt)) refl)
+    simp (
+      ne-eqb _ _ (refusal-some x),
+      unlike x 2 (inl (lit< tt)) refl,
+      unlike x 6 (inl (lit< tt)) refl,
+      unlike x 8 (inl (lit< tt)) refl,
+      unlike x 32 (inr (lit< tt)) refl,
+    )
     (ap opened.Refused (refusal-back x))
 opened-back opened.Ring = refl
 opened-back opened.Room = refl
@@ -91,8 +97,10 @@ pub lookup : OneOutcome lookup-kinds.ps lookup-kinds.r lookup-reads.Pre lookup-r
 lookup κs a h x y = (found-one (x .ensures ∙ sym (y .ensures)), refl)
 
 pub halve : OneOutcome halve-kinds.ps halve-kinds.r halve-reads.Pre halve-reads.Post
-halve κs a h x y =
-    (ap₂ (λ (f : Found) (l : ℕ). record { found = f; looked = l }) (found-one (x .ensures .0 ∙ sym (y .ensures .0))) (x .ensures .1 ∙ sym (y .ensures .1)), refl)
+halve κs a h x y = (
+  ap₂ (λ (f : Found) (l : ℕ). record { found = f; looked = l }) (found-one (x .ensures .0 ∙ sym (y .ensures .0))) (x .ensures .1 ∙ sym (y .ensures .1)),
+  refl,
+)
 
 pub entry : OneOutcome entry-kinds.ps entry-kinds.r entry-reads.Pre entry-reads.Post
 entry κs a h x y = (x .ensures ∙ sym (y .ensures), refl)

@@ -21,7 +21,8 @@ abbrev placed : Answer → ℕ → ℕ → ℕ → ℕ → Entry
 placed x a b c d = record { number = x .number; row = x .row; «ad_at» = a; «ad_len» = b; «text_at» = c; «text_len» = d }
 
 module _ (f : List ℕ) (x : Answer) where
-  pub places-found : (i : ℕ) → x ≡ answer 0 i → placed (answer 0 i) (rowOf f i .«ad_at») (rowOf f i .«ad_len») (rowOf f i .«ad_at» + rowOf f i .«ad_len») (rowOf f i .«text_len») ≡ entryAt f x
+  pub places-found : (i : ℕ) → x ≡ answer 0 i → placed (answer 0 i) (rowOf f i .«ad_at») (rowOf f i .«ad_len») (rowOf f i .«ad_at» + rowOf f i .«ad_len»)
+      (rowOf f i .«text_len») ≡ entryAt f x
   unfolding dataStart dataLength textStart textLength
   places-found i q = simp q
 
@@ -45,7 +46,8 @@ entries-lie f job = lookup-case (eqb (lookupJob f job .number) 0) refl
     r : Row
     r = rowOf f (x .row)
 
-    lookup-case : (b : Bool) → eqb (x .number) 0 ≡ b → Lies f (placed x (cond b (r .«ad_at») 0) (cond b (r .«ad_len») 0) (cond b (r .«ad_at» + r .«ad_len») 0) (cond b (r .«text_len») 0))
+    lookup-case : (b : Bool) → eqb (x .number) 0 ≡ b → Lies f (placed x (cond b (r .«ad_at») 0) (cond b (r .«ad_len») 0) (cond b (r .«ad_at» + r .«ad_len») 0)
+        (cond b (r .«text_len») 0))
     lookup-case true e = record { behind = refl; ends = omega (arith, found-in f job (x .row) (ap (λ (m : ℕ). answer m (x .row)) (eqb-true _ _ e)) .body-in) }
     lookup-case false e = record { behind = refl; ends = omega arith }
 

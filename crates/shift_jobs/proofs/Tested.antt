@@ -28,7 +28,8 @@ module _ (f ring : List ℕ) (i : ℕ) (g : length ring ≡ 256) where
   unfolding rowVerifying
   tested-wrong k e n = simp (eq-eqb _ _ g, ← e, ne-eqb _ _ n)
 
-  pub tested-right : (r : Row) → entryVerifying f ring i ≡ 0 → r ≡ rowOf f i → _≡_ {A = Genuine} (record { number = 0; row = 0; «ad_at» = r .«ad_at»; «ad_len» = r .«ad_len» }) (rowVerifying f ring i)
+  pub tested-right : (r : Row) → entryVerifying f ring i ≡ 0 → r ≡ rowOf f i
+      → _≡_ {A = Genuine} (record { number = 0; row = 0; «ad_at» = r .«ad_at»; «ad_len» = r .«ad_len» }) (rowVerifying f ring i)
   unfolding rowVerifying
   tested-right r e q = simp (eq-eqb _ _ g, e, q)
 
@@ -39,7 +40,8 @@ out-free true t out = refl
 out-free false t out = refl
 
 module _ (f ring : List ℕ) (i : ℕ) (h : EntryIn (rowSizeOf f) f i) (g : length ring ≡ 256) where
-  number-is : (out : List ℕ) → length out ≡ rowOf f i .«text_len» → entryOpening f ring i out .number ≡ openedAs 0 (entryRight f ring i) (entryText f ring i) [] .number
+  number-is : (out : List ℕ) → length out ≡ rowOf f i .«text_len» → entryOpening f ring i out .number
+      ≡ openedAs 0 (entryRight f ring i) (entryText f ring i) [] .number
   number-is out o =
       ap (λ (y : Opened). y .number) (rw (eq-eqb _ _ o) at (entry-opened f ring i h g out)) ∙ out-free (entryRight f ring i) (entryText f ring i) out
 
@@ -62,10 +64,13 @@ row-same f ring i h out o = on (eqb (length ring) 256) refl
     k = entryVerifying f ring i
 
     v : Bool → Genuine
-    v b = cond (not b) (withheld 2 0) (cond (not (eqb k 0)) (withheld k 0) (record { number = 0; row = 0; «ad_at» = rowOf f i .«ad_at»; «ad_len» = rowOf f i .«ad_len» }))
+    v b =
+        cond (not b) (withheld 2 0) (cond (not (eqb k 0)) (withheld k 0)
+        (record { number = 0; row = 0; «ad_at» = rowOf f i .«ad_at»; «ad_len» = rowOf f i .«ad_len» }))
 
     on : (b : Bool) → eqb (length ring) 256 ≡ b → answer (v b .number) (v b .row)
-        ≡ cond (not b) (left (answer 2 0) out) (cond (not (eqb (length out) (rowOf f i .«text_len»))) (left (answer 6 0) out) (left (answer (entryOpening f ring i out .number) 0) (entryOpening f ring i out .out))) .answer
+        ≡ cond (not b) (left (answer 2 0) out) (cond (not (eqb (length out) (rowOf f i .«text_len»))) (left (answer 6 0) out)
+        (left (answer (entryOpening f ring i out .number) 0) (entryOpening f ring i out .out))) .answer
     on false e = refl
     on true e =
         told k (rowOf f i .«ad_at») (rowOf f i .«ad_len») (eqb k 0) refl
@@ -91,7 +96,8 @@ unlike-zero : (k : ℕ) → eqb k 0 ≡ false → k ≡ 0 → ⊥
 unlike-zero k e z = false≢true (sym e ∙ eq-eqb k 0 z)
 
 placed : (a b c : Bool) (x : Answer) (k at len : ℕ) → eqb (x .number) 0 ≡ a → eqb k 0 ≡ c →
-    let g : Genuine = cond a (cond (not b) (withheld 2 0) (cond (not c) (withheld k 0) (record { number = 0; row = 0; «ad_at» = at; «ad_len» = len }))) (withheld (x .number) (x .row)) in
+    let g : Genuine = cond a (cond (not b) (withheld 2 0) (cond (not c) (withheld k 0) (record { number = 0; row = 0; «ad_at» = at; «ad_len» = len })))
+    (withheld (x .number) (x .row)) in
     (g .number ≡ 0 → (g .«ad_at» ≡ cond a at 0) × (g .«ad_len» ≡ cond a len 0)) × ((g .number ≡ 0 → ⊥) → (g .«ad_at» ≡ 0) × (g .«ad_len» ≡ 0))
 placed false b c x k at len p q = (λ z. (refl, refl), λ n. (refl, refl))
 placed true false c x k at len p q = (λ z. absurd (omega (arith, z)), λ n. (refl, refl))
@@ -102,4 +108,5 @@ pub verified-places : VerifiedPlaces
 unfolding jobVerifying rowVerifying dataStart dataLength
 verified-places f ring job =
     let x = lookupJob f job in
-    placed (eqb (x .number) 0) (eqb (length ring) 256) (eqb (entryVerifying f ring (x .row)) 0) x (entryVerifying f ring (x .row)) (rowOf f (x .row) .«ad_at») (rowOf f (x .row) .«ad_len») refl refl
+    placed (eqb (x .number) 0) (eqb (length ring) 256) (eqb (entryVerifying f ring (x .row)) 0) x (entryVerifying f ring (x .row)) (rowOf f (x .row) .«ad_at»)
+    (rowOf f (x .row) .«ad_len») refl refl

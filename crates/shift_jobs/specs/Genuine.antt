@@ -41,5 +41,6 @@ VerifiesAsOpening =
 abbrev pub VerifiedPlaces : Type 0
 VerifiedPlaces =
     (f ring : List ℕ) (job : ℕ)
-    → (jobVerifying f ring job .number ≡ 0 → (jobVerifying f ring job .«ad_at» ≡ dataStart f (lookupJob f job)) × (jobVerifying f ring job .«ad_len» ≡ dataLength f (lookupJob f job)))
+    → (jobVerifying f ring job .number ≡ 0 → (jobVerifying f ring job .«ad_at» ≡ dataStart f (lookupJob f job))
+    × (jobVerifying f ring job .«ad_len» ≡ dataLength f (lookupJob f job)))
     × ((jobVerifying f ring job .number ≡ 0 → ⊥) → (jobVerifying f ring job .«ad_at» ≡ 0) × (jobVerifying f ring job .«ad_len» ≡ 0))

@@ -25,4 +25,5 @@ NoncesOnce = (low high : ℕ) (f : List ℕ) → checkBetween low high f .number
 abbrev pub UnreadByte : Type 0
 UnreadByte =
     (f : List ℕ) (i : ℕ) → rowStart (rowSizeOf f) i + rowSizeOf f ≤ length f
-    → (nonceAt (rowSizeOf f) f i ≡ filled (nonceReadAt (rowSizeOf f) f i) → ⊥) ↔ ((nonceOf (rowOf f i .suite) ≡ 15) × (getD (nonceAt (rowSizeOf f) f i) 15 0 ≡ 0 → ⊥))
+    → (nonceAt (rowSizeOf f) f i ≡ filled (nonceReadAt (rowSizeOf f) f i) → ⊥) ↔
+    ((nonceOf (rowOf f i .suite) ≡ 15) × (getD (nonceAt (rowSizeOf f) f i) 15 0 ≡ 0 → ⊥))

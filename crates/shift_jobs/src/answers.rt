@@ -16,9 +16,12 @@ impl Found {
         ensures { λ r. ⌜ (r .number ≡ foundAnswer self .number) × (r .row ≡ foundAnswer self .row) ⌝ }
     {
         match self {
-            Found::At(i) => Answer { number: 0, row: i },
+            Found::At(row) => Answer {
+                number: 0,
+                row: row,
+            },
             Found::Missing => Answer { number: 32, row: 0 },
-            Found::Refused(x) => x.answer(),
+            Found::Refused(refusal) => refusal.answer(),
         }
     }
 }
@@ -40,7 +43,7 @@ impl JobAnswer {
         match self {
             JobAnswer::Done => Answer { number: 0, row: 0 },
             JobAnswer::Missing => Answer { number: 32, row: 0 },
-            JobAnswer::Refused(x) => x.answer(),
+            JobAnswer::Refused(refusal) => refusal.answer(),
             JobAnswer::Ring => Answer { number: 2, row: 0 },
             JobAnswer::Room => Answer { number: 6, row: 0 },
             JobAnswer::Forged => Answer { number: 8, row: 0 },

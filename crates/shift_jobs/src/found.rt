@@ -16,7 +16,7 @@ pub fn entry_found(file: &[u8], found: Found) -> Entry
     requires { ⌜ FoundIn (now file) (foundAnswer found) ⌝ }
     ensures { λ r. ⌜ r ≡ entryAt (now (file .entry)) (foundAnswer found) ⌝ }
 {
-    let Found::At(i) = found else {
+    let Found::At(index) = found else {
         let answer = found.answer();
         return Entry {
             number: answer.number,
@@ -27,10 +27,10 @@ pub fn entry_found(file: &[u8], found: Found) -> Entry
             text_len: 0,
         };
     };
-    let row = row_of(file, i);
+    let row = row_of(file, index);
     Entry {
         number: 0,
-        row: i,
+        row: index,
         ad_at: row.ad_at,
         ad_len: row.ad_len as u32,
         text_at: row.ad_at + row.ad_len as u32,
@@ -41,10 +41,11 @@ pub fn entry_found(file: &[u8], found: Found) -> Entry
 // Opens the row that the lookup found into out: 2, 6, 8; if the lookup refused, returns that status.
 pub fn open_found(file: &[u8], ring: &[u8], found: Found, out: &mut [u8]) -> JobAnswer
     requires { ⌜ FoundIn (now file) (foundAnswer found) ⌝ }
-    ensures { λ r. ⌜ _≡_ {A = JobOpened} (record { answer = openedAnswer r; out = now (out .exit) }) (foundOpening (now (file .entry)) (now (ring .entry)) (foundAnswer found) (now (out .entry))) ⌝ }
+    ensures { λ r. ⌜ _≡_ {A = JobOpened} (record { answer = openedAnswer r; out = now (out .exit) })
+        (foundOpening (now (file .entry)) (now (ring .entry)) (foundAnswer found) (now (out .entry))) ⌝ }
 {
-    let Found::At(i) = found else {
+    let Found::At(index) = found else {
         return stopped(found);
     };
-    open_entry(file, ring, i, out)
+    open_entry(file, ring, index, out)
 }

@@ -16,29 +16,30 @@ pub struct Searched {
 // Binary search over the rows, until one has the job or none is left.
 pub fn halve(size: usize, file: &[u8], rows: usize, job: u32) -> Searched
     requires { ⌜ TableIn size (now file) rows ⌝ }
-    ensures { λ r. ⌜ (foundAnswer (r .found) ≡ halving (jobsOf size (now (file .entry))) job 0 rows .says) × (r .looked ≡ length (halving (jobsOf size (now (file .entry))) job 0 rows .rows)) ⌝ }
+    ensures { λ r. ⌜ (foundAnswer (r .found) ≡ halving (jobsOf size (now (file .entry))) job 0 rows .says)
+        × (r .looked ≡ length (halving (jobsOf size (now (file .entry))) job 0 rows .rows)) ⌝ }
 {
     let mut s: usize = 0;
     let mut c: usize = rows;
     let mut looked: usize = 0;
     while 0 < c {
-        let h = c / 2;
-        let m = s + h;
-        let row = row_at(size, file, m);
+        let half = c / 2;
+        let middle = s + half;
+        let row = row_at(size, file, middle);
         let seen = row.job;
         let looks = looked + 1;
         if seen == job {
             return Searched {
-                found: Found::At(m),
+                found: Found::At(middle),
                 looked: looks,
             };
         }
         looked = looks;
         if seen < job {
-            s = m + 1;
-            c = c - h - 1;
+            s = middle + 1;
+            c = c - half - 1;
         } else {
-            c = h;
+            c = half;
         }
     }
     Searched {

@@ -1,4 +1,5 @@
 // The slices of a row that sealer, opener and verifier borrow: the entry's own part of the file, and its key.
+use cipher::KEY_LEN;
 use shift_format::body::data_of;
 use shift_format::body::tag_of;
 use shift_format::body::text_of;
@@ -33,7 +34,7 @@ fn ring_key(ring: &[u8], k: u8) -> &[u8]
     ensures { λ r. ⌜ now r ≡ ringKey (now (ring .entry)) k ⌝ }
 {
     let k = k as usize;
-    stretch(ring, 16 * k, 16)
+    stretch(ring, KEY_LEN * k, KEY_LEN)
 }
 
 // The nonce bytes of a row that its suite reads.
@@ -67,7 +68,8 @@ pub fn seal_as(
 // Opens a row.
 pub fn open_row(file: &[u8], ring: &[u8], index: usize, row: Row, out: &mut [u8]) -> Verdict
     requires { ⌜ Lendable (now file) (now ring) index row ⌝ }
-    ensures { λ r. ⌜ _≡_ {A = Opened} (record { number = numberOf r; out = now (out .exit) }) (entryOpening (now (file .entry)) (now (ring .entry)) index (now (out .entry))) ⌝ }
+    ensures { λ r. ⌜ _≡_ {A = Opened} (record { number = numberOf r; out = now (out .exit) })
+        (entryOpening (now (file .entry)) (now (ring .entry)) index (now (out .entry))) ⌝ }
 {
     let key = ring_key(ring, row.key);
     let nonce = nonce_read(file, index, row.suite);

@@ -29,8 +29,8 @@ pub fn lookup(file: &[u8], job: u32) -> Found
     ensures { λ r. ⌜ foundAnswer r ≡ lookupJob (now (file .entry)) job ⌝ }
 {
     match check(file) {
-        Checked::Refused(x) => {
-            return Found::Refused(x);
+        Checked::Refused(refusal) => {
+            return Found::Refused(refusal);
         }
         Checked::Passed => {}
     }
@@ -46,7 +46,8 @@ pub fn entry(file: &[u8], job: u32) -> Entry
 
 // The associated data of a job, as a part of the file; its first zero bytes if the lookup refuses.
 pub fn associated(file: &[u8], job: u32) -> &[u8]
-    ensures { λ r. ⌜ PartOf (file .entry) r (dataStart (now (file .entry)) (lookupJob (now (file .entry)) job)) (dataLength (now (file .entry)) (lookupJob (now (file .entry)) job)) ⌝ }
+    ensures { λ r. ⌜ PartOf (file .entry) r (dataStart (now (file .entry)) (lookupJob (now (file .entry)) job))
+        (dataLength (now (file .entry)) (lookupJob (now (file .entry)) job)) ⌝ }
 {
     let located = entry(file, job);
     stretch(file, located.ad_at as usize, located.ad_len as usize)
@@ -54,7 +55,8 @@ pub fn associated(file: &[u8], job: u32) -> &[u8]
 
 // Opens one job into out: the full check, 32, then 2, 6, 8.
 pub fn open_job(file: &[u8], ring: &[u8], job: u32, out: &mut [u8]) -> JobAnswer
-    ensures { λ r. ⌜ _≡_ {A = JobOpened} (record { answer = openedAnswer r; out = now (out .exit) }) (jobOpening (now (file .entry)) (now (ring .entry)) job (now (out .entry))) ⌝ }
+    ensures { λ r. ⌜ _≡_ {A = JobOpened} (record { answer = openedAnswer r; out = now (out .exit) })
+        (jobOpening (now (file .entry)) (now (ring .entry)) job (now (out .entry))) ⌝ }
 {
     found::open_found(file, ring, lookup(file, job), out)
 }

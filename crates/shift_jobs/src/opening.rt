@@ -14,7 +14,8 @@ ghost use Rattle.shift_jobs.specs.Opening.{JobOpened, rowOpening};
 // Opens a row: 2, 6, 8.
 pub(crate) fn open_entry(file: &[u8], ring: &[u8], index: usize, out: &mut [u8]) -> JobAnswer
     requires { ⌜ EntryIn (rowSizeOf (now file)) (now file) index ⌝ }
-    ensures { λ r. ⌜ _≡_ {A = JobOpened} (record { answer = openedAnswer r; out = now (out .exit) }) (rowOpening (now (file .entry)) (now (ring .entry)) index (now (out .entry))) ⌝ }
+    ensures { λ r. ⌜ _≡_ {A = JobOpened} (record { answer = openedAnswer r; out = now (out .exit) })
+        (rowOpening (now (file .entry)) (now (ring .entry)) index (now (out .entry))) ⌝ }
 {
     if ring.len() != RING_LEN {
         return JobAnswer::Ring;
@@ -40,6 +41,6 @@ pub(crate) fn stopped(found: Found) -> JobAnswer
         // Cannot be reached: a lookup that found a row has number 0.
         Found::At(_) => JobAnswer::Missing,
         Found::Missing => JobAnswer::Missing,
-        Found::Refused(y) => JobAnswer::Refused(y),
+        Found::Refused(refusal) => JobAnswer::Refused(refusal),
     }
 }

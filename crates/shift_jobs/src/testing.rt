@@ -49,9 +49,9 @@ pub fn verify_found(file: &[u8], ring: &[u8], found: Found) -> Genuine
     requires { ⌜ FoundIn (now file) (foundAnswer found) ⌝ }
     ensures { λ r. ⌜ r ≡ foundVerifying (now (file .entry)) (now (ring .entry)) (foundAnswer found) ⌝ }
 {
-    let Found::At(i) = found else {
+    let Found::At(index) = found else {
         let answer = found.answer();
         return withhold(answer.number, answer.row);
     };
-    verify_entry(file, ring, i)
+    verify_entry(file, ring, index)
 }

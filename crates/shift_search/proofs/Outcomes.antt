@@ -8,5 +8,7 @@ use Rattle.shift_search.proofs.search.Kinds as search-kinds
 use Rattle.shift_search.proofs.search.Reads as search-reads
 
 pub search : OneOutcome search-kinds.ps search-kinds.r search-reads.Pre search-reads.Post
-search κs a h x y =
-    (ap₂ (λ (f : Found) (l : ℕ). record { found = f; looked = l }) (found-one (x .ensures .0 ∙ sym (y .ensures .0))) (x .ensures .1 ∙ sym (y .ensures .1)), refl)
+search κs a h x y = (
+  ap₂ (λ (f : Found) (l : ℕ). record { found = f; looked = l }) (found-one (x .ensures .0 ∙ sym (y .ensures .0))) (x .ensures .1 ∙ sym (y .ensures .1)),
+  refl,
+)

@@ -62,8 +62,11 @@ rows-decide f g job a n = head-case (eqb (headAnswer f .number) 0) refl
     jobs x = jobsOf (rowSizeOf x) x
 
     head-case : (b : Bool) → eqb (headAnswer f .number) 0 ≡ b → SameJobs f g (cond b (halving (jobs f) job 0 (countOf f)) (ends (headAnswer f)) .rows)
-        → cond b (halving (jobs f) job 0 (countOf f)) (ends (headAnswer f)) ≡ cond (eqb (headAnswer g .number) 0) (halving (jobs g) job 0 (countOf g)) (ends (headAnswer g))
-    head-case true e h = simp (tests ∙ e) (visited-same (jobs f) (jobs g) job (countOf f) 0 (countOf f) (omega arith) (listed f g (halving (jobs f) job 0 (countOf f) .rows) h) ∙ ap (halving (jobs g) job 0) n)
+        → cond b (halving (jobs f) job 0 (countOf f)) (ends (headAnswer f))
+        ≡ cond (eqb (headAnswer g .number) 0) (halving (jobs g) job 0 (countOf g)) (ends (headAnswer g))
+    head-case true e h =
+        simp (tests ∙ e) (visited-same (jobs f) (jobs g) job (countOf f) 0 (countOf f) (omega arith) (listed f g (halving (jobs f) job 0 (countOf f) .rows) h)
+        ∙ ap (halving (jobs g) job 0) n)
     head-case false e h = simp (tests ∙ e) (ap ends a)
 
 pub same-as-lookup : SameAsLookup
@@ -73,7 +76,8 @@ pub ten-looks : TenLooks
 unfolding searching
 ten-looks f job = head-case (eqb (headAnswer f .number) 0) refl
   where
-    head-case : (b : Bool) → eqb (headAnswer f .number) 0 ≡ b → length (cond b (halving (jobsOf (rowSizeOf f) f) job 0 (countOf f)) (ends (headAnswer f)) .rows) ≤ 10
+    head-case : (b : Bool) → eqb (headAnswer f .number) 0 ≡ b → length (cond b (halving (jobsOf (rowSizeOf f) f) job 0 (countOf f))
+        (ends (headAnswer f)) .rows) ≤ 10
     head-case true e = looks (jobsOf (rowSizeOf f) f) job 10 0 (countOf f) (lt-of-le-of-lt (headed firstEdition newest f (eqb-true _ _ e) .few) (lit< tt))
     head-case false e = lit≤ tt
 
@@ -82,7 +86,8 @@ pub says-low : (f : List ℕ) (job : ℕ) → searching f job .says .row ≤ 512
 unfolding searching
 says-low f job = head-case (eqb (headAnswer f .number) 0) refl
   where
-    head-case : (b : Bool) → eqb (headAnswer f .number) 0 ≡ b → cond b (halving (jobsOf (rowSizeOf f) f) job 0 (countOf f)) (ends (headAnswer f)) .says .row ≤ 512
+    head-case : (b : Bool) → eqb (headAnswer f .number) 0 ≡ b → cond b (halving (jobsOf (rowSizeOf f) f) job 0 (countOf f))
+        (ends (headAnswer f)) .says .row ≤ 512
     head-case true e =
         let few = headed firstEdition newest f (eqb-true _ _ e) .few in
         omega (arith, few, row-most (jobsOf (rowSizeOf f) f) job (countOf f) 0 (countOf f) (omega arith))

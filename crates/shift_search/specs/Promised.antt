@@ -32,7 +32,8 @@ SameJobs f g (i ∷ is) = (rowOf f i .job ≡ rowOf g i .job) × SameJobs f g is
 -- only the listed rows matter: a file with the same answer of 20 to 24, the same number of rows and the same jobs in the
 -- listed rows gives the same result, whatever its other rows contain
 abbrev pub RowsDecide : Type 0
-RowsDecide = (f g : List ℕ) (job : ℕ) → headAnswer f ≡ headAnswer g → countOf f ≡ countOf g → SameJobs f g (searching f job .rows) → searching f job ≡ searching g job
+RowsDecide =
+    (f g : List ℕ) (job : ℕ) → headAnswer f ≡ headAnswer g → countOf f ≡ countOf g → SameJobs f g (searching f job .rows) → searching f job ≡ searching g job
 
 -- on a file that passes the full check, number and row are the full lookup's
 abbrev pub SameAsLookup : Type 0

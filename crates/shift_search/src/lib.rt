@@ -18,9 +18,9 @@ pub fn search(file: &[u8], job: u32) -> Searched
     ensures { λ r. ⌜ (foundAnswer (r .found) ≡ searching (now (file .entry)) job .says) × (r .looked ≡ length (searching (now (file .entry)) job .rows)) ⌝ }
 {
     match check_head(FIRST_EDITION, NEWEST, file) {
-        Checked::Refused(x) => {
+        Checked::Refused(refusal) => {
             return Searched {
-                found: Found::Refused(x),
+                found: Found::Refused(refusal),
                 looked: 0,
             };
         }

@@ -13,12 +13,12 @@ use Rattle.shift_jobs.proofs.lookup.Tie as tie
 check-requires : tie.Need-check-requires
 check-requires c κs = search needs
 
-enum-known-x : tie.Need-enum-known-x
-enum-known-x c = search needs
+enum-known-refusal : tie.Need-enum-known-refusal
+enum-known-refusal c = search needs
 
 returns : tie.Need-returns
 unfolding lookupJob
-returns c = sym (refused-stands _ _ _ _ (c .before .x .given .1) (c .before .before .before .check .ensures))
+returns c = sym (refused-stands _ _ _ _ (c .before .refusal .given .1) (c .before .before .before .check .ensures))
 
 enum-told : tie.Need-enum-told
 enum-told c = search needs
@@ -56,7 +56,7 @@ lookup-spec =
     tie.close
     (tie.spec
     check-requires
-    enum-known-x
+    enum-known-refusal
     returns
     enum-told
     row-size-of-requires

@@ -15,14 +15,14 @@ use Rattle.shift_search.proofs.search.Tie as tie
 check-head-requires : tie.Need-check-head-requires
 check-head-requires c κs = search needs
 
-enum-known-x : tie.Need-enum-known-x
-enum-known-x c = search needs
+enum-known-refusal : tie.Need-enum-known-refusal
+enum-known-refusal c = search needs
 
 returns : tie.Need-returns
 returns c =
     let h = c .before .before .before in
     let a = h .before .before .args in
-    let s = stops (now (a .file)) (a .job) (c .before .x .given .0 .0) (sym (h .check-head .ensures) ∙ ap checkedAnswer (c .before .x .given .1)) in
+    let s = stops (now (a .file)) (a .job) (c .before .refusal .given .0 .0) (sym (h .check-head .ensures) ∙ ap checkedAnswer (c .before .refusal .given .1)) in
     (sym (ap (λ (x : Walk). x .says) s), sym (ap (λ (x : Walk). length (x .rows)) s))
 
 enum-told : tie.Need-enum-told
@@ -41,7 +41,8 @@ count-requires c κs =
 halve-requires : tie.Need-halve-requires
 halve-requires c κs =
     let h = c .before .before .before .before in
-    rw (c .count .ensures, c .before .row-size-of .ensures) (headed firstEdition newest (now (h .before .before .args .file)) (passed-zero _ _ (c .before .before .enum-told .given .1) (h .check-head .ensures)) .table)
+    rw (c .count .ensures, c .before .row-size-of .ensures) (headed firstEdition newest (now (h .before .before .args .file))
+    (passed-zero _ _ (c .before .before .enum-told .given .1) (h .check-head .ensures)) .table)
 
 returns-2 : tie.Need-returns-2
 returns-2 c =
@@ -56,7 +57,7 @@ search-spec =
     tie.close
     (tie.spec
     check-head-requires
-    enum-known-x
+    enum-known-refusal
     returns
     enum-told
     row-size-of-requires

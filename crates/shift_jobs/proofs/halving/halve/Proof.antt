@@ -22,8 +22,8 @@ jobOf r = r .job
 loop-holds : tie.Need-loop-holds Inv-loop μ-loop
 loop-holds c = let a = c .before .args in halfway-start (jobsOf (a .size) (now (a .file))) (a .job) (a .rows)
 
-add-m : tie.Need-add-m Inv-loop μ-loop
-add-m c = omega (arith, c .before .loop .inv .within)
+add-middle : tie.Need-add-middle Inv-loop μ-loop
+add-middle c = omega (arith, c .before .loop .inv .within)
 
 row-at-requires : tie.Need-row-at-requires Inv-loop μ-loop
 row-at-requires c κs = row-in _ _ _ _ (c .before .before .before .pre) (omega (arith, c .before .loop .inv .within))
@@ -36,7 +36,8 @@ returns c =
     let p = c .before .before in
     let a = p .before .before .before .args in
     let l = p .before .loop in
-    halfway-hit (jobsOf (a .size) (now (a .file))) (a .job) (a .rows) (l .s) (l .c) (l .looked) (p .loop-test .taken) (l .inv) (ap jobOf (sym (c .before .row-at .ensures)) ∙ c .if1 .taken)
+    halfway-hit (jobsOf (a .size) (now (a .file))) (a .job) (a .rows) (l .s) (l .c) (l .looked) (p .loop-test .taken) (l .inv)
+    (ap jobOf (sym (c .before .row-at .ensures)) ∙ c .if1 .taken)
 
 add-s : tie.Need-add-s Inv-loop μ-loop
 add-s c = omega (arith, c .before .before .before .before .loop .inv .within)
@@ -55,7 +56,8 @@ loop-again c =
     let p = c .before .before .before in
     let a = p .before .before .before .args in
     let l = p .before .loop in
-    halfway-up (jobsOf (a .size) (now (a .file))) (a .job) (a .rows) (l .s) (l .c) (l .looked) (p .loop-test .taken) (l .inv) (omega (arith, ap jobOf (c .before .before .row-at .ensures), c .if2 .taken))
+    halfway-up (jobsOf (a .size) (now (a .file))) (a .job) (a .rows) (l .s) (l .c) (l .looked) (p .loop-test .taken) (l .inv)
+    (omega (arith, ap jobOf (c .before .before .row-at .ensures), c .if2 .taken))
 
 loop-less-2 : tie.Need-loop-less-2 Inv-loop μ-loop
 loop-less-2 c = omega arith
@@ -81,7 +83,7 @@ halve-spec =
     Inv-loop
     μ-loop
     loop-holds
-    add-m
+    add-middle
     row-at-requires
     add-looks
     returns

@@ -20,7 +20,9 @@ stretch-requires c κs = omega (arith, c .before .nonce-at .ensures .1, c .nonce
 
 returns : tie.Need-returns
 unfolding nonceAt
-returns c = rw (← c .before .before .before .row-size-of .ensures, ← c .before .nonce-size .ensures, ← c .before .before .nonce-at .ensures .0 .bytes) (c .stretch .ensures .0 .bytes)
+returns c =
+    rw (← c .before .before .before .row-size-of .ensures, ← c .before .nonce-size .ensures, ← c .before .before .nonce-at .ensures .0 .bytes)
+    (c .stretch .ensures .0 .bytes)
 
 pub nonce-read-spec : {M : Type 1} → statement M
 nonce-read-spec =

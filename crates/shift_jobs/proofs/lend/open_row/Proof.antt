@@ -34,7 +34,8 @@ returns c =
     let nonce = ad .before in
     let key = nonce .before in
     let s = key .before .before .before .before in
-    lent (now (s .args .file)) (now (s .args .ring)) (s .args .index) (s .args .row) _ _ _ _ _ _ (now (s .args .out)) (c .before .before .unseal .ensures) (s .pre .is-row)
+    lent (now (s .args .file)) (now (s .args .ring)) (s .args .index) (s .args .row) _ _ _ _ _ _ (now (s .args .out)) (c .before .before .unseal .ensures)
+    (s .pre .is-row)
     (key .ring-key .ensures) (nonce .nonce-read .ensures) (ad .data-of .ensures .bytes) (text .text-of .ensures .bytes) (tag .tag-of .ensures .bytes)
 
 pub open-row-spec : {M : Type 1} → statement M

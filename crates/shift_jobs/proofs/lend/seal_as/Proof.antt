@@ -29,7 +29,8 @@ returns c =
     let nonce = ad .before in
     let key = nonce .before in
     let s = key .before .before .before .before .before in
-    lent-sealer (now (s .args .file)) (now (s .args .ring)) (s .args .index) (s .args .suite) (s .args .row) _ _ _ _ (now (s .args .text)) (now (s .args .text)) (now (s .args .tag)) (c .before .before .before .before .seal-in-place .ensures) (s .pre .is-row)
+    lent-sealer (now (s .args .file)) (now (s .args .ring)) (s .args .index) (s .args .suite) (s .args .row) _ _ _ _ (now (s .args .text)) (now (s .args .text))
+    (now (s .args .tag)) (c .before .before .before .before .seal-in-place .ensures) (s .pre .is-row)
     (key .ring-key .ensures) (nonce .nonce-read .ensures) (ad .data-of .ensures .bytes)
 
 pub seal-as-spec : {M : Type 1} → statement M

@@ -59,7 +59,8 @@ returns-4 c =
     let u = c .before .before .before .before in
     let row = u .before .before .before .before in
     let s = row .before .before .before .before .before in
-    row-told (now (s .args .file)) (now (s .args .ring)) (s .args .index) (s .pre) (row .before .if1 .left) 0 _ (now (s .args .out)) (rw (c .enum-told .given .1) at (u .open-row .ensures))
+    row-told (now (s .args .file)) (now (s .args .ring)) (s .args .index) (s .pre) (row .before .if1 .left) 0 _ (now (s .args .out))
+    (rw (c .enum-told .given .1) at (u .open-row .ensures))
 
 pub open-entry-spec : {M : Type 1} → statement M
 open-entry-spec =

@@ -35,7 +35,8 @@ returns-2 c =
     let s = c .before .before .before .before .before .before .before .before in
     let k = c .before .before in
     c .withhold2 .ensures
-    ∙ tested-wrong (now (s .args .file)) (now (s .args .ring)) (s .args .index) (c .before .before .before .before .before .if1 .left) _ (k .number .ensures ∙ k .before .verify-row .ensures) (c .before .if2 .taken)
+    ∙ tested-wrong (now (s .args .file)) (now (s .args .ring)) (s .args .index) (c .before .before .before .before .before .if1 .left) _
+    (k .number .ensures ∙ k .before .verify-row .ensures) (c .before .if2 .taken)
 
 cast-t9 : tie.Need-cast-t9
 cast-t9 c = search needs
@@ -45,7 +46,8 @@ returns-3 c =
     let s = c .before .before .before .before .before .before .before .before in
     let k = c .before .before in
     let e = sym (k .number .ensures ∙ k .before .verify-row .ensures) ∙ c .before .if2 .left in
-    tested-right (now (s .args .file)) (now (s .args .ring)) (s .args .index) (c .before .before .before .before .before .if1 .left) _ e (k .before .before .row-of .ensures)
+    tested-right (now (s .args .file)) (now (s .args .ring)) (s .args .index) (c .before .before .before .before .before .if1 .left) _ e
+    (k .before .before .row-of .ensures)
 
 pub verify-entry-spec : {M : Type 1} → statement M
 verify-entry-spec =
