@@ -130,7 +130,8 @@ module _ (a d : List ℕ) (job : ℕ) where
       → (checkFile a .number ≡ 0 → (checkFile d .number ≡ 0 → ⊥) → P (inFile 2 (noEntry (checkFile d))))
       → (checkFile a .number ≡ 0 → checkFile d .number ≡ 0 → lookupJob a job .number ≡ 0 → P (inFile 1 (entryOf a job)))
       → (checkFile a .number ≡ 0 → checkFile d .number ≡ 0 → (lookupJob a job .number ≡ 0 → ⊥) → lookupJob d job .number ≡ 0 → P (inFile 2 (entryOf d job)))
-      → (checkFile a .number ≡ 0 → checkFile d .number ≡ 0 → (lookupJob a job .number ≡ 0 → ⊥) → (lookupJob d job .number ≡ 0 → ⊥) → P (inFile 0 (noEntry (answer 32 0))))
+      → (checkFile a .number ≡ 0 → checkFile d .number ≡ 0 → (lookupJob a job .number ≡ 0 → ⊥) → (lookupJob d job .number ≡ 0 → ⊥)
+      → P (inFile 0 (noEntry (answer 32 0))))
       → P (amendedEntry a d job)
   five P one two three four last =
       zero-or-not (checkFile a .number)

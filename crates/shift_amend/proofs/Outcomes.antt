@@ -33,6 +33,7 @@ current κs a x y = part-one (x .ensures) (y .ensures)
 pub open-current : OneOutcome open-current-kinds.ps open-current-kinds.r open-current-reads.Pre open-current-reads.Post
 open-current κs a h x y =
     let e = x .ensures ∙ sym (y .ensures) in (
-      ap₂ (λ (k : ℕ) (o : JobAnswer). record { file = k; opened = o }) (ap (λ (z : AmendedOpening). z .file) e) (opened-one (ap (λ (z : AmendedOpening). z .answer) e)),
+      ap₂ (λ (k : ℕ) (o : JobAnswer). record { file = k; opened = o }) (ap (λ (z : AmendedOpening). z .file) e)
+          (opened-one (ap (λ (z : AmendedOpening). z .answer) e)),
       ap (λ (z : AmendedOpening). (tt, (tt, (tt, (tt, (z .out, tt)))))) e,
     )

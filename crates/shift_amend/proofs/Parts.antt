@@ -69,7 +69,9 @@ module _ (a d : List ℕ) (job : ℕ) where
   -- so its associated data lies in that file
   pub part-in : amendedEntry a d job .entry .number ≡ 0
       → amendedEntry a d job .entry .«ad_at» + amendedEntry a d job .entry .«ad_len» ≤ length (holder a d (amendedEntry a d job))
-  part-in z = subst (λ (x : Entry). x .«ad_at» + x .«ad_len» ≤ length (holder a d (amendedEntry a d job))) (sym (held z)) (data-in (holder a d (amendedEntry a d job)) job)
+  part-in z =
+      subst (λ (x : Entry). x .«ad_at» + x .«ad_len» ≤ length (holder a d (amendedEntry a d job))) (sym (held z))
+      (data-in (holder a d (amendedEntry a d job)) job)
 
   -- ---- opening
 
@@ -101,7 +103,8 @@ module _ (a d : List ℕ) (job : ℕ) where
     unfolding amendedOpening
     opens-first e = ap₂ openedIn (sym e) (speaks .amendment e)
 
-    pub opens-second : (amendedEntry a d job .file ≡ 1 → ⊥) → openedIn (amendedEntry a d job .file) (jobOpening d ring job out₀) ≡ amendedOpening a d ring job out₀
+    pub opens-second : (amendedEntry a d job .file ≡ 1 → ⊥) → openedIn (amendedEntry a d job .file) (jobOpening d ring job out₀)
+        ≡ amendedOpening a d ring job out₀
     unfolding amendedOpening
     opens-second n = ap (openedIn (amendedEntry a d job .file)) (speaks .day n)
 
@@ -136,7 +139,9 @@ module _ (a d : RefT (List ℕ)) (job : ℕ) (x : Amended) (is : x ≡ amendedEn
 
   -- it lies there
   lies : x .entry .number ≡ 0 → x .entry .«ad_at» + x .entry .«ad_len» ≤ length (holder (now a) (now d) x)
-  lies = subst (λ (y : Amended). y .entry .number ≡ 0 → y .entry .«ad_at» + y .entry .«ad_len» ≤ length (holder (now a) (now d) y)) (sym is) (part-in (now a) (now d) job)
+  lies =
+      subst (λ (y : Amended). y .entry .number ≡ 0 → y .entry .«ad_at» + y .entry .«ad_len» ≤ length (holder (now a) (now d) y)) (sym is)
+      (part-in (now a) (now d) job)
 
   pub day-in : x .entry .number ≡ 0 → x .file ≡ 2 → x .entry .«ad_at» + x .entry .«ad_len» ≤ length (now d)
   day-in z q = rw (holder-day (now a) (now d) x z q) at (lies z)

@@ -43,8 +43,11 @@ pub amendment-wins : AmendmentWins
 amendment-wins a d job p =
     record {
       amendment = λ i h.
-          let q = found a job (p .amendment) i h in
-          (in-amendment a d job (p .amendment) (p .day) (number-zero a job (p .amendment) i h), ap (λ (x : Answer). x .number) q, ap (λ (x : Answer). x .row) q);
+          let q = found a job (p .amendment) i h in (
+            in-amendment a d job (p .amendment) (p .day) (number-zero a job (p .amendment) i h),
+            ap (λ (x : Answer). x .number) q,
+            ap (λ (x : Answer). x .row) q,
+          );
       day = λ none i h.
           let q = found d job (p .day) i h in (
             in-day a d job (p .amendment) (p .day) (number-some a job (p .amendment) none) (number-zero d job (p .day) i h),

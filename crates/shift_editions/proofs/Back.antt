@@ -39,9 +39,11 @@ module _ (e w v : ℕ) (f : List ℕ) (n : ℕ) (h : Whole w v f n) (broad : 32 
   header-back =
       let a = h .bytes in
       let l : 8 ≤ length f = omega (arith, h .table .fits) in
-      let total : carried v w n (length there) ≡ totalOf f = ap (carried v w n) (file-long w v f n (h .table) broad e) ∙ carried-back w v n (length f) (h .table .fits) ∙ sym (h .total) in
+      let total : carried v w n (length there) ≡ totalOf f = ap (carried v w n) (file-long w v f n (h .table) broad e)
+      ∙ carried-back w v n (length f) (h .table .fits) ∙ sym (h .total) in
       ap₂ (λ (x y : List ℕ). x ++ y) (unpack 2 f 0 a (omega arith))
-      (ap₂ (λ (x y : List ℕ). x ++ y) (ap (bytes 2) (sym (h .count)) ∙ unpack 2 f 2 a (omega arith)) (ap (bytes 4) total ∙ unpack 4 f 4 a (omega arith)) ∙ join f 2 2 4)
+      (ap₂ (λ (x y : List ℕ). x ++ y) (ap (bytes 2) (sym (h .count)) ∙ unpack 2 f 2 a (omega arith)) (ap (bytes 4) total ∙ unpack 4 f 4 a (omega arith))
+      ∙ join f 2 2 4)
       ∙ join f 0 2 6
 
   offset-is : (i : ℕ) → i < n → bytes 4 (rowAt w f i .«ad_at») ≡ stretch f (restStart w i + 4) 4
@@ -81,5 +83,6 @@ module _ (e w v : ℕ) (f : List ℕ) (n : ℕ) (h : Whole w v f n) (broad : 32 
   unfolding movedFrom rowStart
   file-back =
       ap₂ (λ (x y : List ℕ). x ++ y) header-back
-      (ap₂ (λ (x y : List ℕ). x ++ y) (rows-back n (omega arith)) (file-bodies w v f n (h .table) broad e ∙ sym (drop-drop (w * n) 8 f)) ∙ take-append-drop (w * n) (drop 8 f))
+      (ap₂ (λ (x y : List ℕ). x ++ y) (rows-back n (omega arith)) (file-bodies w v f n (h .table) broad e ∙ sym (drop-drop (w * n) 8 f))
+      ∙ take-append-drop (w * n) (drop 8 f))
       ∙ take-append-drop 8 f

@@ -26,7 +26,8 @@ use Rattle.shift_check.proofs.Bodies.{after-table}
 use Rattle.shift_editions.specs.declared.answers.Moved.{Moved}
 use Rattle.shift_editions.specs.declared.answers.Moved.the-variants as moved-case
 use Rattle.shift_editions.specs.Files.{carried, moved}
-use Rattle.shift_editions.specs.Answers.{movedAnswer, stationsFrom, lengthAnswer, movedLength, upAnswer, backAnswer, FileMoved, moves, toEdition2, toEdition1}
+use Rattle.shift_editions.specs.Answers.{movedAnswer, stationsFrom, lengthAnswer, movedLength, upAnswer, backAnswer, FileMoved, moves, toEdition2}
+use Rattle.shift_editions.specs.Answers.{toEdition1}
 use Rattle.shift_editions.specs.Promised.{done}
 use Rattle.shift_editions.specs.Inside.{Movable, Tabled, Source, Room}
 use Rattle.shift_editions.proofs.Laid.{file-long}
@@ -108,7 +109,8 @@ back-goes f out z =
     (record { passed = b .0; room = r; zero = b .1 ∙ s .1 ∙ lengths-fit _ _ r }, stations-none f (s .0))
 
 -- a station that is not 0 stands
-pub station-stands : (f : List ℕ) (out : ℕ) → checkAs newest f .number ≡ 0 → (x : Answer) → x ≡ stationsFrom f (countOf f) 0 → (x .number ≡ 0 → ⊥) → x ≡ backAnswer f out
+pub station-stands : (f : List ℕ) (out : ℕ) → checkAs newest f .number ≡ 0 → (x : Answer) → x ≡ stationsFrom f (countOf f) 0 → (x .number ≡ 0 → ⊥)
+    → x ≡ backAnswer f out
 unfolding backAnswer
 station-stands f out z x q n = simp (z, ← q, ne-eqb _ _ n)
 

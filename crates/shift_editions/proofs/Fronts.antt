@@ -55,20 +55,23 @@ job-put f o p q w v i a b h qa qb e g =
     ∙ ap₂ (λ (x y : ℕ). take x o ++ (stretch f y 4 ++ replicate (v - 32) 0)) qa qb
 
 pub rest-put : (f o p q s : List ℕ) (b d x y : ℕ)
-    → take (b + 4) p ≡ take b o ++ stretch f d 4 → take (b + 4 + 4) q ≡ take (b + 4) p ++ bytes 4 x → take (b + 8 + 20) s ≡ take (b + 8) q ++ stretch f (d + 8) 20
+    → take (b + 4) p ≡ take b o ++ stretch f d 4 → take (b + 4 + 4) q ≡ take (b + 4) p ++ bytes 4 x
+    → take (b + 8 + 20) s ≡ take (b + 8) q ++ stretch f (d + 8) 20
     → x ≡ y → take (b + 28) s ≡ take b o ++ (stretch f d 4 ++ (bytes 4 y ++ stretch f (d + 8) 20))
 rest-put f o p q s b d x y e g h xy =
     let r8 : b + 8 ≡ b + 4 + 4 = omega arith in
     let r28 : b + 28 ≡ b + 8 + 20 = omega arith in
     let h2 : take (b + 8 + 20) s ≡ take (b + 4 + 4) q ++ stretch f (d + 8) 20 = h ∙ ap (λ (k : ℕ). take k q ++ stretch f (d + 8) 20) r8 in
     ap (λ (k : ℕ). take k s) r28
-    ∙ two-parts o p s (stretch f d 4) (bytes 4 x ++ stretch f (d + 8) 20) b (b + 4) (b + 8 + 20) e (two-parts p q s (bytes 4 x) (stretch f (d + 8) 20) (b + 4) (b + 4 + 4) (b + 8 + 20) g h2)
+    ∙ two-parts o p s (stretch f d 4) (bytes 4 x ++ stretch f (d + 8) 20) b (b + 4) (b + 8 + 20) e
+    (two-parts p q s (bytes 4 x) (stretch f (d + 8) 20) (b + 4) (b + 4 + 4) (b + 8 + 20) g h2)
     ∙ ap (λ (k : ℕ). take b o ++ (stretch f d 4 ++ (bytes 4 k ++ stretch f (d + 8) 20))) xy
 
 -- the row
 pub row-put : (f o p q : List ℕ) (w v n i : ℕ) → 32 ≤ v
     → take (restStart v i) p ≡ take (rowStart v i) o ++ (stretch f (rowStart w i) 4 ++ replicate (v - 32) 0)
-    → take (restStart v i + 28) q ≡ take (restStart v i) p ++ (stretch f (restStart w i) 4 ++ (bytes 4 (carried w v n (rowAt w f i .«ad_at»)) ++ stretch f (restStart w i + 8) 20))
+    → take (restStart v i + 28) q ≡ take (restStart v i) p ++ (stretch f
+    (restStart w i) 4 ++ (bytes 4 (carried w v n (rowAt w f i .«ad_at»)) ++ stretch f (restStart w i + 8) 20))
     → take (rowStart v (i + 1)) q ≡ take (rowStart v i) o ++ movedRow w v f n i
 unfolding movedRow restStart rowStart
 row-put f o p q w v n i h e g =
@@ -86,7 +89,8 @@ unfolding rowStart movedRows
 rows-start f o w v n = ap (λ (k : ℕ). take (8 + k) o) (mul-zero v) ∙ sym (append-nil (take 8 o))
 
 -- one row more
-pub rows-put : (f o p q : List ℕ) (w v n i : ℕ) → take (rowStart v i) p ≡ take 8 o ++ movedRows w v f n i → take (rowStart v (i + 1)) q ≡ take (rowStart v i) p ++ movedRow w v f n i
+pub rows-put : (f o p q : List ℕ) (w v n i : ℕ) → take (rowStart v i) p ≡ take 8 o ++ movedRows w v f n i
+    → take (rowStart v (i + 1)) q ≡ take (rowStart v i) p ++ movedRow w v f n i
     → take (rowStart v (i + 1)) q ≡ take 8 o ++ movedRows w v f n (i + 1)
 unfolding movedRows
 rows-put f o p q w v n i e g =
@@ -98,7 +102,8 @@ pub header-put : (o p x : List ℕ) (e n c : ℕ) → e < 256 ^ 2 → x ≡ byte
     → take (0 + length (take 8 x)) p ≡ take 0 o ++ take 8 x → take 8 p ≡ bytes 2 e ++ (bytes 2 n ++ bytes 4 c)
 header-put o p x e n c h qx g =
     let top : bytes 4 (e + 65536 * n) ≡ bytes 2 e ++ bytes 2 n = bytes-join 2 2 e n h in
-    let long : length x ≡ 8 = ap length qx ∙ length-append (bytes 4 (e + 65536 * n)) (bytes 4 c) ∙ ap₂ (λ (a b : ℕ). a + b) (length-bytes 4 (e + 65536 * n)) (length-bytes 4 c) in
+    let long : length x ≡ 8 = ap length qx ∙ length-append (bytes 4 (e + 65536 * n)) (bytes 4 c)
+    ∙ ap₂ (λ (a b : ℕ). a + b) (length-bytes 4 (e + 65536 * n)) (length-bytes 4 c) in
     let all : take 8 x ≡ x = take-all 8 x (omega (arith, long)) in
     let eight : 0 + length (take 8 x) ≡ 8 = omega (arith, ap length all, long) in
     ap (λ (k : ℕ). take k p) (sym eight) ∙ g ∙ all ∙ qx
@@ -107,7 +112,8 @@ header-put o p x e n c h qx g =
 
 -- the whole file
 pub file-put : (f p q s : List ℕ) (e w v n a b m t : ℕ) → a ≡ rowStart v n → b ≡ rowStart w n → m ≡ length f - rowStart w n → length s ≤ a + m
-    → t ≡ carried w v n (length f) → take 8 p ≡ bytes 2 e ++ (bytes 2 n ++ bytes 4 t) → take (rowStart v n) q ≡ take 8 p ++ movedRows w v f n n → take (a + m) s ≡ take a q ++ stretch f b m
+    → t ≡ carried w v n (length f) → take 8 p ≡ bytes 2 e ++ (bytes 2 n ++ bytes 4 t) → take (rowStart v n) q ≡ take 8 p ++ movedRows w v f n n
+    → take (a + m) s ≡ take a q ++ stretch f b m
     → s ≡ movedFrom e w v f n
 unfolding movedFrom movedHeader
 file-put f p q s e w v n a b m t qa qb qm l qt eh er eb =

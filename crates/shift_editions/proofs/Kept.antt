@@ -41,13 +41,16 @@ module _ (e w v : ℕ) (f : List ℕ) (n : ℕ) (t : TableIn w f n) (broad : 32 
 
   pub edition-is : e < 256 ^ 2 → editionOf file ≡ e
   unfolding movedHeader
-  edition-is h = word-stretch 2 file 0 (omega (arith, long)) ∙ ap value (head-part 0 2 (omega arith) ∙ at-front (bytes 2 e) (bytes 2 n ++ bytes 4 (carried w v n (length f))) 2 (length-bytes 2 e)) ∙ value-bytes 2 e h
+  edition-is h =
+      word-stretch 2 file 0 (omega (arith, long)) ∙ ap value (head-part 0 2 (omega arith)
+      ∙ at-front (bytes 2 e) (bytes 2 n ++ bytes 4 (carried w v n (length f))) 2 (length-bytes 2 e)) ∙ value-bytes 2 e h
 
   pub count-is : n < 256 ^ 2 → countOf file ≡ n
   unfolding movedHeader
   count-is h =
       word-stretch 2 file 2 (omega (arith, long))
-      ∙ ap value (head-part 2 2 (omega arith) ∙ in-second (bytes 2 e) (bytes 2 n ++ bytes 4 (carried w v n (length f))) 2 0 2 (length-bytes 2 e) ∙ at-front (bytes 2 n) (bytes 4 (carried w v n (length f))) 2 (length-bytes 2 n))
+      ∙ ap value (head-part 2 2 (omega arith) ∙ in-second (bytes 2 e) (bytes 2 n ++ bytes 4 (carried w v n (length f))) 2 0 2 (length-bytes 2 e)
+      ∙ at-front (bytes 2 n) (bytes 4 (carried w v n (length f))) 2 (length-bytes 2 n))
       ∙ value-bytes 2 n h
 
   pub total-is : carried w v n (length f) < 256 ^ 4 → totalOf file ≡ carried w v n (length f)
@@ -55,7 +58,8 @@ module _ (e w v : ℕ) (f : List ℕ) (n : ℕ) (t : TableIn w f n) (broad : 32 
   total-is h =
       let c = carried w v n (length f) in
       word-stretch 4 file 4 (omega (arith, long))
-      ∙ ap value (head-part 4 4 (omega arith) ∙ in-second (bytes 2 e) (bytes 2 n ++ bytes 4 c) 2 2 4 (length-bytes 2 e) ∙ in-second (bytes 2 n) (bytes 4 c) 2 0 4 (length-bytes 2 n) ∙ whole c)
+      ∙ ap value (head-part 4 4 (omega arith) ∙ in-second (bytes 2 e) (bytes 2 n ++ bytes 4 c) 2 2 4 (length-bytes 2 e)
+      ∙ in-second (bytes 2 n) (bytes 4 c) 2 0 4 (length-bytes 2 n) ∙ whole c)
       ∙ value-bytes 4 c h
     where
       whole : (c : ℕ) → stretch (bytes 4 c) 0 4 ≡ bytes 4 c
@@ -103,21 +107,32 @@ module _ (e w v : ℕ) (f : List ℕ) (n : ℕ) (t : TableIn w f n) (broad : 32 
     old-rest-fits = omega (arith, old-fits, t .broad)
 
     -- the row, with its offset carried
-    pub row-is : carried w v n (rowAt w f i .«ad_at») < 256 ^ 4 → rowAt v file i ≡ (let r = rowAt w f i in record { job = r .job; suite = r .suite; key = r .key; «ad_len» = r .«ad_len»; «ad_at» = carried w v n (r .«ad_at»); «text_len» = r .«text_len» })
+    pub row-is : carried w v n (rowAt w f i .«ad_at») < 256 ^ 4 → rowAt v file i
+        ≡ (let r = rowAt w f i in record {
+          job = r .job;
+          suite = r .suite;
+          key = r .key;
+          «ad_len» = r .«ad_len»;
+          «ad_at» = carried w v n (r .«ad_at»);
+          «text_len» = r .«text_len»;
+        })
     unfolding rowAt
     row-is h =
         let p = restStart v i in
         let q = restStart w i in
         let job : word 4 file (rowStart v i) ≡ word 4 f (rowStart w i) =
-        word-stretch 4 file (rowStart v i) (omega (arith, row-fits)) ∙ ap value job-part ∙ sym (word-stretch 4 f (rowStart w i) (omega (arith, old-fits, t .broad))) in
+        word-stretch 4 file (rowStart v i) (omega (arith, row-fits)) ∙ ap value job-part
+        ∙ sym (word-stretch 4 f (rowStart w i) (omega (arith, old-fits, t .broad))) in
         let suite : getD file p 0 ≡ getD f q 0 =
-        ap (λ (j : ℕ). getD file j 0) (sym (add-zero p)) ∙ byte-in f file q p 4 (omega (arith, old-rest-fits)) (omega (arith, rest-fits)) field-part 0 (omega arith) ∙ ap (λ (j : ℕ). getD f j 0) (add-zero q) in
+        ap (λ (j : ℕ). getD file j 0) (sym (add-zero p)) ∙ byte-in f file q p 4 (omega (arith, old-rest-fits)) (omega (arith, rest-fits)) field-part 0
+        (omega arith) ∙ ap (λ (j : ℕ). getD f j 0) (add-zero q) in
         let key = byte-in f file q p 4 (omega (arith, old-rest-fits)) (omega (arith, rest-fits)) field-part 1 (omega arith) in
         let ad = word-in f file q p 4 (omega (arith, old-rest-fits)) (omega (arith, rest-fits)) field-part 2 2 (omega arith) in
         let at : word 4 file (p + 4) ≡ carried w v n (word 4 f (q + 4)) =
         word-stretch 4 file (p + 4) (omega (arith, rest-fits)) ∙ ap value offset-part ∙ value-bytes 4 (carried w v n (rowAt w f i .«ad_at»)) h in
         let len : word 4 file (p + 8) ≡ word 4 f (q + 8) =
-        ap (λ (j : ℕ). word 4 file j) (sym (add-zero (p + 8))) ∙ word-in f file (q + 8) (p + 8) 20 (omega (arith, old-rest-fits)) (omega (arith, rest-fits)) rest-part 0 4 (omega arith) ∙ ap (λ (j : ℕ). word 4 f j) (add-zero (q + 8)) in
+        ap (λ (j : ℕ). word 4 file j) (sym (add-zero (p + 8))) ∙ word-in f file (q + 8) (p + 8) 20 (omega (arith, old-rest-fits))
+        (omega (arith, rest-fits)) rest-part 0 4 (omega arith) ∙ ap (λ (j : ℕ). word 4 f j) (add-zero (q + 8)) in
         λ s. record { job = job s; suite = suite s; key = key s; «ad_len» = ad s; «ad_at» = at s; «text_len» = len s }
 
     pub nonce-is : nonceAt v file i ≡ nonceAt w f i

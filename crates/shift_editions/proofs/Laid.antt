@@ -116,7 +116,8 @@ module _ (w v : ℕ) (f : List ℕ) (n : ℕ) (t : TableIn w f n) (broad : 32 �
       ap (take v) (drop-at (movedRows w v f n k) (movedRow w v f n k) (v * i) e)
       ∙ take-all v (movedRow w v f n k) (omega (arith, row-long k h))
       ∙ ap (movedRow w v f n) (sym q))
-      (λ m. in-first (movedRows w v f n k) (movedRow w v f n k) (v * i) v (omega (arith, rows-long k (omega arith), mul-suc v i, mul-le-mul-left v m)) ∙ rows-at k i m (omega arith))
+      (λ m. in-first (movedRows w v f n k) (movedRow w v f n k) (v * i) v (omega (arith, rows-long k (omega arith), mul-suc v i, mul-le-mul-left v m))
+      ∙ rows-at k i m (omega arith))
       (eq-or-lt-of-le (le-of-suc-le-suc l))
 
   module _ (e : ℕ) where
@@ -124,7 +125,14 @@ module _ (w v : ℕ) (f : List ℕ) (n : ℕ) (t : TableIn w f n) (broad : 32 �
     unfolding movedHeader
     header-long =
         let c = carried w v n (length f) in
-        omega (arith, length-append (bytes 2 e) (bytes 2 n ++ bytes 4 c), length-append (bytes 2 n) (bytes 4 c), length-bytes 2 e, length-bytes 2 n, length-bytes 4 c)
+        omega (
+          arith,
+          length-append (bytes 2 e) (bytes 2 n ++ bytes 4 c),
+          length-append (bytes 2 n) (bytes 4 c),
+          length-bytes 2 e,
+          length-bytes 2 n,
+          length-bytes 4 c,
+        )
 
     pub file-row : (i : ℕ) → i < n → stretch (movedFrom e w v f n) (rowStart v i) v ≡ movedRow w v f n i
     unfolding movedFrom rowStart

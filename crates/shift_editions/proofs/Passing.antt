@@ -14,7 +14,8 @@ use Rattle.cipher.specs.Cipher.{nonceOf}
 use Rattle.shift_format.specs.declared.row.Row.{Row}
 use Rattle.shift_format.specs.Format.{editionOf, countOf, totalOf, rowSize, rowSizeOf, rowStart, rowAt, nonceAt, nonceReadAt, bodyEnd}
 use Rattle.status.specs.Answers.{answer}
-use Rattle.shift_check.specs.Check.{outside, notAbove, badSuite, badLength, bodyStart, misplaced, unreadSet, clash, nonceSeen, badData, bodyNumber, rowNumber, endAnswer, rowsFrom, headNumber, checkBetween, checkAs}
+use Rattle.shift_check.specs.Check.{outside, notAbove, badSuite, badLength, bodyStart, misplaced, unreadSet, clash, nonceSeen, badData, bodyNumber, rowNumber}
+use Rattle.shift_check.specs.Check.{endAnswer, rowsFrom, headNumber, checkBetween, checkAs}
 use Rattle.shift_format.specs.Inside.{TableIn}
 use Rattle.shift_check.proofs.Searches.{first-none}
 use Rattle.shift_check.proofs.Passed.{Walked}
@@ -117,7 +118,8 @@ module _ (e w v : ℕ) (f : List ℕ) (n : ℕ) (t : TableIn w f n) (broad : 32 
       let r = rowAt w f i in
       let d = body-from e w v f n t broad (r .«ad_at») (low i l) in
       ap (badData file) (row i l)
-      ∙ ap₂ (λ (a b : ℕ). not (eqb a (r .job)) || not (eqb b 1 || eqb b 2)) (word-from f file 4 (carried w v n (r .«ad_at»)) (r .«ad_at») d) (byte-from f file (carried w v n (r .«ad_at»)) (r .«ad_at») 4 d)
+      ∙ ap₂ (λ (a b : ℕ). not (eqb a (r .job)) || not (eqb b 1 || eqb b 2)) (word-from f file 4 (carried w v n (r .«ad_at»)) (r .«ad_at») d)
+      (byte-from f file (carried w v n (r .«ad_at»)) (r .«ad_at») 4 d)
 
   number-same : (i : ℕ) → i < n → rowNumber v file n i ≡ rowNumber w f n i
   unfolding rowNumber bodyNumber

@@ -150,7 +150,12 @@ back-short f z =
     let p = passes newest newest f z in
     let n = countOf f in
     let m : rowSize firstEdition * n ≤ rowSizeOf f * n = rw one-size (mul-le-mul-right n (row-broad (editionOf f))) in
-    omega (arith, file-long (rowSizeOf f) (rowSize firstEdition) f n (p .head .table) (row-broad firstEdition) firstEdition, p .head .short, p .head .table .fits)
+    omega (
+      arith,
+      file-long (rowSizeOf f) (rowSize firstEdition) f n (p .head .table) (row-broad firstEdition) firstEdition,
+      p .head .short,
+      p .head .table .fits,
+    )
 
 -- from rows of 32 bytes to rows of 36 every place after the table rises by 4n, and from 36 to 32 it falls by that
 carried-up : (w v n x : ℕ) → w ≡ 32 → v ≡ 36 → rowStart w n ≤ x → carried w v n x ≡ x + 4 * n
@@ -177,13 +182,15 @@ pub up-passes : UpPasses
 unfolding toEdition2
 up-passes f out₀ z =
     let d = up-goes f (length out₀) z in
-    ap (λ (x : List ℕ). checkAs newest x .number) (ap outOf (up-is f out₀ (d .zero))) ∙ ap numberOf (new-passes firstEdition newest one two f (d .passed) (d .room .short))
+    ap (λ (x : List ℕ). checkAs newest x .number) (ap outOf (up-is f out₀ (d .zero)))
+    ∙ ap numberOf (new-passes firstEdition newest one two f (d .passed) (d .room .short))
 
 pub back-passes : BackPasses
 unfolding toEdition1
 back-passes f out₀ z =
     let d = back-goes f (length out₀) z .0 in
-    ap (λ (x : List ℕ). checkAs firstEdition x .number) (ap outOf (back-is f out₀ (d .zero))) ∙ ap numberOf (new-passes newest firstEdition two one f (d .passed) (d .room .short))
+    ap (λ (x : List ℕ). checkAs firstEdition x .number) (ap outOf (back-is f out₀ (d .zero)))
+    ∙ ap numberOf (new-passes newest firstEdition two one f (d .passed) (d .room .short))
 
 pub there-and-back : ThereAndBack
 unfolding toEdition2
@@ -217,7 +224,8 @@ up-rises f out₀ z =
     let short = d .room .short in
     let n = countOf f in
     let t = ok firstEdition newest one two f p .head in
-    let up : (x : ℕ) → rowStart (rowSizeOf f) n ≤ x → carried (rowSizeOf f) (rowSize newest) n x ≡ x + 4 * n = λ x h. carried-up (rowSizeOf f) (rowSize newest) n x (ap rowSize (own firstEdition newest one two f p) ∙ one-size) two-size h in
+    let up : (x : ℕ) → rowStart (rowSizeOf f) n ≤ x → carried (rowSizeOf f) (rowSize newest) n x
+    ≡ x + 4 * n = λ x h. carried-up (rowSizeOf f) (rowSize newest) n x (ap rowSize (own firstEdition newest one two f p) ∙ one-size) two-size h in
     rw (ap outOf (up-is f out₀ (d .zero))) (record {
       count = new-count firstEdition newest one two f p;
       long = file-long (rowSizeOf f) (rowSize newest) f n (t .table) (row-broad newest) newest ∙ up (length f) (t .table .fits);
@@ -236,14 +244,17 @@ back-falls f out₀ z =
     let g = moved firstEdition f in
     let t = ok newest firstEdition two one f p .head in
     let many : countOf g ≡ n = new-count newest firstEdition two one f p in
-    let down : (x : ℕ) → rowStart (rowSizeOf f) n ≤ x → x ≡ carried (rowSizeOf f) (rowSize firstEdition) n x + 4 * n = λ x h. carried-down (rowSizeOf f) (rowSize firstEdition) n x (ap rowSize (own newest firstEdition two one f p) ∙ two-size) one-size h in
+    let down : (x : ℕ) → rowStart (rowSizeOf f) n ≤ x → x ≡ carried (rowSizeOf f) (rowSize firstEdition) n x + 4 * n = λ x h. carried-down (rowSizeOf f)
+    (rowSize firstEdition) n x (ap rowSize (own newest firstEdition two one f p) ∙ two-size) one-size h in
     rw (ap outOf (back-is f out₀ (d .zero))) (record {
       count = sym many;
-      long = down (length f) (t .table .fits) ∙ ap₂ (λ (x y : ℕ). x + 4 * y) (sym (file-long (rowSizeOf f) (rowSize firstEdition) f n (t .table) (row-broad firstEdition) firstEdition)) (sym many);
+      long = down (length f) (t .table .fits) ∙ ap₂ (λ (x y : ℕ). x + 4 * y)
+          (sym (file-long (rowSizeOf f) (rowSize firstEdition) f n (t .table) (row-broad firstEdition) firstEdition)) (sym many);
       total = t .total ∙ down (length f) (t .table .fits) ∙ ap₂ (λ (x y : ℕ). x + 4 * y) (sym (new-total newest firstEdition two one f p short)) (sym many);
       offset = λ i l.
           let m : i < n = rw many at l in
-          down (rowOf f i .«ad_at») (old-offset newest firstEdition two one f p short i m) ∙ ap₂ (λ (x y : ℕ). x + 4 * y) (sym (new-offset newest firstEdition two one f p short i m)) (sym many);
+          down (rowOf f i .«ad_at») (old-offset newest firstEdition two one f p short i m)
+          ∙ ap₂ (λ (x y : ℕ). x + 4 * y) (sym (new-offset newest firstEdition two one f p short i m)) (sym many);
       bodies = sym (new-bodies newest firstEdition two one f p short);
     })
 

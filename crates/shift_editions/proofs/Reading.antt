@@ -38,7 +38,8 @@ use Rattle.shift_editions.proofs.Promised.{new-row-size, new-count, new
 
 -- a row, its body carried
 abbrev carriedRow : ℕ → ℕ → ℕ → Row → Row
-carriedRow w v n r = record { job = r .job; suite = r .suite; key = r .key; «ad_len» = r .«ad_len»; «ad_at» = carried w v n (r .«ad_at»); «text_len» = r .«text_len» }
+carriedRow w v n r =
+    record { job = r .job; suite = r .suite; key = r .key; «ad_len» = r .«ad_len»; «ad_at» = carried w v n (r .«ad_at»); «text_len» = r .«text_len» }
 
 -- both pass, and every row of g is that of f, but for where its body lies
 pub record Alike (f g : List ℕ) : Type 0 where
@@ -91,7 +92,8 @@ module _ (f g : List ℕ) (h : Alike f g) where
         let a : r .«ad_at» + r .«ad_len» + r .«text_len» ≡ r .«ad_at» + (r .«ad_len» + r .«text_len») = omega arith in
         let b : s .«ad_at» + (s .«ad_len» + s .«text_len») ≡ s .«ad_at» + s .«ad_len» + s .«text_len» = omega arith in
         ap (λ (k : ℕ). stretch g k (sizeOf (r .suite))) a
-        ∙ part (r .«ad_len» + r .«text_len») (s .«ad_len» + s .«text_len») (sizeOf (r .suite)) (sizeOf (s .suite)) (ap₂ (λ (x y : ℕ). x + y) (h .extra i l) (h .len i l)) (ap sizeOf (h .suite i l))
+        ∙ part (r .«ad_len» + r .«text_len») (s .«ad_len» + s .«text_len») (sizeOf (r .suite)) (sizeOf (s .suite))
+        (ap₂ (λ (x y : ℕ). x + y) (h .extra i l) (h .len i l)) (ap sizeOf (h .suite i l))
         ∙ ap (λ (k : ℕ). stretch f k (sizeOf (s .suite))) b
 
     opener-same : (ring out : List ℕ) → entryOpening g ring i out ≡ entryOpening f ring i out
@@ -114,7 +116,8 @@ module _ (f g : List ℕ) (h : Alike f g) where
       i = lookupJob f job .row
 
       data-case : (b : Bool) → eqb (lookupJob f job .number) 0 ≡ b
-          → stretch g (cond b (rowOf g i .«ad_at») 0) (cond b (rowOf g i .«ad_len») 0) ≡ stretch f (cond b (rowOf f i .«ad_at») 0) (cond b (rowOf f i .«ad_len») 0)
+          → stretch g (cond b (rowOf g i .«ad_at») 0) (cond b (rowOf g i .«ad_len») 0)
+          ≡ stretch f (cond b (rowOf f i .«ad_at») 0) (cond b (rowOf f i .«ad_len») 0)
       data-case true e = data-same i (within job e)
       data-case false e = refl
 
@@ -124,7 +127,8 @@ module _ (f g : List ℕ) (h : Alike f g) where
       ap (λ (y : Answer). cond (eqb (y .number) 0) (rowOpening g ring (y .row) out) (left y out)) (found job) ∙ row-case (eqb (lookupJob f job .number) 0) refl
     where
       row-case : (b : Bool) → eqb (lookupJob f job .number) 0 ≡ b
-          → cond b (rowOpening g ring (lookupJob f job .row) out) (left (lookupJob f job) out) ≡ cond b (rowOpening f ring (lookupJob f job .row) out) (left (lookupJob f job) out)
+          → cond b (rowOpening g ring (lookupJob f job .row) out) (left (lookupJob f job) out)
+          ≡ cond b (rowOpening f ring (lookupJob f job .row) out) (left (lookupJob f job) out)
       row-case true e = row-opened (lookupJob f job .row) (within job e) ring out
       row-case false e = refl
 
@@ -133,7 +137,8 @@ module _ (f g : List ℕ) (h : Alike f g) where
 
 -- ---- the moved file
 
-module _ (a b : ℕ) (la : firstEdition ≤ a) (ma : a ≤ newest) (lb : firstEdition ≤ b) (mb : b ≤ newest) (f : List ℕ) (out : ℕ) (x : Answer) (d : Goes a b f out x) where
+module _ (a b : ℕ) (la : firstEdition ≤ a) (ma : a ≤ newest) (lb : firstEdition ≤ b) (mb : b ≤ newest) (f : List ℕ) (out : ℕ) (x : Answer)
+    (d : Goes a b f out x) where
   wa : a < 256 ^ 2
   wa = omega arith
 
@@ -175,7 +180,8 @@ module _ (a b : ℕ) (la : firstEdition ≤ a) (ma : a ≤ newest) (lb : firstEd
         extra = λ i l. ap (λ (r : Row). r .«ad_len») (carries i l);
         len = λ i l. ap (λ (r : Row). r .«text_len») (carries i l);
         nonce = λ i l. ap (λ (k : ℕ). nonceReadAt k g i) wide ∙ reads b w v f n t broad (p .walk) small i l;
-        body = λ i l. ap (λ (r : Row). drop (r .«ad_at») g) (carries i l) ∙ body-from b w v f n t broad (rowAt w f i .«ad_at») (low b w v f n t broad (p .walk) small i l);
+        body = λ i l. ap (λ (r : Row). drop (r .«ad_at») g) (carries i l)
+            ∙ body-from b w v f n t broad (rowAt w f i .«ad_at») (low b w v f n t broad (p .walk) small i l);
       }
 
   -- and row by row, stations and whole nonces too
@@ -204,7 +210,8 @@ unfolding toEdition2
 up-keeps f out₀ z =
     let d = up-goes f (length out₀) z in
     rw (ap outOf (up-is f out₀ (d .zero)))
-    (rows-kept firstEdition newest (lit≤ tt) (lit≤ tt) (lit≤ tt) (lit≤ tt) f (length out₀) _ d (one-none f (d .passed)) (new-none firstEdition newest one two f (d .passed)))
+    (rows-kept firstEdition newest (lit≤ tt) (lit≤ tt) (lit≤ tt) (lit≤ tt) f (length out₀) _ d (one-none f (d .passed))
+    (new-none firstEdition newest one two f (d .passed)))
 
 pub back-keeps : BackKeeps
 unfolding toEdition1
@@ -218,10 +225,12 @@ pub up-reads : UpReads
 unfolding toEdition2
 up-reads f out₀ z =
     let d = up-goes f (length out₀) z in
-    rw (ap outOf (up-is f out₀ (d .zero))) (same-read f (moved newest f) (alike firstEdition newest (lit≤ tt) (lit≤ tt) (lit≤ tt) (lit≤ tt) f (length out₀) _ d))
+    rw (ap outOf (up-is f out₀ (d .zero))) (same-read f (moved newest f)
+    (alike firstEdition newest (lit≤ tt) (lit≤ tt) (lit≤ tt) (lit≤ tt) f (length out₀) _ d))
 
 pub back-reads : BackReads
 unfolding toEdition1
 back-reads f out₀ z =
     let d = back-goes f (length out₀) z .0 in
-    rw (ap outOf (back-is f out₀ (d .zero))) (same-read f (moved firstEdition f) (alike newest firstEdition (lit≤ tt) (lit≤ tt) (lit≤ tt) (lit≤ tt) f (length out₀) _ d))
+    rw (ap outOf (back-is f out₀ (d .zero))) (same-read f (moved firstEdition f)
+    (alike newest firstEdition (lit≤ tt) (lit≤ tt) (lit≤ tt) (lit≤ tt) f (length out₀) _ d))

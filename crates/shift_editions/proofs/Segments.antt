@@ -61,7 +61,8 @@ part-from : (f g : List ℕ) (m a b : ℕ) → drop a g ≡ drop b f → part m 
 part-from f g zero a b e = refl
 part-from f g (suc m) a b e =
     ap₂ (λ (x : ℕ) (l : List ℕ). x ∷ l)
-    (ap (λ (k : ℕ). getD g k 0) (sym (add-zero a)) ∙ sym (getD-drop a g 0 0) ∙ ap (λ (l : List ℕ). getD l 0 0) e ∙ getD-drop b f 0 0 ∙ ap (λ (k : ℕ). getD f k 0) (add-zero b))
+    (ap (λ (k : ℕ). getD g k 0) (sym (add-zero a)) ∙ sym (getD-drop a g 0 0) ∙ ap (λ (l : List ℕ). getD l 0 0) e ∙ getD-drop b f 0 0
+    ∙ ap (λ (k : ℕ). getD f k 0) (add-zero b))
     (part-from f g m (a + 1) (b + 1) (sym (drop-drop 1 a g) ∙ ap (drop 1) e ∙ drop-drop 1 b f))
 
 pub word-from : (f g : List ℕ) (m a b : ℕ) → drop a g ≡ drop b f → word m g a ≡ word m f b

@@ -19,7 +19,10 @@ impl Moved {
         match self {
             Moved::Done => Answer { number: 0, row: 0 },
             Moved::Refused(refusal) => refusal.answer(),
-            Moved::Station(i) => Answer { number: 35, row: i },
+            Moved::Station(row) => Answer {
+                number: 35,
+                row: row,
+            },
             Moved::Room => Answer { number: 6, row: 0 },
         }
     }

@@ -27,7 +27,8 @@ ghost use Rattle.block.specs.Bytes.{bytes};
 ghost use Rattle.shift_format.specs.Format.{rowSizeOf};
 ghost use Rattle.shift_format.specs.Inside.{TableIn};
 ghost use Rattle.shift_editions.specs.Files.{carried, movedFrom, moved};
-ghost use Rattle.shift_editions.specs.Answers.{movedAnswer, stationsFrom, lengthAnswer, movedLength, upAnswer, backAnswer, FileMoved, toEdition2, toEdition1};
+ghost use Rattle.shift_editions.specs.Answers.{movedAnswer, stationsFrom, lengthAnswer, movedLength, upAnswer, backAnswer, FileMoved};
+ghost use Rattle.shift_editions.specs.Answers.{toEdition2, toEdition1};
 ghost use Rattle.shift_editions.specs.Inside.{Movable, Tabled, Source, Room};
 
 // Writes the header: edition, row count, and the output's own length.

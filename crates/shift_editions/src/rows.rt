@@ -30,7 +30,8 @@ fn offset(from: usize, to: usize, file: &[u8], rows: usize, index: usize) -> u32
 // Writes the job number of a row and, if the new edition has stations, a station of 0.
 fn put_job(out: &mut [u8], from: usize, to: usize, file: &[u8], rows: usize, index: usize)
     requires { ⌜ Movable from to (now file) rows × ((index < rows) × (rowStart to rows ≤ length (now out))) ⌝ }
-    ensures { λ _. ⌜ take (restStart to index) (now (out .exit)) ≡ take (rowStart to index) (now (out .entry)) ++ (stretch (now (file .entry)) (rowStart from index) 4 ++ replicate (to - 32) 0) ⌝ }
+    ensures { λ _. ⌜ take (restStart to index) (now (out .exit)) ≡ take (rowStart to index)
+        (now (out .entry)) ++ (stretch (now (file .entry)) (rowStart from index) 4 ++ replicate (to - 32) 0) ⌝ }
 {
     let start = row_start(to, index);
     let old_start = row_start(from, index);
@@ -41,7 +42,9 @@ fn put_job(out: &mut [u8], from: usize, to: usize, file: &[u8], rows: usize, ind
 // Writes the rest of a row.
 fn put_rest(out: &mut [u8], from: usize, to: usize, file: &[u8], rows: usize, index: usize)
     requires { ⌜ Movable from to (now file) rows × ((index < rows) × (rowStart to rows ≤ length (now out))) ⌝ }
-    ensures { λ _. ⌜ take (restStart to index + 28) (now (out .exit)) ≡ take (restStart to index) (now (out .entry)) ++ (stretch (now (file .entry)) (restStart from index) 4 ++ (bytes 4 (carried from to rows (rowAt from (now (file .entry)) index .«ad_at»)) ++ stretch (now (file .entry)) (restStart from index + 8) 20)) ⌝ }
+    ensures { λ _. ⌜ take (restStart to index + 28) (now (out .exit)) ≡ take (restStart to index)
+        (now (out .entry)) ++ (stretch (now (file .entry)) (restStart from index)
+        4 ++ (bytes 4 (carried from to rows (rowAt from (now (file .entry)) index .«ad_at»)) ++ stretch (now (file .entry)) (restStart from index + 8) 20)) ⌝ }
 {
     let start = rest_start(to, index);
     let old_start = rest_start(from, index);
@@ -54,7 +57,8 @@ fn put_rest(out: &mut [u8], from: usize, to: usize, file: &[u8], rows: usize, in
 // Writes a row.
 fn put_row(out: &mut [u8], from: usize, to: usize, file: &[u8], rows: usize, index: usize)
     requires { ⌜ Movable from to (now file) rows × ((index < rows) × (rowStart to rows ≤ length (now out))) ⌝ }
-    ensures { λ _. ⌜ take (rowStart to (index + 1)) (now (out .exit)) ≡ take (rowStart to index) (now (out .entry)) ++ movedRow from to (now (file .entry)) rows index ⌝ }
+    ensures { λ _. ⌜ take (rowStart to (index + 1)) (now (out .exit)) ≡ take (rowStart to index) (now (out .entry)) ++ movedRow from to
+        (now (file .entry)) rows index ⌝ }
 {
     put_job(out, from, to, file, rows, index);
     put_rest(out, from, to, file, rows, index);

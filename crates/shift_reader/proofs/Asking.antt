@@ -109,7 +109,8 @@ others-rows r (suc k) m e q =
     let g : nextOf r ≡ record { reader = record { src = r .src; place = moved (r .place) }; entry = Row (listedOf (now (r .src)) (r .place .at)) } =
     ap (made (r .src)) (going (r .place) (now (r .src)) e l) in
     rw c (ap₂ (λ (a : NextRow) (t : List NextRow). a ∷ t) (ap (λ (x : Asked). x .entry) g)
-    (ap (λ (x : Asked). asks (k + m) (x .reader)) g ∙ rw add-one (others-rows (record { src = r .src; place = record { at = suc (r .place .at); end = r .place .end } }) k m e (omega arith))))
+    (ap (λ (x : Asked). asks (k + m) (x .reader)) g ∙ rw add-one (others-rows
+    (record { src = r .src; place = record { at = suc (r .place .at); end = r .place .end } }) k m e (omega arith))))
 
 pub others-ended : OthersEnded
 others-ended r m h = ⊎-elim (λ l. stuck r (past (r .place) (now (r .src)) l) m) (λ n. stuck r (other (r .place) (now (r .src)) n) m) h

@@ -29,7 +29,8 @@ use Rattle.shift_reader.specs.declared.Reader.{Reader}
 use Rattle.shift_reader.specs.declared.Asked.{Asked}
 use Rattle.shift_reader.specs.declared.contents.RowFields.{RowFields}
 use Rattle.shift_reader.specs.Reading.{rowsLaid, listedOf, readerOf, nextOf, asks}
-use Rattle.shift_reader.specs.Contents.{headStatus, noHeader, headerOf, headerAnswer, noFields, fieldsOf, rowAnswer, rowAnswers, asFields, entryFrom, HeaderGiven, RowsAsRead, RowGiven, RowAsEntry}
+use Rattle.shift_reader.specs.Contents.{headStatus, noHeader, headerOf, headerAnswer, noFields, fieldsOf, rowAnswer, rowAnswers, asFields, entryFrom}
+use Rattle.shift_reader.specs.Contents.{HeaderGiven, RowsAsRead, RowGiven, RowAsEntry}
 use Rattle.shift_reader.proofs.Asking.{laid-all, both-all, moved, going, made, others-ended}
 
 abbrev numberOf : Answer → ℕ
@@ -84,13 +85,16 @@ abbrev onward : Reader → Reader
 onward r = record { src = r .src; place = record { at = suc (r .place .at); end = r .place .end } }
 
 -- one row, and what comes after it
-one-on : (r : Reader) (k : ℕ) → headStatus (now (r .src)) ≡ 0 → r .place .end ≡ rowsLaid (now (r .src)) → (b : Bool) → ltb (r .place .at) (rowsLaid (now (r .src))) ≡ b
-    → rowAnswers (now (r .src)) (suc (r .place .at)) k ≡ map asFields (asks k (onward r)) → rowAnswers (now (r .src)) (r .place .at) (suc k) ≡ map asFields (asks (suc k) r)
+one-on : (r : Reader) (k : ℕ) → headStatus (now (r .src)) ≡ 0 → r .place .end ≡ rowsLaid (now (r .src)) → (b : Bool)
+    → ltb (r .place .at) (rowsLaid (now (r .src))) ≡ b
+    → rowAnswers (now (r .src)) (suc (r .place .at)) k ≡ map asFields (asks k (onward r))
+    → rowAnswers (now (r .src)) (r .place .at) (suc k) ≡ map asFields (asks (suc k) r)
 unfolding rowAnswers asks
 one-on r k z e true t next =
     let f = now (r .src) in
     let l : r .place .at < rowsLaid f = ltb-true _ _ t in
-    let g : nextOf r ≡ record { reader = record { src = r .src; place = moved (r .place) }; entry = Row (listedOf f (r .place .at)) } = ap (made (r .src)) (going (r .place) f e l) in
+    let g : nextOf r ≡ record { reader = record { src = r .src; place = moved (r .place) }; entry = Row (listedOf f (r .place .at)) } = ap (made (r .src))
+    (going (r .place) f e l) in
     ap₂ (λ (a : RowFields) (t : List RowFields). a ∷ t)
     (row-goes f (r .place .at) z (omega (arith, l, laid-all f z)) ∙ sym (ap (λ (x : Asked). asFields (x .entry)) g))
     (sym (ap (λ (x : Asked). map asFields (asks k (x .reader))) g ∙ rw add-one (sym next)))
@@ -99,7 +103,8 @@ one-on r k z e false t next =
     let h : rowsLaid f ≤ r .place .at = ltb-false _ _ t in
     past-rows f (suc k) (r .place .at) z (omega (arith, h, laid-all f z)) ∙ ap (map asFields) (sym (others-ended r (suc k) (inl h)))
 
-read-on : (k : ℕ) (r : Reader) → headStatus (now (r .src)) ≡ 0 → r .place .end ≡ rowsLaid (now (r .src)) → rowAnswers (now (r .src)) (r .place .at) k ≡ map asFields (asks k r)
+read-on : (k : ℕ) (r : Reader) → headStatus (now (r .src)) ≡ 0 → r .place .end ≡ rowsLaid (now (r .src))
+    → rowAnswers (now (r .src)) (r .place .at) k ≡ map asFields (asks k r)
 unfolding rowAnswers asks
 read-on zero r z e = refl
 read-on (suc k) r z e = one-on r k z e (ltb (r .place .at) (rowsLaid (now (r .src)))) refl (read-on k (onward r) z e)

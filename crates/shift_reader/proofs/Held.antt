@@ -26,7 +26,8 @@ two 𝓤 x y z =
 
 -- where the definition's value is told, two outcomes tell the same
 held : {M : Type 1} (𝓤 : URA M) (T : Ended) (c : Clauses 𝓤 T) {X : Type 0}
-    (told : (κs : Lfts (T .signature .lifetimes)) → Res (T .signature) κs → AtExit T κs → X) (meant : (κs : Lfts (T .signature .lifetimes)) → Args (T .signature) κs → X)
+    (told : (κs : Lfts (T .signature .lifetimes)) → Res (T .signature) κs → AtExit T κs → X)
+    (meant : (κs : Lfts (T .signature .lifetimes)) → Args (T .signature) κs → X)
     → ((κs : Lfts (T .signature .lifetimes)) (a : Args (T .signature) κs) → (g : c κs a .ghost) × ((P : SProp 𝓤) → ent 𝓤 P (c κs a .requires g)))
     → ((κs : Lfts (T .signature .lifetimes)) (a : Args (T .signature) κs) (g : c κs a .ghost) (x : Res (T .signature) κs) (u : AtExit T κs)
     → ent 𝓤 (c κs a .ensures g x u) (fact 𝓤 (told κs x u ≡ meant κs a)))
@@ -35,7 +36,8 @@ held 𝓤 T c told meant asks is = record {
   asks-nothing = asks;
   is-meant = is;
   one-outcome = λ κs a g x y u v.
-      via 𝓤 (sep 𝓤 (fact 𝓤 (told κs x u ≡ meant κs a)) (fact 𝓤 (told κs y v ≡ meant κs a))) (mono∗ 𝓤 (is κs a g x u) (is κs a g y v)) (two 𝓤 (told κs x u) (told κs y v) (meant κs a));
+      via 𝓤 (sep 𝓤 (fact 𝓤 (told κs x u ≡ meant κs a)) (fact 𝓤 (told κs y v ≡ meant κs a))) (mono∗ 𝓤 (is κs a g x u) (is κs a g y v))
+      (two 𝓤 (told κs x u) (told κs y v) (meant κs a));
 }
 
 module _ {M : Type 1} (𝓤 : URA M) (H : Heap 𝓤) (A : Atoms 𝓤) (mem : Memory → SProp 𝓤) (run : Routine → Fun 𝓤) where
@@ -46,4 +48,6 @@ module _ {M : Type 1} (𝓤 : URA M) (H : Heap 𝓤) (A : Atoms 𝓤) (mem : Mem
   next = held 𝓤 next-of.ended (next-of.clauses 𝓤 H A mem run) (λ κs x u. x) (λ κs a. nextOf (a .0)) (λ κs a. (tt, top 𝓤)) (λ κs a g x u. id⊢ 𝓤 _)
 
   pub step-at : Held 𝓤 step-at-of.ended (step-at-of.clauses 𝓤 H A mem run) (λ κs x u. x) (λ κs a. askOf (a .1 .0) (now (a .0)))
-  step-at = held 𝓤 step-at-of.ended (step-at-of.clauses 𝓤 H A mem run) (λ κs x u. x) (λ κs a. askOf (a .1 .0) (now (a .0))) (λ κs a. (tt, top 𝓤)) (λ κs a g x u. id⊢ 𝓤 _)
+  step-at =
+      held 𝓤 step-at-of.ended (step-at-of.clauses 𝓤 H A mem run) (λ κs x u. x) (λ κs a. askOf (a .1 .0) (now (a .0))) (λ κs a. (tt, top 𝓤))
+      (λ κs a g x u. id⊢ 𝓤 _)

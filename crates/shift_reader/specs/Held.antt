@@ -10,7 +10,8 @@ use denote.Triple.Clauses.{Ended, Clauses, AtExit}
 
 -- `told` is what a caller sees of a result and the parameters at exit, `meant` the definition's value for the arguments
 pub record Held {M : Type 1} (𝓤 : URA M) (T : Ended) (c : Clauses 𝓤 T) {X : Type 0}
-    (told : (κs : Lfts (T .signature .lifetimes)) → Res (T .signature) κs → AtExit T κs → X) (meant : (κs : Lfts (T .signature .lifetimes)) → Args (T .signature) κs → X) : Type 2 where
+    (told : (κs : Lfts (T .signature .lifetimes)) → Res (T .signature) κs → AtExit T κs → X)
+    (meant : (κs : Lfts (T .signature .lifetimes)) → Args (T .signature) κs → X) : Type 2 where
   -- it has no precondition: what is required always holds
   pub asks-nothing : (κs : Lfts (T .signature .lifetimes)) (a : Args (T .signature) κs) → (g : c κs a .ghost) × ((P : SProp 𝓤) → ent 𝓤 P (c κs a .requires g))
   -- what is ensured is that the caller sees the definition's value

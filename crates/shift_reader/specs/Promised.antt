@@ -13,7 +13,9 @@ use Rattle.shift_reader.specs.Reading.{rowsLaid, readerOf, asks, listedF
 
 -- on a file that passes the check: the table's rows in order, each once, and then that it has ended, as often as it is called
 abbrev pub RowsThenEnded : Type 0
-RowsThenEnded = (s : RefT (List ℕ)) (m : ℕ) → checkFile (now s) .number ≡ 0 → asks (countOf (now s) + m) (readerOf s) ≡ listedFrom (now s) 0 (countOf (now s)) ++ replicate m Ended
+RowsThenEnded =
+    (s : RefT (List ℕ)) (m : ℕ) → checkFile (now s) .number ≡ 0 → asks (countOf (now s) + m) (readerOf s)
+    ≡ listedFrom (now s) 0 (countOf (now s)) ++ replicate m Ended
 
 -- on any other it has ended at once
 abbrev pub EndedAtOnce : Type 0

@@ -70,11 +70,16 @@ module _ (f ring jobs numbers : List ℕ) where
         numbers-short l = simp (le-ltb longest (length f) short, z, r, lt-ltb (length numbers) (countOf f) l, or-true)
 
         pub all-said : countOf f ≤ length jobs → countOf f ≤ length numbers
-            → reporting f ring jobs numbers ≡ record { said = entries (countOf f); jobs = front (jobOf f) (countOf f) jobs; numbers = front (tagNumber f ring) (countOf f) numbers }
+            → reporting f ring jobs numbers ≡ record {
+              said = entries (countOf f);
+              jobs = front (jobOf f) (countOf f) jobs;
+              numbers = front (tagNumber f ring) (countOf f) numbers;
+            }
         unfolding reporting
         all-said a b = simp (le-ltb longest (length f) short, z, r, le-ltb (length jobs) (countOf f) a, le-ltb (length numbers) (countOf f) b)
 
         -- both lists are filled
-        pub all-listed : (n : ℕ) (x y : List ℕ) → n ≡ countOf f → n ≤ length jobs → n ≤ length numbers → x ≡ front (jobOf f) n jobs → y ≡ front (tagNumber f ring) n numbers
+        pub all-listed : (n : ℕ) (x y : List ℕ) → n ≡ countOf f → n ≤ length jobs → n ≤ length numbers → x ≡ front (jobOf f) n jobs
+            → y ≡ front (tagNumber f ring) n numbers
             → _≡_ {A = Report} (record { said = entries n; jobs = x; numbers = y }) (reporting f ring jobs numbers)
         all-listed n x y q a b p o = rw (p, o, q) (sym (all-said (rw q at a) (rw q at b)))

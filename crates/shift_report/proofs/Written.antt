@@ -30,18 +30,23 @@ unfolding checkBetween rowsFrom endAnswer
 zero-row e f z =
     let w = passes e e f z .walk in
     both-zero (answer (headNumber e e f) 0) (rowsFrom (rowSizeOf f) f (countOf f) 0) z .1
-    ∙ first-none (λ j. not (eqb (rowNumber (rowSizeOf f) f (countOf f) j) 0)) (λ j. answer (rowNumber (rowSizeOf f) f (countOf f) j) j) (endAnswer (rowSizeOf f) f (countOf f)) (countOf f) (λ j l. simp (w .zeros j l))
+    ∙ first-none (λ j. not (eqb (rowNumber (rowSizeOf f) f (countOf f) j) 0)) (λ j. answer (rowNumber (rowSizeOf f) f (countOf f) j) j)
+    (endAnswer (rowSizeOf f) f (countOf f)) (countOf f) (λ j l. simp (w .zeros j l))
     ∙ simp (eq-eqb _ _ (w .ends))
 
 answered : (draft ring out₀ : List ℕ) → fileSealing draft ring out₀ .answer ≡ sealAnswer draft (length ring) (length out₀)
 unfolding fileSealing
 answered draft ring out₀ = refl
 
-genuine : (draft ring out₀ : List ℕ) → AllBytes draft → AllBytes ring → fileSealing draft ring out₀ .answer .number ≡ 0 → Genuine (fileSealing draft ring out₀ .out) ring × (length ring ≡ 256)
+genuine : (draft ring out₀ : List ℕ) → AllBytes draft → AllBytes ring → fileSealing draft ring out₀ .answer .number ≡ 0
+    → Genuine (fileSealing draft ring out₀ .out) ring × (length ring ≡ 256)
 genuine draft ring out₀ d r z =
     let s = sealable draft (length ring) (length out₀) (sym (ap (λ (x : Answer). x .number) (answered draft ring out₀)) ∙ z) in
-    let v : Valid draft = record { checked = zero-row draftEdition draft (s .passed); zeros = s .zeros } in
-    (sealed-then-unsealed draft ring out₀ draft (record { file-bytes = d; ring-bytes = r; ring-long = s .room .ring-long }) (s .room .out-long) refl v (s .all-seal) .1, s .room .ring-long)
+    let v : Valid draft = record { checked = zero-row draftEdition draft (s .passed); zeros = s .zeros } in (
+      sealed-then-unsealed draft ring out₀ draft (record { file-bytes = d; ring-bytes = r; ring-long = s .room .ring-long }) (s .room .out-long) refl v
+          (s .all-seal) .1,
+      s .room .ring-long,
+    )
 
 right-zero : (file ring : List ℕ) → Genuine file ring → (i : ℕ) → i < countOf file → tagNumber file ring i ≡ 0
 unfolding tagNumber tagRight
@@ -53,4 +58,5 @@ writer-reported draft ring out₀ jobs numbers d r z short a b =
     let g = genuine draft ring out₀ d r z in
     let n = countOf file in
     all-said file ring jobs numbers short (wider firstEdition file (lit≤ tt) (lit≤ tt) (ap (λ (x : Answer). x .number) (g .0 .checked))) (g .1) a b
-    ∙ ap (λ (l : List ℕ). record { said = entries n; jobs = front (jobOf file) n jobs; numbers = l ++ drop n numbers }) (each-same (tagNumber file ring) (λ i. 0) n (right-zero file ring (g .0)))
+    ∙ ap (λ (l : List ℕ). record { said = entries n; jobs = front (jobOf file) n jobs; numbers = l ++ drop n numbers })
+    (each-same (tagNumber file ring) (λ i. 0) n (right-zero file ring (g .0)))

@@ -23,4 +23,8 @@ WriterReported =
     (draft ring out₀ jobs numbers : List ℕ) → AllBytes draft → AllBytes ring → fileSealing draft ring out₀ .answer .number ≡ 0 →
     let file : List ℕ = fileSealing draft ring out₀ .out in
     length file ≤ longest → countOf file ≤ length jobs → countOf file ≤ length numbers
-    → reporting file ring jobs numbers ≡ record { said = entries (countOf file); jobs = front (jobOf file) (countOf file) jobs; numbers = front (λ i. 0) (countOf file) numbers }
+    → reporting file ring jobs numbers ≡ record {
+      said = entries (countOf file);
+      jobs = front (jobOf file) (countOf file) jobs;
+      numbers = front (λ i. 0) (countOf file) numbers;
+    }

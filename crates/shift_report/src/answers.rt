@@ -21,10 +21,10 @@ pub enum Reported {
 }
 
 // A refusal of the file.
-fn refused(x: Refusal) -> ReportSummary
-    ensures { λ r. ⌜ r ≡ refuses (refusalAnswer x) ⌝ }
+fn refused(refusal: Refusal) -> ReportSummary
+    ensures { λ r. ⌜ r ≡ refuses (refusalAnswer refusal) ⌝ }
 {
-    let answer = x.answer();
+    let answer = refusal.answer();
     ReportSummary {
         number: answer.number,
         row: answer.row,
@@ -37,10 +37,10 @@ impl Reported {
         ensures { λ r. ⌜ r ≡ saidOf self ⌝ }
     {
         match self {
-            Reported::Entries(n) => ReportSummary {
+            Reported::Entries(count) => ReportSummary {
                 number: 0,
                 row: 0,
-                count: n,
+                count: count,
             },
             Reported::Refused(refusal) => refused(refusal),
             Reported::Ring => ReportSummary {

@@ -19,7 +19,8 @@ fn tag_number(file: &[u8], ring: &[u8], index: usize, row: Row) -> u8
 // Lists all entries, from the front of both lists on; a wrong tag does not stop it.
 pub(crate) fn list_all(file: &[u8], ring: &[u8], rows: usize, jobs: &mut [u32], numbers: &mut [u8])
     requires { ⌜ Listable (now file) (now ring) rows (now jobs) (now numbers) ⌝ }
-    ensures { λ _. ⌜ (now (jobs .exit) ≡ front (jobOf (now (file .entry))) rows (now (jobs .entry))) × (now (numbers .exit) ≡ front (tagNumber (now (file .entry)) (now (ring .entry))) rows (now (numbers .entry))) ⌝ }
+    ensures { λ _. ⌜ (now (jobs .exit) ≡ front (jobOf (now (file .entry))) rows (now (jobs .entry)))
+        × (now (numbers .exit) ≡ front (tagNumber (now (file .entry)) (now (ring .entry))) rows (now (numbers .entry))) ⌝ }
 {
     let mut i: usize = 0;
     while i < rows {

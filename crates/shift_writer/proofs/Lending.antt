@@ -20,7 +20,8 @@ use Rattle.shift_draft.specs.Answers.{tagRight}
 use Rattle.shift_draft.proofs.Takes.{as-done, open-done}
 
 -- a row's body lies in the file
-pub body-fits : (f : List ℕ) (i : ℕ) (r : Row) → EntryIn (rowSizeOf f) f i → r ≡ rowOf f i → r .«ad_at» + r .«ad_len» + r .«text_len» + sizeOf (r .suite) ≤ length f
+pub body-fits : (f : List ℕ) (i : ℕ) (r : Row) → EntryIn (rowSizeOf f) f i → r ≡ rowOf f i
+    → r .«ad_at» + r .«ad_len» + r .«text_len» + sizeOf (r .suite) ≤ length f
 unfolding bodyEnd
 body-fits f i r h q = rw q (h .body-in)
 
@@ -38,11 +39,13 @@ module _ (f ring : List ℕ) (i : ℕ) (h : EntryIn (rowSizeOf f) f i) (g : leng
     pub done : m ≡ 0 → (true ≡ tagRight f ring i) × (x ≡ entryOut true f ring i)
     pub wrong : 0 < m → false ≡ tagRight f ring i
 
-  pub open-told : (m : ℕ) (x o : List ℕ) → length o ≡ rowOf f i .«text_len» → _≡_ {A = Opened} (record { number = m; out = x }) (entryOpening f ring i o) → OpenTold m x
+  pub open-told : (m : ℕ) (x o : List ℕ) → length o ≡ rowOf f i .«text_len» → _≡_ {A = Opened} (record { number = m; out = x }) (entryOpening f ring i o)
+      → OpenTold m x
   open-told m x o l e = told (tagRight f ring i) refl (e ∙ open-done f ring i h g o l)
     where
       told : (b : Bool) → tagRight f ring i ≡ b → _≡_ {A = Opened} (record { number = m; out = x }) (openedAs 0 b (entryOut true f ring i) o) → OpenTold m x
-      told true t p = record { done = λ z. (sym t, ap (λ (w : Opened). w .out) p); wrong = λ l. absurd (let z = ap (λ (w : Opened). w .number) p in omega arith) }
+      told true t p =
+          record { done = λ z. (sym t, ap (λ (w : Opened). w .out) p); wrong = λ l. absurd (let z = ap (λ (w : Opened). w .number) p in omega arith) }
       told false t p = record { done = λ z. absurd (let y = ap (λ (w : Opened). w .number) p in omega arith); wrong = λ l. sym t }
 
 -- ---- parts of a list
@@ -68,7 +71,8 @@ put-over out x y a b e h k l lx ly =
     let m = putMid a (b - a) out x in
     let s1 : e ≡ b + (e - b) = omega arith in
     let s2 : b + (e - b) ≡ a + length y = omega arith in
-    let d : drop e m ≡ drop (a + length y) out = ap (λ (j : ℕ). drop j m) s1 ∙ sym (drop-drop (e - b) b m) ∙ ap (drop (e - b)) (drop-put a b out x h (omega arith) lx) ∙ drop-drop (e - b) b out ∙ ap (λ (j : ℕ). drop j out) s2 in
+    let d : drop e m ≡ drop (a + length y) out = ap (λ (j : ℕ). drop j m) s1 ∙ sym (drop-drop (e - b) b m)
+    ∙ ap (drop (e - b)) (drop-put a b out x h (omega arith) lx) ∙ drop-drop (e - b) b out ∙ ap (λ (j : ℕ). drop j out) s2 in
     ap₂ (λ (u v : List ℕ). u ++ (y ++ v)) (take-put a (b - a) out x (omega arith)) (post-is a e m (omega arith) ∙ d)
 
 -- two, one after the other
@@ -86,14 +90,16 @@ put-two out x y a b e h k l lx ly =
     let s3 : e ≡ a + length (x ++ y) = omega (arith, length-append x y) in
     let dq : d ≡ drop b out = drop-drop (b - a) a out ∙ ap (λ (j : ℕ). drop j out) s1 in
     let t : take b m ≡ w = ap (take b) assoc ∙ take-at w d b lw in
-    let r : drop (e - b) (drop b m) ≡ drop e out = ap (drop (e - b)) (ap (drop b) assoc ∙ drop-at w d b lw ∙ dq) ∙ drop-drop (e - b) b out ∙ ap (λ (j : ℕ). drop j out) s2 in
+    let r : drop (e - b) (drop b m) ≡ drop e out = ap (drop (e - b)) (ap (drop b) assoc ∙ drop-at w d b lw ∙ dq) ∙ drop-drop (e - b) b out
+    ∙ ap (λ (j : ℕ). drop j out) s2 in
     ap₂ (λ (u v : List ℕ). u ++ (y ++ v)) t r
     ∙ append-assoc (take a out) x (y ++ drop e out)
     ∙ ap (λ (v : List ℕ). take a out ++ v) (sym (append-assoc x y (drop e out)))
     ∙ ap (λ (j : ℕ). take a out ++ ((x ++ y) ++ drop j out)) s3
 
 -- and there is nothing else
-pub put-both : (out x y : List ℕ) (b e : ℕ) → b ≤ e → length out ≡ e → length x ≡ b - 0 → length y ≡ e - b → putMid b (e - b) (putMid 0 (b - 0) out x) y ≡ x ++ y
+pub put-both : (out x y : List ℕ) (b e : ℕ) → b ≤ e → length out ≡ e → length x ≡ b - 0 → length y ≡ e - b
+    → putMid b (e - b) (putMid 0 (b - 0) out x) y ≡ x ++ y
 unfolding put
 put-both out x y b e h lo lx ly =
     let w = x ++ y in
@@ -106,12 +112,14 @@ put-both out x y b e h lo lx ly =
 -- ---- the piece of row i, where it starts
 
 module _ (f ring : List ℕ) (i : ℕ) (r : Row) (q : r ≡ rowOf f i) (out : List ℕ) where
-  pub row-sealed : (text : List ℕ) → text ≡ textOf f r → put out (r .«ad_at» + r .«ad_len») (pieceAs f ring i (r .suite) text) ≡ put out (pieceStart f i) (sealedPiece f ring i)
+  pub row-sealed : (text : List ℕ) → text ≡ textOf f r → put out (r .«ad_at» + r .«ad_len») (pieceAs f ring i (r .suite) text)
+      ≡ put out (pieceStart f i) (sealedPiece f ring i)
   unfolding pieceStart sealedPiece entryOut entryTag
   row-sealed text e =
       ap (λ (v : List ℕ). put out (r .«ad_at» + r .«ad_len») (pieceAs f ring i (r .suite) v)) e
       ∙ ap (λ (s : Row). put out (s .«ad_at» + s .«ad_len») (pieceAs f ring i (s .suite) (textOf f s))) q
 
-  pub row-opened : (x y : List ℕ) → x ≡ entryOut true f ring i → y ≡ replicate (sizeOf (r .suite)) 0 → put out (r .«ad_at» + r .«ad_len») (x ++ y) ≡ put out (pieceStart f i) (draftPiece f ring i)
+  pub row-opened : (x y : List ℕ) → x ≡ entryOut true f ring i → y ≡ replicate (sizeOf (r .suite)) 0
+      → put out (r .«ad_at» + r .«ad_len») (x ++ y) ≡ put out (pieceStart f i) (draftPiece f ring i)
   unfolding pieceStart draftPiece
   row-opened x y ex ey = λ t. put out (q t .«ad_at» + q t .«ad_len») (ex t ++ (ey ∙ ap (λ (s : Row). replicate (sizeOf (s .suite)) 0) q) t)

@@ -39,7 +39,14 @@ writtenOf x =
 written-back : (x : Written) → writtenOf (writtenAnswer x) ≡ x
 written-back written.Done = refl
 written-back (written.Refused x) =
-    simp (ne-eqb _ _ (refusal-some x), unlike x 2 (inl (lit< tt)), unlike x 6 (inl (lit< tt)), unlike x 8 (inl (lit< tt)), unlike x 10 (inl (lit< tt)), unlike x 33 (inr (lit< tt)))
+    simp (
+      ne-eqb _ _ (refusal-some x),
+      unlike x 2 (inl (lit< tt)),
+      unlike x 6 (inl (lit< tt)),
+      unlike x 8 (inl (lit< tt)),
+      unlike x 10 (inl (lit< tt)),
+      unlike x 33 (inr (lit< tt)),
+    )
     (ap written.Refused (refusal-back x))
 written-back (written.TagSet i) = refl
 written-back (written.Retired i) = refl

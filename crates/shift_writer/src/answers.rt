@@ -22,11 +22,20 @@ impl Written {
         match self {
             Written::Done => Answer { number: 0, row: 0 },
             Written::Refused(refusal) => refusal.answer(),
-            Written::TagSet(i) => Answer { number: 33, row: i },
-            Written::Retired(i) => Answer { number: 10, row: i },
+            Written::TagSet(row) => Answer {
+                number: 33,
+                row: row,
+            },
+            Written::Retired(row) => Answer {
+                number: 10,
+                row: row,
+            },
             Written::Ring => Answer { number: 2, row: 0 },
             Written::Room => Answer { number: 6, row: 0 },
-            Written::Forged(i) => Answer { number: 8, row: i },
+            Written::Forged(row) => Answer {
+                number: 8,
+                row: row,
+            },
         }
     }
 }

@@ -74,7 +74,8 @@ fn unseal_refused(file: &[u8], ring: usize, out: usize) -> Written
 
 // Seals a draft into an output of its length: the checks, 33, 10, 2, 6.
 pub fn seal_file(draft: &[u8], ring: &[u8], out: &mut [u8]) -> Written
-    ensures { λ r. ⌜ _≡_ {A = FileWritten} (record { answer = writtenAnswer r; out = now (out .exit) }) (fileSealing (now (draft .entry)) (now (ring .entry)) (now (out .entry))) ⌝ }
+    ensures { λ r. ⌜ _≡_ {A = FileWritten} (record { answer = writtenAnswer r; out = now (out .exit) })
+        (fileSealing (now (draft .entry)) (now (ring .entry)) (now (out .entry))) ⌝ }
 {
     let refused = seal_refused(draft, ring.len(), out.len());
     let Written::Done = refused else {
@@ -88,7 +89,8 @@ pub fn seal_file(draft: &[u8], ring: &[u8], out: &mut [u8]) -> Written
 
 // Restores the draft of a sealed file: the checks, 2, 6, 8.
 pub fn unseal_file(file: &[u8], ring: &[u8], out: &mut [u8]) -> Written
-    ensures { λ r. ⌜ _≡_ {A = FileWritten} (record { answer = writtenAnswer r; out = now (out .exit) }) (fileUnsealing (now (file .entry)) (now (ring .entry)) (now (out .entry))) ⌝ }
+    ensures { λ r. ⌜ _≡_ {A = FileWritten} (record { answer = writtenAnswer r; out = now (out .exit) })
+        (fileUnsealing (now (file .entry)) (now (ring .entry)) (now (out .entry))) ⌝ }
 {
     let refused = unseal_refused(file, ring.len(), out.len());
     let Written::Done = refused else {

@@ -33,7 +33,8 @@ pub(crate) fn put_edition(edition: u16, out: &mut [u8])
 // Seals row i of a draft at its offset in the output, after copying its text there.
 fn seal_entry(file: &[u8], ring: &[u8], index: usize, out: &mut [u8])
     requires { ⌜ RowWritable (now file) index (now ring) (now out) × Seals (rowOf (now file) index .suite) ⌝ }
-    ensures { λ _. ⌜ now (out .exit) ≡ put (now (out .entry)) (pieceStart (now (file .entry)) index) (sealedPiece (now (file .entry)) (now (ring .entry)) index) ⌝ }
+    ensures { λ _. ⌜ now (out .exit) ≡ put (now (out .entry)) (pieceStart (now (file .entry)) index)
+        (sealedPiece (now (file .entry)) (now (ring .entry)) index) ⌝ }
 {
     let row = row_of(file, index);
     let len = row.text_len as usize;
@@ -61,7 +62,8 @@ pub(crate) fn seal_rows(file: &[u8], rows: usize, ring: &[u8], out: &mut [u8])
 fn unseal_entry(file: &[u8], ring: &[u8], index: usize, out: &mut [u8]) -> bool
     requires { ⌜ RowWritable (now file) index (now ring) (now out) ⌝ }
     ensures right { λ r. ⌜ r ≡ tagRight (now (file .entry)) (now (ring .entry)) index ⌝ }
-    ensures text { λ r. ⌜ (r ≡ true → now (out .exit) ≡ put (now (out .entry)) (pieceStart (now (file .entry)) index) (draftPiece (now (file .entry)) (now (ring .entry)) index)) ⌝ }
+    ensures text { λ r. ⌜ (r ≡ true → now (out .exit) ≡ put (now (out .entry)) (pieceStart (now (file .entry)) index)
+        (draftPiece (now (file .entry)) (now (ring .entry)) index)) ⌝ }
 {
     let row = row_of(file, index);
     let len = row.text_len as usize;
@@ -81,7 +83,8 @@ fn unseal_entry(file: &[u8], ring: &[u8], index: usize, out: &mut [u8]) -> bool
 pub(crate) fn unseal_rows(file: &[u8], rows: usize, ring: &[u8], out: &mut [u8]) -> Written
     requires { ⌜ Writable (now file) rows (now ring) (now out) ⌝ }
     ensures { λ r. ⌜ _≡_ {A = FileWritten} (record { answer = writtenAnswer r; out = now (out .exit) })
-        (leaves (wrongFrom (now (file .entry)) (now (ring .entry)) rows 0) (putAll (pieceStart (now (file .entry))) (draftPiece (now (file .entry)) (now (ring .entry))) rows (now (out .entry))) (now (out .entry))) ⌝ }
+        (leaves (wrongFrom (now (file .entry)) (now (ring .entry)) rows 0)
+        (putAll (pieceStart (now (file .entry))) (draftPiece (now (file .entry)) (now (ring .entry))) rows (now (out .entry))) (now (out .entry))) ⌝ }
 {
     let mut i: usize = 0;
     while i < rows {

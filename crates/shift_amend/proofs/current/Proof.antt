@@ -32,7 +32,8 @@ returns-2 : tie.Need-returns-2
 returns-2 c =
     let l = c .before .before .before .before .before .before .before in
     let a = l .before .before .before .args in
-    day-handed (a .amendment) (a .day) (a .job) (l .locate .result) (l .locate .ensures) _ (c .before .before .before .before .before .if1 .left) (c .before .if2 .taken) (c .stretch2 .ensures .0)
+    day-handed (a .amendment) (a .day) (a .job) (l .locate .result) (l .locate .ensures) _ (c .before .before .before .before .before .if1 .left)
+    (c .before .if2 .taken) (c .stretch2 .ensures .0)
 
 stretch-requires-3 : tie.Need-stretch-requires-3
 stretch-requires-3 c κs =
@@ -44,7 +45,8 @@ returns-3 : tie.Need-returns-3
 returns-3 c =
     let l = c .before .before .before .before .before .before .before in
     let a = l .before .before .before .args in
-    amendment-handed (a .amendment) (a .day) (a .job) (l .locate .result) (l .locate .ensures) _ (c .before .before .before .before .before .if1 .left) (c .before .if2 .left) (c .stretch3 .ensures .0)
+    amendment-handed (a .amendment) (a .day) (a .job) (l .locate .result) (l .locate .ensures) _ (c .before .before .before .before .before .if1 .left)
+    (c .before .if2 .left) (c .stretch3 .ensures .0)
 
 pub current-spec : {M : Type 1} → statement M
 current-spec =

@@ -25,10 +25,14 @@ enum-told : tie.Need-enum-told
 enum-told c = search needs
 
 count-requires : tie.Need-count-requires
-count-requires c κs = source newest (now (c .before .before .before .before .args .file)) (passed-zero _ _ (c .enum-told .given .1) (c .before .before .check-as .ensures)) .tabled .long
+count-requires c κs =
+    source newest (now (c .before .before .before .before .args .file)) (passed-zero _ _ (c .enum-told .given .1)
+    (c .before .before .check-as .ensures)) .tabled .long
 
 first-station-requires : tie.Need-first-station-requires
-first-station-requires c κs = rw (c .count .ensures) (source newest (now (c .before .before .before .before .before .args .file)) (passed-zero _ _ (c .before .enum-told .given .1) (c .before .before .before .check-as .ensures)) .tabled .table)
+first-station-requires c κs =
+    rw (c .count .ensures) (source newest (now (c .before .before .before .before .before .args .file))
+    (passed-zero _ _ (c .before .enum-told .given .1) (c .before .before .before .check-as .ensures)) .tabled .table)
 
 enum-told-2 : tie.Need-enum-told-2
 enum-told-2 c = search needs
@@ -44,7 +48,8 @@ returns-2 c =
 length-in-requires : tie.Need-length-in-requires
 length-in-requires c κs =
     let h = c .before .before .before .before .before .before in
-    source newest (now (h .before .before .args .file)) (passed-zero _ _ (c .before .before .before .before .enum-told .given .1) (h .check-as .ensures)) .tabled
+    source newest (now (h .before .before .args .file)) (passed-zero _ _ (c .before .before .before .before .enum-told .given .1)
+    (h .check-as .ensures)) .tabled
 
 length-refused-requires : tie.Need-length-refused-requires
 length-refused-requires c κs = search needs
@@ -58,7 +63,8 @@ returns-3 c =
     let f = now (a .file) in
     let z = passed-zero _ _ (first .before .before .enum-told .given .1) (h .check-as .ensures) in
     let none : stationsFrom f (countOf f) 0 ≡ answer 0 0 =
-    sym (first .first-station .ensures ∙ ap (λ (k : ℕ). stationsFrom f k 0) (first .before .count .ensures)) ∙ ap movedAnswer (c .before .before .enum-told2 .given .1) in
+    sym (first .first-station .ensures ∙ ap (λ (k : ℕ). stationsFrom f k 0) (first .before .count .ensures))
+    ∙ ap movedAnswer (c .before .before .enum-told2 .given .1) in
     simp (z, none) (c .length-refused .ensures ∙ ap (λ (k : ℕ). lengthAnswer k (a .out)) (c .before .length-in .ensures))
 
 pub back-refused-spec : {M : Type 1} → statement M

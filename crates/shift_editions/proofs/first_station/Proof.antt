@@ -24,7 +24,9 @@ station-of-requires c κs = search (needs, row-in)
 
 returns : tie.Need-returns Inv-loop μ-loop
 unfolding stationsFrom
-returns c = sym (c .before .before .before .loop .inv .1 ∙ first-hit _ _ _ _ _ (c .before .before .loop-test .taken) (simp (← c .before .station-of .ensures, ne-eqb _ _ (c .if1 .taken))))
+returns c =
+    sym (c .before .before .before .loop .inv .1 ∙ first-hit _ _ _ _ _ (c .before .before .loop-test .taken)
+    (simp (← c .before .station-of .ensures, ne-eqb _ _ (c .if1 .taken))))
 
 add-i : tie.Need-add-i Inv-loop μ-loop
 add-i c = search needs
@@ -34,7 +36,11 @@ loop-less c = search needs
 
 loop-again : tie.Need-loop-again Inv-loop μ-loop
 unfolding stationsFrom
-loop-again c = (omega arith, c .before .before .before .loop .inv .1 ∙ first-skip _ _ _ _ _ (c .before .before .loop-test .taken) (simp (← c .before .station-of .ensures, eq-eqb _ _ (c .if1 .left))))
+loop-again c = (
+  omega arith,
+  c .before .before .before .loop .inv .1 ∙ first-skip _ _ _ _ _ (c .before .before .loop-test .taken)
+      (simp (← c .before .station-of .ensures, eq-eqb _ _ (c .if1 .left))),
+)
 
 returns-2 : tie.Need-returns-2 Inv-loop μ-loop
 unfolding stationsFrom

@@ -18,7 +18,8 @@ row-size-of-requires : tie.Need-row-size-of-requires
 row-size-of-requires c κs = search needs
 
 row-start-requires : tie.Need-row-start-requires
-row-start-requires c κs = let s = c .before .before .before in rw (c .row-size-of .ensures, c .before .count .ensures) (rows-small (editionOf (now (s .args .file))) _ (s .pre .few))
+row-start-requires c κs =
+    let s = c .before .before .before in rw (c .row-size-of .ensures, c .before .count .ensures) (rows-small (editionOf (now (s .args .file))) _ (s .pre .few))
 
 sub-result : tie.Need-sub-result
 sub-result c =
@@ -37,7 +38,8 @@ add-result : tie.Need-add-result
 add-result c =
     let s = c .before .before .before .before .before .before in
     let new : c .row-start2 .result < 1048576 =
-    rw (c .row-start2 .ensures, c .before .row-size .ensures, c .before .before .before .before .count .ensures) (table-small (s .args .edition) _ (s .pre .few)) in
+    rw (c .row-start2 .ensures, c .before .row-size .ensures, c .before .before .before .before .count .ensures)
+    (table-small (s .args .edition) _ (s .pre .few)) in
     omega (arith, new, s .pre .short)
 
 returns : tie.Need-returns
@@ -46,8 +48,10 @@ returns c =
     let s = c .before .before .before .before .before .before in
     let f = now (s .args .file) in
     let n = c .before .before .before .before .count .ensures in
-    let old : c .before .before .row-start .result ≡ rowStart (rowSizeOf f) (countOf f) = c .before .before .row-start .ensures ∙ (λ t. rowStart (c .before .before .before .row-size-of .ensures t) (n t)) in
-    let new : c .row-start2 .result ≡ rowStart (rowSize (s .args .edition)) (countOf f) = c .row-start2 .ensures ∙ (λ t. rowStart (c .before .row-size .ensures t) (n t)) in
+    let old : c .before .before .row-start .result ≡ rowStart (rowSizeOf f) (countOf f) = c .before .before .row-start .ensures
+    ∙ (λ t. rowStart (c .before .before .before .row-size-of .ensures t) (n t)) in
+    let new : c .row-start2 .result ≡ rowStart (rowSize (s .args .edition)) (countOf f) = c .row-start2 .ensures
+    ∙ (λ t. rowStart (c .before .row-size .ensures t) (n t)) in
     omega (arith, old, new, length-is f (s .args .edition) (s .pre))
 
 pub length-in-spec : {M : Type 1} → statement M

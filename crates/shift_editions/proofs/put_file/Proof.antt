@@ -20,7 +20,11 @@ put-header-requires c κs =
 
 put-rows-requires : tie.Need-put-rows-requires
 unfolding carried
-put-rows-requires c κs = let s = c .before .before .before .before .before .before .before in (s .pre .0, omega (arith, c .before .before .before .put-header .kept .0, s .pre .1 .1))
+put-rows-requires c κs =
+    let s = c .before .before .before .before .before .before .before in (
+      s .pre .0,
+      omega (arith, c .before .before .before .put-header .kept .0, s .pre .1 .1),
+    )
 
 row-start-requires : tie.Need-row-start-requires
 row-start-requires c κs = search needs
@@ -36,7 +40,14 @@ unfolding carried
 put-part-requires c κs =
     let s = c .before .before .before .before .before .before .before .before .before .before .before .before .before in
     let p = c .before .before .row-start .ensures in (
-      omega (arith, c .before .before .before .before .before .put-rows .kept .0, c .before .before .before .before .before .before .before .before .before .put-header .kept .0, c .row-start2 .ensures, p, s .pre .1 .1),
+      omega (
+        arith,
+        c .before .before .before .before .before .put-rows .kept .0,
+        c .before .before .before .before .before .before .before .before .before .put-header .kept .0,
+        c .row-start2 .ensures,
+        p,
+        s .pre .1 .1,
+      ),
       omega (arith, p, s .pre .0 .table .fits),
     )
 
@@ -54,7 +65,8 @@ returns c =
     let s = head .before .before .before .before in
     let x = s .args in
     let f = now (x .file) in
-    file-put f (head .put-header .last .0) (rows .put-rows .last .0) (body .put-part .last .0) (x .edition) (x .from) (x .to) (x .rows) (a .result) (b .result) (length f - b .result) (length (now (x .out)))
+    file-put f (head .put-header .last .0) (rows .put-rows .last .0) (body .put-part .last .0) (x .edition) (x .from) (x .to) (x .rows) (a .result) (b .result)
+    (length f - b .result) (length (now (x .out)))
     (a .ensures) (b .ensures) (ap (λ (t : ℕ). length f - t) (b .ensures))
     (omega (arith, body .put-part .kept .0, rows .put-rows .kept .0, head .put-header .kept .0, a .ensures, b .ensures, s .pre .1 .1)) (s .pre .1 .1)
     (head .put-header .ensures) (rows .put-rows .ensures) (body .put-part .ensures)

@@ -42,7 +42,8 @@ returns c =
     let put = c .before .before .put in
     let word = c .before .before .before .before .before .before in
     let a = word .before .before .args in
-    header-put (now (a .out)) (put .last .0) (word .store2-32 .result) (a .edition) (a .rows) (length (now (a .out))) (omega arith) (word .store2-32 .ensures) (put .ensures)
+    header-put (now (a .out)) (put .last .0) (word .store2-32 .result) (a .edition) (a .rows) (length (now (a .out))) (omega arith) (word .store2-32 .ensures)
+    (put .ensures)
 
 pub put-header-spec : {M : Type 1} → statement M
 put-header-spec =

@@ -24,7 +24,9 @@ enum-told : tie.Need-enum-told
 enum-told c = search needs
 
 length-in-requires : tie.Need-length-in-requires
-length-in-requires c κs = source firstEdition (now (c .before .before .before .before .args .file)) (passed-zero _ _ (c .enum-told .given .1) (c .before .before .check-as .ensures)) .tabled
+length-in-requires c κs =
+    source firstEdition (now (c .before .before .before .before .args .file))
+    (passed-zero _ _ (c .enum-told .given .1) (c .before .before .check-as .ensures)) .tabled
 
 length-refused-requires : tie.Need-length-refused-requires
 length-refused-requires c κs = search needs

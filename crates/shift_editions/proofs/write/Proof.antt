@@ -33,7 +33,8 @@ returns c =
     let n = c .before .before .before in
     let s = n .before .before .before .before .before .before in
     let f = now (s .args .file) in
-    c .before .before .put-file .ensures ∙ (λ t. movedFrom (s .args .edition) (n .before .before .row-size-of .ensures t) (n .before .row-size .ensures t) f (n .count .ensures t))
+    c .before .before .put-file .ensures ∙ (λ t. movedFrom (s .args .edition) (n .before .before .row-size-of .ensures t) (n .before .row-size .ensures t) f
+    (n .count .ensures t))
 
 pub write-spec : {M : Type 1} → statement M
 write-spec =

@@ -19,9 +19,11 @@ use ghost.Atoms.{Atoms, sem}
 use contract.Lifetimes.{Lfts}
 use contract.Monad.{Fun, fact}
 use contract.Running.{givenOf, tables, tablesOf}
-use types.Kit.{Given, ‵, raw, _⊛_, given, ⋆, some, later, _$_, _∵_, !, qed, by, move, keep, use1, use2, rewrite, split, join, learn, pick, fsplit, fjoin, suffices, frame, await, done}
+use types.Kit.{Given, ‵, raw, _⊛_, given, ⋆, some, later, _$_, _∵_, !, qed, by, move, keep, use1, use2, rewrite, split, join, learn, pick, fsplit, fjoin}
+use types.Kit.{suffices, frame, await, done}
 use types.Part.{agg, whole, sub, look-in}
-use types.Run.{look, init, forget, stop, fld, from, load, of-opd, and-then, no-more, assigns, land, returns, enter, alloc1, alloc0, params1, pass1, pass0, free1, free0}
+use types.Run.{look, init, forget, stop, fld, from, load, of-opd, and-then, no-more, assigns, land, returns, enter, alloc1, alloc0, params1, pass1, pass0}
+use types.Run.{free1, free0}
 use sound.WpLaws.{FmC, fmOf, WpFn-mono}
 use denote.RattleType.{RattleType, owns}
 use denote.Laws.{Is, shows}
@@ -76,7 +78,8 @@ stayed = (stay-none-slice (0 ∷ []) tt (plain (λ _. u8)) yes, (stay-none (λ _
 abbrev Next : {M : Type 1} (𝓤 : URA M) (H : Heap 𝓤) (A : Atoms 𝓤) (mem : Memory → SProp 𝓤) (run : Routine → Fun 𝓤) → Contract 𝓤
 Next 𝓤 H A mem run = tripleOf 𝓤 H A next.signature (next.spec 𝓤 H A mem run)
 
-module _ {M : Type 1} (𝓤 : URA M) (H : Heap 𝓤) (A : Atoms 𝓤) (W : Given 𝓤 H A) (mem : Memory → SProp 𝓤) (run : Routine → Fun 𝓤) (κ : Lft) (q : Share) (s : RefT (List ℕ)) (c : Cursor) where
+module _ {M : Type 1} (𝓤 : URA M) (H : Heap 𝓤) (A : Atoms 𝓤) (W : Given 𝓤 H A) (mem : Memory → SProp 𝓤) (run : Routine → Fun 𝓤) (κ : Lft) (q : Share)
+    (s : RefT (List ℕ)) (c : Cursor) where
   -- the lifetime as the signature has it, and as a local of a body has it
   abbrev α : NamedLft
   α = namedLft 1 0 tt (κ, tt)
@@ -122,7 +125,8 @@ module _ {M : Type 1} (𝓤 : URA M) (H : Heap 𝓤) (A : Atoms 𝓤) (W : Given
       use1 W (‵ (B (κ, tt) .own made (T′.lowered made ∷ []))) (own-shut 𝓤 H A W (T.the-type α) (T′.the-laws α) (s, (c, tt))) $
       -- [what the reader owns; what the parameters own; the token]
       nothing ! $ move ! (1 ∷ 0 ∷ []) $ fjoin ! $ move ! (2 ∷ 0 ∷ []) $
-      use2 W (raw (Next 𝓤 H A mem run .pre to)) (qed W ((‵ (flft κ q) ⊛ ‵ ftrue) ∷ ‵ (owns (B (κ, tt) ∷ []) (made, tt) (T′.lowered made ∷ [], tt)) ∷ []) ∵ join ! $ frame ! $ done !) $ frame ! $ done !
+      use2 W (raw (Next 𝓤 H A mem run .pre to)) (qed W ((‵ (flft κ q) ⊛ ‵ ftrue) ∷ ‵ (owns (B (κ, tt) ∷ []) (made, tt) (T′.lowered made ∷ [], tt)) ∷ []) ∵ join
+      ! $ frame ! $ done !) $ frame ! $ done !
 
   -- the step that is taken out of what `next` gave, and its machine value
   abbrev taken : Asked → Stepped
@@ -154,7 +158,8 @@ module _ {M : Type 1} (𝓤 : URA M) (H : Heap 𝓤) (A : Atoms 𝓤) (W : Given
       use1 W (given (whole-val t ∷ [] ≡ whole-val t ∷ []) (‵ (all-own (N.the-type α .parts) (N′.the-laws α) (t .reader, (t .entry, tt)))))
       (own-open 𝓤 H A W (N.the-type α) (N′.the-laws α) (t .reader, (t .entry, tt)) (whole-val t)) $ learn ! (λ _. fsplit ! $
       use1 W (given (part-val t ∷ [] ≡ part-val t ∷ []) (‵ (all-own (T.the-type α .parts) (T′.the-laws α) (t .reader .src, (t .reader .place, tt)))))
-      (own-open 𝓤 H A W (T.the-type α) (T′.the-laws α) (t .reader .src, (t .reader .place, tt)) (part-val t)) $ learn ! (λ _. fsplit ! $ move ! (1 ∷ []) $ fsplit ! $
+      (own-open 𝓤 H A W (T.the-type α) (T′.the-laws α) (t .reader .src, (t .reader .place, tt)) (part-val t)) $ learn !
+      (λ _. fsplit ! $ move ! (1 ∷ []) $ fsplit ! $
       -- [what place owns; nothing; what src owns; what entry owns]
       move ! (0 ∷ 3 ∷ []) $ fjoin ! $ keep ! (0 ∷ []) $ by ! (own-shut 𝓤 H A W S.the-type S′.the-laws (t .reader .place, (t .entry, tt)))))
 
@@ -164,10 +169,12 @@ module _ {M : Type 1} (𝓤 : URA M) (H : Heap 𝓤) (A : Atoms 𝓤) (W : Given
     walk p pc =
         qed W (raw (onEntry 𝓤 H A step-at.signature (κ, tt) (q, tt) (s, (c, tt)) at) ∷ []) ∵ enter ! Cs Λ code.function (v ∷ C′.lowered c ∷ []) _ $
         alloc1 ! (λ l₀. alloc1 ! (λ l₁. alloc1 ! (λ l₂. alloc1 !
-        (λ l₃. alloc1 ! (λ l₄. alloc1 ! (λ l₅. alloc1 ! (λ l₆. alloc0 ! $ params1 ! $ pass1 ! (init ! 10 refl (shr-slice-lawful 𝓤 H A W (named 0) κ u8 .typed s (v ∷ []) p .0)) $
+        (λ l₃. alloc1 ! (λ l₄. alloc1 !
+        (λ l₅. alloc1 ! (λ l₆. alloc0 ! $ params1 ! $ pass1 ! (init ! 10 refl (shr-slice-lawful 𝓤 H A W (named 0) κ u8 .typed s (v ∷ []) p .0)) $
         pass1 ! (init ! 8 refl (LL.lawful C.the-type C′.the-laws 𝓤 H A W .typed c _ pc .0)) $ pass0 ! $
         -- [room for _6; …; _5; …; _4; …; _3; …; _2; …; _1; …; room for _0; …; what is had at entry]
-        assigns ! (agg ! (and-then ! (load ! (from ! (stop !)) (look ! 10 refl)) (and-then ! (load ! (from ! (stop !)) (look ! 8 refl)) (no-more !)))) (from ! (stop !))
+        assigns ! (agg ! (and-then ! (load ! (from ! (stop !)) (look ! 10 refl)) (and-then ! (load ! (from ! (stop !)) (look ! 8 refl)) (no-more !))))
+        (from ! (stop !))
         (init ! 4 refl (LL.lawful (T.the-type αᵉ) (T′.the-laws αᵉ) 𝓤 H A W .typed made _ (LL.owes (T.the-type αᵉ) (T′.the-laws αᵉ) made (p, (pc, tt))) .0)) $
         move ! (14 ∷ []) $ use1 W (raw (Next 𝓤 H A mem run .pre to) ⊛ ‵ Kept) goes $ split ! $
         calls-at ! fm (Next 𝓤 H A mem run) known to (and-then ! (load ! (from ! (stop !)) (look ! 6 refl)) (no-more !)) (λ u.
@@ -186,9 +193,12 @@ module _ {M : Type 1} (𝓤 : URA M) (H : Heap 𝓤) (A : Atoms 𝓤) (W : Given
         (init ! 5 refl (LL.lawful C.the-type C′.the-laws 𝓤 H A W .typed (t .reader .place) _ (fields .1 .0) .0)) $
         assigns ! (of-opd ! (load ! (from ! (fld ! refl (stop !))) (look-in ! 9 (sub ! 1 refl (whole !))))) (from ! (stop !))
         (init ! 3 refl (EL.lawful E.the-type E′.the-laws 𝓤 H A W tt .typed (t .entry) _ (parts .1 .0) .0)) $
-        assigns ! (agg ! (and-then ! (load ! (from ! (stop !)) (look ! 5 refl)) (and-then ! (load ! (from ! (stop !)) (look ! 3 refl)) (no-more !)))) (from ! (stop !))
-        (init ! 15 refl (LL.lawful S.the-type S′.the-laws 𝓤 H A W .typed (taken t) _ (LL.owes S.the-type S′.the-laws (taken t) (fields .1 .0, (parts .1 .0, tt))) .0)) $
-        returns ! (look ! 15 refl) $ forget ! 3 refl $ forget ! 5 refl $ forget ! 7 refl $ forget ! 9 refl $ forget ! 11 refl $ forget ! 13 refl $ forget ! 15 refl $
+        assigns ! (agg ! (and-then ! (load ! (from ! (stop !)) (look ! 5 refl)) (and-then ! (load ! (from ! (stop !)) (look ! 3 refl)) (no-more !))))
+        (from ! (stop !))
+        (init ! 15 refl (LL.lawful S.the-type S′.the-laws 𝓤 H A W .typed (taken t) _
+        (LL.owes S.the-type S′.the-laws (taken t) (fields .1 .0, (parts .1 .0, tt))) .0)) $
+        returns ! (look ! 15 refl) $ forget ! 3 refl $ forget ! 5 refl $ forget ! 7 refl $ forget ! 9 refl $ forget ! 11 refl $ forget ! 13 refl $ forget ! 15
+        refl $
         move ! (15 ∷ 16 ∷ []) $ free1 ! $ move ! (13 ∷ 14 ∷ []) $ free1 ! $ move ! (11 ∷ 12 ∷ []) $ free1 ! $ move ! (9 ∷ 10 ∷ []) $ free1 ! $
         move ! (7 ∷ 8 ∷ []) $ free1 ! $ move ! (5 ∷ 6 ∷ []) $ free1 ! $ move ! (3 ∷ 4 ∷ []) $ free1 ! $ free0 ! $
         by ! (exits t e))))))))))))
@@ -214,4 +224,5 @@ step-at-spec 𝓤 H 𝓜 𝓖 𝓡 =
     entered 𝓤 H (tripleOf 𝓤 H (𝓖 .A) step-at.signature (step-at.spec 𝓤 H (𝓖 .A) (𝓜 .mem) (𝓡 .run)))
     (tables 𝓤 H 𝓜 𝓡 code.env .C) (tables 𝓤 H 𝓜 𝓡 code.env .Λ) #shift-reader·step-at code.function (code.unfolded 𝓤 H 𝓜 𝓡)
     (step-at-meets 𝓤 H (𝓖 .A) (givenOf 𝓤 H 𝓜 𝓖) (𝓜 .mem) (𝓡 .run) (tablesOf 𝓤 H 𝓜 (tables 𝓤 H 𝓜 𝓡 code.env))
-    (cited 𝓤 H (Next 𝓤 H (𝓖 .A) (𝓜 .mem) (𝓡 .run)) 𝓜 𝓡 code.env #shift-reader·Reader·next next-def.routine code.calls-shift-reader·Reader·next (next-thm.met 𝓤 H 𝓜 𝓖 𝓡)))
+    (cited 𝓤 H (Next 𝓤 H (𝓖 .A) (𝓜 .mem) (𝓡 .run)) 𝓜 𝓡 code.env #shift-reader·Reader·next next-def.routine code.calls-shift-reader·Reader·next
+    (next-thm.met 𝓤 H 𝓜 𝓖 𝓡)))

@@ -21,7 +21,8 @@ enum-known-refusal c = search needs
 returns-2 : tie.Need-returns-2
 returns-2 c =
     let k = c .before .before .before in
-    sym (file-refused _ _ _ _ (k .before .if1 .left) (c .before .refusal .given .0 .0) (sym (k .check .ensures) ∙ ap checkedAnswer (c .before .refusal .given .1)))
+    sym (file-refused _ _ _ _ (k .before .if1 .left) (c .before .refusal .given .0 .0)
+    (sym (k .check .ensures) ∙ ap checkedAnswer (c .before .refusal .given .1)))
 
 enum-told : tie.Need-enum-told
 enum-told c = search needs
@@ -29,22 +30,26 @@ enum-told c = search needs
 returns-3 : tie.Need-returns-3
 returns-3 c =
     let t = c .before in
-    sym (ring-wrong _ _ _ _ (t .before .before .before .if1 .left) (passed-zero _ _ (t .enum-told .given .1) (t .before .before .check .ensures)) (c .if2 .taken))
+    sym (ring-wrong _ _ _ _ (t .before .before .before .if1 .left) (passed-zero _ _ (t .enum-told .given .1) (t .before .before .check .ensures))
+    (c .if2 .taken))
 
 count-requires : tie.Need-count-requires
 count-requires c κs =
     let t = c .before in
-    passes firstEdition newest (now (t .before .before .before .before .before .before .before .before .args .file)) (passed-zero _ _ (t .enum-told .given .1) (t .before .before .check .ensures)) .head .long
+    passes firstEdition newest (now (t .before .before .before .before .before .before .before .before .args .file))
+    (passed-zero _ _ (t .enum-told .given .1) (t .before .before .check .ensures)) .head .long
 
 returns-4 : tie.Need-returns-4
 returns-4 c =
     let t = c .before .before .before in
-    sym (jobs-short _ _ _ _ (t .before .before .before .if1 .left) (passed-zero _ _ (t .enum-told .given .1) (t .before .before .check .ensures)) (c .before .before .if2 .left) (rw (c .before .count .ensures) at (c .if3 .taken)))
+    sym (jobs-short _ _ _ _ (t .before .before .before .if1 .left) (passed-zero _ _ (t .enum-told .given .1) (t .before .before .check .ensures))
+    (c .before .before .if2 .left) (rw (c .before .count .ensures) at (c .if3 .taken)))
 
 returns-5 : tie.Need-returns-5
 returns-5 c =
     let t = c .before .before .before .before in
-    sym (numbers-short _ _ _ _ (t .before .before .before .if1 .left) (passed-zero _ _ (t .enum-told .given .1) (t .before .before .check .ensures)) (c .before .before .before .if2 .left) (rw (c .before .before .count .ensures) at (c .if4 .taken)))
+    sym (numbers-short _ _ _ _ (t .before .before .before .if1 .left) (passed-zero _ _ (t .enum-told .given .1) (t .before .before .check .ensures))
+    (c .before .before .before .if2 .left) (rw (c .before .before .count .ensures) at (c .if4 .taken)))
 
 list-all-requires : tie.Need-list-all-requires
 list-all-requires c κs =
@@ -68,7 +73,9 @@ returns-6 c =
     let w = c .before .before .before .before in
     let t = w .before .before .before .before .before .before .before in
     let n = w .before .before .before .before .before in
-    all-listed _ _ _ _ (t .before .before .before .if1 .left) (passed-zero _ _ (t .enum-told .given .1) (t .before .before .check .ensures)) (n .before .if2 .left) _ _ _ (n .count .ensures) (w .before .before .before .before .if3 .left) (w .before .before .before .if4 .left) (w .list-all .ensures .0) (w .list-all .ensures .1)
+    all-listed _ _ _ _ (t .before .before .before .if1 .left) (passed-zero _ _ (t .enum-told .given .1) (t .before .before .check .ensures))
+    (n .before .if2 .left) _ _ _ (n .count .ensures) (w .before .before .before .before .if3 .left) (w .before .before .before .if4 .left)
+    (w .list-all .ensures .0) (w .list-all .ensures .1)
 
 pub report-spec : {M : Type 1} → statement M
 report-spec =

@@ -59,7 +59,8 @@ seal-rows-requires : tie.Need-seal-rows-requires
 seal-rows-requires c κs =
     let m = c .before .before .before .before .before .before .before .before .before .before in
     let k = c .before .count .ensures in
-    let long = c .before .before .before .before .put-edition .kept .1 .0 ∙ c .before .before .before .before .before .before .before .before .copy .kept .1 .0 ∙ can m .room .out-long in
+    let long = c .before .before .before .before .put-edition .kept .1 .0 ∙ c .before .before .before .before .before .before .before .before .copy .kept .1 .0
+    ∙ can m .room .out-long in
     (writable draftEdition (f m) plain-draft (can m .passed) _ _ _ k (can m .room .ring-long) long, record { still = λ i l. can m .all-seal i (rw k at l) })
 
 same-length : tie.Need-same-length
@@ -69,11 +70,13 @@ returns-2 : tie.Need-returns-2
 unfolding sealedFile
 returns-2 c =
     let m = c .before .before .before .before .before .before .before .before .before .before .before .before .before in
-    let edited = c .before .before .before .before .before .before .before .put-edition .ensures ∙ ap (inEdition firstEdition) (c .before .before .before .before .before .before .before .before .before .before .before .copy .ensures) in
+    let edited = c .before .before .before .before .before .before .before .put-edition .ensures
+    ∙ ap (inEdition firstEdition) (c .before .before .before .before .before .before .before .before .before .before .before .copy .ensures) in
     let done = sym (ap writtenAnswer (m .enum-told .given .1)) ∙ m .before .before .seal-refused .ensures in
     ap (writes (answer 0 0))
     (c .before .before .seal-rows .ensures
-    ∙ ap₂ (λ (k : ℕ) (l : List ℕ). putAll (pieceStart (f m)) (sealedPiece (f m) (now (st m .args .ring))) k l) (c .before .before .before .before .count .ensures) edited)
+    ∙ ap₂ (λ (k : ℕ) (l : List ℕ). putAll (pieceStart (f m)) (sealedPiece (f m) (now (st m .args .ring))) k l)
+    (c .before .before .before .before .count .ensures) edited)
     ∙ sym (sealing-is (f m) (now (st m .args .ring)) (now (st m .args .out)) (answer 0 0) done)
 
 pub seal-file-spec : {M : Type 1} → statement M

@@ -29,10 +29,14 @@ enum-told : tie.Need-enum-told
 enum-told c = search needs
 
 count-requires : tie.Need-count-requires
-count-requires c κs = header-in draftEdition (now (c .before .before .before .before .args .draft)) plain-draft (passed-zero _ _ (c .enum-told .given .1) (c .before .before .check-as .ensures))
+count-requires c κs =
+    header-in draftEdition (now (c .before .before .before .before .args .draft)) plain-draft
+    (passed-zero _ _ (c .enum-told .given .1) (c .before .before .check-as .ensures))
 
 first-set-requires : tie.Need-first-set-requires
-first-set-requires c κs = rw (c .count .ensures) (rows-in draftEdition (now (c .before .before .before .before .before .args .draft)) plain-draft (passed-zero _ _ (c .before .enum-told .given .1) (c .before .before .before .check-as .ensures)))
+first-set-requires c κs =
+    rw (c .count .ensures) (rows-in draftEdition (now (c .before .before .before .before .before .args .draft)) plain-draft
+    (passed-zero _ _ (c .before .enum-told .given .1) (c .before .before .before .check-as .ensures)))
 
 enum-told-2 : tie.Need-enum-told-2
 enum-told-2 c = search needs
@@ -45,7 +49,10 @@ returns-2 c =
     seal-set (now (a .draft)) (a .ring) (a .out) z _ set (not-done (c .before .first-set .result) (c .match2 .keys2))
 
 first-retired-requires : tie.Need-first-retired-requires
-first-retired-requires c κs = rw (c .before .before .before .count .ensures) (rows-in draftEdition (now (c .before .before .before .before .before .before .before .before .args .draft)) plain-draft (passed-zero _ _ (c .before .before .before .before .enum-told .given .1) (c .before .before .before .before .before .before .check-as .ensures)))
+first-retired-requires c κs =
+    rw (c .before .before .before .count .ensures) (rows-in draftEdition
+    (now (c .before .before .before .before .before .before .before .before .args .draft)) plain-draft
+    (passed-zero _ _ (c .before .before .before .before .enum-told .given .1) (c .before .before .before .before .before .before .check-as .ensures)))
 
 enum-told-3 : tie.Need-enum-told-3
 enum-told-3 c = search needs
@@ -53,10 +60,13 @@ enum-told-3 c = search needs
 returns-3 : tie.Need-returns-3
 returns-3 c =
     let a = c .before .before .before .before .before .before .before .before .before .before .args in
-    let z = passed-zero _ _ (c .before .before .before .before .before .before .enum-told .given .1) (c .before .before .before .before .before .before .before .before .check-as .ensures) in
-    let set = c .before .before .before .before .first-set .ensures ∙ ap (λ (k : ℕ). setFrom (now (a .draft)) k 0) (c .before .before .before .before .before .count .ensures) in
+    let z = passed-zero _ _ (c .before .before .before .before .before .before .enum-told .given .1)
+    (c .before .before .before .before .before .before .before .before .check-as .ensures) in
+    let set = c .before .before .before .before .first-set .ensures ∙ ap (λ (k : ℕ). setFrom (now (a .draft)) k 0)
+    (c .before .before .before .before .before .count .ensures) in
     let none : setFrom (now (a .draft)) (countOf (now (a .draft))) 0 ≡ answer 0 0 = sym set ∙ ap writtenAnswer (c .before .before .enum-told2 .given .1) in
-    let old = c .before .first-retired .ensures ∙ ap (λ (k : ℕ). retiredFrom (now (a .draft)) k 0) (c .before .before .before .before .before .count .ensures) in
+    let old = c .before .first-retired .ensures ∙ ap (λ (k : ℕ). retiredFrom (now (a .draft)) k 0)
+    (c .before .before .before .before .before .count .ensures) in
     seal-retired (now (a .draft)) (a .ring) (a .out) z none _ old (not-done (c .before .first-retired .result) (c .match3 .keys2))
 
 lent-refused-requires : tie.Need-lent-refused-requires
@@ -65,10 +75,14 @@ lent-refused-requires c κs = search needs
 returns-4 : tie.Need-returns-4
 returns-4 c =
     let a = c .before .before .before .before .before .before .before .before .before .before .before .before .args in
-    let z = passed-zero _ _ (c .before .before .before .before .before .before .before .before .enum-told .given .1) (c .before .before .before .before .before .before .before .before .before .before .check-as .ensures) in
-    let set = c .before .before .before .before .before .before .first-set .ensures ∙ ap (λ (k : ℕ). setFrom (now (a .draft)) k 0) (c .before .before .before .before .before .before .before .count .ensures) in
-    let none : setFrom (now (a .draft)) (countOf (now (a .draft))) 0 ≡ answer 0 0 = sym set ∙ ap writtenAnswer (c .before .before .before .before .enum-told2 .given .1) in
-    let old = c .before .before .before .first-retired .ensures ∙ ap (λ (k : ℕ). retiredFrom (now (a .draft)) k 0) (c .before .before .before .before .before .before .before .count .ensures) in
+    let z = passed-zero _ _ (c .before .before .before .before .before .before .before .before .enum-told .given .1)
+    (c .before .before .before .before .before .before .before .before .before .before .check-as .ensures) in
+    let set = c .before .before .before .before .before .before .first-set .ensures
+    ∙ ap (λ (k : ℕ). setFrom (now (a .draft)) k 0) (c .before .before .before .before .before .before .before .count .ensures) in
+    let none : setFrom (now (a .draft)) (countOf (now (a .draft))) 0 ≡ answer 0 0 = sym set
+    ∙ ap writtenAnswer (c .before .before .before .before .enum-told2 .given .1) in
+    let old = c .before .before .before .first-retired .ensures ∙ ap (λ (k : ℕ). retiredFrom (now (a .draft)) k 0)
+    (c .before .before .before .before .before .before .before .count .ensures) in
     let still : retiredFrom (now (a .draft)) (countOf (now (a .draft))) 0 ≡ answer 0 0 = sym old ∙ ap writtenAnswer (c .before .enum-told3 .given .1) in
     c .lent-refused .ensures ∙ seal-lent (now (a .draft)) (a .ring) (a .out) z none still
 

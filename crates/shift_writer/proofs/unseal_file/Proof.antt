@@ -59,7 +59,8 @@ unseal-rows-requires : tie.Need-unseal-rows-requires
 unseal-rows-requires c κs =
     let m = c .before .before .before .before .before .before .before .before .before .before in
     let k = c .before .count .ensures in
-    let long = c .before .before .before .before .put-edition .kept .1 .0 ∙ c .before .before .before .before .before .before .before .before .copy .kept .1 .0 ∙ can m .room .out-long in
+    let long = c .before .before .before .before .put-edition .kept .1 .0 ∙ c .before .before .before .before .before .before .before .before .copy .kept .1 .0
+    ∙ can m .room .out-long in
     writable firstEdition (f m) plain-file (can m .passed) _ _ _ k (can m .room .ring-long) long
 
 same-length : tie.Need-same-length

@@ -38,7 +38,15 @@ unfolding carried
 cast-result c =
     let r = c .before .before .before in
     let s = r .before .before in
-    omega (arith, c .before .row-start .ensures, c .row-start2 .ensures, ap atOf (r .row-at .ensures), s .pre .0 .behind (s .args .index) (s .pre .1), s .pre .0 .within (s .args .index) (s .pre .1), s .pre .0 .small)
+    omega (
+      arith,
+      c .before .row-start .ensures,
+      c .row-start2 .ensures,
+      ap atOf (r .row-at .ensures),
+      s .pre .0 .behind (s .args .index) (s .pre .1),
+      s .pre .0 .within (s .args .index) (s .pre .1),
+      s .pre .0 .small,
+    )
 
 returns : tie.Need-returns
 unfolding carried

@@ -53,7 +53,8 @@ returns c =
     let r = t .before .before .before in
     let s = r .before .before .before in
     let a = s .args in
-    job-put (now (a .file)) (now (a .out)) (t .put-part .last .0) (u .put-zeros .last .0) (a .from) (a .to) (a .index) _ _ (s .pre .0 .broad) (r .row-start .ensures) (t .before .before .row-start2 .ensures)
+    job-put (now (a .file)) (now (a .out)) (t .put-part .last .0) (u .put-zeros .last .0) (a .from) (a .to) (a .index) _ _ (s .pre .0 .broad)
+    (r .row-start .ensures) (t .before .before .row-start2 .ensures)
     (t .put-part .ensures) (u .put-zeros .ensures)
 
 pub put-job-spec : {M : Type 1} → statement M

@@ -20,7 +20,8 @@ returns c =
     let t = u .before .before .before .before in
     let s = t .before .before .before .before in
     let a = s .args in
-    row-put (now (a .file)) (now (a .out)) (t .put-job .last .0) (u .put-rest .last .0) (a .from) (a .to) (a .rows) (a .index) (s .pre .0 .broad) (t .put-job .ensures) (u .put-rest .ensures)
+    row-put (now (a .file)) (now (a .out)) (t .put-job .last .0) (u .put-rest .last .0) (a .from) (a .to) (a .rows) (a .index) (s .pre .0 .broad)
+    (t .put-job .ensures) (u .put-rest .ensures)
 
 pub put-row-spec : {M : Type 1} → statement M
 put-row-spec = tie.close (tie.spec put-job-requires put-rest-requires same-length returns)

@@ -22,7 +22,8 @@ loop-holds : tie.Need-loop-holds Inv-loop μ-loop
 loop-holds c = let a = c .before .before .args in (omega arith, refl, rows-start (now (a .file)) (now (a .out)) (a .from) (a .to) (a .rows))
 
 put-row-requires : tie.Need-put-row-requires Inv-loop μ-loop
-put-row-requires c κs = let s = c .before .before .before .before .before in (s .pre .0, (c .before .loop-test .taken, omega (arith, c .before .before .loop .inv .1, s .pre .1)))
+put-row-requires c κs =
+    let s = c .before .before .before .before .before in (s .pre .0, (c .before .loop-test .taken, omega (arith, c .before .before .loop .inv .1, s .pre .1)))
 
 add-i : tie.Need-add-i Inv-loop μ-loop
 add-i c = search needs
@@ -34,8 +35,12 @@ loop-again : tie.Need-loop-again Inv-loop μ-loop
 loop-again c =
     let u = c .before .before in
     let l = c .before .before .before .before .before .loop in
-    let a = c .before .before .before .before .before .before .before .before .args in
-    (omega arith, u .put-row .kept .0 ∙ l .inv .1, rows-put (now (a .file)) (now (a .out)) (l .out) (u .put-row .last .0) (a .from) (a .to) (a .rows) (l .i) (l .inv .2) (u .put-row .ensures))
+    let a = c .before .before .before .before .before .before .before .before .args in (
+      omega arith,
+      u .put-row .kept .0 ∙ l .inv .1,
+      rows-put (now (a .file)) (now (a .out)) (l .out) (u .put-row .last .0) (a .from) (a .to) (a .rows) (l .i)
+          (l .inv .2) (u .put-row .ensures),
+    )
 
 same-length : tie.Need-same-length Inv-loop μ-loop
 same-length c = c .before .loop .inv .1

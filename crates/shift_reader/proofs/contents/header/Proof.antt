@@ -50,7 +50,8 @@ count-requires c κs =
 cast-t8 : tie.Need-cast-t8
 cast-t8 c =
     let h = c .before .before .before .before in
-    let few = headed firstEdition newest (now (h .before .before .args .file)) (passed-zero _ _ (c .before .before .enum-told .given .1) (h .check-head .ensures)) .few in
+    let few = headed firstEdition newest (now (h .before .before .args .file))
+    (passed-zero _ _ (c .before .before .enum-told .given .1) (h .check-head .ensures)) .few in
     let low : c .count .result ≤ 512 = rw (c .count .ensures) few in
     omega (arith, low)
 

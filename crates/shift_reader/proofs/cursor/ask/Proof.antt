@@ -32,7 +32,11 @@ returns-3 : tie.Need-returns-3
 unfolding askOf
 returns-3 c =
     let r = c .before .before .before in
-    simp (eq-eqb _ _ (rw (r .laid .ensures) at (c .before .before .if1 .left)), lt-ltb _ _ (rw (r .laid .ensures) at (c .before .if2 .left)), c .listed-at .ensures)
+    simp (
+      eq-eqb _ _ (rw (r .laid .ensures) at (c .before .before .if1 .left)),
+      lt-ltb _ _ (rw (r .laid .ensures) at (c .before .if2 .left)),
+      c .listed-at .ensures,
+    )
 
 pub ask-spec : {M : Type 1} → statement M
 ask-spec = tie.close (tie.spec laid-requires returns returns-2 listed-at-requires add-t10 returns-3)

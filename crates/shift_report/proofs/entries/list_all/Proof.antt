@@ -69,7 +69,8 @@ loop-again c =
     let job = ap (λ (r : Row). r .job) (c .before .row-of .ensures) in (
       omega arith,
       front-step (jobOf (now (p .args .file))) _ _ _ _ (omega (arith, p .pre .jobs-room, t .loop-test .taken)) (h .1) job,
-      front-step (tagNumber (now (p .args .file)) (now (p .args .ring))) _ _ _ _ (omega (arith, p .pre .numbers-room, t .loop-test .taken)) (h .2) (c .tag-number .ensures),
+      front-step (tagNumber (now (p .args .file)) (now (p .args .ring))) _ _ _ _ (omega (arith, p .pre .numbers-room, t .loop-test .taken)) (h .2)
+          (c .tag-number .ensures),
     )
 
 same-length : tie.Need-same-length Inv-loop μ-loop

@@ -18,7 +18,8 @@ number-requires c κs = search needs
 returns : tie.Need-returns
 returns c =
     let s = c .before .before .before .before in
-    c .number .ensures ∙ c .before .verify-row .ensures ∙ test-is (now (s .args .file)) (now (s .args .ring)) (s .args .index) (s .pre .entry) (s .pre .ring-long)
+    c .number .ensures ∙ c .before .verify-row .ensures ∙ test-is (now (s .args .file)) (now (s .args .ring)) (s .args .index) (s .pre .entry)
+    (s .pre .ring-long)
 
 pub tag-number-spec : {M : Type 1} → statement M
 tag-number-spec = tie.close (tie.spec verify-row-requires number-requires returns)

@@ -58,7 +58,11 @@ part-copy-end : tie.Need-part-copy-end
 part-copy-end c =
     let call = c .before .before .before .before .seal-as in
     let n = c .before .before .before .before .before .before .before .size-of .result in
-    omega (arith, same-len-mid 0 (n - 0) (replicate 16 0) (call .last .1 .1 .1 .1 .1 .1 .0) (call .kept .1 .1 .1 .1 .1 .1 .0), c .before .before .before .before .before .before .before .size-of .ensures .1 .1)
+    omega (
+      arith,
+      same-len-mid 0 (n - 0) (replicate 16 0) (call .last .1 .1 .1 .1 .1 .1 .0) (call .kept .1 .1 .1 .1 .1 .1 .0),
+      c .before .before .before .before .before .before .before .size-of .ensures .1 .1,
+    )
 
 sub-copy-2 : tie.Need-sub-copy-2
 sub-copy-2 c = search needs
@@ -99,7 +103,8 @@ returns c =
     let lx : length x ≡ len - 0 = call .kept .1 .1 .1 .1 .1 .0 ∙ lo ∙ omega arith in
     let high : len ≤ limit = rw (s .pre .is-row) (s .pre .entry .text-high) in
     let front : o ≡ take len out = ap (λ (k : ℕ). take k out) (let w : len - 0 ≡ len = omega arith in w) in
-    let q = seal-told f ring (s .args .index) (s .pre .entry) (s .pre .ring-long) (s .args .suite) _ x y o o z (s .pre .still) (omega (arith, lo, high)) refl (lz ∙ size .ensures .0) (call .ensures) in
+    let q = seal-told f ring (s .args .index) (s .pre .entry) (s .pre .ring-long) (s .args .suite) _ x y o o z (s .pre .still) (omega (arith, lo, high)) refl
+    (lz ∙ size .ensures .0) (call .ensures) in
     let t = copy .ensures ∙ part-is (replicate 16 0) y 0 n (omega arith) (ly ∙ omega arith) in
     let lt : length (copy .last .1 .0) ≡ e - len = ap length t ∙ ly ∙ omega arith in
     put-both out x (copy .last .1 .0) len e (omega arith) inside lx lt

@@ -57,13 +57,21 @@ module _ (d : tie.After-text-of) where
 
   -- the piece lies in the output
   inside : e ≤ length out
-  inside = omega (arith, body-fits f (s .args .index) _ (s .pre .0 .entry) (d .before .before .before .before .row-of .ensures), s .pre .0 .out-long, d .before .before .size-of .ensures .0, d .before .text-start .ensures)
+  inside =
+      omega (
+        arith,
+        body-fits f (s .args .index) _ (s .pre .0 .entry) (d .before .before .before .before .row-of .ensures),
+        s .pre .0 .out-long,
+        d .before .before .size-of .ensures .0,
+        d .before .text-start .ensures,
+      )
 
   -- and the text in the file
   text-long : length (now (d .text-of .result)) ≡ len
   text-long =
       let r = d .before .before .before .before .row-of .result in
-      ap length (d .text-of .ensures .bytes) ∙ stretch-length f (r .«ad_at» + r .«ad_len») len (omega (arith, body-fits f (s .args .index) r (s .pre .0 .entry) (d .before .before .before .before .row-of .ensures)))
+      ap length (d .text-of .ensures .bytes) ∙ stretch-length f (r .«ad_at» + r .«ad_len») len
+      (omega (arith, body-fits f (s .args .index) r (s .pre .0 .entry) (d .before .before .before .before .row-of .ensures)))
 
   place-long : length (stretch out a (a + len - a)) ≡ len
   place-long = stretch-length out a (a + len - a) (omega (arith, inside)) ∙ omega arith
@@ -121,7 +129,8 @@ same-length c =
     let copy = c .before .before .before .before .before .before .copy in
     let call = c .before .before .seal-into in
     let t = copy .last .1 .0 in
-    same-len-mid (a d) (e d - a d) (m d t (copy .kept .1 .0)) (call .last .1 .1 .1 .1 .1 .0) (call .kept .1 .1 .1 .1 .1 .0) ∙ same-len-mid (a d) (a d + len d - a d) (out d) t (copy .kept .1 .0)
+    same-len-mid (a d) (e d - a d) (m d t (copy .kept .1 .0)) (call .last .1 .1 .1 .1 .1 .0) (call .kept .1 .1 .1 .1 .1 .0)
+    ∙ same-len-mid (a d) (a d + len d - a d) (out d) t (copy .kept .1 .0)
 
 returns : tie.Need-returns
 returns c =
@@ -138,7 +147,8 @@ returns c =
     let front = front-is (out d) t (a d) (len d) (e d) (omega arith) (omega (arith, inside d)) lt in
     put-over (out d) t x (a d) (a d + len d) (e d) (omega arith) (omega arith) (inside d) (lt ∙ omega arith) lx
     ∙ ap₂ (put (out d)) (start .ensures) (call .ensures)
-    ∙ row-sealed (f d) (now (s d .args .ring)) (s d .args .index) (row .result) (row .ensures) (out d) (take (len d) (stretch (m d t k) (a d) (e d - a d))) (front ∙ copy .ensures ∙ d .text-of .ensures .bytes)
+    ∙ row-sealed (f d) (now (s d .args .ring)) (s d .args .index) (row .result) (row .ensures) (out d) (take (len d) (stretch (m d t k) (a d) (e d - a d)))
+    (front ∙ copy .ensures ∙ d .text-of .ensures .bytes)
 
 pub seal-entry-spec : {M : Type 1} → statement M
 seal-entry-spec =

@@ -25,8 +25,14 @@ loop-holds c = (omega arith, refl, refl)
 
 seal-entry-requires : tie.Need-seal-entry-requires Inv-loop μ-loop
 seal-entry-requires c κs =
-    let s = c .before .before .before .before .before .before .pre in
-    (record { entry = s .0 .entries _ (c .before .loop-test .taken); ring-long = s .0 .ring-long; out-long = c .before .before .loop .inv .1 ∙ s .0 .out-long }, s .1 .still _ (c .before .loop-test .taken))
+    let s = c .before .before .before .before .before .before .pre in (
+      record {
+        entry = s .0 .entries _ (c .before .loop-test .taken);
+        ring-long = s .0 .ring-long;
+        out-long = c .before .before .loop .inv .1 ∙ s .0 .out-long;
+      },
+      s .1 .still _ (c .before .loop-test .taken),
+    )
 
 add-i : tie.Need-add-i Inv-loop μ-loop
 add-i c = search needs

@@ -99,7 +99,8 @@ returns c =
     let d = c .before .before .before .before .before in
     let call = c .before .before .before .open-row in
     let long = text-long d ∙ ap (λ (q : Row). q .«text_len») (d .before .before .before .row-of .ensures) in
-    let t = open-told (f d) (now (st d .args .ring)) (st d .args .index) (st d .pre .entry) (st d .pre .ring-long) _ _ (stretch (out d) (a d) (b d - a d)) long (call .ensures) in
+    let t = open-told (f d) (now (st d .args .ring)) (st d .args .index) (st d .pre .entry) (st d .pre .ring-long) _ _ (stretch (out d) (a d) (b d - a d)) long
+    (call .ensures) in
     (t .wrong (other-some (call .result) (c .match .keys2)), λ e. absurd (true≢false (sym e)))
 
 sub-wipe : tie.Need-sub-wipe
@@ -134,13 +135,15 @@ returns-2 c =
     let lt : length (stretch m (b d) (e d - b d)) ≡ e d - b d = stretch-length m (b d) (e d - b d) (omega (arith, lm, inside d)) in
     let n : e d - b d ≡ sizeOf (r d .suite) = omega (arith, d .before .size-of .ensures .0) in
     let long = text-long d ∙ ap (λ (q : Row). q .«text_len») is-row in
-    let told = open-told (f d) ring (st d .args .index) (st d .pre .entry) (st d .pre .ring-long) _ _ (stretch (out d) (a d) (b d - a d)) long (call .ensures) in
+    let told = open-told (f d) ring (st d .args .index) (st d .pre .entry) (st d .pre .ring-long) _ _ (stretch (out d) (a d) (b d - a d)) long
+    (call .ensures) in
     let t = told .done (ap numberOf (c .before .before .before .before .enum-told .given .1)) in (
       t .0,
       λ z.
           put-two (out d) x y (a d) (b d) (e d) (omega arith) (omega arith) (inside d) lx (c .before .before .wipe .kept .0 ∙ lt)
           ∙ ap (λ (k : ℕ). put (out d) k (x ++ y)) (d .text-start .ensures)
-          ∙ row-opened (f d) ring (st d .args .index) (r d) is-row (out d) x y (t .1) (c .before .before .wipe .ensures ∙ ap (λ (k : ℕ). replicate k 0) (lt ∙ n)),
+          ∙ row-opened (f d) ring (st d .args .index) (r d) is-row (out d) x y (t .1)
+          (c .before .before .wipe .ensures ∙ ap (λ (k : ℕ). replicate k 0) (lt ∙ n)),
     )
 
 pub unseal-entry-spec : {M : Type 1} → statement M

@@ -33,7 +33,8 @@ returns c =
     let r = c .before .before .row-of .result in
     let rq = c .before .before .row-of .ensures in
     let e : now (c .before .tag-of .result) ≡ tagOf f r = c .before .tag-of .ensures .bytes in
-    let l : length (now (c .before .tag-of .result)) ≡ sizeOf (r .suite) = ap length e ∙ stretch-length f (r .«ad_at» + r .«ad_len» + r .«text_len») (sizeOf (r .suite)) (body-fits f (s .args .index) r (s .pre) rq) in
+    let l : length (now (c .before .tag-of .result)) ≡ sizeOf (r .suite) = ap length e
+    ∙ stretch-length f (r .«ad_at» + r .«ad_len» + r .«text_len») (sizeOf (r .suite)) (body-fits f (s .args .index) r (s .pre) rq) in
     ap not (c .all-zero .ensures ∙ ap₂ (λ (x : List ℕ) (k : ℕ). sameBytes x (replicate k 0)) e l)
     ∙ ap (λ (q : Row). not (sameBytes (tagOf f q) (replicate (sizeOf (q .suite)) 0))) rq
 
