@@ -30,9 +30,9 @@ fn run(back: bool, file: &[u8], argument: usize, out: &mut [u8]) {
 
 // An output of the moved file's length; the buffer holds 512 stations more than the file, so the test always holds.
 fn run_in(back: bool, file: &[u8], argument: usize, out: &mut [u8]) {
-    let n = shift_editions::moved_length(file);
-    if n <= out.len() {
-        run(back, file, argument, &mut out[0..n]);
+    let len = shift_editions::moved_length(file);
+    if len <= out.len() {
+        run(back, file, argument, &mut out[0..len]);
     }
 }
 
@@ -45,14 +45,14 @@ fn moved_room() -> [u8; MOVED_ROOM] {
     [0u8; MOVED_ROOM]
 }
 
-// Argument i names the file, the next one the output.
-fn convert(back: bool, i: usize)
-    requires { ⌜ i ≤ 2 ⌝ }
+// The argument names the file, the next one the output.
+fn convert(back: bool, argument: usize)
+    requires { ⌜ argument ≤ 2 ⌝ }
 {
     let mut file_buf = program_text::read::file_room();
     let mut out_buf = moved_room();
-    let file = program_files::load(i, &mut file_buf);
-    run_in(back, file, i + 1, &mut out_buf);
+    let file = program_files::load(argument, &mut file_buf);
+    run_in(back, file, argument + 1, &mut out_buf);
 }
 
 fn main() {

@@ -6,17 +6,17 @@ use program_text::text::put;
 use shift_compare::Finding;
 use shift_format::limits::MAX_ROWS;
 
-fn number_line(out: &mut [u8], at: usize, n: u32) -> usize {
-    let at = number(out, at, n as u64);
+fn number_line(out: &mut [u8], at: usize, value: u32) -> usize {
+    let at = number(out, at, value as u64);
     end(out, at)
 }
 
-// The first n numbers of a list, one to a line.
-fn list(out: &mut [u8], at: usize, list: &[u32], n: usize) -> usize {
+// The first `count` numbers of a list, one to a line.
+fn list(out: &mut [u8], at: usize, list: &[u32], count: usize) -> usize {
     let mut to = at;
     let mut i: usize = 0;
     while i < list.len() {
-        if n <= i {
+        if count <= i {
             return to;
         }
         to = number_line(out, to, list[i]);

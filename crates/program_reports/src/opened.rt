@@ -23,9 +23,9 @@ ghost use Rattle.shift_jobs.specs.Answers.{foundAnswer};
 ghost use Rattle.shift_jobs.specs.Inside.{FoundIn};
 
 // A name and a number.
-fn number_line(out: &mut [u8], at: usize, name: &[u8], n: u64) -> usize {
+fn number_line(out: &mut [u8], at: usize, name: &[u8], value: u64) -> usize {
     let at = put(out, at, name);
-    let at = and_number(out, at, n);
+    let at = and_number(out, at, value);
     end(out, at)
 }
 
@@ -112,10 +112,10 @@ fn entry_lines(out: &mut [u8], at: usize, file: &[u8], index: usize, message: &[
 fn lines_of(out: &mut [u8], at: usize, file: &[u8], found: Found, message: &[u8]) -> usize
     requires { ⌜ FoundIn (now file) (foundAnswer found) ⌝ }
 {
-    let Found::At(i) = found else {
+    let Found::At(index) = found else {
         return at;
     };
-    entry_lines(out, at, file, i, message)
+    entry_lines(out, at, file, index, message)
 }
 
 // Opens what the lookup found into `message`: status and row on one line and, after status 0, the lines of the entry.
@@ -135,11 +135,11 @@ fn open_job(file: &[u8], ring: &[u8], found: Found, message: &mut [u8], out: &mu
 pub fn job(file: &[u8], ring: &[u8], job: u32, out: &mut [u8]) -> usize {
     let mut message = [0u8; LIMIT];
     let found = shift_jobs::lookup(file, job);
-    let n = entry_found(file, found).text_len as usize;
-    if LIMIT < n {
+    let len = entry_found(file, found).text_len as usize;
+    if LIMIT < len {
         return 0;
     }
-    open_job(file, ring, found, &mut message[0..n], out)
+    open_job(file, ring, found, &mut message[0..len], out)
 }
 
 // Status, file and row.
@@ -174,11 +174,11 @@ fn open_in(file: &[u8], ring: &[u8], named: u8, found: Found, out: &mut [u8]) ->
     requires { ⌜ FoundIn (now file) (foundAnswer found) ⌝ }
 {
     let mut message = [0u8; LIMIT];
-    let n = entry_found(file, found).text_len as usize;
-    if LIMIT < n {
+    let len = entry_found(file, found).text_len as usize;
+    if LIMIT < len {
         return 0;
     }
-    open_current(file, ring, named, found, &mut message[0..n], out)
+    open_current(file, ring, named, found, &mut message[0..len], out)
 }
 
 // Looks the job up in both files and opens the current entry (`open_current`). Only the lookup checks the files.

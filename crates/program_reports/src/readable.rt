@@ -45,37 +45,37 @@ fn sequence_len(first: u8) -> usize
 }
 
 // The code point of a sequence of two bytes, 0 (a control character) if it is none. Likewise for three and for four.
-fn two(b: &[u8]) -> u32 {
-    if b.len() != 2 || !follows(b[1]) {
+fn two(bytes: &[u8]) -> u32 {
+    if bytes.len() != 2 || !follows(bytes[1]) {
         return 0;
     }
-    at_least(0x80, extended(wide(b[0] % 32), b[1]))
+    at_least(0x80, extended(wide(bytes[0] % 32), bytes[1]))
 }
 
-fn three(b: &[u8]) -> u32 {
-    if b.len() != 3 || !follows(b[1]) || !follows(b[2]) {
+fn three(bytes: &[u8]) -> u32 {
+    if bytes.len() != 3 || !follows(bytes[1]) || !follows(bytes[2]) {
         return 0;
     }
-    let bits = extended(wide(b[0] % 16), b[1]);
-    at_least(0x800, extended(bits, b[2]))
+    let bits = extended(wide(bytes[0] % 16), bytes[1]);
+    at_least(0x800, extended(bits, bytes[2]))
 }
 
-fn four(b: &[u8]) -> u32 {
-    if b.len() != 4 || !follows(b[1]) || !follows(b[2]) || !follows(b[3]) {
+fn four(bytes: &[u8]) -> u32 {
+    if bytes.len() != 4 || !follows(bytes[1]) || !follows(bytes[2]) || !follows(bytes[3]) {
         return 0;
     }
-    let bits = extended(wide(b[0] % 8), b[1]);
-    let bits = extended(bits, b[2]);
-    at_least(0x10000, extended(bits, b[3]))
+    let bits = extended(wide(bytes[0] % 8), bytes[1]);
+    let bits = extended(bits, bytes[2]);
+    at_least(0x10000, extended(bits, bytes[3]))
 }
 
 // The code point of a whole sequence, 0 if it is none.
-fn code_point(b: &[u8]) -> u32 {
-    match b.len() {
-        1 => wide(b[0]),
-        2 => two(b),
-        3 => three(b),
-        4 => four(b),
+fn code_point(bytes: &[u8]) -> u32 {
+    match bytes.len() {
+        1 => wide(bytes[0]),
+        2 => two(bytes),
+        3 => three(bytes),
+        4 => four(bytes),
         _ => 0,
     }
 }
@@ -109,11 +109,11 @@ fn is_shown(sequence: &[u8]) -> bool {
 pub(crate) fn is_text(bytes: &[u8]) -> bool {
     let mut i: usize = 0;
     while i < bytes.len() {
-        let n = sequence_len(bytes[i]);
-        if n == 0 {
+        let len = sequence_len(bytes[i]);
+        if len == 0 {
             return false;
         }
-        let end = i + n;
+        let end = i + len;
         if bytes.len() < end {
             return false;
         }

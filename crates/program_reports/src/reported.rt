@@ -12,11 +12,11 @@ fn entry(out: &mut [u8], at: usize, job: u32, answer: u8) -> usize {
     end(out, at)
 }
 
-// The first n entries of the two lists.
-fn entries(out: &mut [u8], at: usize, jobs: &[u32], numbers: &[u8], n: usize) -> usize {
+// The first `count` entries of the two lists.
+fn entries(out: &mut [u8], at: usize, jobs: &[u32], numbers: &[u8], count: usize) -> usize {
     let mut to = at;
     let mut i: usize = 0;
-    while i < n {
+    while i < count {
         if jobs.len() <= i || numbers.len() <= i {
             return to;
         }

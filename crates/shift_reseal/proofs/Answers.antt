@@ -19,7 +19,8 @@ use Rattle.shift_check.specs.Check.{nonceSeen, andThen, checkAs}
 use Rattle.shift_check.proofs.Passed.{both-zero}
 use Rattle.shift_draft.specs.Answers.{tagRight, lentAnswer, writes, leaves}
 use Rattle.shift_draft.specs.Promised.{RightTag}
-use Rattle.shift_draft.proofs.Answers.{right-test, right-told, FirstNot, first-not, eight-leaves, Room, room-told, room-right, ring-wrong, out-wrong, lent-number, not-eight, kept}
+use Rattle.shift_draft.proofs.Answers.{right-test, right-told, FirstNot, first-not, eight-leaves, Room, room-told, room-right, ring-wrong, out-wrong}
+use Rattle.shift_draft.proofs.Answers.{lent-number, not-eight, kept}
 use Rattle.shift_reseal.specs.Files.{retabled, resealedFile}
 use Rattle.shift_reseal.specs.Answers.{seenFrom, wrongAgain, wrongAgainFrom, takeAnswer, resealAnswer, fileResealing}
 use Rattle.shift_reseal.specs.Promised.{HasFour, Calm, ResealCases, Resealing, ResealNumbers}
@@ -57,7 +58,8 @@ module _ (f ring : List ℕ) where
   unfolding wrongAgainFrom
   again-rows = first-not (λ i. HasFour f i → RightTag f ring i) (wrongAgain f ring) 8 (countOf f) (lit< tt) again-told again-right
 
-  pub again-leaves : (done a b : List ℕ) → length a ≡ length b → leaves (wrongAgainFrom f ring (countOf f) 0) done a ≡ leaves (wrongAgainFrom f ring (countOf f) 0) done b
+  pub again-leaves : (done a b : List ℕ) → length a ≡ length b → leaves (wrongAgainFrom f ring (countOf f) 0) done a
+      ≡ leaves (wrongAgainFrom f ring (countOf f) 0) done b
   again-leaves = eight-leaves (wrongAgainFrom f ring (countOf f) 0) (again-rows .number)
 
 -- ---- one answer after another
@@ -173,13 +175,18 @@ module _ (file ring out₀ : List ℕ) where
     clash = λ z i l h b.
         let q = seen-rows (retabled file) (countOf file) .first i l (λ k. k h) b in
         resealing-kept (answer 29 i) (take-seen file (length ring) (length out₀) z (answer 29 i) (sym q) (λ e. omega arith)) (λ e. omega arith);
-    ring-wrong = λ c n. resealing-kept (answer 2 0) (sym (ring-wrong (length file) (length ring) (length out₀) n) ∙ take-calm file (length ring) (length out₀) c) (λ e. omega arith);
-    room-wrong = λ c r n. resealing-kept (answer 6 0) (sym (out-wrong (length file) (length ring) (length out₀) r n) ∙ take-calm file (length ring) (length out₀) c) (λ e. omega arith);
+    ring-wrong =
+        λ c n. resealing-kept (answer 2 0) (sym (ring-wrong (length file) (length ring) (length out₀) n) ∙ take-calm file (length ring) (length out₀) c)
+        (λ e. omega arith);
+    room-wrong =
+        λ c r n. resealing-kept (answer 6 0) (sym (out-wrong (length file) (length ring) (length out₀) r n) ∙ take-calm file (length ring) (length out₀) c)
+        (λ e. omega arith);
     tags = λ c r o i l h n b. tags-are c r o (answer 8 i) (again-rows file ring .first i l (λ k. n (k h)) b);
     done = λ c r o h. tags-are c r o (answer 0 0) (again-rows file ring .none h);
   }
     where
-      tags-are : Calm file → length ring ≡ 256 → length out₀ ≡ length file → (x : Answer) → wrong ≡ x → fileResealing file ring out₀ ≡ leaves x (resealedFile file ring) out₀
+      tags-are : Calm file → length ring ≡ 256 → length out₀ ≡ length file → (x : Answer) → wrong ≡ x
+          → fileResealing file ring out₀ ≡ leaves x (resealedFile file ring) out₀
       tags-are c r o x q =
           resealing-tags (ap number (take-right file (length ring) (length out₀) c r o))
           ∙ ap (λ (y : Answer). leaves y (resealedFile file ring) out₀) q
@@ -207,7 +214,8 @@ unfolding fileResealing
 reseal-numbers file ring out₀ = number-case (eqb (taken file ring out₀ .number) 0) refl
   where
     number-case : (b : Bool) → eqb (taken file ring out₀ .number) 0 ≡ b
-        → let x : Answer = resealAnswer file ring (length out₀) in (x .number ≡ 0) ⊎ (x .number ≡ 2) ⊎ (x .number ≡ 6) ⊎ (x .number ≡ 8) ⊎ (x .number ≡ 29) ⊎ (x ≡ checkAs firstEdition file)
+        → let x : Answer = resealAnswer file ring (length out₀) in (x .number ≡ 0) ⊎ (x .number ≡ 2) ⊎ (x .number ≡ 6) ⊎ (x .number ≡ 8) ⊎ (x .number ≡ 29)
+        ⊎ (x ≡ checkAs firstEdition file)
     number-case true e =
         let q = result-wrong file ring out₀ (eqb-true _ _ e) in
         ⊎-elim

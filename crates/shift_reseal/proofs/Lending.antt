@@ -80,7 +80,8 @@ module _ (f : List ℕ) (i : ℕ) (r : Row) (ring out : List ℕ) (p : Resealabl
         opened-is = front-is out x a (r .«text_len») (a + (r .«text_len» + n)) (omega arith) (omega (arith, text-in)) (k ∙ text-long)
 
         pub can-seal : PieceWritable f ring i r successor (stretch (putMid a (a + r .«text_len» - a) out x) a (a + (r .«text_len» + n) - a))
-        can-seal = record { is-row = p .is-row; entry = p .row .entry; still = three-seals; ring-long = p .row .ring-long; out-long = omega (arith, piece-long, m) }
+        can-seal =
+            record { is-row = p .is-row; entry = p .row .entry; still = three-seals; ring-long = p .row .ring-long; out-long = omega (arith, piece-long, m) }
 
 -- ---- a row
 

@@ -40,7 +40,8 @@ put-places s t p (suc n) l h = ap₂ (λ (x : List ℕ) (a : ℕ). put x a (p n)
 pub put-empty : (s : ℕ → ℕ) (p : ℕ → List ℕ) (n : ℕ) (l : List ℕ) → ((i : ℕ) → i < n → p i ≡ []) → putAll s p n l ≡ l
 unfolding putAll
 put-empty s p zero l h = refl
-put-empty s p (suc n) l h = ap₂ (λ (x : List ℕ) (y : List ℕ). put x (s n) y) (put-empty s p n l (λ i m. h i (omega arith))) (h n (omega arith)) ∙ put-none l (s n)
+put-empty s p (suc n) l h = ap₂ (λ (x : List ℕ) (y : List ℕ). put x (s n) y) (put-empty s p n l (λ i m. h i (omega arith))) (h n (omega arith))
+    ∙ put-none l (s n)
 
 -- each piece of q is one of p, or empty where p has what stands there
 module _ (s : ℕ → ℕ) (p q : ℕ → List ℕ) (n : ℕ) (l : List ℕ) (a : Apart s p n l)

@@ -24,7 +24,8 @@ use Rattle.shift_reseal.specs.Files.{resealedFile}
 use Rattle.shift_reseal.specs.Answers.{fileResealing}
 use Rattle.shift_reseal.specs.Promised.{HasFour, Calm, Resealed, Renewed, Renewing, NothingRetired, ResealedTwice, ClashOfCheck}
 use Rattle.shift_reseal.proofs.Retabled.{clash-of-check, t-same}
-use Rattle.shift_reseal.proofs.Resealed.{resealed-passes, resealed-length, resealed-count, resealed-nonce, none-left, row-three, data-three, same-message, right-again, kept-else, unchanged}
+use Rattle.shift_reseal.proofs.Resealed.{resealed-passes, resealed-length, resealed-count, resealed-nonce, none-left, row-three, data-three}
+use Rattle.shift_reseal.proofs.Resealed.{same-message, right-again, kept-else, unchanged}
 use Rattle.shift_reseal.proofs.Answers.{went, resealing}
 
 pub of-check : ClashOfCheck
@@ -35,7 +36,8 @@ calm-same : (f : List ℕ) → checkAs firstEdition f .number ≡ 0 → ((i : �
 calm-same f z none =
     record {
       checked = z;
-      calm = λ i l e. true≢false (sym e ∙ ap (λ (x : List ℕ). nonceSeen (rowSizeOf x) x i) (t-same f z none) ∙ passes firstEdition firstEdition f z .walk .rows i l .fresh);
+      calm = λ i l e. true≢false (sym e ∙ ap (λ (x : List ℕ). nonceSeen (rowSizeOf x) x i) (t-same f z none)
+          ∙ passes firstEdition firstEdition f z .walk .rows i l .fresh);
     }
 
 pub nothing-retired : NothingRetired
@@ -45,7 +47,8 @@ nothing-retired file ring out₀ z none r o =
 
 -- ---- what 0 leaves
 
-module _ (f ring : List ℕ) (hf : AllBytes f) (hr : AllBytes ring) (c : Calm f) (full : length ring ≡ 256) (right : (i : ℕ) → i < countOf f → HasFour f i → RightTag f ring i) where
+module _ (f ring : List ℕ) (hf : AllBytes f) (hr : AllBytes ring) (c : Calm f) (full : length ring ≡ 256)
+    (right : (i : ℕ) → i < countOf f → HasFour f i → RightTag f ring i) where
   abbrev F : List ℕ
   F = resealedFile f ring
 
@@ -59,7 +62,8 @@ module _ (f ring : List ℕ) (hf : AllBytes f) (hr : AllBytes ring) (c : Calm f)
       let m : i < countOf F = rw (resealed-count f ring hf hr c full) l in
       let same = same-message f ring hf hr c full i l four in
       let old : (room : List ℕ) → length room ≡ rowOf f i .«text_len» → entryOpening f ring i room ≡ record { number = 0; out = entryOut true f ring i } =
-      λ room o. open-done f ring i (entry-at firstEdition f plain-file (c .checked) i l) full room o ∙ ap (λ (b : Bool). openedAs 0 b (entryOut true f ring i) room) (right-test f i ring (right i l four)) in
+      λ room o. open-done f ring i (entry-at firstEdition f plain-file (c .checked) i l) full room o
+      ∙ ap (λ (b : Bool). openedAs 0 b (entryOut true f ring i) room) (right-test f i ring (right i l four)) in
       let new : (room : List ℕ) → length room ≡ rowOf f i .«text_len» → entryOpening F ring i room ≡ record { number = 0; out = entryOut true F ring i } =
       λ room o.
       open-done F ring i (entry-at firstEdition F plain-file passed i m) full room (o ∙ ap (λ (r : Row). r .«text_len») (sym row))
@@ -97,5 +101,6 @@ resealed-twice file ring out₀ out₁ hf hr o z =
     let F = resealedFile file ring in
     let g = w .room .ring-long in
     ap (λ (x : FileWritten). fileResealing (x .out) ring out₁) (w .leaves-it)
-    ∙ nothing-retired F ring out₁ (passed file ring hf hr (w .calm) g (w .right)) (none-left file ring hf hr (w .calm) g) g (o ∙ sym (resealed-length file ring hf hr (w .calm) g))
+    ∙ nothing-retired F ring out₁ (passed file ring hf hr (w .calm) g (w .right)) (none-left file ring hf hr (w .calm) g) g
+    (o ∙ sym (resealed-length file ring hf hr (w .calm) g))
     ∙ sym (w .leaves-it)

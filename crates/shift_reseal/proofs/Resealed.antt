@@ -31,12 +31,14 @@ use Rattle.shift_draft.specs.Put.{putAll}
 use Rattle.shift_draft.specs.Files.{inEdition, pieceStart, pieceSize, textAs, tagAs, entryOut, entryTag, rewritten}
 use Rattle.shift_draft.specs.Promised.{RightTag}
 use Rattle.shift_draft.proofs.Puts.{Apart, all-outside}
-use Rattle.shift_draft.proofs.Rewritten.{head, edition-own, piece-in, piece-end, start-is, body-late, bodies-apart, pieces-apart, same-length, same-row, same-nonce, same-data, same-count, parts-are, passes-again, edition-same, pair-low, pair-high}
+use Rattle.shift_draft.proofs.Rewritten.{head, edition-own, piece-in, piece-end, start-is, body-late, bodies-apart, pieces-apart, same-length, same-row}
+use Rattle.shift_draft.proofs.Rewritten.{same-nonce, same-data, same-count, parts-are, passes-again, edition-same, pair-low, pair-high}
 use Rattle.shift_draft.proofs.Pieces.{entry-at, text-all, out-long}
 use Rattle.shift_draft.proofs.Back.{plain-file}
 use Rattle.shift_reseal.specs.Files.{successor, retabled, againPiece, resealedFile}
 use Rattle.shift_reseal.specs.Promised.{HasFour, Elsewhere, Calm}
-use Rattle.shift_reseal.proofs.Retabled.{withSuite, size-new, nonce-new, new-four, new-not, t-length, t-row, t-nonce, t-head, t-body, t-count, t-kept, t-same, clash-of-check}
+use Rattle.shift_reseal.proofs.Retabled.{withSuite, size-new, nonce-new, new-four, new-not, t-length, t-row, t-nonce, t-head, t-body, t-count, t-kept}
+use Rattle.shift_reseal.proofs.Retabled.{t-same, clash-of-check}
 use Rattle.shift_reseal.proofs.Pieces.{put-places, put-empty, put-alike}
 use Rattle.shift_reseal.proofs.Answers.{seen-rows}
 
@@ -58,7 +60,9 @@ module _ (f ring : List ℕ) (hf : AllBytes f) (hr : AllBytes ring) (full : leng
 
   msg-all : AllBytes msg
   unfolding entryOut
-  msg-all = let r = rowOf f i in text-bytes (cipherOf (r .suite)) (lawful (r .suite)) (ringKey ring (r .key)) (nonceRead f i) (dataOf f r) true (textOf f r) (text-all f ring i e full hf hr)
+  msg-all =
+      let r = rowOf f i in text-bytes (cipherOf (r .suite)) (lawful (r .suite)) (ringKey ring (r .key)) (nonceRead f i) (dataOf f r) true (textOf f r)
+      (text-all f ring i e full hf hr)
 
   nonce-four : nonceRead f i ≡ nonceAgain f i
   nonce-four = ap (λ (k : ℕ). take k (nonceAt (rowSizeOf f) f i)) (sym (nonce-new (rowOf f i .suite)) ∙ ap nonceOf (new-four (rowOf f i .suite) four))
@@ -69,7 +73,8 @@ module _ (f ring : List ℕ) (hf : AllBytes f) (hr : AllBytes ring) (full : leng
   text-long : length (againText f ring i msg) ≡ rowOf f i .«text_len»
   text-long =
       let r = rowOf f i in
-      text-length (cipherOf successor) (lawful successor) (ringKey ring (r .key)) (nonceAgain f i) (dataOf f r) false msg msg-all ∙ out-long f ring i e full hf hr true
+      text-length (cipherOf successor) (lawful successor) (ringKey ring (r .key)) (nonceAgain f i) (dataOf f r) false msg msg-all
+      ∙ out-long f ring i e full hf hr true
 
   nonce-fit : length (nonceAgain f i) ≡ nonceOf successor
   nonce-fit =
@@ -80,7 +85,8 @@ module _ (f ring : List ℕ) (hf : AllBytes f) (hr : AllBytes ring) (full : leng
   tag-long =
       let r = rowOf f i in
       tag-block (cipherOf successor) (lawful successor) (ringKey ring (r .key)) (nonceAgain f i) (dataOf f r) false msg
-      (key-block f ring i e full hr) (all-nonce (nonce-bytes f i hf)) (nonce-fit ∙ sym (suite-nonce successor)) (all-stretch f (r .«ad_at») (r .«ad_len») hf) msg-all .long
+      (key-block f ring i e full hr) (all-nonce (nonce-bytes f i hf)) (nonce-fit ∙ sym (suite-nonce successor))
+      (all-stretch f (r .«ad_at») (r .«ad_len») hf) msg-all .long
     where
       all-nonce : AllBytes (nonceRead f i) → AllBytes (nonceAgain f i)
       all-nonce h = rw nonce-four at h
@@ -146,7 +152,8 @@ module _ (f ring : List ℕ) (hf : AllBytes f) (hr : AllBytes ring) (c : Calm f)
   four-long : (i : ℕ) → i < n → HasFour f i → length (againText f ring i (entryOut true f ring i) ++ againTag f ring i (entryOut true f ring i)) ≡ pieceSize f i
   four-long i l q =
       length-append (againText f ring i (entryOut true f ring i)) (againTag f ring i (entryOut true f ring i))
-      ∙ ap₂ (λ (a b : ℕ). a + b) (text-long f ring hf hr full i (taken i l) q) (tag-long f ring hf hr full i (taken i l) q ∙ sym (size-four f ring hf hr full i (taken i l) q))
+      ∙ ap₂ (λ (a b : ℕ). a + b) (text-long f ring hf hr full i (taken i l) q)
+      (tag-long f ring hf hr full i (taken i l) q ∙ sym (size-four f ring hf hr full i (taken i l) q))
 
   whole-long : (i : ℕ) → i < countOf T → length (whole i) ≡ pieceSize T i
   whole-long i l =
@@ -170,7 +177,8 @@ module _ (f ring : List ℕ) (hf : AllBytes f) (hr : AllBytes ring) (c : Calm f)
       t-apart : Apart (pieceStart T) whole (countOf T) T
       t-apart = rw t-edition at (pieces-apart firstEdition T plain-file t-passes firstEdition plain-file whole whole-long)
 
-      alike : (i : ℕ) → i < countOf T → (againPiece f ring i ≡ whole i) ⊎ ((againPiece f ring i ≡ []) × (whole i ≡ stretch T (pieceStart T i) (length (whole i))))
+      alike : (i : ℕ) → i < countOf T → (againPiece f ring i ≡ whole i) ⊎ ((againPiece f ring i ≡ [])
+          × (whole i ≡ stretch T (pieceStart T i) (length (whole i))))
       alike i l =
           ⊎-elim
           (λ q. inl (again-four i q ∙ sym (whole-four i q)))
@@ -218,7 +226,9 @@ module _ (f ring : List ℕ) (hf : AllBytes f) (hr : AllBytes ring) (c : Calm f)
     three = record { job = r .job; suite = successor; key = r .key; «ad_len» = r .«ad_len»; «ad_at» = r .«ad_at»; «text_len» = r .«text_len» }
 
     new-three : withSuite r ≡ three
-    new-three = ap (λ (s : ℕ). record { job = r .job; suite = s; key = r .key; «ad_len» = r .«ad_len»; «ad_at» = r .«ad_at»; «text_len» = r .«text_len» }) (new-four (r .suite) four)
+    new-three =
+        ap (λ (s : ℕ). record { job = r .job; suite = s; key = r .key; «ad_len» = r .«ad_len»; «ad_at» = r .«ad_at»; «text_len» = r .«text_len» })
+        (new-four (r .suite) four)
 
     pub row-three : rowOf F i ≡ three
     row-three = resealed-row i l ∙ new-three
@@ -239,7 +249,8 @@ module _ (f ring : List ℕ) (hf : AllBytes f) (hr : AllBytes ring) (c : Calm f)
 
     parts-three : (textOf F three ≡ againText f ring i msg₄) × (tagOf F three ≡ againTag f ring i msg₄)
     parts-three =
-        let p = parts-are firstEdition T plain-file t-passes firstEdition plain-file whole whole-long i in-t (againText f ring i msg₄) (againTag f ring i msg₄) (whole-four i four)
+        let p = parts-are firstEdition T plain-file t-passes firstEdition plain-file whole whole-long i in-t (againText f ring i msg₄) (againTag f ring i msg₄)
+        (whole-four i four)
         (text-long f ring hf hr full i (taken i l) four ∙ ap (λ (q : Row). q .«text_len») (sym row-t)) in (
           ap (λ (x : List ℕ). textOf x three) resealed-is ∙ ap (textOf R) (sym row-t) ∙ p .0,
           ap (λ (x : List ℕ). tagOf x three) resealed-is ∙ ap (tagOf R) (sym row-t) ∙ p .1,
@@ -251,7 +262,8 @@ module _ (f ring : List ℕ) (hf : AllBytes f) (hr : AllBytes ring) (c : Calm f)
         let key = ringKey ring (r .key) in
         let row = row-three in
         let nonce = resealed-nonce i l in
-        (λ t. textOut (cipherOf (row t .suite)) true (ringKey ring (row t .key)) (take (nonceOf (row t .suite)) (nonce t)) (dataOf F (row t)) (textOf F (row t)))
+        (λ t. textOut (cipherOf (row t .suite)) true (ringKey ring (row t .key)) (take (nonceOf (row t .suite)) (nonce t)) (dataOf F (row t))
+        (textOf F (row t)))
         ∙ ap₂ (λ (a b : List ℕ). textOut (cipherOf successor) true key (nonceAgain f i) a b) data-three (parts-three .0)
         ∙ text-back (cipherOf successor) (lawful successor) key (nonceAgain f i) (dataOf f r) false msg₄ (msg-all f ring hf hr full i (taken i l) four)
 
@@ -281,7 +293,14 @@ module _ (f ring : List ℕ) (hf : AllBytes f) (hr : AllBytes ring) (c : Calm f)
   again-apart : Apart (pieceStart f) (againPiece f ring) n T
   again-apart = record {
     fits = λ i l. omega (arith, again-most i l, piece-in firstEdition f plain-file z i l, t-length f z);
-    after = λ i j l m. omega (arith, again-most i (omega arith), piece-end firstEdition f plain-file z i, bodies-apart firstEdition f plain-file z i j l m, start-is firstEdition f plain-file z j);
+    after =
+        λ i j l m. omega (
+          arith,
+          again-most i (omega arith),
+          piece-end firstEdition f plain-file z i,
+          bodies-apart firstEdition f plain-file z i j l m,
+          start-is firstEdition f plain-file z j,
+        );
   }
 
   pub kept-else : (k : ℕ) → ((i : ℕ) → i < n → HasFour f i → Elsewhere f i k) → getD (resealedFile f ring) k 0 ≡ getD f k 0

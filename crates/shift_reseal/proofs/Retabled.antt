@@ -14,9 +14,11 @@ use Rattle.block.specs.Bytes.{sameBytes}
 use Rattle.block.specs.Blocks.{filled}
 use Rattle.cipher.specs.Cipher.{retiredSuite, factsOf, isSuite, sizeOf, nonceOf}
 use Rattle.shift_format.specs.declared.row.Row.{Row}
-use Rattle.shift_format.specs.Format.{editionOf, countOf, totalOf, firstEdition, rowSize, rowSizeOf, rowStart, restStart, rowAt, nonceStart, nonceAt, nonceReadAt, rowOf, bodyEnd}
+use Rattle.shift_format.specs.Format.{editionOf, countOf, totalOf, firstEdition, rowSize, rowSizeOf, rowStart, restStart, rowAt, nonceStart, nonceAt}
+use Rattle.shift_format.specs.Format.{nonceReadAt, rowOf, bodyEnd}
 use Rattle.status.specs.Answers.{answer}
-use Rattle.shift_check.specs.Check.{notAbove, badSuite, badLength, bodyStart, misplaced, unreadSet, clash, nonceSeen, badData, bodyNumber, rowNumber, endAnswer, rowsFrom, headNumber, checkBetween, checkAs}
+use Rattle.shift_check.specs.Check.{notAbove, badSuite, badLength, bodyStart, misplaced, unreadSet, clash, nonceSeen, badData, bodyNumber, rowNumber, endAnswer}
+use Rattle.shift_check.specs.Check.{rowsFrom, headNumber, checkBetween, checkAs}
 use Rattle.shift_format.specs.Inside.{TableIn}
 use Rattle.shift_format.proofs.Rows.{row-broad, row-late, row-below, row-in, nonce-length}
 use Rattle.shift_check.proofs.Sound.{Sound}
@@ -81,7 +83,8 @@ end-new r = ap (λ (k : ℕ). r .«ad_at» + r .«ad_len» + r .«text_len» + k
 
 -- ---- bytes that have the file's table, with the new suites
 
-module _ (f l : List ℕ) (n : ℕ) (tf : TableIn (rowSizeOf f) f n) (tl : TableIn (rowSizeOf f) l n) (agree : (k : ℕ) → k < rowStart (rowSizeOf f) n → getD l k 0 ≡ getD f k 0) where
+module _ (f l : List ℕ) (n : ℕ) (tf : TableIn (rowSizeOf f) f n) (tl : TableIn (rowSizeOf f) l n)
+    (agree : (k : ℕ) → k < rowStart (rowSizeOf f) n → getD l k 0 ≡ getD f k 0) where
   abbrev w : ℕ
   w = rowSizeOf f
 

@@ -23,7 +23,8 @@ resuited f n l = putAll (restStart (rowSizeOf f)) (λ i. newSuite (rowOf f i .su
 abbrev pub retabled : List ℕ → List ℕ
 retabled f = resuited f (countOf f) f
 
--- what replaces text and tag of row i: for a suite 4 entry its message, sealed as suite 3 with the row's own key number, nonce and associated data; for any other nothing, so they are kept
+-- what replaces text and tag of row i: for a suite 4 entry its message, sealed as suite 3 with the row's own key number,
+-- nonce and associated data; for any other nothing, so they are kept
 unfoldable pub againPiece : List ℕ → List ℕ → ℕ → List ℕ
 againPiece f ring i = cond (eqb (rowOf f i .suite) retiredSuite) (pieceAs f ring i successor (entryOut true f ring i)) []
 

@@ -35,7 +35,8 @@ pub record Resealed (file ring out : List ℕ) (i : ℕ) : Type 0 where
   pub ad : dataOf out (rowOf out i) ≡ dataOf file (rowOf file i)
   -- its tag is right, and opening it gives the same message as before
   pub right : RightTag out ring i
-  pub opens : (room : List ℕ) → length room ≡ rowOf file i .«text_len» → (entryOpening out ring i room .number ≡ 0) × (entryOpening out ring i room ≡ entryOpening file ring i room)
+  pub opens : (room : List ℕ) → length room ≡ rowOf file i .«text_len» → (entryOpening out ring i room .number ≡ 0)
+      × (entryOpening out ring i room ≡ entryOpening file ring i room)
 
 -- offset k is neither row i's suite byte nor in its text and tag
 pub record Elsewhere (file : List ℕ) (i k : ℕ) : Type 0 where
@@ -59,7 +60,8 @@ Renewing =
 -- a file without suite 4 comes back byte for byte
 abbrev pub NothingRetired : Type 0
 NothingRetired =
-    (file ring out₀ : List ℕ) → checkAs firstEdition file .number ≡ 0 → ((i : ℕ) → i < countOf file → HasFour file i → ⊥) → length ring ≡ 256 → length out₀ ≡ length file
+    (file ring out₀ : List ℕ) → checkAs firstEdition file .number ≡ 0 → ((i : ℕ) → i < countOf file → HasFour file i → ⊥) → length ring ≡ 256
+    → length out₀ ≡ length file
     → fileResealing file ring out₀ ≡ writes (answer 0 0) file
 
 -- resealing twice is resealing once

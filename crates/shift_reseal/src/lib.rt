@@ -36,7 +36,8 @@ fn refused(file: &[u8], ring: usize, out: usize) -> Written
 
 // Seals the suite 4 entries of a file again as suite 3, into an output of the file's length: the checks, 29, 2, 6, 8.
 pub fn reseal(file: &[u8], ring: &[u8], out: &mut [u8]) -> Written
-    ensures { λ r. ⌜ _≡_ {A = FileWritten} (record { answer = writtenAnswer r; out = now (out .exit) }) (fileResealing (now (file .entry)) (now (ring .entry)) (now (out .entry))) ⌝ }
+    ensures { λ r. ⌜ _≡_ {A = FileWritten} (record { answer = writtenAnswer r; out = now (out .exit) })
+        (fileResealing (now (file .entry)) (now (ring .entry)) (now (out .entry))) ⌝ }
 {
     let refused = refused(file, ring.len(), out.len());
     let Written::Done = refused else {

@@ -24,13 +24,14 @@ ghost use Rattle.shift_reseal.specs.Inside.{Resealable};
 fn reseal_entry(file: &[u8], ring: &[u8], index: usize, row: Row, out: &mut [u8]) -> bool
     requires { ⌜ Resealable (now file) index row (now ring) (now out) ⌝ }
     ensures right { λ r. ⌜ r ≡ tagRight (now (file .entry)) (now (ring .entry)) index ⌝ }
-    ensures text { λ r. ⌜ (r ≡ true → now (out .exit) ≡ put (now (out .entry)) (pieceStart (now (file .entry)) index) (againPiece (now (file .entry)) (now (ring .entry)) index)) ⌝ }
+    ensures text { λ r. ⌜ (r ≡ true → now (out .exit) ≡ put (now (out .entry)) (pieceStart (now (file .entry)) index)
+        (againPiece (now (file .entry)) (now (ring .entry)) index)) ⌝ }
 {
     let len = row.text_len as usize;
-    let n = len + cipher::size_of(SUCCESSOR);
+    let whole = len + cipher::size_of(SUCCESSOR);
     let start = text_start(row);
     let tag_start = start + len;
-    let end = start + n;
+    let end = start + whole;
     let opened = open_row(file, ring, index, row, &mut out[start..tag_start]);
     let Verdict::Done = opened else {
         return false;
@@ -43,7 +44,8 @@ fn reseal_entry(file: &[u8], ring: &[u8], index: usize, row: Row, out: &mut [u8]
 fn reseal_row(file: &[u8], ring: &[u8], index: usize, out: &mut [u8]) -> bool
     requires { ⌜ RowWritable (now file) index (now ring) (now out) ⌝ }
     ensures right { λ r. ⌜ not r ≡ wrongAgain (now (file .entry)) (now (ring .entry)) index ⌝ }
-    ensures text { λ r. ⌜ (r ≡ true → now (out .exit) ≡ put (now (out .entry)) (pieceStart (now (file .entry)) index) (againPiece (now (file .entry)) (now (ring .entry)) index)) ⌝ }
+    ensures text { λ r. ⌜ (r ≡ true → now (out .exit) ≡ put (now (out .entry)) (pieceStart (now (file .entry)) index)
+        (againPiece (now (file .entry)) (now (ring .entry)) index)) ⌝ }
 {
     let row = row_of(file, index);
     if row.suite != RETIRED {
@@ -56,7 +58,8 @@ fn reseal_row(file: &[u8], ring: &[u8], index: usize, out: &mut [u8]) -> bool
 pub(crate) fn reseal_rows(file: &[u8], rows: usize, ring: &[u8], out: &mut [u8]) -> Written
     requires { ⌜ Writable (now file) rows (now ring) (now out) ⌝ }
     ensures { λ r. ⌜ _≡_ {A = FileWritten} (record { answer = writtenAnswer r; out = now (out .exit) })
-        (leaves (wrongAgainFrom (now (file .entry)) (now (ring .entry)) rows 0) (putAll (pieceStart (now (file .entry))) (againPiece (now (file .entry)) (now (ring .entry))) rows (now (out .entry))) (now (out .entry))) ⌝ }
+        (leaves (wrongAgainFrom (now (file .entry)) (now (ring .entry)) rows 0)
+        (putAll (pieceStart (now (file .entry))) (againPiece (now (file .entry)) (now (ring .entry))) rows (now (out .entry))) (now (out .entry))) ⌝ }
 {
     let mut i: usize = 0;
     while i < rows {

@@ -45,14 +45,14 @@ pub(crate) fn put_suites(file: &[u8], rows: usize, out: &mut [u8])
     }
 }
 
-// Rows a and b have the same new suite and the same key number.
-fn same_key(a: Row, b: Row) -> bool
-    ensures { λ r. ⌜ r ≡ (eqb (newSuite (a .suite)) (newSuite (b .suite)) && eqb (a .key) (b .key)) ⌝ }
+// Two rows have the same new suite and the same key number.
+fn same_key(this: Row, earlier: Row) -> bool
+    ensures { λ r. ⌜ r ≡ (eqb (newSuite (this .suite)) (newSuite (earlier .suite)) && eqb (this .key) (earlier .key)) ⌝ }
 {
-    if new_suite(a.suite) != new_suite(b.suite) {
+    if new_suite(this.suite) != new_suite(earlier.suite) {
         return false;
     }
-    a.key == b.key
+    this.key == earlier.key
 }
 
 // The nonce of a row as a block.

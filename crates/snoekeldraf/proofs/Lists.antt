@@ -24,7 +24,8 @@ unfolding comparison
 finding-low f g x y z = on (refused f) (refused g) (tooLong f g x y z) refl refl
   where
     on : (a b c : Bool) → refused f ≡ a → refused g ≡ b
-        → Low (cond a (stopped (refusedIn 1 (checkFile f)) x y z) (cond b (stopped (refusedIn 2 (checkFile g)) x y z) (cond c (stopped (refusedIn 0 (answer 36 0)) x y z) (listed f g x y z))) .finding)
+        → Low (cond a (stopped (refusedIn 1 (checkFile f)) x y z) (cond b (stopped (refusedIn 2 (checkFile g)) x y z)
+        (cond c (stopped (refusedIn 0 (answer 36 0)) x y z) (listed f g x y z))) .finding)
     on true b c p q = record { row = check-row firstEdition newest f; first = lit≤ tt; second = lit≤ tt; differ = lit≤ tt }
     on false true c p q = record { row = check-row firstEdition newest g; first = lit≤ tt; second = lit≤ tt; differ = lit≤ tt }
     on false false true p q = record { row = lit≤ tt; first = lit≤ tt; second = lit≤ tt; differ = lit≤ tt }

@@ -107,8 +107,10 @@ comet-verify κs a h x y = (x .ensures ∙ sym (y .ensures), refl)
 
 pub comet-seal-counted : OneOutcome seal-counted-kinds.ps seal-counted-kinds.r seal-counted-reads.Pre seal-counted-reads.Post
 comet-seal-counted κs a h x y =
-    let e = x .ensures ∙ sym (y .ensures) in
-    (ap (λ (w : Counting Sealed). w .leaves .number) e, ap (λ (w : Counting Sealed). (tt, (tt, (tt, (tt, (tt, (w .leaves .out, (w .leaves .tag, (w .calls, tt))))))))) e)
+    let e = x .ensures ∙ sym (y .ensures) in (
+      ap (λ (w : Counting Sealed). w .leaves .number) e,
+      ap (λ (w : Counting Sealed). (tt, (tt, (tt, (tt, (tt, (w .leaves .out, (w .leaves .tag, (w .calls, tt))))))))) e,
+    )
 
 pub comet-open-counted : OneOutcome open-counted-kinds.ps open-counted-kinds.r open-counted-reads.Pre open-counted-reads.Post
 comet-open-counted κs a h x y =
@@ -215,8 +217,16 @@ pub shift-compare : OneOutcome compare-kinds.ps compare-kinds.r compare-reads.Pr
 shift-compare κs a h x y =
     let e = x .ensures ∙ sym (y .ensures) in (
       ap (λ (w : Comparison). w .finding .number) e,
-      ap (λ (w : Comparison).
-          (tt, (tt, (w .first, (w .second, (w .differ, (w .finding .first, (w .finding .second, (w .finding .differ, (w .finding .file, (w .finding .row, tt))))))))))) e,
+      ap (λ (w : Comparison). (
+        tt,
+        (
+          tt,
+          (
+            w .first,
+            (w .second, (w .differ, (w .finding .first, (w .finding .second, (w .finding .differ, (w .finding .file, (w .finding .row, tt))))))),
+          ),
+        ),
+      )) e,
     )
 
 pub shift-report : OneOutcome report-kinds.ps report-kinds.r report-reads.Pre report-reads.Post

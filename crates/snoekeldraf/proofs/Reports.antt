@@ -20,10 +20,13 @@ pub record Small (s : ReportSummary) : Type 0 where
 
 said-small : (f ring jobs numbers : List ℕ) → Small (reporting f ring jobs numbers .said)
 unfolding reporting
-said-small f ring jobs numbers = on (ltb longest (length f)) (not (eqb (checkFile f .number) 0)) (not (eqb (length ring) 256)) (ltb (length jobs) (countOf f) || ltb (length numbers) (countOf f)) refl
+said-small f ring jobs numbers =
+    on (ltb longest (length f)) (not (eqb (checkFile f .number) 0)) (not (eqb (length ring) 256))
+    (ltb (length jobs) (countOf f) || ltb (length numbers) (countOf f)) refl
   where
     on : (a b c d : Bool) → not (eqb (checkFile f .number) 0) ≡ b
-        → Small (cond a (stopped (answer 20 0) jobs numbers) (cond b (stopped (checkFile f) jobs numbers) (cond c (stopped (answer 2 0) jobs numbers) (cond d (stopped (answer 6 0) jobs numbers)
+        → Small (cond a (stopped (answer 20 0) jobs numbers) (cond b (stopped (checkFile f) jobs numbers)
+        (cond c (stopped (answer 2 0) jobs numbers) (cond d (stopped (answer 6 0) jobs numbers)
         (record { said = entries (countOf f); jobs = front (jobOf f) (countOf f) jobs; numbers = front (tagNumber f ring) (countOf f) numbers })))) .said)
     on true b c d p = record { row = lit≤ tt; count = lit≤ tt }
     on false true c d p = record { row = check-row firstEdition newest f; count = lit≤ tt }

@@ -22,7 +22,8 @@ use Rattle.shift_jobs.specs.Genuine.{withheld, rowVerifying, jobVerifying}
 use Rattle.shift_draft.specs.Files.{draftEdition}
 use Rattle.shift_editions.specs.Files.{moved}
 use Rattle.shift_editions.specs.Answers.{stationsFrom, lengthAnswer, upAnswer, backAnswer, toEdition2, toEdition1}
-use Rattle.shift_draft.specs.Answers.{tagSet, tagRight, setFrom, wrongFrom, lentAnswer, sealAnswer, openAnswer, unsealAnswer, fileSealing, fileUnsealing, rowRetired, retiredFrom}
+use Rattle.shift_draft.specs.Answers.{tagSet, tagRight, setFrom, wrongFrom, lentAnswer, sealAnswer, openAnswer, unsealAnswer, fileSealing, fileUnsealing}
+use Rattle.shift_draft.specs.Answers.{rowRetired, retiredFrom}
 use Rattle.shift_reseal.specs.Files.{retabled}
 use Rattle.shift_reseal.specs.Answers.{seenFrom, wrongAgain, wrongAgainFrom, takeAnswer, resealAnswer, fileResealing}
 use Rattle.shift_check.specs.Check.{nonceSeen}
@@ -76,7 +77,8 @@ unfolding rowOpening
 opened-row f ring i out₀ = go (not (eqb (length ring) 256)) (not (eqb (length out₀) (rowOf f i .«text_len»)))
   where
     go : (b c : Bool)
-        → cond b (left (answer 2 0) out₀) (cond c (left (answer 6 0) out₀) (left (answer (entryOpening f ring i out₀ .number) 0) (entryOpening f ring i out₀ .out))) .answer .row ≡ 0
+        → cond b (left (answer 2 0) out₀) (cond c (left (answer 6 0) out₀)
+        (left (answer (entryOpening f ring i out₀ .number) 0) (entryOpening f ring i out₀ .out))) .answer .row ≡ 0
     go true c = refl
     go false true = refl
     go false false = refl
@@ -94,7 +96,8 @@ unfolding rowVerifying
 tested-row f ring i = go (eqb (length ring) 256) (eqb (entryVerifying f ring i) 0)
   where
     go : (b c : Bool)
-        → cond (not b) (withheld 2 0) (cond (not c) (withheld (entryVerifying f ring i) 0) (record { number = 0; row = 0; «ad_at» = rowOf f i .«ad_at»; «ad_len» = rowOf f i .«ad_len» })) .row ≡ 0
+        → cond (not b) (withheld 2 0) (cond (not c) (withheld (entryVerifying f ring i) 0)
+        (record { number = 0; row = 0; «ad_at» = rowOf f i .«ad_at»; «ad_len» = rowOf f i .«ad_len» })) .row ≡ 0
     go false c = refl
     go true false = refl
     go true true = refl
@@ -136,7 +139,11 @@ unsealed-row file ring out₀ =
     let lent = lentAnswer (length file) (length ring) (length out₀) in
     then-row (andThen (checkAs firstEdition file) lent) (wrongFrom file ring (countOf file) 0) 512
     (then-row (checkAs firstEdition file) lent 512 (check-row firstEdition firstEdition file) (λ z. lent-row (length file) (length ring) (length out₀)))
-    (λ z. omega (arith, passes firstEdition firstEdition file (both-zero (checkAs firstEdition file) lent z .0) .head .few, first-row (λ j. not (tagRight file ring j)) (λ j. 8) (answer 0 0) (countOf file) (omega arith)))
+    (λ z. omega (
+      arith,
+      passes firstEdition firstEdition file (both-zero (checkAs firstEdition file) lent z .0) .head .few,
+      first-row (λ j. not (tagRight file ring j)) (λ j. 8) (answer 0 0) (countOf file) (omega arith),
+    ))
 
 -- the reseal pass's
 pub resealed-row : (file ring out₀ : List ℕ) → fileResealing file ring out₀ .answer .row ≤ 512
@@ -147,9 +154,18 @@ resealed-row file ring out₀ =
     then-row (andThen (checkAs firstEdition file) (andThen seen lent)) (wrongAgainFrom file ring (countOf file) 0) 512
     (then-row (checkAs firstEdition file) (andThen seen lent) 512 (check-row firstEdition firstEdition file)
     (λ z. then-row seen lent 512
-    (omega (arith, passes firstEdition firstEdition file z .head .few, first-row (nonceSeen (rowSizeOf (retabled file)) (retabled file)) (λ j. 29) (answer 0 0) (countOf file) (omega arith)))
+    (omega (
+      arith,
+      passes firstEdition firstEdition file z .head .few,
+      first-row (nonceSeen (rowSizeOf (retabled file)) (retabled file)) (λ j. 29) (answer 0 0)
+          (countOf file) (omega arith),
+    ))
     (λ y. lent-row (length file) (length ring) (length out₀))))
-    (λ z. omega (arith, passes firstEdition firstEdition file (both-zero (checkAs firstEdition file) (andThen seen lent) z .0) .head .few, first-row (wrongAgain file ring) (λ j. 8) (answer 0 0) (countOf file) (omega arith)))
+    (λ z. omega (
+      arith,
+      passes firstEdition firstEdition file (both-zero (checkAs firstEdition file) (andThen seen lent) z .0) .head .few,
+      first-row (wrongAgain file ring) (λ j. 8) (answer 0 0) (countOf file) (omega arith),
+    ))
 
 -- the moves' answers
 length-row : (new out : ℕ) → lengthAnswer new out .row ≤ 512

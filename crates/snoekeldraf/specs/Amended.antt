@@ -13,4 +13,5 @@ pub record Placed : Type 0 where
 
 -- the part that `current` returns; on a refusal 0 and 0, the amendment's first zero bytes
 abbrev pub placing : List ℕ → List ℕ → ℕ → Placed
-placing a d job = let x = amendedEntry a d job in record { number = x .entry .number; file = x .file; row = x .entry .row; at = x .entry .«ad_at»; len = x .entry .«ad_len» }
+placing a d job =
+    let x = amendedEntry a d job in record { number = x .entry .number; file = x .file; row = x .entry .row; at = x .entry .«ad_at»; len = x .entry .«ad_len» }

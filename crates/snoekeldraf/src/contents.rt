@@ -7,7 +7,8 @@ ghost use Rattle.snoekeldraf.specs.Fields.{InFields, inFields};
 // 20 to 24 alone, then the file's edition and row count; both are 0 after every status but 0.
 #[no_mangle]
 pub extern "C" fn shift_rows(file: &[u8], edition: &mut u32, count: &mut u32) -> u32
-    ensures { λ r. ⌜ _≡_ {A = HeaderFields} (record { status = r; edition = now (edition .exit); count = now (count .exit) }) (headerAnswer (now (file .entry))) ⌝ }
+    ensures { λ r. ⌜ _≡_ {A = HeaderFields} (record { status = r; edition = now (edition .exit); count = now (count .exit) })
+        (headerAnswer (now (file .entry))) ⌝ }
 {
     let header = shift_reader::contents::header(file);
     *edition = header.edition;

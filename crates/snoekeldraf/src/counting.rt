@@ -15,7 +15,10 @@ pub extern "C" fn comet_seal_counted(
     tag: &mut [u8],
     calls: &mut u64,
 ) -> u32
-    ensures { λ r. ⌜ _≡_ {A = Counting Sealed} (record { leaves = record { number = r; out = now (out .exit); tag = now (tag .exit) }; calls = now (calls .exit) })
+    ensures { λ r. ⌜ _≡_ {A = Counting Sealed} (record {
+      leaves = record { number = r; out = now (out .exit); tag = now (tag .exit) };
+      calls = now (calls .exit);
+    })
         (sealingCounted suite (now (key .entry)) (now (nonce .entry)) (now (ad .entry)) (now (msg .entry)) (now (out .entry)) (now (tag .entry))) ⌝ }
 {
     let sealed = comet::seal_counted(suite, key, nonce, ad, msg, out, tag);

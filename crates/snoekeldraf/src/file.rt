@@ -13,12 +13,12 @@ ghost use Rattle.shift_jobs.specs.Genuine.{jobVerifying};
 ghost use Rattle.snoekeldraf.specs.Located.{Located, locating};
 
 // Writes the row that an answer carries, and returns its number.
-pub(crate) fn say(a: Answer, row: &mut u32) -> u32
-    requires { ⌜ a .row ≤ 512 ⌝ }
-    ensures { λ r. ⌜ answer r (now (row .exit)) ≡ a ⌝ }
+pub(crate) fn say(outcome: Answer, row: &mut u32) -> u32
+    requires { ⌜ outcome .row ≤ 512 ⌝ }
+    ensures { λ r. ⌜ answer r (now (row .exit)) ≡ outcome ⌝ }
 {
-    *row = a.row as u32;
-    a.number as u32
+    *row = outcome.row as u32;
+    outcome.number as u32
 }
 
 // The full check: numbers 20 to 31 and 34, and the row.

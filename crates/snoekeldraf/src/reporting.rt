@@ -13,7 +13,11 @@ pub extern "C" fn shift_report(
     count: &mut u32,
     row: &mut u32,
 ) -> u32
-    ensures { λ r. ⌜ _≡_ {A = Report} (record { said = record { number = r; row = now (row .exit); count = now (count .exit) }; jobs = now (jobs .exit); numbers = now (numbers .exit) })
+    ensures { λ r. ⌜ _≡_ {A = Report} (record {
+      said = record { number = r; row = now (row .exit); count = now (count .exit) };
+      jobs = now (jobs .exit);
+      numbers = now (numbers .exit);
+    })
         (reporting (now (file .entry)) (now (ring .entry)) (now (jobs .entry)) (now (numbers .entry))) ⌝ }
 {
     let summary = shift_report::report(file, ring, jobs, numbers).said();

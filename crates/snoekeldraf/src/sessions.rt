@@ -17,40 +17,49 @@ fn copied(state: &[u64; 9]) -> [u64; 9]
 }
 
 // The session that nine words stand for.
-fn session_of(w: [u64; 9]) -> Session
-    requires { ⌜ getD w 0 0 < 256 ⌝ }
-    ensures { λ r. ⌜ asValue r ≡ ofWords w ⌝ }
+fn session_of(words: [u64; 9]) -> Session
+    requires { ⌜ getD words 0 0 < 256 ⌝ }
+    ensures { λ r. ⌜ asValue r ≡ ofWords words ⌝ }
 {
-    let held = block::bytes_of(Block { a: w[5], b: w[6] });
+    let held = block::bytes_of(Block {
+        a: words[5],
+        b: words[6],
+    });
     Session {
-        suite: w[0] as u8,
-        y: Block { a: w[1], b: w[2] },
-        z: Block { a: w[3], b: w[4] },
+        suite: words[0] as u8,
+        y: Block {
+            a: words[1],
+            b: words[2],
+        },
+        z: Block {
+            a: words[3],
+            b: words[4],
+        },
         held: held,
-        ad_total: w[7] as usize,
-        text_total: w[8] as usize,
+        ad_total: words[7] as usize,
+        text_total: words[8] as usize,
     }
 }
 
 // The nine words of a session.
-fn words_of(s: Session) -> [u64; 9]
-    ensures words { λ r. ⌜ r ≡ wordsOf (asValue s) ⌝ }
-    ensures session { λ r. ⌜ ofWords r ≡ asValue s ⌝ }
+fn words_of(state: Session) -> [u64; 9]
+    ensures words { λ r. ⌜ r ≡ wordsOf (asValue state) ⌝ }
+    ensures session { λ r. ⌜ ofWords r ≡ asValue state ⌝ }
 {
-    let y = s.y;
-    let z = s.z;
-    let held = s.held;
+    let y = state.y;
+    let z = state.z;
+    let held = state.held;
     let buffered = block::block_of(held);
     [
-        s.suite as u64,
+        state.suite as u64,
         y.a,
         y.b,
         z.a,
         z.b,
         buffered.a,
         buffered.b,
-        s.ad_total as u64,
-        s.text_total as u64,
+        state.ad_total as u64,
+        state.text_total as u64,
     ]
 }
 
@@ -93,7 +102,8 @@ pub extern "C" fn comet_session_part(
     out: &mut [u8],
     count: &mut u32,
 ) -> u32
-    ensures { λ r. ⌜ after r (now (count .exit)) (now (state .exit)) (now (out .exit)) [] ≡ inWords (textPart (ofWords (now (state .entry))) (now (msg .entry)) (now (out .entry))) ⌝ }
+    ensures { λ r. ⌜ after r (now (count .exit)) (now (state .exit)) (now (out .exit)) []
+        ≡ inWords (textPart (ofWords (now (state .entry))) (now (msg .entry)) (now (out .entry))) ⌝ }
 {
     let words = copied(state);
     if words[0] > 255 {
@@ -115,7 +125,8 @@ pub extern "C" fn comet_session_end(
     tag: &mut [u8],
     count: &mut u32,
 ) -> u32
-    ensures { λ r. ⌜ after r (now (count .exit)) (now (state .exit)) (now (out .exit)) (now (tag .exit)) ≡ inWords (ending (ofWords (now (state .entry))) (now (out .entry)) (now (tag .entry))) ⌝ }
+    ensures { λ r. ⌜ after r (now (count .exit)) (now (state .exit)) (now (out .exit)) (now (tag .exit))
+        ≡ inWords (ending (ofWords (now (state .entry))) (now (out .entry)) (now (tag .entry))) ⌝ }
 {
     let words = copied(state);
     if words[0] > 255 {

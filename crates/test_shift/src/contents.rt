@@ -54,9 +54,9 @@ fn rows(file: &[u8], first: u32, count: usize, line: &mut [u8], start: usize) ->
 
 // Reads the file of a call into file_buf and runs it; no line if file_buf is too small or the input ends.
 fn run_in(file_buf: &mut [u8], call: Call, line: &mut [u8]) -> usize {
-    let n = call.first;
-    let file = program_text::read::field(file_buf, n);
-    if file.len() != n {
+    let file_len = call.first;
+    let file = program_text::read::field(file_buf, file_len);
+    if file.len() != file_len {
         return 0;
     }
     let at = header_line(file, line);

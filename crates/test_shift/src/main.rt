@@ -48,8 +48,8 @@ fn turn() -> bool {
     if !program_text::call::next(&mut head) {
         return false;
     }
-    let n = run(program_text::call::call_of(&head), &mut line);
-    program_text::call::done(&line, n)
+    let len = run(program_text::call::call_of(&head), &mut line);
+    program_text::call::done(&line, len)
 }
 
 // The end of an input is not provable, so the loop counts down from a number that no input reaches.

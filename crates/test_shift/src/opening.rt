@@ -75,51 +75,51 @@ fn low(row: usize) -> u8 {
     (row % 256) as u8
 }
 
-// The fold s with the number of opening, and the output that it leaves.
-fn opened_into(s: u64, file: &[u8], ring: &[u8], job: u32, out: &mut [u8]) -> u64
-    requires { ⌜ s < 4294967291 ⌝ }
+// The fold with the number of opening, and the output that it leaves.
+fn opened_into(fold: u64, file: &[u8], ring: &[u8], job: u32, out: &mut [u8]) -> u64
+    requires { ⌜ fold < 4294967291 ⌝ }
     ensures { λ r. ⌜ r < 4294967291 ⌝ }
 {
     let answered = shift_jobs::open_job(file, ring, job, out).answer();
-    program_text::fold::fold_from(program_text::fold::folded(s, answered.number), out)
+    program_text::fold::fold_from(program_text::fold::folded(fold, answered.number), out)
 }
 
-// The same with a fresh output of o bytes.
-fn opened(s: u64, file: &[u8], ring: &[u8], job: u32, o: usize) -> u64
-    requires { ⌜ (s < 4294967291) × (o ≤ 300) ⌝ }
+// The same with a fresh output of out_len bytes.
+fn opened(fold: u64, file: &[u8], ring: &[u8], job: u32, out_len: usize) -> u64
+    requires { ⌜ (fold < 4294967291) × («out_len» ≤ 300) ⌝ }
     ensures { λ r. ⌜ r < 4294967291 ⌝ }
 {
     let mut out = [0xa5u8; SHORT_ROOM];
-    opened_into(s, file, ring, job, &mut out[0..o])
+    opened_into(fold, file, ring, job, &mut out[0..out_len])
 }
 
-// The fold s with the answers to the file as it is.
-fn answers(s: u64, file: &[u8], ring: &[u8], job: u32, o: usize) -> u64
-    requires { ⌜ (s < 4294967291) × (o ≤ 300) ⌝ }
+// The fold with the answers to the file as it is.
+fn answers(fold: u64, file: &[u8], ring: &[u8], job: u32, out_len: usize) -> u64
+    requires { ⌜ (fold < 4294967291) × («out_len» ≤ 300) ⌝ }
     ensures { λ r. ⌜ r < 4294967291 ⌝ }
 {
     let checked = shift_check::check(file).answer();
     let found = shift_jobs::lookup(file, job).answer();
-    let fold1 = program_text::fold::folded(s, checked.number);
+    let fold1 = program_text::fold::folded(fold, checked.number);
     let fold2 = program_text::fold::folded(fold1, low(checked.row));
     let fold3 = program_text::fold::folded(fold2, found.number);
     let fold4 = program_text::fold::folded(fold3, low(found.row));
-    opened(fold4, file, ring, job, o)
+    opened(fold4, file, ring, job, out_len)
 }
 
-// The fold of the answers to the 255 other values of byte p.
-fn damages(file: &mut [u8], p: usize, ring: &[u8], job: u32, o: usize) -> u64
-    requires { ⌜ (p < length (now file)) × (o ≤ 300) ⌝ }
+// The fold of the answers to the 255 other values of the byte at a position.
+fn damages(file: &mut [u8], position: usize, ring: &[u8], job: u32, out_len: usize) -> u64
+    requires { ⌜ (position < length (now file)) × («out_len» ≤ 300) ⌝ }
 {
-    let old = file[p];
+    let old = file[position];
     let mut fold: u64 = 0;
     let mut mask: u8 = 0;
     while mask < 255 {
         mask += 1;
-        file[p] = old ^ mask;
-        fold = answers(fold, file, ring, job, o);
+        file[position] = old ^ mask;
+        fold = answers(fold, file, ring, job, out_len);
     }
-    file[p] = old;
+    file[position] = old;
     fold
 }
 
@@ -159,14 +159,14 @@ fn run_on(file: &mut [u8], call: Call, line: &mut [u8]) -> usize {
 
 // Reads the file of a call into file_buf and runs it; no line if file_buf is too small or the input ends.
 fn run_in(file_buf: &mut [u8], call: Call, line: &mut [u8]) -> usize {
-    let n = call.first;
-    if file_buf.len() < n {
+    let file_len = call.first;
+    if file_buf.len() < file_len {
         return 0;
     }
-    if io::read_full(STDIN_FILENO, &mut file_buf[0..n]) != n {
+    if io::read_full(STDIN_FILENO, &mut file_buf[0..file_len]) != file_len {
         return 0;
     }
-    run_on(&mut file_buf[0..n], call, line)
+    run_on(&mut file_buf[0..file_len], call, line)
 }
 
 pub(crate) fn run(call: Call, line: &mut [u8]) -> usize {

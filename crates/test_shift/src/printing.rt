@@ -11,9 +11,9 @@ use program_text::read::field;
 fn two_on(first: &[u8], call: Call, line: &mut [u8]) -> usize {
     let mut second_buf = [0u8; FILE_ROOM];
     let op = call.op;
-    let n = call.second;
-    let second = field(&mut second_buf, n);
-    if second.len() != n {
+    let second_len = call.second;
+    let second = field(&mut second_buf, second_len);
+    if second.len() != second_len {
         return 0;
     }
     match op {
@@ -24,9 +24,9 @@ fn two_on(first: &[u8], call: Call, line: &mut [u8]) -> usize {
 }
 
 fn two_in(first_buf: &mut [u8], call: Call, line: &mut [u8]) -> usize {
-    let n = call.first;
-    let first = field(first_buf, n);
-    if first.len() != n {
+    let first_len = call.first;
+    let first = field(first_buf, first_len);
+    if first.len() != first_len {
         return 0;
     }
     two_on(first, call, line)
@@ -40,9 +40,9 @@ pub(crate) fn run(call: Call, line: &mut [u8]) -> usize {
 // Op 7, once both files are read.
 fn current<'a>(amendment: &'a [u8], day: &'a [u8], call: Call, line: &mut [u8]) -> usize {
     let mut ring_buf = [0u8; RING_ROOM];
-    let n = call.third;
-    let ring = field(&mut ring_buf, n);
-    if ring.len() != n {
+    let ring_len = call.third;
+    let ring = field(&mut ring_buf, ring_len);
+    if ring.len() != ring_len {
         return 0;
     }
     program_reports::current(amendment, day, ring, call.job, line)

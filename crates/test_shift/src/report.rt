@@ -95,9 +95,9 @@ fn run_on(file: &[u8], call: Call, line: &mut [u8]) -> usize {
 // Reads the file of a call and runs it; no line if its buffer is too small or the input ends.
 pub(crate) fn run(call: Call, line: &mut [u8]) -> usize {
     let mut file_buf = [0u8; FILE_ROOM];
-    let n = call.first;
-    let file = program_text::read::field(&mut file_buf, n);
-    if file.len() != n {
+    let file_len = call.first;
+    let file = program_text::read::field(&mut file_buf, file_len);
+    if file.len() != file_len {
         return 0;
     }
     run_on(file, call, line)

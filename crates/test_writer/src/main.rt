@@ -55,9 +55,9 @@ fn run_on(file: &[u8], call: Call, line: &mut [u8]) -> usize {
 
 // Reads the file of a call into file_buf and runs it; no line if file_buf is too small or the input ends.
 fn run_in(file_buf: &mut [u8], call: Call, line: &mut [u8]) -> usize {
-    let n = call.first;
-    let file = program_text::read::field(file_buf, n);
-    if file.len() != n {
+    let file_len = call.first;
+    let file = program_text::read::field(file_buf, file_len);
+    if file.len() != file_len {
         return 0;
     }
     run_on(file, call, line)
@@ -75,8 +75,8 @@ fn turn() -> bool {
     if !program_text::call::next(&mut head) {
         return false;
     }
-    let n = run(program_text::call::call_of(&head), &mut line);
-    program_text::call::done(&line, n)
+    let len = run(program_text::call::call_of(&head), &mut line);
+    program_text::call::done(&line, len)
 }
 
 // The end of an input is not provable, so the loop counts down from a number that no input reaches.

@@ -29,10 +29,13 @@ enum-told : tie.Need-enum-told
 enum-told c = search needs
 
 count-requires : tie.Need-count-requires
-count-requires c κs = header-in firstEdition (now (c .before .before .before .before .args .file)) plain-file (passed-zero _ _ (c .enum-told .given .1) (c .before .before .check-as .ensures))
+count-requires c κs =
+    header-in firstEdition (now (c .before .before .before .before .args .file)) plain-file
+    (passed-zero _ _ (c .enum-told .given .1) (c .before .before .check-as .ensures))
 
 first-clash-requires : tie.Need-first-clash-requires
-first-clash-requires c κs = record { passed = passed-zero _ _ (c .before .enum-told .given .1) (c .before .before .before .check-as .ensures); rows = c .count .ensures }
+first-clash-requires c κs =
+    record { passed = passed-zero _ _ (c .before .enum-told .given .1) (c .before .before .before .check-as .ensures); rows = c .count .ensures }
 
 enum-told-2 : tie.Need-enum-told-2
 enum-told-2 c = search needs
@@ -52,8 +55,10 @@ returns-3 : tie.Need-returns-3
 returns-3 c =
     let a = c .before .before .before .before .before .before .before .before .before .args in
     let f = now (a .file) in
-    let z = passed-zero _ _ (c .before .before .before .before .before .enum-told .given .1) (c .before .before .before .before .before .before .before .check-as .ensures) in
-    let seen = c .before .before .before .first-clash .ensures ∙ ap (λ (k : ℕ). seenFrom (retabled f) k 0) (c .before .before .before .before .count .ensures) in
+    let z = passed-zero _ _ (c .before .before .before .before .before .enum-told .given .1)
+    (c .before .before .before .before .before .before .before .check-as .ensures) in
+    let seen = c .before .before .before .first-clash .ensures ∙ ap (λ (k : ℕ). seenFrom (retabled f) k 0)
+    (c .before .before .before .before .count .ensures) in
     let none : seenFrom (retabled f) (countOf f) 0 ≡ answer 0 0 = sym seen ∙ ap writtenAnswer (c .before .enum-told2 .given .1) in
     c .lent-refused .ensures ∙ take-lent f (a .ring) (a .out) z none
 

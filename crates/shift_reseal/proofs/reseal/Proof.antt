@@ -59,8 +59,10 @@ put-suites-requires c κs =
 reseal-rows-requires : tie.Need-reseal-rows-requires
 reseal-rows-requires c κs =
     let m = c .before .before .before .before .before .before .before .before .before .before in
-    let long = c .before .before .before .put-suites .kept .1 .1 .0 ∙ c .before .before .before .before .before .before .before .before .copy .kept .1 .0 ∙ can m .room .out-long in
-    writable firstEdition (f m) plain-file (can m .calm .checked) _ _ _ (c .before .before .before .before .before .count .ensures) (can m .room .ring-long) long
+    let long = c .before .before .before .put-suites .kept .1 .1 .0 ∙ c .before .before .before .before .before .before .before .before .copy .kept .1 .0
+    ∙ can m .room .out-long in
+    writable firstEdition (f m) plain-file (can m .calm .checked) _ _ _ (c .before .before .before .before .before .count .ensures)
+    (can m .room .ring-long) long
 
 same-length : tie.Need-same-length
 same-length c = search needs

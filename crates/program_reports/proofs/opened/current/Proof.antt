@@ -8,7 +8,11 @@ look-up-requires : tie.Need-look-up-requires
 look-up-requires c κs = search needs
 
 open-in-requires : tie.Need-open-in-requires
-open-in-requires c κs = record { job = c .before .before .before .before .before .before .before .args .job; gives = tells _ _ _ _ _ (c .before .before .look-up .ensures) .amendment (c .before .if1 .taken) }
+open-in-requires c κs =
+    record {
+      job = c .before .before .before .before .before .before .before .args .job;
+      gives = tells _ _ _ _ _ (c .before .before .look-up .ensures) .amendment (c .before .if1 .taken);
+    }
 
 same-length : tie.Need-same-length
 same-length c = search needs
@@ -17,7 +21,11 @@ returns : tie.Need-returns
 returns c = search needs
 
 open-in-requires-2 : tie.Need-open-in-requires-2
-open-in-requires-2 c κs = record { job = c .before .before .before .before .before .before .before .args .job; gives = tells _ _ _ _ _ (c .before .before .look-up .ensures) .day (c .before .if1 .left) }
+open-in-requires-2 c κs =
+    record {
+      job = c .before .before .before .before .before .before .before .args .job;
+      gives = tells _ _ _ _ _ (c .before .before .look-up .ensures) .day (c .before .if1 .left);
+    }
 
 same-length-2 : tie.Need-same-length-2
 same-length-2 c = search needs

@@ -21,8 +21,8 @@ cast-len c = search needs
 size-of-requires : tie.Need-size-of-requires
 size-of-requires c κs = search needs
 
-add-n : tie.Need-add-n
-add-n c = search needs
+add-whole : tie.Need-add-whole
+add-whole c = search needs
 
 text-start-requires : tie.Need-text-start-requires
 text-start-requires c κs = search needs
@@ -76,7 +76,11 @@ part-seal-into-end c =
     let start = c .before .before .before .before .before .before .text-start in
     let size = c .before .before .before .before .before .before .before .size-of in
     let call = c .before .before .before .before .open-row in
-    omega (arith, opened-in (now (s .args .file)) (s .args .index) (s .args .row) (now (s .args .ring)) (now (s .args .out)) (s .pre) _ (start .ensures) (call .last .1 .1 .1 .1 .0) (call .kept .1 .1 .1 .1 .0) _ (size .ensures .0))
+    omega (
+      arith,
+      opened-in (now (s .args .file)) (s .args .index) (s .args .row) (now (s .args .ring)) (now (s .args .out)) (s .pre) _ (start .ensures)
+          (call .last .1 .1 .1 .1 .0) (call .kept .1 .1 .1 .1 .0) _ (size .ensures .0),
+    )
 
 seal-into-requires : tie.Need-seal-into-requires
 seal-into-requires c κs =
@@ -84,7 +88,8 @@ seal-into-requires c κs =
     let start = c .before .before .before .before .before .before .before .text-start in
     let size = c .before .before .before .before .before .before .before .before .size-of in
     let call = c .before .before .before .before .before .open-row in
-    can-seal (now (s .args .file)) (s .args .index) (s .args .row) (now (s .args .ring)) (now (s .args .out)) (s .pre) _ (start .ensures) (call .last .1 .1 .1 .1 .0) (call .kept .1 .1 .1 .1 .0) _ (size .ensures .0)
+    can-seal (now (s .args .file)) (s .args .index) (s .args .row) (now (s .args .ring)) (now (s .args .out)) (s .pre) _ (start .ensures)
+    (call .last .1 .1 .1 .1 .0) (call .kept .1 .1 .1 .1 .0) _ (size .ensures .0)
 
 same-length-2 : tie.Need-same-length-2
 same-length-2 c =
@@ -96,7 +101,8 @@ same-length-2 c =
     let e = a + (s .args .row .«text_len» + c .before .before .before .before .before .before .before .before .before .before .before .size-of .result) in
     let out = now (s .args .out) in
     let x = call .last .1 .1 .1 .1 .0 in
-    same-len-mid a (e - a) (putMid a (b - a) out x) (seal .last .1 .1 .1 .1 .1 .0) (seal .kept .1 .1 .1 .1 .1 .0) ∙ same-len-mid a (b - a) out x (call .kept .1 .1 .1 .1 .0)
+    same-len-mid a (e - a) (putMid a (b - a) out x) (seal .last .1 .1 .1 .1 .1 .0) (seal .kept .1 .1 .1 .1 .1 .0)
+    ∙ same-len-mid a (b - a) out x (call .kept .1 .1 .1 .1 .0)
 
 returns-2 : tie.Need-returns-2
 returns-2 c =
@@ -116,10 +122,12 @@ returns-2 c =
     let k = call .kept .1 .1 .1 .1 .0 in
     let y = seal .last .1 .1 .1 .1 .1 .0 in
     let ly = seal .kept .1 .1 .1 .1 .1 .0 ∙ piece-long f i r ring out (s .pre) a (start .ensures) x k n (size .ensures .0) in
-    let t = open-told f ring i (s .pre .row .entry) (s .pre .row .ring-long) _ _ _ (text-own f i r ring out (s .pre) a (start .ensures)) (call .ensures) .done (ap numberOf (c .before .before .before .before .enum-told .given .1)) in (
+    let t = open-told f ring i (s .pre .row .entry) (s .pre .row .ring-long) _ _ _ (text-own f i r ring out (s .pre) a (start .ensures)) (call .ensures) .done
+    (ap numberOf (c .before .before .before .before .enum-told .given .1)) in (
       t .0,
       λ e.
-          put-over out x y a (a + r .«text_len») (a + (r .«text_len» + n)) (omega arith) (omega arith) (piece-in f i r ring out (s .pre) a n (start .ensures) (size .ensures .0)) (opened-long f i r ring out (s .pre) a (start .ensures) x k) ly
+          put-over out x y a (a + r .«text_len») (a + (r .«text_len» + n)) (omega arith) (omega arith)
+          (piece-in f i r ring out (s .pre) a n (start .ensures) (size .ensures .0)) (opened-long f i r ring out (s .pre) a (start .ensures) x k) ly
           ∙ ap₂ (put out) (start .ensures) (seal .ensures)
           ∙ piece-four f ring i r (s .pre .is-row) (s .pre .four) _ out (opened-is f i r ring out (s .pre) a (start .ensures) x k n (size .ensures .0) ∙ t .1),
     )
@@ -130,7 +138,7 @@ reseal-entry-spec =
     (tie.spec
     cast-len
     size-of-requires
-    add-n
+    add-whole
     text-start-requires
     add-tag-start
     add-end

@@ -12,8 +12,10 @@ returns : tie.Need-returns
 returns c =
     let a = c .before .before .before .before .before .before .args in
     let row = c .before .before .row-of in
-    let n = c .if1 .taken in
-    (wrong-other (now (a .file)) (now (a .ring)) (a .index) (row .result) (row .ensures) n, λ e. piece-other (now (a .file)) (now (a .ring)) (a .index) (row .result) (row .ensures) n (now (a .out)))
+    let n = c .if1 .taken in (
+      wrong-other (now (a .file)) (now (a .ring)) (a .index) (row .result) (row .ensures) n,
+      λ e. piece-other (now (a .file)) (now (a .ring)) (a .index) (row .result) (row .ensures) n (now (a .out)),
+    )
 
 reseal-entry-requires : tie.Need-reseal-entry-requires
 reseal-entry-requires c κs = search needs
@@ -25,8 +27,11 @@ returns-2 : tie.Need-returns-2
 returns-2 c =
     let a = c .before .before .before .before .before .before .before .before .before .before .args in
     let row = c .before .before .before .before .before .before .row-of in
-    let call = c .before .before .reseal-entry in
-    (wrong-four (now (a .file)) (now (a .ring)) (a .index) (row .result) (row .ensures) (c .before .before .before .before .if1 .left) (call .result) (call .ensures .0), call .ensures .1)
+    let call = c .before .before .reseal-entry in (
+      wrong-four (now (a .file)) (now (a .ring)) (a .index) (row .result) (row .ensures) (c .before .before .before .before .if1 .left) (call .result)
+          (call .ensures .0),
+      call .ensures .1,
+    )
 
 pub reseal-row-spec : {M : Type 1} → statement M
 reseal-row-spec =

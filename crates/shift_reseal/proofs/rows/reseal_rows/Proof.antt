@@ -32,13 +32,16 @@ wipe-requires : tie.Need-wipe-requires Inv-loop μ-loop
 wipe-requires c κs = search needs
 
 same-length : tie.Need-same-length Inv-loop μ-loop
-same-length c = c .before .before .wipe .kept .0 ∙ c .before .before .before .before .before .before .before .reseal-row .kept .1 .1 .1 .0 ∙ c .before .before .before .before .before .before .before .before .before .before .loop .inv .long
+same-length c =
+    c .before .before .wipe .kept .0 ∙ c .before .before .before .before .before .before .before .reseal-row .kept .1 .1 .1 .0
+    ∙ c .before .before .before .before .before .before .before .before .before .before .loop .inv .long
 
 returns : tie.Need-returns Inv-loop μ-loop
 unfolding wrongAgainFrom
 returns c =
     let call = c .before .before .before .before .before .before .before .reseal-row in
-    filling-wrong (c .before .before .before .before .before .before .before .before .before .before .loop .inv) (c .before .before .before .before .before .before .before .before .before .loop-test .taken)
+    filling-wrong (c .before .before .before .before .before .before .before .before .before .before .loop .inv)
+    (c .before .before .before .before .before .before .before .before .before .loop-test .taken)
     (sym (call .ensures .0) ∙ c .before .before .before .before .if1 .taken) (call .kept .1 .1 .1 .0) (c .before .before .wipe .ensures)
 
 add-i : tie.Need-add-i Inv-loop μ-loop
@@ -51,7 +54,8 @@ loop-again : tie.Need-loop-again Inv-loop μ-loop
 loop-again c =
     let call = c .before .before .before .reseal-row in
     let went : call .result ≡ true = not-false _ (c .if1 .left) in
-    filling-more (c .before .before .before .before .before .before .loop .inv) (c .before .before .before .before .before .loop-test .taken) (sym (call .ensures .0) ∙ c .if1 .left) (call .kept .1 .1 .1 .0) (call .ensures .1 went)
+    filling-more (c .before .before .before .before .before .before .loop .inv) (c .before .before .before .before .before .loop-test .taken)
+    (sym (call .ensures .0) ∙ c .if1 .left) (call .kept .1 .1 .1 .0) (call .ensures .1 went)
 
 same-length-2 : tie.Need-same-length-2 Inv-loop μ-loop
 same-length-2 c = c .before .loop .inv .long

@@ -17,10 +17,12 @@ same-requires : tie.Need-same-requires
 same-requires c κs = search needs
 
 row-of-requires : tie.Need-row-of-requires
-row-of-requires c κs = let s = c .before .before .before .before .before in row-own (now (s .args .file)) (s .args .rows) (s .pre .0) (s .args .index) (s .pre .1 .0)
+row-of-requires c κs =
+    let s = c .before .before .before .before .before in row-own (now (s .args .file)) (s .args .rows) (s .pre .0) (s .args .index) (s .pre .1 .0)
 
 row-of-requires-2 : tie.Need-row-of-requires-2
-row-of-requires-2 c κs = let s = c .before .before .before .before .before .before in row-own (now (s .args .file)) (s .args .rows) (s .pre .0) (s .args .other) (s .pre .1 .1)
+row-of-requires-2 c κs =
+    let s = c .before .before .before .before .before .before in row-own (now (s .args .file)) (s .args .rows) (s .pre .0) (s .args .other) (s .pre .1 .1)
 
 same-key-requires : tie.Need-same-key-requires
 same-key-requires c κs = search needs
@@ -32,7 +34,8 @@ returns c =
     let s = m .before .before .before .before in
     let e = sym (ap₂ sameBytes (m .before .before .nonce-of .ensures) (m .before .nonce-of2 .ensures)) ∙ sym (m .same .ensures) ∙ t .if1 .taken in
     c .same-key .ensures
-    ∙ anew-keys (now (s .args .file)) (s .args .rows) (s .pre .0) (s .args .index) (s .args .other) (s .pre .1 .0) (s .pre .1 .1) _ _ (c .before .before .row-of .ensures) (c .before .row-of2 .ensures) e
+    ∙ anew-keys (now (s .args .file)) (s .args .rows) (s .pre .0) (s .args .index) (s .args .other) (s .pre .1 .0) (s .pre .1 .1) _ _
+    (c .before .before .row-of .ensures) (c .before .row-of2 .ensures) e
 
 returns-2 : tie.Need-returns-2
 returns-2 c =

@@ -24,7 +24,8 @@ nonce-seen-requires c κs = (c .before .before .before .pre, c .loop-test .taken
 returns : tie.Need-returns Inv-loop μ-loop
 unfolding seenFrom
 returns c =
-    sym (c .before .before .before .loop .inv .1 ∙ first-hit _ _ _ _ _ (c .before .before .loop-test .taken) (sym (c .before .nonce-seen .ensures) ∙ c .if1 .taken))
+    sym (c .before .before .before .loop .inv .1 ∙ first-hit _ _ _ _ _ (c .before .before .loop-test .taken)
+    (sym (c .before .nonce-seen .ensures) ∙ c .if1 .taken))
 
 add-i : tie.Need-add-i Inv-loop μ-loop
 add-i c = search needs
@@ -34,8 +35,11 @@ loop-less c = search needs
 
 loop-again : tie.Need-loop-again Inv-loop μ-loop
 unfolding seenFrom
-loop-again c =
-    (omega arith, c .before .before .before .loop .inv .1 ∙ first-skip _ _ _ _ _ (c .before .before .loop-test .taken) (sym (c .before .nonce-seen .ensures) ∙ c .if1 .left))
+loop-again c = (
+  omega arith,
+  c .before .before .before .loop .inv .1 ∙ first-skip _ _ _ _ _ (c .before .before .loop-test .taken)
+      (sym (c .before .nonce-seen .ensures) ∙ c .if1 .left),
+)
 
 returns-2 : tie.Need-returns-2 Inv-loop μ-loop
 unfolding seenFrom

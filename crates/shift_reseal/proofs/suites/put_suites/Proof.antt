@@ -32,7 +32,9 @@ new-suite-requires : tie.Need-new-suite-requires Inv-loop μ-loop
 new-suite-requires c κs = search needs
 
 set-suite-requires : tie.Need-set-suite-requires Inv-loop μ-loop
-set-suite-requires c κs = rw (c .before .before .row-size-of .ensures) (table-row _ _ _ _ (c .before .before .before .before .before .before .before .before .pre .1) (c .before .before .before .before .before .loop .inv .1) (c .before .before .before .before .loop-test .taken))
+set-suite-requires c κs =
+    rw (c .before .before .row-size-of .ensures) (table-row _ _ _ _ (c .before .before .before .before .before .before .before .before .pre .1)
+    (c .before .before .before .before .before .loop .inv .1) (c .before .before .before .before .loop-test .taken))
 
 add-i : tie.Need-add-i Inv-loop μ-loop
 add-i c = search needs
@@ -47,8 +49,10 @@ loop-again c =
     let call = c .before .before .set-suite in (
       omega arith,
       call .kept .1 .0 ∙ at .inv .1,
-      suite-step (now (a .args .file)) _ (now (a .args .out)) _ (at .i) _ _ _ (table-row _ _ _ _ (a .pre .1) (at .inv .1) (c .before .before .before .before .before .before .before .loop-test .taken))
-          (c .before .before .before .before .before .row-size-of .ensures) (c .before .before .before .new-suite .ensures) (c .before .before .before .before .before .before .row-of .ensures) (at .inv .2) (call .ensures),
+      suite-step (now (a .args .file)) _ (now (a .args .out)) _ (at .i) _ _ _
+          (table-row _ _ _ _ (a .pre .1) (at .inv .1) (c .before .before .before .before .before .before .before .loop-test .taken))
+          (c .before .before .before .before .before .row-size-of .ensures) (c .before .before .before .new-suite .ensures)
+          (c .before .before .before .before .before .before .row-of .ensures) (at .inv .2) (call .ensures),
     )
 
 same-length : tie.Need-same-length Inv-loop μ-loop

@@ -27,7 +27,13 @@ cast-result c = search needs
 returns : tie.Need-returns
 returns c =
     let e = c .before .before .before .locate .ensures in
-    ap {B = Placed} (λ (x : Amended). record { number = x .entry .number; file = x .file; row = x .entry .row; at = x .entry .«ad_at»; len = x .entry .«ad_len» }) e
+    ap {B = Placed} (λ (x : Amended). record {
+      number = x .entry .number;
+      file = x .file;
+      row = x .entry .row;
+      at = x .entry .«ad_at»;
+      len = x .entry .«ad_len»;
+    }) e
 
 pub shift-amended-spec : {M : Type 1} → statement M
 shift-amended-spec = tie.close (tie.spec locate-requires cast-file cast-row cast-result returns)

@@ -23,7 +23,10 @@ say-requires : tie.Need-say-requires
 say-requires c κs = rw (c .before .answer .ensures .1, c .before .before .before .search .ensures .0) (says-low _ _)
 
 returns : tie.Need-returns
-returns c = (c .say .ensures ∙ same-answer (c .before .before .answer .ensures) ∙ c .before .before .before .before .search .ensures .0, c .before .before .before .before .search .ensures .1)
+returns c = (
+  c .say .ensures ∙ same-answer (c .before .before .answer .ensures) ∙ c .before .before .before .before .search .ensures .0,
+  c .before .before .before .before .search .ensures .1,
+)
 
 pub shift-search-spec : {M : Type 1} → statement M
 shift-search-spec = tie.close (tie.spec search-requires cast-looked answer-requires say-requires returns)

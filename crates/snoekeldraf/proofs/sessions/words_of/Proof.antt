@@ -13,7 +13,7 @@ cast-t6 c = search needs
 
 returns : tie.Need-returns
 returns c =
-    let s = c .before .before .before .before .before .args .s in
+    let s = c .before .before .before .before .before .args .state in
     let h = c .before .block-of .result in
     let p : Small s h = record { ya = omega arith; yb = omega arith; za = omega arith; zb = omega arith; ha = omega arith; hb = omega arith } in
     (its-words s h p (c .before .block-of .ensures), its-session s h p (c .before .block-of .ensures))
