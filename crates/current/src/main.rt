@@ -1,7 +1,8 @@
 // Opens the current entry of a job, the amendment's if it has the job, else the day's: current AMENDMENT DAY RING JOB.
 //
 // Prints status, file (1 the amendment, 2 the day's, 0 if neither has the job) and row on one line and, after status 0, a
-// line for each field of the entry (`program_reports::current`). A file that cannot be read counts as zero bytes. The program takes files up to the format's 1,048,576 bytes each (longer: 20).
+// line for each field of the entry (`program_reports::current`). A file that cannot be read counts as zero bytes. The
+// program takes files up to the format's 1,048,576 bytes each (longer: 20).
 use program_files::NO_JOB;
 use program_text::read::RING_ROOM;
 
@@ -9,8 +10,8 @@ fn run<'a>(amendment: &'a [u8], day: &'a [u8], job: u32) {
     let mut ring_buf = [0u8; RING_ROOM];
     let mut out = program_reports::page();
     let ring = program_files::load(3, &mut ring_buf);
-    let n = program_reports::current(amendment, day, ring, job, &mut out);
-    program_text::text::write(&out, n);
+    let written = program_reports::current(amendment, day, ring, job, &mut out);
+    program_text::text::write(&out, written);
 }
 
 fn main() {

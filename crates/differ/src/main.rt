@@ -18,6 +18,6 @@ fn main() {
     let mut out = program_reports::page();
     let first = program_files::load(1, &mut first_buf);
     let second = program_files::load(2, &mut second_buf);
-    let n = program_reports::differ(first, second, &mut out);
-    program_text::text::write(&out, n);
+    let written = program_reports::differ(first, second, &mut out);
+    program_text::text::write(&out, written);
 }

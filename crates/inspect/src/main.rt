@@ -19,6 +19,6 @@ fn main() {
     let mut out = program_reports::page();
     let file = program_files::load(1, &mut file_buf);
     let ring = program_files::load(2, &mut ring_buf);
-    let n = program_reports::inspect(file, ring, &mut out);
-    program_text::text::write(&out, n);
+    let written = program_reports::inspect(file, ring, &mut out);
+    program_text::text::write(&out, written);
 }

@@ -34,14 +34,16 @@ fits suite key nonce ad text out tag i lo lt =
     }
 
 module _ (suite : ℕ) (key nonce ad c t out₀ : List ℕ) (i : Input suite key nonce ad c) (lo : length out₀ ≡ length c) (lt : length t ≡ sizeOf suite) where
-  pub by-tag : opening suite key nonce ad c t out₀ ≡ openedAs 0 (sameBytes (tagOut (cipherOf suite) true key nonce ad c) t) (textOut (cipherOf suite) true key nonce ad c) out₀
+  pub by-tag : opening suite key nonce ad c t out₀ ≡ openedAs 0 (sameBytes (tagOut (cipherOf suite) true key nonce ad c) t)
+      (textOut (cipherOf suite) true key nonce ad c) out₀
   unfolding opening
   by-tag =
       ap (λ (n : ℕ). openedAs n (sameBytes (tagOut (cipherOf suite) true key nonce ad c) t) (textOut (cipherOf suite) true key nonce ad c) out₀)
       (none-bad true suite (length key) (length nonce) (length ad) (length c) (length out₀) (length t) refl (fits suite key nonce ad c out₀ t i lo lt))
 
   -- the right tag opens
-  pub opens : tagOut (cipherOf suite) true key nonce ad c ≡ t → opening suite key nonce ad c t out₀ ≡ record { number = 0; out = textOut (cipherOf suite) true key nonce ad c }
+  pub opens : tagOut (cipherOf suite) true key nonce ad c ≡ t → opening suite key nonce ad c t out₀
+      ≡ record { number = 0; out = textOut (cipherOf suite) true key nonce ad c }
   opens e =
       by-tag
       ∙ ap (λ (b : Bool). openedAs 0 b (textOut (cipherOf suite) true key nonce ad c) out₀)
@@ -51,10 +53,12 @@ module _ (suite : ℕ) (key nonce ad c t out₀ : List ℕ) (i : Input suite key
   pub opened-tag : opening suite key nonce ad c t out₀ .number ≡ 0 → tagOut (cipherOf suite) true key nonce ad c ≡ t
   opened-tag e =
       same-true (tagOut (cipherOf suite) true key nonce ad c) t
-      (tag-right (sameBytes (tagOut (cipherOf suite) true key nonce ad c) t) (textOut (cipherOf suite) true key nonce ad c) out₀ (sym (ap (λ (r : Opened). r .number) by-tag) ∙ e))
+      (tag-right (sameBytes (tagOut (cipherOf suite) true key nonce ad c) t) (textOut (cipherOf suite) true key nonce ad c) out₀
+      (sym (ap (λ (r : Opened). r .number) by-tag) ∙ e))
 
   -- any other is refused with 8, and zeros
-  pub refuses : (tagOut (cipherOf suite) true key nonce ad c ≡ t → ⊥) → opening suite key nonce ad c t out₀ ≡ record { number = 8; out = replicate (length out₀) 0 }
+  pub refuses : (tagOut (cipherOf suite) true key nonce ad c ≡ t → ⊥) → opening suite key nonce ad c t out₀
+      ≡ record { number = 8; out = replicate (length out₀) 0 }
   refuses ne = by-tag ∙ go (sameBytes (tagOut (cipherOf suite) true key nonce ad c) t) refl
     where
       go : (b : Bool) → sameBytes (tagOut (cipherOf suite) true key nonce ad c) t ≡ b

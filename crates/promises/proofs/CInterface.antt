@@ -7,7 +7,8 @@ use mathlib.Core.List.{List, []}
 use lib.ListN.{length, getD, replicate}
 use denote.Ref.{now}
 use Rattle.cipher.specs.Cipher.{cipherOf}
-use Rattle.session.specs.Value.{Value, Given, answered, gave, over, fresh, startNumber, starting, dataNumber, dataIn, dataPart, textNumber, textDone, textPart, endNumber, endDone, ending}
+use Rattle.session.specs.Value.{Value, Given, answered, gave, over, fresh, startNumber, starting, dataNumber, dataIn, dataPart, textNumber, textDone, textPart}
+use Rattle.session.specs.Value.{endNumber, endDone, ending}
 use Rattle.session.specs.Calls.{Shut}
 use Rattle.session.proofs.Parts.{done-number}
 use Rattle.session.proofs.Whatever.{over-shut}
@@ -123,19 +124,22 @@ refused-words : (k : ℕ) (done : Given) (w out tag : List ℕ) → Nine w → d
 refused-words zero done w out tag n z h = absurd (h z)
 refused-words (suc k) done w out tag n z h = ap (λ (l : List ℕ). record { given = gave (suc k) 0 (ofWords w) out tag; words = l }) (kept w n)
 
-data-refused : (w p : List ℕ) → Nine w → (dataPart (ofWords w) p .number ≡ 0 → ⊥) → inWords (dataPart (ofWords w) p) ≡ after (dataPart (ofWords w) p .number) 0 w [] []
+data-refused : (w p : List ℕ) → Nine w → (dataPart (ofWords w) p .number ≡ 0 → ⊥)
+    → inWords (dataPart (ofWords w) p) ≡ after (dataPart (ofWords w) p .number) 0 w [] []
 unfolding dataPart
 data-refused w p n h =
     let v = ofWords w in
     refused-words (dataNumber (v .suite) (v .«ad_total») (v .«text_total») (length p)) (gave 0 0 (dataIn (cipherOf (v .suite)) v p) [] []) w [] [] n refl h
 
-part-refused : (w p out : List ℕ) → Nine w → (textPart (ofWords w) p out .number ≡ 0 → ⊥) → inWords (textPart (ofWords w) p out) ≡ after (textPart (ofWords w) p out .number) 0 w out []
+part-refused : (w p out : List ℕ) → Nine w → (textPart (ofWords w) p out .number ≡ 0 → ⊥)
+    → inWords (textPart (ofWords w) p out) ≡ after (textPart (ofWords w) p out .number) 0 w out []
 unfolding textPart
 part-refused w p out n h =
     let v = ofWords w in
     refused-words (textNumber (v .suite) (v .«ad_total») (v .«text_total») (length p) (length out)) (textDone v p out) w out [] n (done-number v p out) h
 
-end-refused : (w out tag : List ℕ) → Nine w → (ending (ofWords w) out tag .number ≡ 0 → ⊥) → inWords (ending (ofWords w) out tag) ≡ after (ending (ofWords w) out tag .number) 0 w out tag
+end-refused : (w out tag : List ℕ) → Nine w → (ending (ofWords w) out tag .number ≡ 0 → ⊥)
+    → inWords (ending (ofWords w) out tag) ≡ after (ending (ofWords w) out tag .number) 0 w out tag
 unfolding ending
 end-refused w out tag n h =
     let v = ofWords w in
@@ -146,7 +150,8 @@ start-over : (k : ℕ) (done : Given) → done .number ≡ 0 → (answered k don
 start-over zero done z h = absurd (h z)
 start-over (suc k) done z h = refl
 
-end-over : (k : ℕ) (v : Value) (o t out tag : List ℕ) (n : ℕ) → answered k (gave 0 n over o t) v out tag .number ≡ 0 → answered k (gave 0 n over o t) v out tag .next ≡ over
+end-over : (k : ℕ) (v : Value) (o t out tag : List ℕ) (n : ℕ) → answered k (gave 0 n over o t) v out tag .number ≡ 0
+    → answered k (gave 0 n over o t) v out tag .next ≡ over
 end-over zero v o t out tag n e = refl
 end-over (suc k) v o t out tag n e = absurd (suc-ne-zero k e)
 

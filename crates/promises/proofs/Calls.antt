@@ -31,7 +31,8 @@ seal-reports suite key nonce ad msg out₀ tag₀ =
 
 -- no refusal of the opener is 8
 open-by : (n k : ℕ) (b : Bool) (x o : List ℕ) → (n ≡ 8 → ⊥)
-    → ((openedAs n b x o .number ≡ 0) ⊎ (openedAs n b x o .number ≡ 8) → countedAs n k ≡ k) × (0 < openedAs n b x o .number → openedAs n b x o .number < 8 → countedAs n k ≡ 0)
+    → ((openedAs n b x o .number ≡ 0) ⊎ (openedAs n b x o .number ≡ 8) → countedAs n k ≡ k)
+    × (0 < openedAs n b x o .number → openedAs n b x o .number < 8 → countedAs n k ≡ 0)
 open-by zero k true x o h = ((λ e. refl), (λ p q. absurd (not-suc-le-zero p)))
 open-by zero k false x o h = ((λ e. refl), (λ p q. absurd (lt-irrefl 8 q)))
 open-by (suc j) k b x o h = (none, (λ p q. refl))

@@ -25,7 +25,8 @@ use Rattle.shift_jobs.specs.Halving.{Walk, ends, halving, jobsOf}
 use Rattle.shift_search.specs.Searching.{searching}
 use Rattle.shift_jobs.proofs.Halves.{halved-number}
 use Rattle.shift_draft.specs.Files.{entryTag}
-use Rattle.shift_draft.specs.Answers.{tagSet, rowRetired, tagRight, setFrom, retiredFrom, wrongFrom, lentAnswer, sealAnswer, openAnswer, unsealAnswer, fileSealing, fileUnsealing}
+use Rattle.shift_draft.specs.Answers.{tagSet, rowRetired, tagRight, setFrom, retiredFrom, wrongFrom, lentAnswer, sealAnswer, openAnswer, unsealAnswer}
+use Rattle.shift_draft.specs.Answers.{fileSealing, fileUnsealing}
 use Rattle.shift_draft.specs.Promised.{ZeroTag, RightTag}
 use Rattle.shift_reseal.specs.Files.{retabled}
 use Rattle.shift_reseal.specs.Answers.{seenFrom, wrongAgain, wrongAgainFrom, takeAnswer, resealAnswer, fileResealing}
@@ -39,8 +40,10 @@ use Rattle.shift_editions.proofs.Promised.{back-short}
 use Rattle.shift_report.specs.Reporting.{jobOf, tagNumber, front, entries, Report, stopped as unreported, longest, reporting}
 use Rattle.shift_report.proofs.Tags.{number-is}
 use Rattle.promises.specs.Numbers.{headTable}
-use Rattle.promises.specs.Cases.{HeadNumbers, LookupCases, JobCases, SearchCases, BothPass, CompareCases, unmoved, UpCases, BackCases, ReportCases, SealOrder, UnsealOrder, ResealOrder, Cases}
-use Rattle.promises.proofs.Tables.{Tells, tells-eq, tells-lt, tells-same, tells-not, tells-or, tells-and, tells-true, not-told, ladder, By, lines, table, answers}
+use Rattle.promises.specs.Cases.{HeadNumbers, LookupCases, JobCases, SearchCases, BothPass, CompareCases, unmoved, UpCases, BackCases, ReportCases}
+use Rattle.promises.specs.Cases.{SealOrder, UnsealOrder, ResealOrder, Cases}
+use Rattle.promises.proofs.Tables.{Tells, tells-eq, tells-lt, tells-same, tells-not, tells-or, tells-and, tells-true, not-told, ladder, By, lines, table}
+use Rattle.promises.proofs.Tables.{answers}
 use Rattle.promises.proofs.Checks.{head-rungs, head-is, none-head}
 use Rattle.promises.proofs.Orders.{firstRow, then-none, order}
 use Rattle.promises.proofs.RowCases.{contents-cases}
@@ -67,7 +70,8 @@ module _ (f : List ℕ) (job : ℕ) where
   search-goes z = simp z
 
   -- a number that the binary search does not give is the head's
-  search-by : (k : ℕ) → (k ≡ 0 → ⊥) → (k ≡ 32 → ⊥) → By (λ j. searching f job ≡ ends (answer j 0)) Unit (ladder Unit (headTable firstEdition newest f) (head-rungs firstEdition newest f)) k
+  search-by : (k : ℕ) → (k ≡ 0 → ⊥) → (k ≡ 32 → ⊥) → By (λ j. searching f job ≡ ends (answer j 0)) Unit
+      (ladder Unit (headTable firstEdition newest f) (head-rungs firstEdition newest f)) k
   search-by k n0 n32 = (
     λ e. (tt, sym (head-is firstEdition newest f) ∙ on (eqb H 0) refl e),
     λ y.
@@ -90,7 +94,13 @@ module _ (f : List ℕ) (job : ℕ) where
       search-by 20 (λ e. omega arith) (λ e. omega arith),
       (
         search-by 21 (λ e. omega arith) (λ e. omega arith),
-        (search-by 22 (λ e. omega arith) (λ e. omega arith), (search-by 23 (λ e. omega arith) (λ e. omega arith), (search-by 24 (λ e. omega arith) (λ e. omega arith), tt))),
+        (
+          search-by 22 (λ e. omega arith) (λ e. omega arith),
+          (
+            search-by 23 (λ e. omega arith) (λ e. omega arith),
+            (search-by 24 (λ e. omega arith) (λ e. omega arith), tt),
+          ),
+        ),
       ),
     );
     halved = λ h. search-goes (none-head firstEdition newest f .1 h);
@@ -130,8 +140,11 @@ module _ (f g x y z : List ℕ) where
       on : (r s t : Bool) → eqb (checkFile f .number) 0 ≡ r → eqb (checkFile g .number) 0 ≡ s → tooLong f g x y z ≡ t → P
       on false s t p q l = let n = eqb-false (checkFile f .number) 0 p in a n (in-first n)
       on true false t p q l = let n = eqb-false (checkFile g .number) 0 q in b n (in-second (eqb-true (checkFile f .number) 0 p) n)
-      on true true true p q l = let h : BothPass f g = (eqb-true (checkFile f .number) 0 p, eqb-true (checkFile g .number) 0 q) in c h (tells-longer .0 l) (past true h l)
-      on true true false p q l = let h : BothPass f g = (eqb-true (checkFile f .number) 0 p, eqb-true (checkFile g .number) 0 q) in d h (λ w. true≢false (sym (tells-longer .1 w) ∙ l)) (past false h l)
+      on true true true p q l =
+          let h : BothPass f g = (eqb-true (checkFile f .number) 0 p, eqb-true (checkFile g .number) 0 q) in c h (tells-longer .0 l) (past true h l)
+      on true true false p q l =
+          let h : BothPass f g = (eqb-true (checkFile f .number) 0 p, eqb-true (checkFile g .number) 0 q) in d h (λ w. true≢false (sym (tells-longer .1 w) ∙ l))
+          (past false h l)
 
   abbrev told : Comparison → Finding
   told c = c .finding
@@ -161,7 +174,12 @@ module _ (f g x y z : List ℕ) where
         first = in-first;
         second = in-second;
         room = λ p q h. past true (p, q) (tells-longer .1 h);
-        lists = λ p q a b c. past false (p, q) (simp (le-ltb (length x) (length (onlyFirst f g)) a, le-ltb (length y) (length (onlySecond f g)) b, le-ltb (length z) (length (differing f g)) c));
+        lists =
+            λ p q a b c. past false (p, q) (simp (
+              le-ltb (length x) (length (onlyFirst f g)) a,
+              le-ltb (length y) (length (onlySecond f g)) b,
+              le-ltb (length z) (length (differing f g)) c,
+            ));
       }
     where
       one-zero : _≡_ {A = ℕ} 1 0 → ⊥
@@ -211,7 +229,8 @@ module _ (f out : List ℕ) where
 
   back-station : checkAs newest f .number ≡ 0 → (i : ℕ) → i < countOf f → (stationOf f i ≡ 0 → ⊥) → AllZero i → toEdition1 f out ≡ unmoved 35 i out
   unfolding toEdition1 backAnswer stationsFrom
-  back-station p i l n q = simp (p, first-at (λ j. not (eqb (stationOf f j) 0)) (answer 35) (answer 0 0) (countOf f) i l (simp (ne-eqb (stationOf f i) 0 n)) (λ j m. simp (q j m)))
+  back-station p i l n q =
+      simp (p, first-at (λ j. not (eqb (stationOf f j) 0)) (answer 35) (answer 0 0) (countOf f) i l (simp (ne-eqb (stationOf f i) 0 n)) (λ j m. simp (q j m)))
 
   none : AllZero (countOf f) → stationsFrom f (countOf f) 0 ≡ answer 0 0
   unfolding stationsFrom
@@ -225,7 +244,8 @@ module _ (f out : List ℕ) where
 
   -- 20 cannot come out
   back-climb : checkAs newest f .number ≡ 0 → toEdition1 f out .answer
-      ≡ andThen (firstRow 35 (countOf f) (λ i. not (eqb (stationOf f i) 0))) (cond (not (eqb (length out) (length (moved firstEdition f)))) (answer 6 0) (answer 0 0))
+      ≡ andThen (firstRow 35 (countOf f) (λ i. not (eqb (stationOf f i) 0)))
+      (cond (not (eqb (length out) (length (moved firstEdition f)))) (answer 6 0) (answer 0 0))
   unfolding toEdition1 backAnswer stationsFrom lengthAnswer
   back-climb p = simp (p, le-ltb 1048576 (length (moved firstEdition f)) (back-short f p))
 
@@ -263,7 +283,8 @@ report-cases f ring jobs numbers =
               λ _. tells-or (tells-lt _ _) (tells-lt _ _),
               tt,
             ),
-          ) refl (simp (le-ltb longest (length f) l, p) (said (not (eqb (length ring) 256)) (ltb (length jobs) (countOf f) || ltb (length numbers) (countOf f))));
+          ) refl (simp (le-ltb longest (length f) l, p) (said (not (eqb (length ring) 256))
+          (ltb (length jobs) (countOf f) || ltb (length numbers) (countOf f))));
       long = λ l. simp (lt-ltb longest (length f) l);
       checked = λ l n. simp (le-ltb longest (length f) l, ne-eqb (checkFile f .number) 0 n);
       ring-wrong = λ l p n. simp (le-ltb longest (length f) l, p, ne-eqb (length ring) 256 n);
@@ -274,7 +295,8 @@ report-cases f ring jobs numbers =
     lists : Report
     lists = record { said = entries (countOf f); jobs = front (jobOf f) (countOf f) jobs; numbers = front (tagNumber f ring) (countOf f) numbers }
 
-    said : (a b : Bool) → cond a (unreported (answer 2 0) jobs numbers) (cond b (unreported (answer 6 0) jobs numbers) lists) .said .number ≡ cond a 2 (cond b 6 0)
+    said : (a b : Bool) → cond a (unreported (answer 2 0) jobs numbers) (cond b (unreported (answer 6 0) jobs numbers) lists) .said .number
+        ≡ cond a 2 (cond b 6 0)
     said true b = refl
     said false true = refl
     said false false = refl
@@ -290,7 +312,8 @@ tag-number f ring i = by (tagRight f ring i)
     by false = refl
 
 row-said : (f ring : List ℕ) (i : ℕ) (out : List ℕ) → EntryIn (rowSizeOf f) f i
-    → rowOpening f ring i out .answer ≡ answer (cond (not (eqb (length ring) 256)) 2 (cond (not (eqb (length out) (rowOf f i .«text_len»))) 6 (cond (not (tagRight f ring i)) 8 0))) 0
+    → rowOpening f ring i out .answer ≡ answer (cond (not (eqb (length ring) 256)) 2
+    (cond (not (eqb (length out) (rowOf f i .«text_len»))) 6 (cond (not (tagRight f ring i)) 8 0))) 0
 unfolding rowOpening
 row-said f ring i out h = by (eqb (length ring) 256) (eqb (length out) (rowOf f i .«text_len»)) refl refl
   where
@@ -298,11 +321,13 @@ row-said f ring i out h = by (eqb (length ring) 256) (eqb (length out) (rowOf f 
     opened = left (answer (entryOpening f ring i out .number) 0) (entryOpening f ring i out .out)
 
     by : (a b : Bool) → eqb (length ring) 256 ≡ a → eqb (length out) (rowOf f i .«text_len») ≡ b
-        → cond (not a) (left (answer 2 0) out) (cond (not b) (left (answer 6 0) out) opened) .answer ≡ answer (cond (not a) 2 (cond (not b) 6 (cond (not (tagRight f ring i)) 8 0))) 0
+        → cond (not a) (left (answer 2 0) out) (cond (not b) (left (answer 6 0) out) opened) .answer
+        ≡ answer (cond (not a) 2 (cond (not b) 6 (cond (not (tagRight f ring i)) 8 0))) 0
     by false b p q = refl
     by true false p q = refl
     by true true p q =
-        ap (λ (m : ℕ). answer m 0) (number-is f ring i h (eqb-true (length ring) 256 p) _ _ out (eqb-true (length out) (rowOf f i .«text_len») q) refl ∙ tag-number f ring i)
+        ap (λ (m : ℕ). answer m 0) (number-is f ring i h (eqb-true (length ring) 256 p) _ _ out (eqb-true (length out) (rowOf f i .«text_len») q) refl
+        ∙ tag-number f ring i)
 
 tells-tag : (f ring : List ℕ) (i : ℕ) → Tells (tagRight f ring i) (RightTag f ring i)
 unfolding tagRight
@@ -395,7 +420,8 @@ unseal-order file ring out p =
         ),
       ),
     ) refl
-    (simp p (lent-then a b w) ∙ ap (λ (r : Answer). cond a (answer 2 0) (cond b (answer 6 0) r)) (then-none 8 (countOf file) (λ j. not (tagRight file ring j)) eight))
+    (simp p (lent-then a b w) ∙ ap (λ (r : Answer). cond a (answer 2 0) (cond b (answer 6 0) r))
+    (then-none 8 (countOf file) (λ j. not (tagRight file ring j)) eight))
 
 tells-again : (f ring : List ℕ) (i : ℕ) → Tells (wrongAgain f ring i) (HasFour f i × (RightTag f ring i → ⊥))
 unfolding wrongAgain

@@ -16,12 +16,14 @@ use Rattle.status.specs.declared.checked.Answer.{Answer}
 use Rattle.shift_check.specs.Search.{anyBelow}
 use Rattle.shift_format.specs.Format.{editionOf, countOf, totalOf, rowSizeOf, rowStart, rowOf, nonceAt, nonceReadAt, bodyEnd, dataJob, unitOf}
 use Rattle.status.specs.Answers.{answer}
-use Rattle.shift_check.specs.Check.{notAbove, badSuite, badLength, bodyStart, misplaced, unreadSet, clash, nonceSeen, badData, bodyNumber, rowNumber, endAnswer, rowsFrom, headNumber, checkBetween}
+use Rattle.shift_check.specs.Check.{notAbove, badSuite, badLength, bodyStart, misplaced, unreadSet, clash, nonceSeen, badData, bodyNumber, rowNumber, endAnswer}
+use Rattle.shift_check.specs.Check.{rowsFrom, headNumber, checkBetween}
 use Rattle.shift_check.proofs.Searches.{any-some, any-hit, first-at, first-none}
 use Rattle.shift_jobs.specs.Nonces.{SameNonce}
 use Rattle.promises.specs.Tables.{None}
 use Rattle.promises.specs.Numbers.{tagSize, headTable, rowTable, endTable, SoundTo, CheckNumbers, Numbers}
-use Rattle.promises.proofs.Tables.{Tells, tells-eq, tells-lt, tells-le, tells-same, tells-not, tells-or, tells-and, tells-as, first-of, Rungs, ladder, numbersOf, fresh, fresh-some, not-given, By, lines, nothing}
+use Rattle.promises.proofs.Tables.{Tells, tells-eq, tells-lt, tells-le, tells-same, tells-not, tells-or, tells-and, tells-as, first-of, Rungs, ladder}
+use Rattle.promises.proofs.Tables.{numbersOf, fresh, fresh-some, not-given, By, lines, nothing}
 use Rattle.promises.proofs.Numbers.{tells-suite, seal-numbers, open-numbers, start-numbers, data-numbers, part-numbers, end-numbers}
 
 -- ---- the tests
@@ -39,7 +41,8 @@ tells-clash f i j =
 
 tells-above : (f : List ℕ) (i : ℕ) → Tells (notAbove (rowSizeOf f) f i) ((0 < i) × (rowOf f i .job ≤ rowOf f (i - 1) .job))
 unfolding notAbove
-tells-above f i = tells-and (tells-as (tells-not (tells-eq i 0)) (λ n. omega (arith, n), λ l e. omega (arith, l, e))) (tells-le (rowOf f i .job) (rowOf f (i - 1) .job))
+tells-above f i =
+    tells-and (tells-as (tells-not (tells-eq i 0)) (λ n. omega (arith, n), λ l e. omega (arith, l, e))) (tells-le (rowOf f i .job) (rowOf f (i - 1) .job))
 
 -- a body ends after its tag
 tells-end : (f : List ℕ) (r : Row) → Tells (ltb (length f) (bodyEnd r)) (length f < r .«ad_at» + r .«ad_len» + r .«text_len» + tagSize (r .suite))
@@ -151,12 +154,14 @@ module _ (low high : ℕ) (f : List ℕ) where
   row-stands : H ≡ 0 → (i : ℕ) → i < countOf f → Quiet i → (R i ≡ 0 → ⊥) → said ≡ answer (R i) i
   unfolding checkBetween rowsFrom
   row-stands z i l q n =
-      simp z (first-at (λ j. not (eqb (R j) 0)) (λ j. answer (R j) j) (endAnswer (rowSizeOf f) f (countOf f)) (countOf f) i l (simp (ne-eqb (R i) 0 n)) (λ j m. simp (q j m)))
+      simp z (first-at (λ j. not (eqb (R j) 0)) (λ j. answer (R j) j) (endAnswer (rowSizeOf f) f (countOf f)) (countOf f) i l (simp (ne-eqb (R i) 0 n))
+      (λ j m. simp (q j m)))
 
   end-stands : H ≡ 0 → Quiet (countOf f) → said ≡ answer E 0
   unfolding checkBetween rowsFrom
   end-stands z q =
-      simp z (first-none (λ j. not (eqb (R j) 0)) (λ j. answer (R j) j) (endAnswer (rowSizeOf f) f (countOf f)) (countOf f) (λ j m. simp (q j m)) ∙ end-is Unit f)
+      simp z (first-none (λ j. not (eqb (R j) 0)) (λ j. answer (R j) j) (endAnswer (rowSizeOf f) f (countOf f)) (countOf f) (λ j m. simp (q j m))
+      ∙ end-is Unit f)
 
   by-case : (P : Type 0)
       → ((H ≡ 0 → ⊥) → said ≡ answer H 0 → P)
@@ -208,7 +213,8 @@ module _ (low high : ℕ) (f : List ℕ) where
     not-end : fresh k (numbersOf (endTable f)) ≡ true → E ≡ k → ⊥
     not-end h e = not-given k Unit (endTable f) (end-rungs Unit f) h e
 
-    of-head : fresh k (numbersOf (rowTable f 0)) ≡ true → fresh k (numbersOf (endTable f)) ≡ true → By (λ j. said ≡ answer j 0) Unit (ladder Unit (headTable low high f) (head-rungs low high f)) k
+    of-head : fresh k (numbersOf (rowTable f 0)) ≡ true → fresh k (numbersOf (endTable f)) ≡ true
+        → By (λ j. said ≡ answer j 0) Unit (ladder Unit (headTable low high f) (head-rungs low high f)) k
     of-head r t = (
       λ e. (
         tt,
@@ -231,12 +237,14 @@ module _ (low high : ℕ) (f : List ℕ) where
           (λ n s. absurd (not-head h (ap num (sym s ∙ e))))
           (λ z j l q n s.
           let p = sym s ∙ e in
-          subst (λ (m : ℕ). (None (headTable low high f) × ((m < countOf f) × SoundTo f m)) × (R m ≡ k)) (ap (λ (a : Answer). a .row) p) ((none-head .0 z, (l, sound-to j .0 q)), ap num p))
+          subst (λ (m : ℕ). (None (headTable low high f) × ((m < countOf f) × SoundTo f m)) × (R m ≡ k)) (ap (λ (a : Answer). a .row) p)
+          ((none-head .0 z, (l, sound-to j .0 q)), ap num p))
           (λ z q s. absurd (not-end t (ap num (sym s ∙ e)))) in
           (w .0, sym (row-is _ f i) ∙ w .1),
       λ y.
           let q : R i ≡ k = row-is _ f i ∙ y .1 in
-          row-stands (none-head .1 (y .0 .0)) i (y .0 .1 .0) (sound-to i .1 (y .0 .1 .1)) (λ z. fresh-some k (numbersOf (endTable f)) t (sym q ∙ z)) ∙ ap (λ (m : ℕ). answer m i) q,
+          row-stands (none-head .1 (y .0 .0)) i (y .0 .1 .0) (sound-to i .1 (y .0 .1 .1)) (λ z. fresh-some k (numbersOf (endTable f)) t (sym q ∙ z))
+          ∙ ap (λ (m : ℕ). answer m i) q,
     )
 
     of-end : fresh k (numbersOf (headTable low high f)) ≡ true → fresh k (numbersOf (rowTable f 0)) ≡ true →
@@ -256,15 +264,21 @@ check-numbers low high f =
     record {
       head = lines (λ k. checkBetween low high f ≡ answer k 0) Unit (headTable low high f) (head-rungs low high f) refl
           (given 20 refl refl, (given 21 refl refl, (given 22 refl refl, (given 23 refl refl, (given 24 refl refl, tt)))));
-      rows = λ i. lines (λ k. checkBetween low high f ≡ answer k i) _ (rowTable f i) (row-rungs _ f i) refl
-          (in-row i 25 refl refl, (in-row i 26 refl refl, (in-row i 27 refl refl, (in-row i 28 refl refl, (in-row i 34 refl refl, (in-row i 29 refl refl, (in-row i 30 refl refl, tt)))))));
+      rows = λ i. lines (λ k. checkBetween low high f ≡ answer k i) _ (rowTable f i) (row-rungs _ f i) refl (
+        in-row i 25 refl refl,
+        (
+          in-row i 26 refl refl,
+          (in-row i 27 refl refl, (in-row i 28 refl refl, (in-row i 34 refl refl, (in-row i 29 refl refl, (in-row i 30 refl refl, tt))))),
+        ),
+      );
       end = lines (λ k. checkBetween low high f ≡ answer k 0) _ (endTable f) (end-rungs _ f) refl (of-end low high f 31 refl refl, tt);
       success = (
         λ e. by-case low high f _
             (λ n s. absurd (n (ap (λ (a : Answer). a .number) (sym s ∙ e))))
             (λ z i l q n s. absurd (n (ap (λ (a : Answer). a .number) (sym s ∙ e))))
             (λ z q s. ((none-head low high f .0 z, sound-to low high f (countOf f) .0 q), none-end .0 (ap (λ (a : Answer). a .number) (sym s ∙ e)))),
-        λ h. end-stands low high f (none-head low high f .1 (h .0 .0)) (sound-to low high f (countOf f) .1 (h .0 .1)) ∙ ap (λ (m : ℕ). answer m 0) (none-end .1 (h .1)),
+        λ h. end-stands low high f (none-head low high f .1 (h .0 .0)) (sound-to low high f (countOf f) .1 (h .0 .1))
+            ∙ ap (λ (m : ℕ). answer m 0) (none-end .1 (h .1)),
       );
     }
   where

@@ -90,18 +90,21 @@ pub open-keeps : OpenKeeps
 unfolding opening
 open-keeps suite key nonce ad text tag out₀ =
     opened-keeps (refusal true suite (length key) (length nonce) (length ad) (length text) (length out₀) (length tag)) _ _ out₀
-    (⊎-elim (λ h. h) (λ h. absurd (true≢false (h .2))) (refusal-most true suite (length key) (length nonce) (length ad) (length text) (length out₀) (length tag)))
+    (⊎-elim (λ h. h) (λ h. absurd (true≢false (h .2))) (refusal-most true suite (length key) (length nonce) (length ad) (length text) (length out₀)
+    (length tag)))
 
 -- ---- in place: n is the first number that applies, and o and o′ are outputs of one length
 
 sealed-alike : (n : ℕ) (x y o o′ t : List ℕ) → (n ≡ 6 → ⊥)
     → (sealedAs n x y o t .number ≡ sealedAs n x y o′ t .number) × (sealedAs n x y o t .tag ≡ sealedAs n x y o′ t .tag)
-    × (sealedAs n x y o t .number ≡ 0 → sealedAs n x y o t .out ≡ sealedAs n x y o′ t .out) × (0 < sealedAs n x y o t .number → sealedAs n x y o t .out ≡ o) × (sealedAs n x y o t .number ≡ 6 → ⊥)
+    × (sealedAs n x y o t .number ≡ 0 → sealedAs n x y o t .out ≡ sealedAs n x y o′ t .out) × (0 < sealedAs n x y o t .number → sealedAs n x y o t .out ≡ o)
+    × (sealedAs n x y o t .number ≡ 6 → ⊥)
 sealed-alike zero x y o o′ t h = (refl, refl, (λ e. refl), (λ p. absurd (not-suc-le-zero p)), (λ e. suc-ne-zero 5 (sym e)))
 sealed-alike (suc n) x y o o′ t h = (refl, refl, (λ e. absurd (suc-ne-zero n e)), (λ p. refl), h)
 
 opened-alike : (n : ℕ) (b : Bool) (x o o′ : List ℕ) → length o ≡ length o′ → n ≤ 7 → (n ≡ 6 → ⊥)
-    → (openedAs n b x o .number ≡ openedAs n b x o′ .number) × ((openedAs n b x o .number ≡ 0) ⊎ (openedAs n b x o .number ≡ 8) → openedAs n b x o .out ≡ openedAs n b x o′ .out)
+    → (openedAs n b x o .number ≡ openedAs n b x o′ .number) × ((openedAs n b x o .number ≡ 0) ⊎ (openedAs n b x o .number ≡ 8)
+    → openedAs n b x o .out ≡ openedAs n b x o′ .out)
     × (0 < openedAs n b x o .number → openedAs n b x o .number < 8 → openedAs n b x o .out ≡ o) × (openedAs n b x o .number ≡ 6 → ⊥)
 opened-alike zero true x o o′ e l h = (refl, (λ p. refl), (λ p q. absurd (not-suc-le-zero p)), (λ z. suc-ne-zero 5 (sym z)))
 opened-alike zero false x o o′ e l h = (refl, (λ p. ap (λ (k : ℕ). replicate k 0) e), (λ p q. absurd (lt-irrefl 8 q)), (λ z. lt-irrefl 6 (omega arith)))
@@ -130,7 +133,8 @@ seal-in-place suite key nonce ad text tag₀ out₀ e =
     let at : ℕ → List ℕ → Sealed = λ k o. sealedAs (n k) (ciphertext (cipherOf suite) key nonce ad text) (tag (cipherOf suite) key nonce ad text) o tag₀ in
     let r : Sealed = at (length text) text in
     subst
-    (λ (k : ℕ). (r .number ≡ at k out₀ .number) × (r .tag ≡ at k out₀ .tag) × (r .number ≡ 0 → r .out ≡ at k out₀ .out) × (0 < r .number → r .out ≡ text) × (r .number ≡ 6 → ⊥))
+    (λ (k : ℕ). (r .number ≡ at k out₀ .number) × (r .tag ≡ at k out₀ .tag) × (r .number ≡ 0 → r .out ≡ at k out₀ .out) × (0 < r .number → r .out ≡ text)
+    × (r .number ≡ 6 → ⊥))
     (sym e)
     (sealed-alike (n (length text)) _ _ text out₀ tag₀ (room-right false suite (length key) (length nonce) (length ad) (length text) (length tag₀)))
 
@@ -138,11 +142,14 @@ pub open-in-place : OpenInPlace
 unfolding opening Six
 open-in-place suite key nonce ad text tag out₀ e =
     let n : ℕ → ℕ = λ k. refusal true suite (length key) (length nonce) (length ad) (length text) k (length tag) in
-    let at : ℕ → List ℕ → Opened = λ k o. openedAs (n k) (sameBytes (tagOut (cipherOf suite) true key nonce ad text) tag) (textOut (cipherOf suite) true key nonce ad text) o in
+    let at : ℕ → List ℕ → Opened = λ k o. openedAs (n k) (sameBytes (tagOut (cipherOf suite) true key nonce ad text) tag)
+    (textOut (cipherOf suite) true key nonce ad text) o in
     let r : Opened = at (length text) text in
-    let most : n (length text) ≤ 7 = ⊎-elim (λ h. h) (λ h. absurd (true≢false (h .2))) (refusal-most true suite (length key) (length nonce) (length ad) (length text) (length text) (length tag)) in
+    let most : n (length text) ≤ 7 = ⊎-elim (λ h. h) (λ h. absurd (true≢false (h .2)))
+    (refusal-most true suite (length key) (length nonce) (length ad) (length text) (length text) (length tag)) in
     subst
-    (λ (k : ℕ). (r .number ≡ at k out₀ .number) × ((r .number ≡ 0) ⊎ (r .number ≡ 8) → r .out ≡ at k out₀ .out) × (0 < r .number → r .number < 8 → r .out ≡ text) × (r .number ≡ 6 → ⊥))
+    (λ (k : ℕ). (r .number ≡ at k out₀ .number) × ((r .number ≡ 0) ⊎ (r .number ≡ 8) → r .out ≡ at k out₀ .out)
+    × (0 < r .number → r .number < 8 → r .out ≡ text) × (r .number ≡ 6 → ⊥))
     (sym e)
     (opened-alike (n (length text)) _ _ text out₀ (sym e) most (room-right true suite (length key) (length nonce) (length ad) (length text) (length tag)))
 

@@ -49,7 +49,8 @@ accepting suite key nonce ad c t out₀ i lo lt =
     )
 
 -- the same input with another text of the same length
-with-text : (suite : ℕ) (key nonce ad text other : List ℕ) → Input suite key nonce ad text → AllBytes other → length other ≡ length text → Input suite key nonce ad other
+with-text : (suite : ℕ) (key nonce ad text other : List ℕ) → Input suite key nonce ad text → AllBytes other → length other ≡ length text
+    → Input suite key nonce ad other
 with-text suite key nonce ad text other i h e =
     let x = i .texts in
     record {
@@ -74,7 +75,8 @@ sealed-pair (suc n) text tag out₁ tag₁ c t e = absurd (suc-ne-zero n (ap (λ
 sealing-pair : (suite : ℕ) (key nonce ad m out₁ tag₁ c t : List ℕ) → sealing suite key nonce ad m out₁ tag₁ ≡ record { number = 0; out = c; tag = t }
     → (ciphertext (cipherOf suite) key nonce ad m ≡ c) × (tag (cipherOf suite) key nonce ad m ≡ t)
 unfolding sealing
-sealing-pair suite key nonce ad m out₁ tag₁ c t e = sealed-pair (refusal false suite (length key) (length nonce) (length ad) (length m) (length out₁) (length tag₁)) _ _ out₁ tag₁ c t e
+sealing-pair suite key nonce ad m out₁ tag₁ c t e =
+    sealed-pair (refusal false suite (length key) (length nonce) (length ad) (length m) (length out₁) (length tag₁)) _ _ out₁ tag₁ c t e
 
 pub accepts-sealed : AcceptsSealed
 accepts-sealed suite key nonce ad c t out₀ i s lo lt =

@@ -38,7 +38,8 @@ last-block suite key nonce ad c c′ t out₀ out₁ j i i′ lo lo′ lt e ch i
     let n = sizeOf suite in
     let l = ch .same-length in
     refuses suite key nonce ad c′ t out₁ i′ lo′ lt
-    (λ q. ch .changed (last-told (cipherOf suite) (lawful suite) j key nonce ad c c′ (i .texts .text-bytes) (i′ .texts .text-bytes) l inside last (same-before n j c c′ l (ch .inside))
+    (λ q. ch .changed (last-told (cipherOf suite) (lawful suite) j key nonce ad c c′ (i .texts .text-bytes) (i′ .texts .text-bytes) l inside last
+    (same-before n j c c′ l (ch .inside))
     (key-block suite key nonce ad c (i .texts)) (i .texts .nonce-bytes) (nonce-right suite key nonce ad c (i .texts)) (i .texts .ad-bytes)
     (opened-tag suite key nonce ad c t out₀ i lo lt e ∙ sym q)))
 

@@ -19,19 +19,30 @@ equal-of : (f g : List ℕ) → checkFile f .number ≡ 0 → checkFile g .numbe
 equal-of f g p q c kept x y z =
     equal-rows f g x y z p q c
     (λ i l.
-    let k = kept i l in
-    (sym (k .job), record { suite = sym (k .suite); key = sym (k .key); ad-len = sym (k .ad-len); nonce = sym (k .nonce); body = sym (k .body); station = sym (k .station) }))
+    let k = kept i l in (
+      sym (k .job),
+      record {
+        suite = sym (k .suite);
+        key = sym (k .key);
+        ad-len = sym (k .ad-len);
+        nonce = sym (k .nonce);
+        body = sym (k .body);
+        station = sym (k .station);
+      },
+    ))
 
 up-equal : UpEqual
 unfolding toEdition2
 up-equal f out₀ z =
-    equal-of f (toEdition2 f out₀ .out) (wider firstEdition f (lit≤ tt) (lit≤ tt) (up-goes f (length out₀) z .passed)) (wider newest _ (lit≤ tt) (lit≤ tt) (up-passes f out₀ z))
+    equal-of f (toEdition2 f out₀ .out) (wider firstEdition f (lit≤ tt) (lit≤ tt) (up-goes f (length out₀) z .passed))
+    (wider newest _ (lit≤ tt) (lit≤ tt) (up-passes f out₀ z))
     (sym (up-rises f out₀ z .count)) (up-keeps f out₀ z)
 
 back-equal : BackEqual
 unfolding toEdition1
 back-equal f out₀ z =
-    equal-of f (toEdition1 f out₀ .out) (wider newest f (lit≤ tt) (lit≤ tt) (back-goes f (length out₀) z .0 .passed)) (wider firstEdition _ (lit≤ tt) (lit≤ tt) (back-passes f out₀ z))
+    equal-of f (toEdition1 f out₀ .out) (wider newest f (lit≤ tt) (lit≤ tt) (back-goes f (length out₀) z .0 .passed))
+    (wider firstEdition _ (lit≤ tt) (lit≤ tt) (back-passes f out₀ z))
     (back-falls f out₀ z .count) (back-keeps f out₀ z)
 
 pub editions : Editions

@@ -11,7 +11,8 @@ use Rattle.block.specs.Bytes.{AllBytes}
 use Rattle.cipher.specs.Cipher.{Seals, cipherOf, sizeOf, limit}
 use Rattle.cipher.proofs.Suites.{seals-has}
 use Rattle.comet.specs.Answers.{opening}
-use Rattle.session.specs.Value.{Value, Given, sound, answered, gave, starting, dataNumber, dataIn, dataPart, textNumber, textDone, partOut, textPart, endNumber, endOut, endDone, ending}
+use Rattle.session.specs.Value.{Value, Given, sound, answered, gave, starting, dataNumber, dataIn, dataPart, textNumber, textDone, partOut, textPart, endNumber}
+use Rattle.session.specs.Value.{endOut, endDone, ending}
 use Rattle.session.specs.Calls.{SessionCall, AllInBytes, Run, runOf, Next}
 use Rattle.session.proofs.Parts.{done-number}
 use Rattle.session.proofs.Whatever.{starts, refused-shut, goes, finished, whatever, facts}

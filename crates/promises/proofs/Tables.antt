@@ -85,7 +85,8 @@ pub first-of : (p : ℕ → Bool) (k : ℕ) → ((j : ℕ) → j < k → p j ≡
 first-of p zero = inl (λ j l. absurd (not-suc-le-zero l))
 first-of p (suc k) = ⊎-elim (λ q. here q (p k) refl) (λ w. inr (w .0, omega (arith, w .1), w .2, w .3)) (first-of p k)
   where
-    here : ((j : ℕ) → j < k → p j ≡ false) → (b : Bool) → p k ≡ b → ((j : ℕ) → j < suc k → p j ≡ false) ⊎ ((i : ℕ) × (i < suc k) × ((j : ℕ) → j < i → p j ≡ false) × (p i ≡ true))
+    here : ((j : ℕ) → j < k → p j ≡ false) → (b : Bool) → p k ≡ b → ((j : ℕ) → j < suc k → p j ≡ false)
+        ⊎ ((i : ℕ) × (i < suc k) × ((j : ℕ) → j < i → p j ≡ false) × (p i ≡ true))
     here q false e = inl (λ j l. ⊎-elim (λ s. ap p s ∙ e) (q j) (eq-or-lt-of-le (le-of-suc-le-suc l)))
     here q true e = inr (k, omega arith, q, e)
 
@@ -141,7 +142,8 @@ not-given k reached (l ∷ ls) t f e =
     let g = both-true (not (eqb k (l .number))) (fresh k (numbersOf ls)) f in
     by (t .0) e (ne-true k (l .number) (g .0)) (not-given k (reached × (l .applies → ⊥)) ls (t .2) (g .1))
   where
-    by : (b : Bool) → cond b (l .number) (ladder (reached × (l .applies → ⊥)) ls (t .2)) ≡ k → (k ≡ l .number → ⊥) → (ladder (reached × (l .applies → ⊥)) ls (t .2) ≡ k → ⊥) → ⊥
+    by : (b : Bool) → cond b (l .number) (ladder (reached × (l .applies → ⊥)) ls (t .2)) ≡ k → (k ≡ l .number → ⊥)
+        → (ladder (reached × (l .applies → ⊥)) ls (t .2) ≡ k → ⊥) → ⊥
     by true e n r = n (sym e)
     by false e n r = r e
 
@@ -176,7 +178,8 @@ module _ (Gives : ℕ → Type 0) where
         past reached P b k r ls t (g .1) (h .1),
       )
 
-  pub lines : (reached : Type 0) (ls : List Line) (t : Rungs reached ls) → distinct (numbersOf ls) ≡ true → Each (By reached (ladder reached ls t)) ls → Lines Gives reached ls
+  pub lines : (reached : Type 0) (ls : List Line) (t : Rungs reached ls) → distinct (numbersOf ls) ≡ true → Each (By reached (ladder reached ls t)) ls
+      → Lines Gives reached ls
   lines reached [] t d h = tt
   lines reached (l ∷ ls) t d h =
       let g = both-true (fresh (l .number) (numbersOf ls)) (distinct (numbersOf ls)) d in
@@ -204,7 +207,8 @@ nothing reached (l ∷ ls) t d x =
     )
 
 -- a whole table, where `Gives k` says that the ladder gives k
-table-as : (Gives : ℕ → Type 0) (ls : List Line) (t : Rungs Unit ls) → distinct (numbersOf ls) ≡ true → ((k : ℕ) → Gives k ↔ (ladder Unit ls t ≡ k)) → Table Gives ls
+table-as : (Gives : ℕ → Type 0) (ls : List Line) (t : Rungs Unit ls) → distinct (numbersOf ls) ≡ true → ((k : ℕ) → Gives k ↔ (ladder Unit ls t ≡ k))
+    → Table Gives ls
 table-as Gives ls t d g = record {
   lines = lines Gives Unit ls t d (each _ (λ k. (λ e. (tt, g k .0 e), λ x. g k .1 (x .1))) ls);
   success = (λ e. nothing Unit ls t d tt .0 (g 0 .0 e), λ h. g 0 .1 (nothing Unit ls t d tt .1 h));
@@ -215,5 +219,6 @@ pub table : (n : ℕ) (ls : List Line) (t : Rungs Unit ls) → distinct (numbers
 table n ls t d q = table-as (λ k. n ≡ k) ls t d (λ k. (λ e. sym q ∙ e, λ e. q ∙ e))
 
 -- of an answer whose number is, with a row
-pub answers : (x : Answer) (i : ℕ) (ls : List Line) (t : Rungs Unit ls) → distinct (numbersOf ls) ≡ true → x ≡ answer (ladder Unit ls t) i → Table (λ k. x ≡ answer k i) ls
+pub answers : (x : Answer) (i : ℕ) (ls : List Line) (t : Rungs Unit ls) → distinct (numbersOf ls) ≡ true → x ≡ answer (ladder Unit ls t) i
+    → Table (λ k. x ≡ answer k i) ls
 answers x i ls t d q = table-as (λ k. x ≡ answer k i) ls t d (λ k. (λ e. ap (λ (a : Answer). a .number) (sym q ∙ e), λ e. q ∙ ap (λ (m : ℕ). answer m i) e))

@@ -14,5 +14,6 @@ use Rattle.shift_check.specs.Check.{bodyStart, endAnswer, rowsFrom, headNumber,
 use Rattle.promises.specs.Values.{StarredValues}
 
 pub starred-values : StarredValues
-unfolding xor xtime multiples _•_ find inverse affine subByte factsOf sizeOf versionOf chopLengths lengths doubleBy pad textMarks marks value rowSize rowStart firstOf bodyStart endAnswer rowsFrom headNumber checkBetween
+unfolding xor xtime multiples _•_ find inverse affine subByte factsOf sizeOf versionOf chopLengths lengths
+    doubleBy pad textMarks marks value rowSize rowStart firstOf bodyStart endAnswer rowsFrom headNumber checkBetween
 starred-values = refl

@@ -69,19 +69,24 @@ pub record CInterface : Type 0 where
 
 pub record CRoutines : Type 0 where
   -- sealer and opener; in place; the verifier; with their cipher calls
-  pub comet-seal : (κs : Lfts 6) (suite : ℕ) (key nonce ad msg out tag : RefT (List ℕ)) (x : Gave the.comet-seal κs (suite, (key, (nonce, (ad, (msg, (out, (tag, tt)))))))) →
+  pub comet-seal : (κs : Lfts 6) (suite : ℕ) (key nonce ad msg out tag : RefT (List ℕ))
+      (x : Gave the.comet-seal κs (suite, (key, (nonce, (ad, (msg, (out, (tag, tt)))))))) →
       let (_, (_, (_, (_, (_, (out′, (tag′, _))))))) = x .last in
       _≡_ {A = Sealed} (record { number = x .result; out = out′; tag = tag′ }) (sealing suite (now key) (now nonce) (now ad) (now msg) (now out) (now tag))
-  pub comet-open : (κs : Lfts 6) (suite : ℕ) (key nonce ad text tag out : RefT (List ℕ)) (x : Gave the.comet-open κs (suite, (key, (nonce, (ad, (text, (tag, (out, tt)))))))) →
+  pub comet-open : (κs : Lfts 6) (suite : ℕ) (key nonce ad text tag out : RefT (List ℕ))
+      (x : Gave the.comet-open κs (suite, (key, (nonce, (ad, (text, (tag, (out, tt)))))))) →
       let (_, (_, (_, (_, (_, (_, (out′, _))))))) = x .last in
       _≡_ {A = Opened} (record { number = x .result; out = out′ }) (opening suite (now key) (now nonce) (now ad) (now text) (now tag) (now out))
-  pub comet-seal-in-place : (κs : Lfts 5) (suite : ℕ) (key nonce ad text tag : RefT (List ℕ)) (x : Gave the.comet-seal-in-place κs (suite, (key, (nonce, (ad, (text, (tag, tt))))))) →
+  pub comet-seal-in-place : (κs : Lfts 5) (suite : ℕ) (key nonce ad text tag : RefT (List ℕ))
+      (x : Gave the.comet-seal-in-place κs (suite, (key, (nonce, (ad, (text, (tag, tt))))))) →
       let (_, (_, (_, (_, (text′, (tag′, _)))))) = x .last in
       _≡_ {A = Sealed} (record { number = x .result; out = text′; tag = tag′ }) (sealing suite (now key) (now nonce) (now ad) (now text) (now text) (now tag))
-  pub comet-open-in-place : (κs : Lfts 5) (suite : ℕ) (key nonce ad text tag : RefT (List ℕ)) (x : Gave the.comet-open-in-place κs (suite, (key, (nonce, (ad, (text, (tag, tt))))))) →
+  pub comet-open-in-place : (κs : Lfts 5) (suite : ℕ) (key nonce ad text tag : RefT (List ℕ))
+      (x : Gave the.comet-open-in-place κs (suite, (key, (nonce, (ad, (text, (tag, tt))))))) →
       let (_, (_, (_, (_, (text′, _))))) = x .last in
       _≡_ {A = Opened} (record { number = x .result; out = text′ }) (opening suite (now key) (now nonce) (now ad) (now text) (now tag) (now text))
-  pub comet-verify : (κs : Lfts 5) (suite : ℕ) (key nonce ad text tag : RefT (List ℕ)) (x : Gave the.comet-verify κs (suite, (key, (nonce, (ad, (text, (tag, tt))))))) →
+  pub comet-verify : (κs : Lfts 5) (suite : ℕ) (key nonce ad text tag : RefT (List ℕ))
+      (x : Gave the.comet-verify κs (suite, (key, (nonce, (ad, (text, (tag, tt))))))) →
       x .result ≡ verifying suite (now key) (now nonce) (now ad) (now text) (now tag)
   pub comet-seal-counted : (κs : Lfts 7) (suite : ℕ) (key nonce ad msg out tag : RefT (List ℕ)) (calls : RefT ℕ)
       (x : Gave the.comet-seal-counted κs (suite, (key, (nonce, (ad, (msg, (out, (tag, (calls, tt))))))))) →
@@ -94,16 +99,19 @@ pub record CRoutines : Type 0 where
       _≡_ {A = Counting Opened} (record { leaves = record { number = x .result; out = out′ }; calls = calls′ })
       (openingCounted suite (now key) (now nonce) (now ad) (now text) (now tag) (now out))
   -- a session's calls, on the value that its nine words stand for; after each, the words are the next session's own and stand for it; and the wipe
-  pub comet-session-start : (κs : Lfts 3) (state : RefT (List ℕ)) (suite : ℕ) (key nonce : RefT (List ℕ)) (x : Gave the.comet-session-start κs (state, (suite, (key, (nonce, tt))))) →
+  pub comet-session-start : (κs : Lfts 3) (state : RefT (List ℕ)) (suite : ℕ) (key nonce : RefT (List ℕ))
+      (x : Gave the.comet-session-start κs (state, (suite, (key, (nonce, tt))))) →
       let (state′, _) = x .last in
       after (x .result) 0 state′ [] [] ≡ inWords (starting suite (now key) (now nonce))
   pub comet-session-data : (κs : Lfts 2) (state part : RefT (List ℕ)) (x : Gave the.comet-session-data κs (state, (part, tt))) →
       let (state′, _) = x .last in
       after (x .result) 0 state′ [] [] ≡ inWords (dataPart (ofWords (now state)) (now part))
-  pub comet-session-part : (κs : Lfts 4) (state part out : RefT (List ℕ)) (count : RefT ℕ) (x : Gave the.comet-session-part κs (state, (part, (out, (count, tt))))) →
+  pub comet-session-part : (κs : Lfts 4) (state part out : RefT (List ℕ)) (count : RefT ℕ)
+      (x : Gave the.comet-session-part κs (state, (part, (out, (count, tt))))) →
       let (state′, (_, (out′, (count′, _)))) = x .last in
       after (x .result) count′ state′ out′ [] ≡ inWords (textPart (ofWords (now state)) (now part) (now out))
-  pub comet-session-end : (κs : Lfts 4) (state out tag : RefT (List ℕ)) (count : RefT ℕ) (x : Gave the.comet-session-end κs (state, (out, (tag, (count, tt))))) →
+  pub comet-session-end : (κs : Lfts 4) (state out tag : RefT (List ℕ)) (count : RefT ℕ)
+      (x : Gave the.comet-session-end κs (state, (out, (tag, (count, tt))))) →
       let (state′, (out′, (tag′, (count′, _)))) = x .last in
       after (x .result) count′ state′ out′ tag′ ≡ inWords (ending (ofWords (now state)) (now out) (now tag))
   pub comet-session-wipe : (κs : Lfts 1) (state : RefT (List ℕ)) (x : Gave the.comet-session-wipe κs (state, tt)) →
@@ -122,11 +130,14 @@ pub record CRoutines : Type 0 where
   pub shift-entry : (κs : Lfts 6) (file : RefT (List ℕ)) (job : ℕ) (row ad-at ad-len text-at text-len : RefT ℕ)
       (x : Gave the.shift-entry κs (file, (job, (row, (ad-at, (ad-len, (text-at, (text-len, tt)))))))) →
       let (_, (_, (row′, (ad-at′, (ad-len′, (text-at′, (text-len′, _))))))) = x .last in
-      _≡_ {A = Entry} (record { number = x .result; row = row′; «ad_at» = ad-at′; «ad_len» = ad-len′; «text_at» = text-at′; «text_len» = text-len′ }) (entryOf (now file) job)
-  pub shift-open-job : (κs : Lfts 4) (file ring : RefT (List ℕ)) (job : ℕ) (out : RefT (List ℕ)) (row : RefT ℕ) (x : Gave the.shift-open-job κs (file, (ring, (job, (out, (row, tt)))))) →
+      _≡_ {A = Entry} (record { number = x .result; row = row′; «ad_at» = ad-at′; «ad_len» = ad-len′; «text_at» = text-at′; «text_len» = text-len′ })
+      (entryOf (now file) job)
+  pub shift-open-job : (κs : Lfts 4) (file ring : RefT (List ℕ)) (job : ℕ) (out : RefT (List ℕ)) (row : RefT ℕ)
+      (x : Gave the.shift-open-job κs (file, (ring, (job, (out, (row, tt)))))) →
       let (_, (_, (_, (out′, (row′, _))))) = x .last in
       left (answer (x .result) row′) out′ ≡ jobOpening (now file) (now ring) job (now out)
-  pub shift-verified : (κs : Lfts 5) (file ring : RefT (List ℕ)) (job : ℕ) (row at len : RefT ℕ) (x : Gave the.shift-verified κs (file, (ring, (job, (row, (at, (len, tt))))))) →
+  pub shift-verified : (κs : Lfts 5) (file ring : RefT (List ℕ)) (job : ℕ) (row at len : RefT ℕ)
+      (x : Gave the.shift-verified κs (file, (ring, (job, (row, (at, (len, tt))))))) →
       let (_, (_, (_, (row′, (at′, (len′, _)))))) = x .last in
       _≡_ {A = Genuine} (record { number = x .result; row = row′; «ad_at» = at′; «ad_len» = len′ }) (jobVerifying (now file) (now ring) job)
   pub shift-search : (κs : Lfts 3) (file : RefT (List ℕ)) (job : ℕ) (row looked : RefT ℕ) (x : Gave the.shift-search κs (file, (job, (row, (looked, tt))))) →
@@ -150,7 +161,8 @@ pub record CRoutines : Type 0 where
   pub shift-open-amended : (κs : Lfts 6) (amendment day ring : RefT (List ℕ)) (job : ℕ) (out : RefT (List ℕ)) (file row : RefT ℕ)
       (x : Gave the.shift-open-amended κs (amendment, (day, (ring, (job, (out, (file, (row, tt)))))))) →
       let (_, (_, (_, (_, (out′, (file′, (row′, _))))))) = x .last in
-      _≡_ {A = AmendedOpening} (record { file = file′; answer = answer (x .result) row′; out = out′ }) (amendedOpening (now amendment) (now day) (now ring) job (now out))
+      _≡_ {A = AmendedOpening} (record { file = file′; answer = answer (x .result) row′; out = out′ })
+      (amendedOpening (now amendment) (now day) (now ring) job (now out))
   -- the length of a moved file, and the moves
   pub shift-moved-length : (κs : Lfts 1) (file : RefT (List ℕ)) (x : Gave the.shift-moved-length κs (file, tt)) →
       x .result ≡ movedLength (now file)
@@ -171,7 +183,8 @@ pub record CRoutines : Type 0 where
         differ = differ′;
       })
       (comparison (now f) (now g) (now first) (now second) (now differ))
-  pub shift-report : (κs : Lfts 6) (file ring jobs numbers : RefT (List ℕ)) (count row : RefT ℕ) (x : Gave the.shift-report κs (file, (ring, (jobs, (numbers, (count, (row, tt))))))) →
+  pub shift-report : (κs : Lfts 6) (file ring jobs numbers : RefT (List ℕ)) (count row : RefT ℕ)
+      (x : Gave the.shift-report κs (file, (ring, (jobs, (numbers, (count, (row, tt))))))) →
       let (_, (_, (jobs′, (numbers′, (count′, (row′, _)))))) = x .last in
       _≡_ {A = Report} (record { said = record { number = x .result; row = row′; count = count′ }; jobs = jobs′; numbers = numbers′ })
       (reporting (now file) (now ring) (now jobs) (now numbers))
@@ -186,7 +199,8 @@ pub record CRoutines : Type 0 where
 -- what C gets of the rows of a file that passes the check
 pub record CRows : Type 0 where
   -- the edition and the row count
-  pub counted : (κs : Lfts 3) (file : RefT (List ℕ)) (edition count : RefT ℕ) (x : Gave the.shift-rows κs (file, (edition, (count, tt)))) → checkFile (now file) .number ≡ 0 →
+  pub counted : (κs : Lfts 3) (file : RefT (List ℕ)) (edition count : RefT ℕ) (x : Gave the.shift-rows κs (file, (edition, (count, tt))))
+      → checkFile (now file) .number ≡ 0 →
       let (_, (edition′, (count′, _))) = x .last in
       (x .result ≡ 0) × (edition′ ≡ editionOf (now file)) × (count′ ≡ countOf (now file))
   -- of each row its nine fields: the text follows the associated data, and its offset does not wrap

@@ -1,4 +1,5 @@
--- Document 02, W12: how many cipher calls sealer and opener report. For every suite it is the length of the list of key and block pairs that the definition enciphers; that this is a + m + 2, with a and m the block counts, follows.
+-- Document 02, W12: how many cipher calls sealer and opener report. For every suite it is the length of the list of key and
+-- block pairs that the definition enciphers; that this is a + m + 2, with a and m the block counts, follows.
 use mathlib.Core.Path.{_≡_}
 use mathlib.Core.Logic.{_⊎_}
 use mathlib.Core.Bool.{Bool, true, false}
@@ -17,7 +18,8 @@ use Rattle.comet.specs.Counted.{Counting, callsOf, sealingCounted, openingCount
 abbrev pub CallsDecide : Type 0
 CallsDecide =
     (κ : Cipher) (E′ : List ℕ → List ℕ → List ℕ) (opening : Bool) (key nonce ad text : List ℕ) → Agree κ (other κ E′) (calls κ opening key nonce ad text)
-    → (textOut κ opening key nonce ad text ≡ textOut (other κ E′) opening key nonce ad text) × (tagOut κ opening key nonce ad text ≡ tagOut (other κ E′) opening key nonce ad text)
+    → (textOut κ opening key nonce ad text ≡ textOut (other κ E′) opening key nonce ad text)
+    × (tagOut κ opening key nonce ad text ≡ tagOut (other κ E′) opening key nonce ad text)
 
 -- the sealer reports its length on 0, and 0 on any other number
 abbrev pub SealReports : Type 0

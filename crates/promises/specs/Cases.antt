@@ -1,4 +1,6 @@
--- Every outcome of the shift file's other calls, and when it is given. For writer and reseal pass, the numbers in their order; what each leaves in the output is in `shift_draft/specs/Promised.antt` (`SealCases`, `UnsealCases`) and `shift_reseal/specs/Promised.antt` (`ResealCases`). Those of the amendments are in `shift_amend/specs/Promised.antt`.
+-- Every outcome of the shift file's other calls, and when it is given. For writer and reseal pass, the numbers in their
+-- order; what each leaves in the output is in `shift_draft/specs/Promised.antt` (`SealCases`, `UnsealCases`) and
+-- `shift_reseal/specs/Promised.antt` (`ResealCases`). Those of the amendments are in `shift_amend/specs/Promised.antt`.
 use mathlib.Core.Path.{_≡_}
 use mathlib.Core.Logic.{_⊎_, _↔_}
 use Prim.Native.Nat.{ℕ, _≤_, _<_}
@@ -88,8 +90,10 @@ pub record UpCases (f out : List ℕ) : Type 0 where
       )
   pub checked : (checkAs firstEdition f .number ≡ 0 → ⊥) → toEdition2 f out ≡ record { answer = checkAs firstEdition f; out = out }
   pub long : checkAs firstEdition f .number ≡ 0 → 1048576 < length (moved newest f) → toEdition2 f out ≡ unmoved 20 0 out
-  pub room : checkAs firstEdition f .number ≡ 0 → length (moved newest f) ≤ 1048576 → (length out ≡ length (moved newest f) → ⊥) → toEdition2 f out ≡ unmoved 6 0 out
-  pub moves : checkAs firstEdition f .number ≡ 0 → length (moved newest f) ≤ 1048576 → length out ≡ length (moved newest f) → toEdition2 f out ≡ done (moved newest f)
+  pub room : checkAs firstEdition f .number ≡ 0 → length (moved newest f) ≤ 1048576 → (length out ≡ length (moved newest f) → ⊥)
+      → toEdition2 f out ≡ unmoved 6 0 out
+  pub moves : checkAs firstEdition f .number ≡ 0 → length (moved newest f) ≤ 1048576 → length out ≡ length (moved newest f)
+      → toEdition2 f out ≡ done (moved newest f)
 
 -- back to edition 1: the checks of edition 2, 35 with the first row that has a station, 6; 20 cannot occur (`BackShort`)
 pub record BackCases (f out : List ℕ) : Type 0 where
@@ -119,7 +123,11 @@ pub record ReportCases (f ring jobs numbers : List ℕ) : Type 0 where
   pub room : length f ≤ longest → checkFile f .number ≡ 0 → length ring ≡ 256 → (length jobs < countOf f) ⊎ (length numbers < countOf f)
       → reporting f ring jobs numbers ≡ unreported (answer 6 0) jobs numbers
   pub lines : length f ≤ longest → checkFile f .number ≡ 0 → length ring ≡ 256 → countOf f ≤ length jobs → countOf f ≤ length numbers
-      → reporting f ring jobs numbers ≡ record { said = entries (countOf f); jobs = front (jobOf f) (countOf f) jobs; numbers = front (tagNumber f ring) (countOf f) numbers }
+      → reporting f ring jobs numbers ≡ record {
+        said = entries (countOf f);
+        jobs = front (jobOf f) (countOf f) jobs;
+        numbers = front (tagNumber f ring) (countOf f) numbers;
+      }
 
 -- the table of contents by row number: each of 20 to 24, and 32 past the rows, without a field; else the header's and the row's own fields, whatever they hold
 pub record ContentsCases (f : List ℕ) (i : ℕ) : Type 0 where

@@ -146,28 +146,47 @@ abbrev pub unseal : Contract
 unseal = record { lifetimes = 6; params = unseal-kinds.ps; result = unseal-kinds.r; Pre = unseal-reads.Pre; Post = unseal-reads.Post }
 
 abbrev pub seal-counted : Contract
-seal-counted = record { lifetimes = 6; params = seal-counted-kinds.ps; result = seal-counted-kinds.r; Pre = seal-counted-reads.Pre; Post = seal-counted-reads.Post }
+seal-counted =
+    record { lifetimes = 6; params = seal-counted-kinds.ps; result = seal-counted-kinds.r; Pre = seal-counted-reads.Pre; Post = seal-counted-reads.Post }
 
 abbrev pub unseal-counted : Contract
-unseal-counted = record { lifetimes = 6; params = unseal-counted-kinds.ps; result = unseal-counted-kinds.r; Pre = unseal-counted-reads.Pre; Post = unseal-counted-reads.Post }
+unseal-counted =
+    record {
+      lifetimes = 6;
+      params = unseal-counted-kinds.ps;
+      result = unseal-counted-kinds.r;
+      Pre = unseal-counted-reads.Pre;
+      Post = unseal-counted-reads.Post;
+    }
 
 abbrev pub seal-in-place : Contract
-seal-in-place = record { lifetimes = 5; params = seal-in-place-kinds.ps; result = seal-in-place-kinds.r; Pre = seal-in-place-reads.Pre; Post = seal-in-place-reads.Post }
+seal-in-place =
+    record { lifetimes = 5; params = seal-in-place-kinds.ps; result = seal-in-place-kinds.r; Pre = seal-in-place-reads.Pre; Post = seal-in-place-reads.Post }
 
 abbrev pub unseal-in-place : Contract
-unseal-in-place = record { lifetimes = 5; params = unseal-in-place-kinds.ps; result = unseal-in-place-kinds.r; Pre = unseal-in-place-reads.Pre; Post = unseal-in-place-reads.Post }
+unseal-in-place =
+    record {
+      lifetimes = 5;
+      params = unseal-in-place-kinds.ps;
+      result = unseal-in-place-kinds.r;
+      Pre = unseal-in-place-reads.Pre;
+      Post = unseal-in-place-reads.Post;
+    }
 
 abbrev pub verify : Contract
 verify = record { lifetimes = 5; params = verify-kinds.ps; result = verify-kinds.r; Pre = verify-reads.Pre; Post = verify-reads.Post }
 
 abbrev pub session-start : Contract
-session-start = record { lifetimes = 2; params = session-start-kinds.ps; result = session-start-kinds.r; Pre = session-start-reads.Pre; Post = session-start-reads.Post }
+session-start =
+    record { lifetimes = 2; params = session-start-kinds.ps; result = session-start-kinds.r; Pre = session-start-reads.Pre; Post = session-start-reads.Post }
 
 abbrev pub session-data : Contract
-session-data = record { lifetimes = 1; params = session-data-kinds.ps; result = session-data-kinds.r; Pre = session-data-reads.Pre; Post = session-data-reads.Post }
+session-data =
+    record { lifetimes = 1; params = session-data-kinds.ps; result = session-data-kinds.r; Pre = session-data-reads.Pre; Post = session-data-reads.Post }
 
 abbrev pub session-part : Contract
-session-part = record { lifetimes = 2; params = session-part-kinds.ps; result = session-part-kinds.r; Pre = session-part-reads.Pre; Post = session-part-reads.Post }
+session-part =
+    record { lifetimes = 2; params = session-part-kinds.ps; result = session-part-kinds.r; Pre = session-part-reads.Pre; Post = session-part-reads.Post }
 
 abbrev pub session-end : Contract
 session-end = record { lifetimes = 2; params = session-end-kinds.ps; result = session-end-kinds.r; Pre = session-end-reads.Pre; Post = session-end-reads.Post }
@@ -209,10 +228,12 @@ abbrev pub current : Contract
 current = record { lifetimes = 1; params = current-kinds.ps; result = current-kinds.r; Pre = current-reads.Pre; Post = current-reads.Post }
 
 abbrev pub open-current : Contract
-open-current = record { lifetimes = 4; params = open-current-kinds.ps; result = open-current-kinds.r; Pre = open-current-reads.Pre; Post = open-current-reads.Post }
+open-current =
+    record { lifetimes = 4; params = open-current-kinds.ps; result = open-current-kinds.r; Pre = open-current-reads.Pre; Post = open-current-reads.Post }
 
 abbrev pub moved-length : Contract
-moved-length = record { lifetimes = 1; params = moved-length-kinds.ps; result = moved-length-kinds.r; Pre = moved-length-reads.Pre; Post = moved-length-reads.Post }
+moved-length =
+    record { lifetimes = 1; params = moved-length-kinds.ps; result = moved-length-kinds.r; Pre = moved-length-reads.Pre; Post = moved-length-reads.Post }
 
 abbrev pub to-edition2 : Contract
 to-edition2 = record { lifetimes = 2; params = to-edition2-kinds.ps; result = to-edition2-kinds.r; Pre = to-edition2-reads.Pre; Post = to-edition2-reads.Post }
@@ -247,85 +268,218 @@ abbrev pub comet-open : Contract
 comet-open = record { lifetimes = 6; params = comet-open-kinds.ps; result = comet-open-kinds.r; Pre = comet-open-reads.Pre; Post = comet-open-reads.Post }
 
 abbrev pub comet-seal-in-place : Contract
-comet-seal-in-place = record { lifetimes = 5; params = comet-seal-in-place-kinds.ps; result = comet-seal-in-place-kinds.r; Pre = comet-seal-in-place-reads.Pre; Post = comet-seal-in-place-reads.Post }
+comet-seal-in-place =
+    record {
+      lifetimes = 5;
+      params = comet-seal-in-place-kinds.ps;
+      result = comet-seal-in-place-kinds.r;
+      Pre = comet-seal-in-place-reads.Pre;
+      Post = comet-seal-in-place-reads.Post;
+    }
 
 abbrev pub comet-open-in-place : Contract
-comet-open-in-place = record { lifetimes = 5; params = comet-open-in-place-kinds.ps; result = comet-open-in-place-kinds.r; Pre = comet-open-in-place-reads.Pre; Post = comet-open-in-place-reads.Post }
+comet-open-in-place =
+    record {
+      lifetimes = 5;
+      params = comet-open-in-place-kinds.ps;
+      result = comet-open-in-place-kinds.r;
+      Pre = comet-open-in-place-reads.Pre;
+      Post = comet-open-in-place-reads.Post;
+    }
 
 abbrev pub comet-verify : Contract
-comet-verify = record { lifetimes = 5; params = comet-verify-kinds.ps; result = comet-verify-kinds.r; Pre = comet-verify-reads.Pre; Post = comet-verify-reads.Post }
+comet-verify =
+    record { lifetimes = 5; params = comet-verify-kinds.ps; result = comet-verify-kinds.r; Pre = comet-verify-reads.Pre; Post = comet-verify-reads.Post }
 
 abbrev pub comet-seal-counted : Contract
-comet-seal-counted = record { lifetimes = 7; params = comet-seal-counted-kinds.ps; result = comet-seal-counted-kinds.r; Pre = comet-seal-counted-reads.Pre; Post = comet-seal-counted-reads.Post }
+comet-seal-counted =
+    record {
+      lifetimes = 7;
+      params = comet-seal-counted-kinds.ps;
+      result = comet-seal-counted-kinds.r;
+      Pre = comet-seal-counted-reads.Pre;
+      Post = comet-seal-counted-reads.Post;
+    }
 
 abbrev pub comet-open-counted : Contract
-comet-open-counted = record { lifetimes = 7; params = comet-open-counted-kinds.ps; result = comet-open-counted-kinds.r; Pre = comet-open-counted-reads.Pre; Post = comet-open-counted-reads.Post }
+comet-open-counted =
+    record {
+      lifetimes = 7;
+      params = comet-open-counted-kinds.ps;
+      result = comet-open-counted-kinds.r;
+      Pre = comet-open-counted-reads.Pre;
+      Post = comet-open-counted-reads.Post;
+    }
 
 abbrev pub comet-session-start : Contract
-comet-session-start = record { lifetimes = 3; params = comet-session-start-kinds.ps; result = comet-session-start-kinds.r; Pre = comet-session-start-reads.Pre; Post = comet-session-start-reads.Post }
+comet-session-start =
+    record {
+      lifetimes = 3;
+      params = comet-session-start-kinds.ps;
+      result = comet-session-start-kinds.r;
+      Pre = comet-session-start-reads.Pre;
+      Post = comet-session-start-reads.Post;
+    }
 
 abbrev pub comet-session-data : Contract
-comet-session-data = record { lifetimes = 2; params = comet-session-data-kinds.ps; result = comet-session-data-kinds.r; Pre = comet-session-data-reads.Pre; Post = comet-session-data-reads.Post }
+comet-session-data =
+    record {
+      lifetimes = 2;
+      params = comet-session-data-kinds.ps;
+      result = comet-session-data-kinds.r;
+      Pre = comet-session-data-reads.Pre;
+      Post = comet-session-data-reads.Post;
+    }
 
 abbrev pub comet-session-part : Contract
-comet-session-part = record { lifetimes = 4; params = comet-session-part-kinds.ps; result = comet-session-part-kinds.r; Pre = comet-session-part-reads.Pre; Post = comet-session-part-reads.Post }
+comet-session-part =
+    record {
+      lifetimes = 4;
+      params = comet-session-part-kinds.ps;
+      result = comet-session-part-kinds.r;
+      Pre = comet-session-part-reads.Pre;
+      Post = comet-session-part-reads.Post;
+    }
 
 abbrev pub comet-session-end : Contract
-comet-session-end = record { lifetimes = 4; params = comet-session-end-kinds.ps; result = comet-session-end-kinds.r; Pre = comet-session-end-reads.Pre; Post = comet-session-end-reads.Post }
+comet-session-end =
+    record {
+      lifetimes = 4;
+      params = comet-session-end-kinds.ps;
+      result = comet-session-end-kinds.r;
+      Pre = comet-session-end-reads.Pre;
+      Post = comet-session-end-reads.Post;
+    }
 
 abbrev pub comet-session-wipe : Contract
-comet-session-wipe = record { lifetimes = 1; params = comet-session-wipe-kinds.ps; result = comet-session-wipe-kinds.r; Pre = comet-session-wipe-reads.Pre; Post = comet-session-wipe-reads.Post }
+comet-session-wipe =
+    record {
+      lifetimes = 1;
+      params = comet-session-wipe-kinds.ps;
+      result = comet-session-wipe-kinds.r;
+      Pre = comet-session-wipe-reads.Pre;
+      Post = comet-session-wipe-reads.Post;
+    }
 
 abbrev pub shift-check : Contract
 shift-check = record { lifetimes = 2; params = shift-check-kinds.ps; result = shift-check-kinds.r; Pre = shift-check-reads.Pre; Post = shift-check-reads.Post }
 
 abbrev pub shift-lookup : Contract
-shift-lookup = record { lifetimes = 2; params = shift-lookup-kinds.ps; result = shift-lookup-kinds.r; Pre = shift-lookup-reads.Pre; Post = shift-lookup-reads.Post }
+shift-lookup =
+    record { lifetimes = 2; params = shift-lookup-kinds.ps; result = shift-lookup-kinds.r; Pre = shift-lookup-reads.Pre; Post = shift-lookup-reads.Post }
 
 abbrev pub shift-associated : Contract
-shift-associated = record { lifetimes = 3; params = shift-associated-kinds.ps; result = shift-associated-kinds.r; Pre = shift-associated-reads.Pre; Post = shift-associated-reads.Post }
+shift-associated =
+    record {
+      lifetimes = 3;
+      params = shift-associated-kinds.ps;
+      result = shift-associated-kinds.r;
+      Pre = shift-associated-reads.Pre;
+      Post = shift-associated-reads.Post;
+    }
 
 abbrev pub shift-entry : Contract
 shift-entry = record { lifetimes = 6; params = shift-entry-kinds.ps; result = shift-entry-kinds.r; Pre = shift-entry-reads.Pre; Post = shift-entry-reads.Post }
 
 abbrev pub shift-open-job : Contract
-shift-open-job = record { lifetimes = 4; params = shift-open-job-kinds.ps; result = shift-open-job-kinds.r; Pre = shift-open-job-reads.Pre; Post = shift-open-job-reads.Post }
+shift-open-job =
+    record {
+      lifetimes = 4;
+      params = shift-open-job-kinds.ps;
+      result = shift-open-job-kinds.r;
+      Pre = shift-open-job-reads.Pre;
+      Post = shift-open-job-reads.Post;
+    }
 
 abbrev pub shift-verified : Contract
-shift-verified = record { lifetimes = 5; params = shift-verified-kinds.ps; result = shift-verified-kinds.r; Pre = shift-verified-reads.Pre; Post = shift-verified-reads.Post }
+shift-verified =
+    record {
+      lifetimes = 5;
+      params = shift-verified-kinds.ps;
+      result = shift-verified-kinds.r;
+      Pre = shift-verified-reads.Pre;
+      Post = shift-verified-reads.Post;
+    }
 
 abbrev pub shift-search : Contract
-shift-search = record { lifetimes = 3; params = shift-search-kinds.ps; result = shift-search-kinds.r; Pre = shift-search-reads.Pre; Post = shift-search-reads.Post }
+shift-search =
+    record { lifetimes = 3; params = shift-search-kinds.ps; result = shift-search-kinds.r; Pre = shift-search-reads.Pre; Post = shift-search-reads.Post }
 
 abbrev pub shift-seal-file : Contract
-shift-seal-file = record { lifetimes = 4; params = shift-seal-file-kinds.ps; result = shift-seal-file-kinds.r; Pre = shift-seal-file-reads.Pre; Post = shift-seal-file-reads.Post }
+shift-seal-file =
+    record {
+      lifetimes = 4;
+      params = shift-seal-file-kinds.ps;
+      result = shift-seal-file-kinds.r;
+      Pre = shift-seal-file-reads.Pre;
+      Post = shift-seal-file-reads.Post;
+    }
 
 abbrev pub shift-unseal-file : Contract
-shift-unseal-file = record { lifetimes = 4; params = shift-unseal-file-kinds.ps; result = shift-unseal-file-kinds.r; Pre = shift-unseal-file-reads.Pre; Post = shift-unseal-file-reads.Post }
+shift-unseal-file =
+    record {
+      lifetimes = 4;
+      params = shift-unseal-file-kinds.ps;
+      result = shift-unseal-file-kinds.r;
+      Pre = shift-unseal-file-reads.Pre;
+      Post = shift-unseal-file-reads.Post;
+    }
 
 abbrev pub shift-reseal : Contract
-shift-reseal = record { lifetimes = 4; params = shift-reseal-kinds.ps; result = shift-reseal-kinds.r; Pre = shift-reseal-reads.Pre; Post = shift-reseal-reads.Post }
+shift-reseal =
+    record { lifetimes = 4; params = shift-reseal-kinds.ps; result = shift-reseal-kinds.r; Pre = shift-reseal-reads.Pre; Post = shift-reseal-reads.Post }
 
 abbrev pub shift-amended : Contract
-shift-amended = record { lifetimes = 6; params = shift-amended-kinds.ps; result = shift-amended-kinds.r; Pre = shift-amended-reads.Pre; Post = shift-amended-reads.Post }
+shift-amended =
+    record { lifetimes = 6; params = shift-amended-kinds.ps; result = shift-amended-kinds.r; Pre = shift-amended-reads.Pre; Post = shift-amended-reads.Post }
 
 abbrev pub shift-open-amended : Contract
-shift-open-amended = record { lifetimes = 6; params = shift-open-amended-kinds.ps; result = shift-open-amended-kinds.r; Pre = shift-open-amended-reads.Pre; Post = shift-open-amended-reads.Post }
+shift-open-amended =
+    record {
+      lifetimes = 6;
+      params = shift-open-amended-kinds.ps;
+      result = shift-open-amended-kinds.r;
+      Pre = shift-open-amended-reads.Pre;
+      Post = shift-open-amended-reads.Post;
+    }
 
 abbrev pub shift-moved-length : Contract
-shift-moved-length = record { lifetimes = 1; params = shift-moved-length-kinds.ps; result = shift-moved-length-kinds.r; Pre = shift-moved-length-reads.Pre; Post = shift-moved-length-reads.Post }
+shift-moved-length =
+    record {
+      lifetimes = 1;
+      params = shift-moved-length-kinds.ps;
+      result = shift-moved-length-kinds.r;
+      Pre = shift-moved-length-reads.Pre;
+      Post = shift-moved-length-reads.Post;
+    }
 
 abbrev pub shift-to-edition2 : Contract
-shift-to-edition2 = record { lifetimes = 3; params = shift-to-edition2-kinds.ps; result = shift-to-edition2-kinds.r; Pre = shift-to-edition2-reads.Pre; Post = shift-to-edition2-reads.Post }
+shift-to-edition2 =
+    record {
+      lifetimes = 3;
+      params = shift-to-edition2-kinds.ps;
+      result = shift-to-edition2-kinds.r;
+      Pre = shift-to-edition2-reads.Pre;
+      Post = shift-to-edition2-reads.Post;
+    }
 
 abbrev pub shift-to-edition1 : Contract
-shift-to-edition1 = record { lifetimes = 3; params = shift-to-edition1-kinds.ps; result = shift-to-edition1-kinds.r; Pre = shift-to-edition1-reads.Pre; Post = shift-to-edition1-reads.Post }
+shift-to-edition1 =
+    record {
+      lifetimes = 3;
+      params = shift-to-edition1-kinds.ps;
+      result = shift-to-edition1-kinds.r;
+      Pre = shift-to-edition1-reads.Pre;
+      Post = shift-to-edition1-reads.Post;
+    }
 
 abbrev pub shift-compare : Contract
-shift-compare = record { lifetimes = 10; params = shift-compare-kinds.ps; result = shift-compare-kinds.r; Pre = shift-compare-reads.Pre; Post = shift-compare-reads.Post }
+shift-compare =
+    record { lifetimes = 10; params = shift-compare-kinds.ps; result = shift-compare-kinds.r; Pre = shift-compare-reads.Pre; Post = shift-compare-reads.Post }
 
 abbrev pub shift-report : Contract
-shift-report = record { lifetimes = 6; params = shift-report-kinds.ps; result = shift-report-kinds.r; Pre = shift-report-reads.Pre; Post = shift-report-reads.Post }
+shift-report =
+    record { lifetimes = 6; params = shift-report-kinds.ps; result = shift-report-kinds.r; Pre = shift-report-reads.Pre; Post = shift-report-reads.Post }
 
 abbrev pub shift-rows : Contract
 shift-rows = record { lifetimes = 3; params = shift-rows-kinds.ps; result = shift-rows-kinds.r; Pre = shift-rows-reads.Pre; Post = shift-rows-reads.Post }

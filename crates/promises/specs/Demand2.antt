@@ -17,7 +17,11 @@ use Rattle.promises.specs.Input.{Input}
 abbrev pub Sealing : Type 0
 Sealing =
     (suite : ℕ) (key nonce ad msg out₀ tag₀ : List ℕ) → Input suite key nonce ad msg → Seals suite → length out₀ ≡ length msg → length tag₀ ≡ sizeOf suite
-    → sealing suite key nonce ad msg out₀ tag₀ ≡ record { number = 0; out = ciphertext (cipherOf suite) key nonce ad msg; tag = tag (cipherOf suite) key nonce ad msg }
+    → sealing suite key nonce ad msg out₀ tag₀ ≡ record {
+      number = 0;
+      out = ciphertext (cipherOf suite) key nonce ad msg;
+      tag = tag (cipherOf suite) key nonce ad msg;
+    }
 
 -- a pair (c, t) is accepted exactly if it is the specification's for some message
 abbrev pub Accepting : Type 0

@@ -5,7 +5,8 @@ use Prim.Native.Nat.{ℕ}
 use Rattle.status.specs.Answers.{answer}
 use Rattle.shift_compare.specs.Comparing.{refusedIn, stopped, comparison}
 use Rattle.shift_editions.specs.Answers.{toEdition2, toEdition1}
-use Rattle.shift_editions.specs.Promised.{ThereAndBack, BackAndThere, UpPasses, BackPasses, BackShort, LengthTold, UpRises, BackFalls, UpKeeps, BackKeeps, UpReads, BackReads}
+use Rattle.shift_editions.specs.Promised.{ThereAndBack, BackAndThere, UpPasses, BackPasses, BackShort, LengthTold, UpRises, BackFalls, UpKeeps, BackKeeps}
+use Rattle.shift_editions.specs.Promised.{UpReads, BackReads}
 
 -- compare (W8) of a file and its moved file: three empty lists, so that buffers of any length suffice and stay unchanged
 abbrev pub Equal : List ℕ → List ℕ → Type 0

@@ -1,4 +1,5 @@
--- Demand 1, "refusing by the numbers, in the order given, and only then": document 01's tables, and document 02's, line by line. `Tables.antt` defines what it means that a call gives a table's numbers.
+-- Demand 1, "refusing by the numbers, in the order given, and only then": document 01's tables, and document 02's, line by
+-- line. `Tables.antt` defines what it means that a call gives a table's numbers.
 use mathlib.Core.Path.{_≡_}
 use mathlib.Core.Bool.{Bool, true, false}
 use mathlib.Core.Logic.{_⊎_, _↔_}
@@ -37,10 +38,14 @@ numbers opens suite key nonce ad text out tag =
     ∷ []
 
 abbrev pub SealNumbers : Type 0
-SealNumbers = (suite : ℕ) (key nonce ad msg out tag : List ℕ) → Table (λ k. sealing suite key nonce ad msg out tag .number ≡ k) (numbers false suite key nonce ad msg out tag)
+SealNumbers =
+    (suite : ℕ) (key nonce ad msg out tag : List ℕ) → Table (λ k. sealing suite key nonce ad msg out tag .number ≡ k)
+    (numbers false suite key nonce ad msg out tag)
 
 abbrev pub OpenNumbers : Type 0
-OpenNumbers = (suite : ℕ) (key nonce ad text tag out : List ℕ) → Table (λ k. opening suite key nonce ad text tag out .number ≡ k) (numbers true suite key nonce ad text out tag)
+OpenNumbers =
+    (suite : ℕ) (key nonce ad text tag out : List ℕ) → Table (λ k. opening suite key nonce ad text tag out .number ≡ k)
+    (numbers true suite key nonce ad text out tag)
 
 -- ---- document 02, W2: a session's four calls
 
@@ -84,7 +89,8 @@ EndNumbers =
     ∷ []
     )
 
--- ---- document 01, "The shift file": 20 to 24 first, then each row from row 0 with its numbers in order, then 31; 29 and 34 are document 02's (W5), and the editions, from low to high, are (W10)
+-- ---- document 01, "The shift file": 20 to 24 first, then each row from row 0 with its numbers in order, then 31; 29 and 34
+-- are document 02's (W5), and the editions, from low to high, are (W10)
 
 abbrev pub headTable : ℕ → ℕ → List ℕ → List Line
 headTable low high f =

@@ -16,7 +16,8 @@ Quiet [] = Unit
 Quiet (whole k c ∷ ss) = (c → ⊥) × Quiet ss
 Quiet (rows k n c ∷ ss) = ((j : ℕ) → j < n → c j → ⊥) × Quiet ss
 
--- each number is given, with its row, exactly if it applies, no stage before it does and, if it carries a row, it applies to no row before; and the order is reached. `Gives k i` says that k is given, with row i
+-- each number is given, with its row, exactly if it applies, no stage before it does and, if it carries a row, it applies to
+-- no row before; and the order is reached. `Gives k i` says that k is given, with row i
 abbrev pub Stages : (ℕ → ℕ → Type 0) → Type 0 → List Stage → Type 0
 Stages Gives reached [] = Unit
 Stages Gives reached (whole k c ∷ ss) = (Gives k 0 ↔ (reached × c)) × Stages Gives (reached × (c → ⊥)) ss

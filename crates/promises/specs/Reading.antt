@@ -7,7 +7,8 @@ pub record Reading : Type 0 where
   pub rows : RowsThenEnded
   -- on any other it has ended at once
   pub other : EndedAtOnce
-  -- and so has a reader that `read` did not return for this file, if its index is past the rows that the header states, or if it was made for another number of rows
+  -- and so has a reader that `read` did not return for this file, if its index is past the rows that the header states, or
+  -- if it was made for another number of rows
   pub forged : OthersEnded
   -- any other reader gives the rows of the table from its index on, unchecked
   pub foreign : OthersRows

@@ -37,25 +37,33 @@ use Rattle.promises.specs.Demand1.{Gave}
 
 pub record Routines : Type 0 where
   -- document 01: sealer and opener; document 02, W12: with their cipher calls
-  pub seal : (κs : Lfts 6) (suite : ℕ) (key nonce ad msg out tag : RefT (List ℕ)) (x : Gave the.seal κs (suite, (key, (nonce, (ad, (msg, (out, (tag, tt)))))))) →
+  pub seal : (κs : Lfts 6) (suite : ℕ) (key nonce ad msg out tag : RefT (List ℕ))
+      (x : Gave the.seal κs (suite, (key, (nonce, (ad, (msg, (out, (tag, tt)))))))) →
       let (_, (_, (_, (_, (_, (out′, (tag′, _))))))) = x .last in
-      _≡_ {A = Sealed} (record { number = numberOf (x .result); out = out′; tag = tag′ }) (sealing suite (now key) (now nonce) (now ad) (now msg) (now out) (now tag))
-  pub unseal : (κs : Lfts 6) (suite : ℕ) (key nonce ad text tag out : RefT (List ℕ)) (x : Gave the.unseal κs (suite, (key, (nonce, (ad, (text, (tag, (out, tt)))))))) →
+      _≡_ {A = Sealed} (record { number = numberOf (x .result); out = out′; tag = tag′ })
+      (sealing suite (now key) (now nonce) (now ad) (now msg) (now out) (now tag))
+  pub unseal : (κs : Lfts 6) (suite : ℕ) (key nonce ad text tag out : RefT (List ℕ))
+      (x : Gave the.unseal κs (suite, (key, (nonce, (ad, (text, (tag, (out, tt)))))))) →
       let (_, (_, (_, (_, (_, (_, (out′, _))))))) = x .last in
       _≡_ {A = Opened} (record { number = numberOf (x .result); out = out′ }) (opening suite (now key) (now nonce) (now ad) (now text) (now tag) (now out))
-  pub seal-counted : (κs : Lfts 6) (suite : ℕ) (key nonce ad msg out tag : RefT (List ℕ)) (x : Gave the.seal-counted κs (suite, (key, (nonce, (ad, (msg, (out, (tag, tt)))))))) →
+  pub seal-counted : (κs : Lfts 6) (suite : ℕ) (key nonce ad msg out tag : RefT (List ℕ))
+      (x : Gave the.seal-counted κs (suite, (key, (nonce, (ad, (msg, (out, (tag, tt)))))))) →
       let (_, (_, (_, (_, (_, (out′, (tag′, _))))))) = x .last in
       _≡_ {A = Counting Sealed} (record { leaves = record { number = numberOf (x .result .verdict); out = out′; tag = tag′ }; calls = x .result .calls })
       (sealingCounted suite (now key) (now nonce) (now ad) (now msg) (now out) (now tag))
-  pub unseal-counted : (κs : Lfts 6) (suite : ℕ) (key nonce ad text tag out : RefT (List ℕ)) (x : Gave the.unseal-counted κs (suite, (key, (nonce, (ad, (text, (tag, (out, tt)))))))) →
+  pub unseal-counted : (κs : Lfts 6) (suite : ℕ) (key nonce ad text tag out : RefT (List ℕ))
+      (x : Gave the.unseal-counted κs (suite, (key, (nonce, (ad, (text, (tag, (out, tt)))))))) →
       let (_, (_, (_, (_, (_, (_, (out′, _))))))) = x .last in
       _≡_ {A = Counting Opened} (record { leaves = record { number = numberOf (x .result .verdict); out = out′ }; calls = x .result .calls })
       (openingCounted suite (now key) (now nonce) (now ad) (now text) (now tag) (now out))
   -- in place; and the verifier, which writes nothing
-  pub seal-in-place : (κs : Lfts 5) (suite : ℕ) (key nonce ad text tag : RefT (List ℕ)) (x : Gave the.seal-in-place κs (suite, (key, (nonce, (ad, (text, (tag, tt))))))) →
+  pub seal-in-place : (κs : Lfts 5) (suite : ℕ) (key nonce ad text tag : RefT (List ℕ))
+      (x : Gave the.seal-in-place κs (suite, (key, (nonce, (ad, (text, (tag, tt))))))) →
       let (_, (_, (_, (_, (text′, (tag′, _)))))) = x .last in
-      _≡_ {A = Sealed} (record { number = numberOf (x .result); out = text′; tag = tag′ }) (sealing suite (now key) (now nonce) (now ad) (now text) (now text) (now tag))
-  pub unseal-in-place : (κs : Lfts 5) (suite : ℕ) (key nonce ad text tag : RefT (List ℕ)) (x : Gave the.unseal-in-place κs (suite, (key, (nonce, (ad, (text, (tag, tt))))))) →
+      _≡_ {A = Sealed} (record { number = numberOf (x .result); out = text′; tag = tag′ })
+      (sealing suite (now key) (now nonce) (now ad) (now text) (now text) (now tag))
+  pub unseal-in-place : (κs : Lfts 5) (suite : ℕ) (key nonce ad text tag : RefT (List ℕ))
+      (x : Gave the.unseal-in-place κs (suite, (key, (nonce, (ad, (text, (tag, tt))))))) →
       let (_, (_, (_, (_, (text′, _))))) = x .last in
       _≡_ {A = Opened} (record { number = numberOf (x .result); out = text′ }) (opening suite (now key) (now nonce) (now ad) (now text) (now tag) (now text))
   pub verify : (κs : Lfts 5) (suite : ℕ) (key nonce ad text tag : RefT (List ℕ)) (x : Gave the.verify κs (suite, (key, (nonce, (ad, (text, (tag, tt))))))) →
@@ -102,7 +110,8 @@ pub record Routines : Type 0 where
       x .result ≡ amendedEntry (now amendment) (now day) job
   pub current : (κs : Lfts 1) (amendment day : RefT (List ℕ)) (job : ℕ) (x : Gave the.current κs (amendment, (day, (job, tt)))) →
       CurrentPart amendment day (x .result) job
-  pub open-current : (κs : Lfts 4) (amendment day ring : RefT (List ℕ)) (job : ℕ) (out : RefT (List ℕ)) (x : Gave the.open-current κs (amendment, (day, (ring, (job, (out, tt)))))) →
+  pub open-current : (κs : Lfts 4) (amendment day ring : RefT (List ℕ)) (job : ℕ) (out : RefT (List ℕ))
+      (x : Gave the.open-current κs (amendment, (day, (ring, (job, (out, tt)))))) →
       let (_, (_, (_, (_, (out′, _))))) = x .last in
       _≡_ {A = AmendedOpening} (record { file = x .result .file; answer = openedAnswer (x .result .opened); out = out′ })
       (amendedOpening (now amendment) (now day) (now ring) job (now out))

@@ -1,4 +1,5 @@
--- W2 (document 02): sealing in parts. The statements on a run of a session are in `session/specs/Calls.antt`; here they are gathered, with those that need the one-call sealer and the opener.
+-- W2 (document 02): sealing in parts. The statements on a run of a session are in `session/specs/Calls.antt`; here they are
+-- gathered, with those that need the one-call sealer and the opener.
 use mathlib.Core.Path.{_≡_}
 use mathlib.Core.Bool.{false}
 use Prim.Native.Nat.{ℕ, _+_, _-_, _<_}

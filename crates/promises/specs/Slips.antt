@@ -10,7 +10,8 @@ use Rattle.mode.specs.Toy.{Toy}
 use Rattle.comet.specs.Answers.{opening}
 use Rattle.promises.specs.Input.{Input}
 
--- take an accepted record (its number is 0); at least one byte is changed, all inside one block of associated data or one of ciphertext; lengths, key, nonce and tag stay, and every message block after the change is full.
+-- take an accepted record (its number is 0); at least one byte is changed, all inside one block of associated data or one of
+-- ciphertext; lengths, key, nonce and tag stay, and every message block after the change is full.
 -- It is accepted exactly if at some message block after the change the cipher outputs of the two openings are complements in every bit.
 -- The request speaks of version 1, suites 1 to 4; it holds of suites 5 and 6 too, since equal lengths give equal keys in either version
 abbrev pub SlipsPastOpener : Type 0

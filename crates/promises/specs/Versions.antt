@@ -1,4 +1,5 @@
--- Document 02, W9: version 2 of COMET, for suites 5 and 6. Demands 2 and 3, the session's cutting and the writer's round trips are stated for every suite, these two among them.
+-- Document 02, W9: version 2 of COMET, for suites 5 and 6. Demands 2 and 3, the session's cutting and the writer's round
+-- trips are stated for every suite, these two among them.
 use mathlib.Core.List.{List, [], _∷_}
 use mathlib.Core.Path.{_≡_}
 use Prim.Native.Nat.{ℕ, _-_, _^_}
@@ -10,7 +11,8 @@ use Rattle.mode.specs.Words.{double120}
 use Rattle.mode.specs.Keys.{marks, doubled}
 use Rattle.mode.specs.VersionOne.{Keeps}
 
--- ---- suites 1 to 4 keep their bytes: ciphertext and tag are those of version 1 as document 01 has it (`mode/specs/VersionOne.antt`), over the cipher and block of its table, in sealing and in opening
+-- ---- suites 1 to 4 keep their bytes: ciphertext and tag are those of version 1 as document 01 has it
+-- (`mode/specs/VersionOne.antt`), over the cipher and block of its table, in sealing and in opening
 
 pub record VersionOne : Type 0 where
   pub suite1 : Keeps (cipherOf 1) 16 cipher

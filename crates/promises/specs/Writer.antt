@@ -1,5 +1,6 @@
 -- W4: a writer for shift files. Each statement, with the definitions that it uses, is in `shift_draft/specs/Promised.antt`.
-use Rattle.shift_draft.specs.Promised.{SealedBack, UnsealedBack, Sealing, Unsealing, SealerTakes, OpenerTakes, SealNumbers, UnsealNumbers, TextAltered, DataAltered}
+use Rattle.shift_draft.specs.Promised.{SealedBack, UnsealedBack, Sealing, Unsealing, SealerTakes, OpenerTakes, SealNumbers, UnsealNumbers, TextAltered}
+use Rattle.shift_draft.specs.Promised.{DataAltered}
 
 pub record Writer : Type 0 where
   -- if no entry has suite 4: sealing then unsealing a valid draft gives the draft; unsealing then sealing a genuine file gives the file

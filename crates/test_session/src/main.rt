@@ -50,8 +50,8 @@ fn bad() -> After {
 
 // Ends the line of a call, and writes it.
 fn done(next: Session, line: &mut [u8], at: usize) -> After {
-    let n = end(line, at);
-    let good = program_text::call::done(line, n);
+    let len = end(line, at);
+    let good = program_text::call::done(line, len);
     After {
         next: next,
         good: good,

@@ -19,45 +19,49 @@ fn say(answer: Answer, out: &[u8], argument: usize) {
     program_files::answered(answer.number, answer.row, out, argument);
 }
 
-// Argument i names the ring, the next one the output.
-fn run(way: Way, file: &[u8], i: usize, out: &mut [u8])
-    requires { ⌜ i ≤ 3 ⌝ }
+// The argument names the ring, the next one the output.
+fn run(way: Way, file: &[u8], argument: usize, out: &mut [u8])
+    requires { ⌜ argument ≤ 3 ⌝ }
 {
     let mut ring_buf = [0u8; RING_ROOM];
-    let ring = program_files::load(i, &mut ring_buf);
+    let ring = program_files::load(argument, &mut ring_buf);
     match way {
         Way::Seal => say(
             shift_writer::seal_file(file, ring, out).answer(),
             out,
-            i + 1,
+            argument + 1,
         ),
         Way::Back => say(
             shift_writer::unseal_file(file, ring, out).answer(),
             out,
-            i + 1,
+            argument + 1,
         ),
-        Way::Reseal => say(shift_reseal::reseal(file, ring, out).answer(), out, i + 1),
+        Way::Reseal => say(
+            shift_reseal::reseal(file, ring, out).answer(),
+            out,
+            argument + 1,
+        ),
     }
 }
 
 // An output of the file's length; the buffer holds every file, so the test always holds.
-fn run_in(way: Way, file: &[u8], i: usize, out: &mut [u8])
-    requires { ⌜ i ≤ 3 ⌝ }
+fn run_in(way: Way, file: &[u8], argument: usize, out: &mut [u8])
+    requires { ⌜ argument ≤ 3 ⌝ }
 {
-    let n = file.len();
-    if n <= out.len() {
-        run(way, file, i, &mut out[0..n]);
+    let len = file.len();
+    if len <= out.len() {
+        run(way, file, argument, &mut out[0..len]);
     }
 }
 
-// Argument i names the file.
-fn write(way: Way, i: usize)
-    requires { ⌜ i ≤ 2 ⌝ }
+// The argument names the file.
+fn write(way: Way, argument: usize)
+    requires { ⌜ argument ≤ 2 ⌝ }
 {
     let mut file_buf = program_text::read::file_room();
     let mut out_buf = program_text::read::file_room();
-    let file = program_files::load(i, &mut file_buf);
-    run_in(way, file, i + 1, &mut out_buf);
+    let file = program_files::load(argument, &mut file_buf);
+    run_in(way, file, argument + 1, &mut out_buf);
 }
 
 fn main() {

@@ -1,49 +1,20 @@
--- The calls that are left fall with each turn; nothing has to hold from turn to turn.
+-- The calls that are left fall with each turn; nothing has to hold from turn to turn. After invariant and measure come the
+-- needs in the order of the code, which search proves.
 use borrow.Author.Needs.{needs}
 use Rattle.test_session.proofs.main.Statement.{statement}
 use Rattle.test_session.proofs.main.Tie as tie
-
-abbrev Inv-loop : tie.InvT-loop
-Inv-loop s₀ left₀ s left = Unit {0}
-
-abbrev μ-loop : tie.MeasureT-loop
-μ-loop s₀ left₀ s left = left
-
-over-requires : tie.Need-over-requires Inv-loop μ-loop
-over-requires c κs = search needs
-
-loop-holds : tie.Need-loop-holds Inv-loop μ-loop
-loop-holds c = search needs
-
-turn-requires : tie.Need-turn-requires Inv-loop μ-loop
-turn-requires c κs = search needs
-
-returns : tie.Need-returns Inv-loop μ-loop
-returns c = search needs
-
-sub-left : tie.Need-sub-left Inv-loop μ-loop
-sub-left c = search needs
-
-loop-less : tie.Need-loop-less Inv-loop μ-loop
-loop-less c = search needs
-
-loop-again : tie.Need-loop-again Inv-loop μ-loop
-loop-again c = search needs
-
-returns-2 : tie.Need-returns-2 Inv-loop μ-loop
-returns-2 c = search needs
 
 pub main-spec : {M : Type 1} → statement M
 main-spec =
     tie.close
     (tie.spec
-    Inv-loop
-    μ-loop
-    over-requires
-    loop-holds
-    turn-requires
-    returns
-    sub-left
-    loop-less
-    loop-again
-    returns-2)
+    (λ state₀ left₀ state left. Unit {0})
+    (λ state₀ left₀ state left. left)
+    (λ c κs. search needs)
+    (λ c. search needs)
+    (λ c κs. search needs)
+    (λ c. search needs)
+    (λ c. search needs)
+    (λ c. search needs)
+    (λ c. search needs)
+    (λ c. search needs))
