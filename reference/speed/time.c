@@ -1,11 +1,10 @@
 /* Times calls of the archive and of plain C alternately, and prints the time of the best C divided by ours.
  *
  * Each figure is the least of many interleaved runs, so other work on the machine changes it little. The script `time`
- * beside this file builds and runs it. Both clocks are coarse (the time stamp counter of AMD's Zen 4 goes by steps of 26,
- * and a call without a message takes some 300), so several short calls are timed together. On x86-64 a fence stands before
- * each, so that a call does not begin before the last one ended: what is timed is a call by itself. The targets of docs/SPEED.md
- * hold there. On AArch64 there is no fence and no target. Under QEMU's emulation a time means nothing, and the program
- * refuses.
+ * beside this file builds and runs it. On x86-64 the clock is the time stamp counter, around one call; the targets of
+ * docs/SPEED.md hold there. It is coarse (on AMD's Zen 4 it goes by steps of 26, and a call without a message takes some 260),
+ * so the ratio of such a call is exact to a tenth. On AArch64 the counter is coarser, so several calls are timed together, and
+ * there is no target. Under QEMU's emulation a time means nothing, and the program refuses.
  *
  * Exit status: 0 every target is met (AArch64: measured), 1 a target is missed, 2 outputs differ or the processor is emulated.
  */
@@ -24,7 +23,7 @@ static const char processor[] = "x86-64";
 
 static uint64_t now(void) { return __rdtsc(); }
 
-static void fence(void) { _mm_lfence(); }
+static int calls_at_once(size_t len) { return (void)len, 1; }
 
 static int emulated(void) {
     unsigned a, b, c, d;
@@ -42,7 +41,7 @@ static uint64_t now(void) {
     return t;
 }
 
-static void fence(void) {}
+static int calls_at_once(size_t len) { return len >= 65536 ? 1 : len >= 1024 ? 8 : 64; }
 
 /* Whether the processor identifies itself as QEMU's: no implementer, part 0x51. */
 static int emulated(void) {
@@ -104,15 +103,12 @@ static void compare(const job *j) {
 
 /* The least time of each maker for so many calls of this length as one reading of the clock covers. */
 static void measure(const job *j, uint64_t best[MAKERS]) {
-    int at_once = j->len >= 65536 ? 1 : j->len >= 1024 ? 8 : 64, runs = j->len >= 65536 ? 120 : 1000;
+    int runs = j->len >= 65536 ? 120 : j->len >= 1024 ? 2000 : 8000, at_once = calls_at_once(j->len);
     for (int maker = 0; maker < MAKERS; maker++) best[maker] = UINT64_MAX;
     for (int run = 0; run < runs; run++)
         for (int maker = 0; maker < MAKERS; maker++) {
             uint64_t t = now();
-            for (int k = 0; k < at_once; k++) {
-                fence();
-                call(j, maker);
-            }
+            for (int k = 0; k < at_once; k++) call(j, maker);
             t = now() - t;
             if (t < best[maker]) best[maker] = t;
         }

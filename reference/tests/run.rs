@@ -9,11 +9,12 @@ use reference::data::{files, samples};
 use reference::plan::{Entry, Plan};
 use reference::shift::rows;
 use reference::{difference, editions, report, writer};
+use std::io::Write;
 use std::os::unix::fs::{symlink, FileTypeExt, MetadataExt, PermissionsExt};
 use std::os::unix::process::CommandExt;
 use std::path::Path;
-use std::process::{Command, Stdio};
-use std::time::{Duration, Instant};
+use std::process::{Child, Command, Stdio};
+use std::time::Instant;
 
 fn is_root() -> bool {
     let root = std::fs::metadata("/proc/self").unwrap().uid() == 0;
@@ -40,9 +41,9 @@ fn sealed() -> Vec<u8> {
     file
 }
 
-/// A file of edition 1 with 500 jobs and more than 900,000 bytes, and the same file in edition 2.
-fn large() -> (Vec<u8>, Vec<u8>) {
-    let entry = |job: u32| Entry::new(job, 6, 0, 1, nonce(job), &[b'.'; 1800]);
+/// A file of edition 1 with 500 jobs and messages of this length, and the same file in edition 2.
+fn large(length: usize) -> (Vec<u8>, Vec<u8>) {
+    let entry = |job: u32| Entry::new(job, 6, 0, 1, nonce(job), &vec![b'.'; length]);
     let one = Plan::new((1..=500).map(entry).collect()).file(&samples::ring());
     let mut two = vec![0; one.len() + 4 * 500];
     assert_eq!(editions::to_edition2(&one, &mut two), (0, 0));
@@ -67,6 +68,10 @@ fn is_link(path: &Path) -> bool {
     std::fs::symlink_metadata(path).unwrap().is_symlink()
 }
 
+/// Messages for a file of about 470,000 and of about 920,000 bytes: less than half of the format, and nearly all of it.
+const LONG: usize = 900;
+const LONGER: usize = 1800;
+
 const DONE: &str = "0 0\n";
 const NOT_WRITTEN: &str = "OUT cannot be written\n";
 
@@ -82,7 +87,7 @@ fn links_are_followed() {
     for (link, target) in [("link", "far/old"), ("new", "far/new"), ("twice", "link")] {
         symlink(target, folder.0.join(link)).unwrap();
         assert_eq!(folder.run(&["write", "draft", "ring", link]).0, 0, "{link}");
-        assert!(is_link(&folder.0.join(link)));
+        assert!(is_link(&folder.0.join(link)), "the link {link} is replaced");
         assert!(folder.get(link) == sealed());
     }
     symlink("loop", folder.0.join("loop")).unwrap();
@@ -99,11 +104,12 @@ fn devices_stay() {
         return;
     }
     let folder = plant("devices");
-    let were = ["/dev/stderr", "/dev/stdout"].map(|path| std::fs::read_link(path).unwrap());
+    let links = || ["/dev/stderr", "/dev/stdout"].map(|path| std::fs::read_link(path).ok());
+    let were = links();
     let (status, printed, _) = folder.shell("\"$0\" write draft ring /dev/stderr 2>log");
+    assert_eq!(links(), were);
     assert_eq!((status, &printed[..]), (0, DONE));
     assert!(folder.get("log") == sealed());
-    assert_eq!(["/dev/stderr", "/dev/stdout"].map(|path| std::fs::read_link(path).unwrap()), were);
     symlink("/proc/self/fd/2", folder.0.join("error")).unwrap();
     symlink("error", folder.0.join("twice")).unwrap();
     for out in ["error", "twice"] {
@@ -135,25 +141,28 @@ fn pipes_get_every_byte() {
         return;
     }
     let folder = plant("pipes");
-    let (one, two) = large();
-    folder.put("one", &one);
     assert!(Command::new("mkfifo").arg(folder.0.join("pipe")).status().unwrap().success());
-    for _ in 0..3 {
-        let mut reader = Command::new("bash").args(["-c", "cat pipe >got"]).current_dir(&folder.0).spawn().unwrap();
-        assert_eq!(folder.run(&["convert", "one", "pipe"]).0, 0);
-        assert!(reader.wait().unwrap().success());
-        assert!(folder.get("got") == two);
+    for length in [LONG, LONGER] {
+        let (one, two) = large(length);
+        folder.put("one", &one);
+        let output = folder.command(&["convert", "one", "/dev/stdout"]).output().unwrap();
+        assert!(output.stdout == two, "{} bytes of {}", output.stdout.len(), two.len());
+        assert_eq!(output.stderr, DONE.as_bytes());
+        for _ in 0..2 {
+            let mut reader = Command::new("bash").args(["-c", "cat pipe >got"]).current_dir(&folder.0).spawn().unwrap();
+            assert_eq!(folder.run(&["convert", "one", "pipe"]).0, 0);
+            assert!(reader.wait().unwrap().success());
+            assert!(folder.get("got") == two);
+        }
+        for out in ["/dev/stdout", "/dev/fd/1", "/proc/self/fd/1"] {
+            assert_eq!(folder.shell(&format!("\"$0\" convert one {out} >got")).0, 0);
+            assert!(folder.get("got") == two, "{out}");
+        }
+        folder.put("got", b"first,");
+        assert_eq!(folder.shell("\"$0\" convert one /dev/fd/7 7>>got").0, 0);
+        assert!(folder.get("got") == [b"first,", &two[..]].concat());
     }
     assert!(std::fs::metadata(folder.0.join("pipe")).unwrap().file_type().is_fifo());
-    let output = folder.command(&["convert", "one", "/dev/stdout"]).output().unwrap();
-    assert!(output.stdout == two && output.stderr == DONE.as_bytes());
-    for out in ["/dev/stdout", "/dev/fd/1", "/proc/self/fd/1"] {
-        assert_eq!(folder.shell(&format!("\"$0\" convert one {out} >got")).0, 0);
-        assert!(folder.get("got") == two, "{out}");
-    }
-    folder.put("got", b"first,");
-    assert_eq!(folder.shell("\"$0\" convert one /dev/fd/7 7>>got").0, 0);
-    assert!(folder.get("got") == [b"first,", &two[..]].concat());
 }
 
 /// OUT keeps its mode and, for root, its owner. A restored draft is its owner's alone; other new files follow the umask.
@@ -168,7 +177,7 @@ fn modes_are_kept() {
         folder.put("out", b"as it was");
         set_mode(&out, old);
         assert_eq!(folder.run(&["write", "draft", "ring", "out"]).0, 0);
-        assert_eq!(mode(&out), old);
+        assert!(mode(&out) == old, "mode {old:o} became {:o}", mode(&out));
         assert_eq!(folder.run(&["write", "back", "day", "ring", "out"]).0, 0);
         assert_eq!(mode(&out), 0o600, "plain text over a file of mode {old:o}");
     }
@@ -192,7 +201,7 @@ fn modes_are_kept() {
     }
 }
 
-/// While a draft is being restored, no file in its folder can be read by others. A run is short: we look at several, until
+/// While a draft is being restored, no file that the run makes can be read by others. A run is short: we look at several, until
 /// one was seen at work.
 #[test]
 fn a_draft_is_private_from_the_first_byte() {
@@ -200,27 +209,30 @@ fn a_draft_is_private_from_the_first_byte() {
         return;
     }
     let folder = plant("private");
-    folder.put("one", &large().0);
-    let mut seen = 0;
-    for _ in 0..40 {
-        let mut run = folder.command(&["write", "back", "one", "ring", "out"]);
-        let mut run = run.stdout(Stdio::null()).spawn().unwrap();
-        while run.try_wait().unwrap().is_none() {
-            for name in folder.names().iter().filter(|name| name.starts_with(".snoekeldraf-") || *name == "out") {
-                if let Ok(file) = std::fs::metadata(folder.0.join(name)) {
-                    assert_eq!(file.mode() & 0o7777, 0o600, "{name}");
-                    seen += (name != "out") as u32;
-                }
+    for length in [LONG, LONGER] {
+        folder.put("one", &large(length).0);
+        assert!((0..40).any(|_| is_private(&folder)), "no run was seen at work");
+    }
+}
+
+/// Restores the draft of `one`, and checks the mode of each file as it appears; returns whether a temporary file was seen.
+fn is_private(folder: &Folder) -> bool {
+    let before = folder.names();
+    let mut seen = false;
+    let mut run = folder.command(&["write", "back", "one", "ring", "out"]);
+    let mut run = run.stdout(Stdio::null()).spawn().unwrap();
+    while run.try_wait().unwrap().is_none() {
+        for name in folder.names().iter().filter(|name| !before.contains(name)) {
+            if let Ok(file) = std::fs::metadata(folder.0.join(name)) {
+                assert!(file.mode() & 0o7777 == 0o600, "{name} has mode {:o}", file.mode() & 0o7777);
+                seen |= name != "out";
             }
         }
-        assert!(run.wait().unwrap().success());
-        assert_eq!(mode(&folder.0.join("out")), 0o600);
-        std::fs::remove_file(folder.0.join("out")).unwrap();
-        if seen > 0 {
-            return;
-        }
     }
-    panic!("no run was seen at work");
+    assert!(run.wait().unwrap().success());
+    assert_eq!(mode(&folder.0.join("out")), 0o600);
+    std::fs::remove_file(folder.0.join("out")).unwrap();
+    seen
 }
 
 /// A file of edition 1 with 512 rows that is so long.
@@ -301,16 +313,25 @@ fn the_ring_is_never_overwritten() {
     assert!(folder.get("draft") == samples::draft());
 }
 
-/// Kills the whole process group of a run after some time; returns whether it was still running.
-fn killed_after(folder: &Folder, signal: &str, wait: Duration) -> bool {
-    let mut command = folder.command(&["convert", "one", "out"]);
-    let mut run = command.process_group(0).stdout(Stdio::null()).stderr(Stdio::null()).spawn().unwrap();
-    std::thread::sleep(wait);
+/// Starts a run in a process group of its own, and a shell that sends the group a signal once it is told to.
+fn started(folder: &Folder, call: &[&str], signal: &str) -> (Child, Child) {
+    let mut command = folder.command(call);
+    let run = command.process_group(0).stdout(Stdio::null()).stderr(Stdio::null()).spawn().unwrap();
+    let mut killer = Command::new("bash");
+    killer.args(["-c", "read -r; kill \"$0\" -- \"-$1\"", signal, &run.id().to_string()]);
+    let killer = killer.stdin(Stdio::piped()).stderr(Stdio::null()).spawn().unwrap();
+    (run, killer)
+}
+
+/// Ends a run by the signal; returns whether it was still running.
+fn killed((mut run, mut killer): (Child, Child)) -> bool {
     let runs = run.try_wait().unwrap().is_none();
     if runs {
-        let group = format!("-{}", run.id());
-        assert!(Command::new("kill").args([signal, "--", &group]).status().unwrap().success());
+        killer.stdin.as_mut().unwrap().write_all(b"now\n").unwrap();
+    } else {
+        killer.kill().unwrap();
     }
+    killer.wait().unwrap();
     run.wait().unwrap();
     runs
 }
@@ -323,28 +344,56 @@ fn a_killed_run_leaves_nothing() {
         return;
     }
     let folder = plant("killed");
-    let (one, two) = large();
-    folder.put("one", &one);
-    let start = Instant::now();
-    assert_eq!(folder.run(&["convert", "one", "out"]).0, 0);
-    let whole = start.elapsed();
     let expected = ["day", "draft", "one", "out", "ring", "stations"];
-    let mut kills = 0;
-    for (i, signal) in ["-INT", "-TERM", "-HUP", "-KILL"].into_iter().cycle().take(16).enumerate() {
-        folder.put("out", b"as it was");
-        kills += killed_after(&folder, signal, whole * i as u32 / 16) as u32;
-        let out = folder.get("out");
-        assert!(out == b"as it was" || out == two);
-        if signal != "-KILL" {
+    for length in [LONG, LONGER] {
+        let (one, two) = large(length);
+        folder.put("one", &one);
+        let start = Instant::now();
+        assert_eq!(folder.run(&["convert", "one", "out"]).0, 0);
+        let whole = start.elapsed();
+        let mut kills = 0;
+        for (i, signal) in ["-INT", "-TERM", "-HUP", "-KILL"].into_iter().cycle().take(16).enumerate() {
+            folder.put("out", b"as it was");
+            let run = started(&folder, &["convert", "one", "out"], signal);
+            std::thread::sleep(whole * i as u32 / 16);
+            kills += killed(run) as u32;
+            let out = folder.get("out");
+            assert!(out == b"as it was" || out == two);
+            if signal == "-KILL" {
+                assert_eq!(folder.run(&["convert", "one", "out"]).0, 0);
+            }
             assert_eq!(folder.names(), expected, "{signal}");
         }
+        println!("{kills} of 16 runs were killed");
+        assert!(kills > 0);
+        folder.put(".snoekeldraf-999999999-abcdef", b"left by a killed run");
+        folder.put(".snoekeldraf-999999999-abcdef.ghijkl", b"left by its program");
+        assert_eq!(folder.run(&["convert", "one", "out"]).0, 0);
+        assert!(folder.get("out") == two);
+        assert_eq!(folder.names(), expected);
     }
+}
+
+/// A run that is stopped as soon as its temporary file is there leaves no plain text. We stop 30, of which some may be done
+/// before the signal comes.
+#[test]
+fn a_stopped_run_leaves_no_plain_text() {
+    if !is_built() {
+        return;
+    }
+    let folder = plant("stopped");
+    folder.put("one", &large(LONG).0);
+    folder.put("out", b"as it was");
+    let before = folder.names();
+    let mut kills = 0;
+    for signal in ["-INT", "-TERM", "-HUP"].into_iter().cycle().take(30) {
+        let (mut run, killer) = started(&folder, &["write", "back", "one", "ring", "out"], signal);
+        while folder.names() == before && run.try_wait().unwrap().is_none() {}
+        kills += killed((run, killer)) as u32;
+        assert_eq!(folder.names(), before, "{signal}");
+    }
+    println!("{kills} of 30 runs were stopped");
     assert!(kills > 0);
-    folder.put(".snoekeldraf-999999999-abcdef", b"left by a killed run");
-    folder.put(".snoekeldraf-999999999-abcdef.ghijkl", b"left by its program");
-    assert_eq!(folder.run(&["convert", "one", "out"]).0, 0);
-    assert!(folder.get("out") == two);
-    assert_eq!(folder.names(), expected);
 }
 
 /// The temporary file of a run that still works is not removed.
@@ -427,7 +476,7 @@ fn permissions() {
         return;
     }
     let folder = plant("permissions");
-    if as_nobody(&folder, &["version"]).0 != 0 {
+    if as_nobody(&folder, &["help"]).0 != 0 {
         eprintln!("skipped: another user cannot reach this repository, or there is no setpriv");
         return;
     }
@@ -448,9 +497,9 @@ fn permissions() {
     assert_eq!(folder.names(), ["day", "draft", "out", "ring", "secret", "stations"]);
 }
 
-/// Closed descriptors, and a reader that closes its pipe early.
+/// A closed standard output is an error of its own, not of the call. Closed input and error do no harm.
 #[test]
-fn standard_descriptors() {
+fn closed_descriptors() {
     if !is_built() {
         return;
     }
@@ -460,9 +509,18 @@ fn standard_descriptors() {
     let (status, printed, _) = folder.shell("\"$0\" write draft ring out <&- 2>&-");
     assert_eq!((status, &printed[..]), (0, DONE));
     assert!(folder.get("out") == sealed());
+}
+
+/// A reader that closes its pipe early, after a line or before it, is no error.
+#[test]
+fn a_reader_that_goes_away() {
+    if !is_built() {
+        return;
+    }
+    let folder = plant("reader");
     let entry = Entry::new(1, 6, 0, 1, [1; 16], &[b'.'; 65_536]);
     folder.put("long", &Plan::new(vec![entry]).file(&samples::ring()));
-    for call in ["job long ring 1", "help", "job --help", "version", "inspect day ring"] {
+    for call in ["job long ring 1", "inspect day ring", "help", "job --help", "version"] {
         for _ in 0..3 {
             let script = format!("\"$0\" {call} | head -1 >/dev/null; echo ${{PIPESTATUS[0]}}");
             let (_, printed, said) = folder.shell(&script);
@@ -473,137 +531,298 @@ fn standard_descriptors() {
     }
 }
 
-/// Wrong arguments: exit status 2, the reason, nothing printed, nothing written. `back` is never a file name.
+/// Exit status 2, the reason, and nothing printed.
+fn wrong(folder: &Folder, call: &[&str], why: &str) {
+    let (status, printed, said) = folder.run(call);
+    assert_eq!((status, &printed[..]), (2, ""), "{call:?}");
+    assert!(said.starts_with(&format!("run: {why}")), "{call:?}: {said}");
+}
+
+/// `back` and `reseal` are never file names: where OUT is missing, no file is written.
+#[test]
+fn a_forgotten_out() {
+    if !is_built() {
+        return;
+    }
+    let folder = plant("forgotten");
+    folder.put("back", &samples::day());
+    let (status, ..) = folder.run(&["convert", "back", "stations"]);
+    assert!(folder.get("stations") == samples::stations(), "overwritten; exit status {status}");
+    let hint = "OUT is missing after 'back' (for a file with that name write ./back)";
+    wrong(&folder, &["convert", "back", "stations"], hint);
+    wrong(&folder, &["write", "back", "day", "ring"], "OUT is missing after 'back'");
+    wrong(&folder, &["write", "reseal", "day", "ring"], "OUT is missing after 'reseal'");
+    assert_eq!(folder.names(), ["back", "day", "draft", "ring", "stations"]);
+    assert_eq!(folder.run(&["convert", "./back", "out"]).0, 0);
+}
+
+/// A wrong call is told what is wrong with it.
 #[test]
 fn wrong_calls() {
     if !is_built() {
         return;
     }
     let folder = plant("wrong");
-    folder.put("back", &samples::day());
     for (call, why) in [
-        (&["convert", "back", "stations"][..], "OUT is missing after 'back' (for a file with that name write ./back)"),
-        (&["write", "back", "day", "ring"], "OUT is missing after 'back'"),
-        (&["write", "reseal", "day", "ring"], "OUT is missing after 'reseal'"),
-        (&["write", "draft", "ring"], "2 arguments do not fit"),
-        (&["job", "day", "ring", "forty"], "'forty' is no job number (0 to 4294967295)"),
+        (&["job", "day", "ring", "forty"][..], "'forty' is no job number (0 to 4294967295)"),
         (&["job", "day", "ring", "4294967296"], "'4294967296' is no job number"),
         (&["job", "day", "ring", "-1"], "'-1' is no job number"),
         (&["job", "day", "ring", ""], "'' is no job number"),
         (&["current", "day", "day", "ring", "x"], "'x' is no job number"),
+        (&["write", "draft", "ring"], "2 arguments do not fit"),
         (&["nosuch"], "nosuch is no program"),
         (&["./nosuch"], "there is no file ./nosuch"),
     ] {
-        let (status, printed, said) = folder.run(call);
-        assert_eq!((status, &printed[..]), (2, ""), "{call:?}");
-        assert!(said.starts_with(&format!("run: {why}")), "{call:?}: {said}");
+        wrong(&folder, call, why);
     }
-    assert!(folder.get("stations") == samples::stations());
-    assert_eq!(folder.run(&["convert", "./back", "out"]).0, 0);
-    for name in PROGRAMS {
-        let (status, printed, said) = folder.run(&[name, "--help"]);
-        assert!(status == 0 && printed.starts_with(&format!("    ./run {name} ")) && said.is_empty());
-    }
-    let version = std::fs::read_to_string(root().join("VERSION")).unwrap();
-    assert_eq!(folder.run(&["--version"]), (0, version, String::new()));
 }
 
-/// The message on a refusal: why a file cannot be read, the call's own limit and edition, row and job, what to do next.
 #[test]
-fn words() {
+fn help_of_a_program() {
     if !is_built() {
         return;
     }
-    let folder = plant("words");
+    let folder = plant("help");
+    for name in PROGRAMS {
+        let (status, printed, said) = folder.run(&[name, "--help"]);
+        assert_eq!((status, &said[..]), (0, ""), "{name} --help");
+        assert!(printed.starts_with(&format!("    ./run {name} ")), "{printed}");
+    }
+}
+
+#[test]
+fn the_version() {
+    if !is_built() {
+        return;
+    }
+    let folder = plant("version");
+    let (status, printed, said) = folder.run(&["--version"]);
+    assert_eq!((status, &said[..]), (0, ""));
+    assert_eq!(printed, std::fs::read_to_string(root().join("VERSION")).unwrap());
+}
+
+/// Exit status 1, and these words on the standard error.
+fn refused(folder: &Folder, call: &[&str], words: &[&str]) {
+    let (status, _, said) = folder.run(call);
+    assert_eq!(status, 1, "{call:?}: {said}");
+    assert!(words.iter().all(|words| said.contains(words)), "{call:?}: {said}");
+}
+
+/// An input that cannot be read is refused in the system's words, and in no others.
+#[test]
+fn what_cannot_be_read() {
+    if !is_built() {
+        return;
+    }
+    let folder = plant("unread");
     std::fs::create_dir(folder.0.join("folder")).unwrap();
-    folder.put("over", &vec![1; 1_048_577]);
-    let mut repeats = files::three_rows();
-    files::fault(&mut repeats, 29, 2);
-    folder.put("repeats", &repeats.file(&samples::ring()));
-    folder.put("retired", &files::three_rows().draft());
-    let mut wrong = samples::day();
-    let row = &rows(&samples::day())[2];
-    wrong[row.tag().start] ^= 1;
-    folder.put("forged", &wrong);
-    let forged = format!("8: row 2 (job {}): the tag differs", row.job);
-    let station = format!("35: row 0 (job {})'s station is not 0", rows(&samples::stations())[0].job);
-    for (call, status, says) in [
-        (&["job", "missing", "ring", "1"][..], 1, &["20: missing cannot be read: No such file or directory\n"][..]),
-        (&["job", "folder", "ring", "1"], 1, &["20: folder cannot be read: it is a folder\n"]),
-        (&["job", "", "ring", "1"], 1, &["20: '' cannot be read: No such file or directory\n"]),
-        (&["job", "day", "missing", "4103"], 1, &["2: missing cannot be read: No such file or directory\n"]),
-        (&["job", "day", "day", "4103"], 1, &["2: the ring is not 256 bytes long", "day is 991 bytes long"]),
-        (&["job", "over", "ring", "1"], 1, &["job takes 8 to 1,048,576 bytes", "over is 1048577 bytes long"]),
-        (&["inspect", "over", "ring"], 1, &["inspect takes 8 to 65,280 bytes", "over is 1048577 bytes long"]),
-        (&["differ", "day", "missing"], 1, &["20: missing cannot be read: No such file"]),
-        (&["write", "day", "ring", "out"], 1, &["this call takes edition 0, a draft"]),
-        (&["write", "back", "draft", "ring", "out"], 1, &["this call takes edition 1\n"]),
-        (&["convert", "stations", "out"], 1, &["this call takes edition 1\n"]),
-        (&["convert", "back", "day", "out"], 1, &["this call takes edition 2\n"]),
-        (&["job", "draft", "ring", "1"], 1, &["this call takes edition 1 or 2\n"]),
-        (&["job", "repeats", "ring", "10"], 1, &["29: row 2 (job 30) repeats"]),
-        (&["current", "day", "repeats", "ring", "10"], 1, &["29: the day's file: row 2 (job 30) repeats"]),
-        (&["write", "retired", "ring", "out"], 1, &["10: row 2 (job 30)'s suite is 4", "write reseal"]),
-        (&["job", "forged", "ring", &row.job.to_string()], 1, &["8: the tag differs", "do not use this entry"]),
-        (&["write", "back", "forged", "ring", "out"], 1, &[&forged]),
-        (&["convert", "back", "stations", "out"], 1, &[&station]),
+    for (call, words) in [
+        (&["job", "missing", "ring", "1"][..], "20: missing cannot be read: No such file or directory\n"),
+        (&["job", "folder", "ring", "1"], "20: folder cannot be read: it is a folder\n"),
+        (&["job", "", "ring", "1"], "20: '' cannot be read: No such file or directory\n"),
+        (&["job", "day", "missing", "4103"], "2: missing cannot be read: No such file or directory\n"),
+        (&["inspect", "missing", "ring"], "20: missing cannot be read: No such file or directory\n"),
+        (&["inspect", "day", "missing"], "2: missing cannot be read: No such file or directory\n"),
+        (&["differ", "day", "missing"], "20: missing cannot be read: No such file"),
     ] {
-        let (ends, _, said) = folder.run(call);
-        assert_eq!(ends, status, "{call:?}: {said}");
-        assert!(says.iter().all(|words| said.contains(words)), "{call:?}: {said}");
-        assert!(!said.contains("cannot be read") || said.lines().count() == 1, "{call:?}: {said}");
+        refused(&folder, call, &[words]);
+        assert_eq!(folder.run(call).2.lines().count(), 1, "{call:?}");
+    }
+}
+
+/// A length that is refused is said, with the lengths that the program takes.
+#[test]
+fn lengths() {
+    if !is_built() {
+        return;
+    }
+    let folder = plant("lengths");
+    for length in [524_289, 1_048_576] {
+        folder.put("good", &of_length(length));
+        assert_eq!(folder.run(&["job", "good", "ring", "1"]).2, "");
+        let long = format!("good is {length} bytes long");
+        refused(&folder, &["inspect", "good", "ring"], &["inspect takes 8 to 65,280 bytes", &long]);
+    }
+    folder.put("over", &vec![1; 1_048_577]);
+    refused(&folder, &["inspect", "over", "ring"], &["inspect takes 8 to 65,280 bytes", "over is 1048577 bytes long"]);
+    refused(&folder, &["job", "over", "ring", "1"], &["job takes 8 to 1,048,576 bytes", "over is 1048577 bytes long"]);
+    refused(&folder, &["job", "day", "day", "4103"], &["2: the ring is not 256 bytes long", "day is 991 bytes long"]);
+}
+
+/// An edition that is refused is said with those that the call takes.
+#[test]
+fn editions_of_a_call() {
+    if !is_built() {
+        return;
+    }
+    let folder = plant("editions");
+    for (call, words) in [
+        (&["write", "day", "ring", "out"][..], "this call takes edition 0, a draft"),
+        (&["write", "back", "draft", "ring", "out"], "this call takes edition 1\n"),
+        (&["write", "reseal", "stations", "ring", "out"], "this call takes edition 1\n"),
+        (&["convert", "stations", "out"], "this call takes edition 1\n"),
+        (&["convert", "back", "day", "out"], "this call takes edition 2\n"),
+        (&["job", "draft", "ring", "1"], "this call takes edition 1 or 2\n"),
+    ] {
+        refused(&folder, call, &["run: 21: ", words]);
     }
     assert!(!folder.0.join("out").exists());
 }
 
-/// `inspect` prints document 02's lines, and on the standard error how many entries are wrong and which jobs. `differ` exits
-/// with status 1 if the files differ.
+/// The job stands beside the row.
 #[test]
-fn verdicts() {
+fn rows_and_their_jobs() {
     if !is_built() {
         return;
     }
-    let folder = plant("verdicts");
-    let (ring, day) = (samples::ring(), samples::day());
+    let folder = plant("rows");
+    let mut repeats = files::three_rows();
+    files::fault(&mut repeats, 29, 2);
+    folder.put("repeats", &repeats.file(&samples::ring()));
+    folder.put("retired", &files::three_rows().draft());
+    let forged = format!("8: row 2 (job {}): the tag differs", put_forged(&folder, &[2])[0]);
+    let station = format!("35: row 0 (job {})'s station is not 0", rows(&samples::stations())[0].job);
+    refused(&folder, &["job", "repeats", "ring", "10"], &["29: row 2 (job 30) repeats"]);
+    refused(&folder, &["current", "day", "repeats", "ring", "10"], &["29: the day's file: row 2 (job 30) repeats"]);
+    refused(&folder, &["write", "retired", "ring", "out"], &["10: row 2 (job 30)'s suite is 4"]);
+    refused(&folder, &["write", "back", "forged", "ring", "out"], &[&forged]);
+    refused(&folder, &["convert", "back", "stations", "out"], &[&station]);
+    assert!(!folder.0.join("out").exists());
+}
+
+/// What to do next: a retired suite is sealed again, an entry with a wrong tag is not used.
+#[test]
+fn what_to_do_next() {
+    if !is_built() {
+        return;
+    }
+    let folder = plant("next");
+    folder.put("retired", &files::three_rows().draft());
+    let job = put_forged(&folder, &[2])[0].to_string();
+    refused(&folder, &["write", "retired", "ring", "out"], &["run: 10: ", "./run write reseal FILE RING OUT"]);
+    refused(&folder, &["job", "forged", "ring", &job], &["8: the tag differs", "do not use this entry"]);
+}
+
+/// Writes the sample day with wrong tags in these rows to `forged`; returns their jobs.
+fn put_forged(folder: &Folder, wrong: &[usize]) -> Vec<u32> {
+    let day = samples::day();
     let mut forged = day.clone();
-    let jobs: Vec<String> = [2, 5].map(|i| rows(&day)[i].job.to_string()).into();
-    [2, 5].into_iter().for_each(|i| forged[rows(&day)[i].tag().start] ^= 1);
+    wrong.iter().for_each(|&i| forged[rows(&day)[i].tag().start] ^= 1);
     folder.put("forged", &forged);
+    wrong.iter().map(|&i| rows(&day)[i].job).collect()
+}
+
+/// `inspect` prints document 02's lines, and on the standard error how many entries are wrong and which jobs.
+#[test]
+fn inspect_says_how_many_and_which() {
+    if !is_built() {
+        return;
+    }
+    let folder = plant("inspect");
+    let jobs: Vec<String> = put_forged(&folder, &[2, 5]).iter().map(u32::to_string).collect();
     folder.put("other", &[7; 256]);
-    for (file, bytes, key, ends, says) in [
-        ("day", &day, "ring", 0, "8 entries, every tag is right".into()),
-        ("forged", &forged, "ring", 1, format!("8 entries, 2 wrong: job {}", jobs.join(" "))),
-        ("day", &day, "other", 1, "every tag is wrong: is it the right ring?".into()),
+    for (file, key, ends, says) in [
+        ("forged", "ring", 1, format!("8 entries, 2 wrong: job {}", jobs.join(" "))),
+        ("day", "other", 1, "every tag is wrong: is it the right ring?".into()),
+        ("day", "ring", 0, "8 entries, every tag is right".into()),
     ] {
         let (status, printed, said) = folder.run(&["inspect", file, key]);
-        assert_eq!((status, printed), (ends, report::printed(bytes, &folder.get(key))));
+        assert_eq!((status, printed), (ends, report::printed(&folder.get(file), &folder.get(key))));
         assert!(said.contains(&says), "{said}");
     }
+    assert_eq!(report::printed(&samples::day(), &samples::ring()).lines().count(), 9);
+}
+
+/// `differ` exits with status 1 if the files differ.
+#[test]
+fn differ_has_a_status() {
+    if !is_built() {
+        return;
+    }
+    let folder = plant("differ");
+    put_forged(&folder, &[2, 5]);
+    let (day, forged) = (samples::day(), folder.get("forged"));
     assert_eq!(folder.run(&["differ", "day", "day"]), (0, difference::printed(&day, &day), String::new()));
     let (status, printed, _) = folder.run(&["differ", "day", "forged"]);
     assert_eq!((status, printed), (1, difference::printed(&day, &forged)));
-    assert_eq!(report::printed(&day, &ring).lines().count(), 9);
+}
+
+/// A program that is called by its path has the same exit statuses.
+#[test]
+fn a_path_has_a_status() {
+    if !is_built() {
+        return;
+    }
+    let folder = plant("path");
     let program = root().join(".run/bin/job");
     let (status, printed, _) = folder.run(&[program.to_str().unwrap(), "day", "ring", "4104"]);
     assert_eq!((status, &printed[..]), (1, "32 0\n"));
 }
 
-/// `./run` called through a link, from any folder, with CDPATH set, and with a PATH that has neither awk nor rt.
+/// Forged, refused, mistyped and wrongly called: `inspect` says which, and a wrong call has its own exit status.
 #[test]
-fn called_from_anywhere() {
+fn inspect_has_statuses() {
     if !is_built() {
         return;
     }
-    let folder = plant("anywhere");
-    symlink(root().join("run"), folder.0.join("plant")).unwrap();
-    assert_eq!(folder.shell("./plant job day ring 4103").0, 0);
-    assert_eq!(folder.shell("CDPATH=/tmp:.:/ ./plant job day ring 4103").0, 0);
-    let tools = "bash env readlink cat find sha256sum sort xargs mktemp chmod chown mv rm head stat od uname nproc";
-    std::fs::create_dir(folder.0.join("few")).unwrap();
-    for tool in tools.split(' ') {
-        let path = ["/bin", "/usr/bin"].map(|path| Path::new(path).join(tool)).into_iter().find(|path| path.exists());
-        symlink(path.unwrap_or_else(|| panic!("{tool}")), folder.0.join("few").join(tool)).unwrap();
+    let folder = plant("statuses");
+    put_forged(&folder, &[2]);
+    folder.put("short", b"1234567");
+    refused(&folder, &["inspect", "forged", "ring"], &["8 entries, 1 wrong"]);
+    refused(&folder, &["inspect", "short", "ring"], &["run: 20: the file is shorter than 8 bytes", "short is 7 bytes"]);
+    refused(&folder, &["inspect", "shrt", "ring"], &["run: 20: shrt cannot be read: No such file or directory\n"]);
+    wrong(&folder, &["inspect", "forged"], "1 arguments do not fit");
+}
+
+/// `./run` called through a link, also with CDPATH set.
+#[test]
+fn called_through_a_link() {
+    if !is_built() {
+        return;
     }
-    let (status, printed, said) = folder.shell("PATH=$PWD/few; \"$0\" job day ring 4103");
+    let folder = plant("link");
+    symlink(root().join("run"), folder.0.join("plant")).unwrap();
+    for cdpath in ["", "CDPATH=/tmp:.:/"] {
+        let (status, printed, said) = folder.shell(&format!("{cdpath} ./plant job day ring 4103"));
+        assert!(status == 0 && printed.starts_with(DONE), "{said}");
+    }
+}
+
+/// `./run` called by a path that the shell would look up in CDPATH.
+#[test]
+fn called_with_cdpath() {
+    if !is_built() {
+        return;
+    }
+    let folder = plant("cdpath");
+    symlink(root(), folder.0.join("tree")).unwrap();
+    let (status, printed, said) = folder.shell("CDPATH=/tmp:.:/ tree/run job day ring 4103");
     assert!(status == 0 && printed.starts_with(DONE), "{said}");
+}
+
+/// `./run` with a PATH that has no awk, and with one that has a few tools and neither awk nor rt.
+#[test]
+fn called_without_awk() {
+    if !is_built() {
+        return;
+    }
+    let folder = plant("tools");
+    let tools = "bash env readlink cat find sha256sum sort xargs mktemp chmod chown mv rm head stat od uname nproc";
+    for (name, is_in) in [
+        ("most", &(|tool: &str| !["awk", "gawk", "mawk"].contains(&tool)) as &dyn Fn(&str) -> bool),
+        ("few", &|tool: &str| tools.split(' ').any(|name| name == tool)),
+    ] {
+        let path = folder.0.join(name);
+        std::fs::create_dir(&path).unwrap();
+        let folders = std::env::var("PATH").unwrap();
+        for tool in folders.split(':').filter_map(|folder| std::fs::read_dir(folder).ok()).flatten() {
+            let tool = tool.unwrap().path();
+            let file = tool.file_name().unwrap();
+            if is_in(&file.to_string_lossy()) && !path.join(file).exists() {
+                let _ = symlink(&tool, path.join(file));
+            }
+        }
+        let (status, printed, said) = folder.shell(&format!("PATH=$PWD/{name}; \"$0\" job day ring 4103"));
+        assert!(status == 0 && printed.starts_with(DONE), "{name}: {status} {said}");
+    }
 }

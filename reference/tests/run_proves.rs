@@ -1,9 +1,10 @@
 //! When `./run` proves and when it does not, in a small tree with a stand-in for the prover and for a program, so that neither
-//! the kit nor a proof is needed. The stand-in `rt check` records each call in a file and builds what the test prescribes.
+//! the kit nor a proof is needed. The stand-in `rt check` records each call in a file and builds what the test prescribes. In a
+//! tree that it cannot write it behaves as the kit's: the shell's error, then the verdicts of the last run, exit status 0.
 
 mod folder;
 
-use folder::{ended, root, Folder};
+use folder::{ended, root, Folder, PROGRAMS};
 use std::path::Path;
 use std::process::{Command, Stdio};
 use std::time::{Duration, Instant};
@@ -11,20 +12,29 @@ use std::time::{Duration, Instant};
 const RT: &str = r#"#!/bin/bash
 here=${0%/rt}
 case $1 in doc) echo "$here/docs/START-HERE.md"; exit ;; esac
+if [ ! -w . ]; then
+    echo "$0: 389: cannot create $PWD/target/log/program_text.out: Permission denied" >&2
+    echo "rt: program_text proved (unchanged since it was last proved)"
+    echo "rt: ok, all proved"
+    exit
+fi
 echo "start $*" >>"$here/calls"
 [ ! -f "$here/slow" ] || sleep "$(cat "$here/slow")"
 if [ -f "$here/fails" ]; then cat "$here/fails"; echo end >>"$here/calls"; exit 1; fi
 echo "$PWD/crates/program_text/proofs/Proof.antt:48:5: note: large solution: it may be given by hand"
 echo "note: no function with a body is declared, so nothing was lowered"
 for kind in struct enum fn; do echo "$kind program_text::Line: proved"; done
-for crate in program_text job; do echo "rt: $crate proved (1 s)"; done
+shift
+for crate in program_text "$@"; do echo "rt: $crate proved (1 s)"; done
 mkdir -p target/bin
-printf '#!/bin/sh\necho "0 0"; echo "%s"\n' "$(cat crates/program_text/src/lib.rt)" >target/bin/job
-chmod +x target/bin/job
+for program; do
+    printf '#!/bin/sh\necho "0 0"; echo "%s"\n' "$(cat crates/program_text/src/lib.rt)" >target/bin/$program
+    chmod +x target/bin/$program
+done
 echo end >>"$here/calls"
 "#;
 
-/// A tree with `./run`, the program `job`, the crate `program_text` below it and `other` beside it.
+/// A tree with `./run`, the six programs, the crate `program_text` below them and `other` beside it.
 fn tree(name: &str) -> Folder {
     let folder = Folder::new(name);
     let arch = Command::new("uname").arg("-m").output().unwrap().stdout;
@@ -35,12 +45,16 @@ fn tree(name: &str) -> Folder {
     for path in ["run", "tools/run/words.sh", "tools/run/prove.sh", "tools/run/save.sh", "library/words.c"] {
         std::fs::copy(root().join(path), folder.0.join(path)).unwrap();
     }
-    for (path, text) in [("program_text/src/lib.rt", "one"), ("job/src/main.rt", "main"), ("other/src/lib.rt", "other")]
-    {
+    let mut crates = "# crate: what it uses\nprogram_text:\nother:\n".to_string();
+    let programs = PROGRAMS.map(|name| (format!("{name}/src/main.rt"), "main"));
+    let libraries =
+        [("program_text", "one"), ("other", "other")].map(|(name, text)| (format!("{name}/src/lib.rt"), text));
+    for (path, text) in libraries.iter().chain(&programs) {
         std::fs::create_dir_all(folder.0.join("crates").join(path).parent().unwrap()).unwrap();
         folder.put(&format!("crates/{path}"), text.as_bytes());
     }
-    folder.put("crates.txt", b"# crate: what it uses\nprogram_text:\njob: program_text\nother:\n");
+    PROGRAMS.iter().for_each(|name| crates += &format!("{name}: program_text\n"));
+    folder.put("crates.txt", crates.as_bytes());
     folder.put("kit/KIT-ID", b"stand-in");
     script(&folder, "kit/rt", RT);
     script(&folder, &format!("{lib}/ld-linux-x86-64.so.2"), "#!/bin/sh\nshift 2\nexec \"$@\"\n");
@@ -104,13 +118,13 @@ fn what_is_not_proved_does_not_run() {
     let folder = tree("unproved");
     assert_eq!(job(&folder).0, 0);
     folder.put("crates/program_text/src/lib.rt", b"bad");
-    folder.put(
-        "kit/fails",
-        b"rt: cannot write: Permission denied\nrt: program_text proved (unchanged since it was last proved)\n",
-    );
+    let error = "crates/program_text/src/lib.rt:1:1: error: the ensures is not proved";
+    let lines = ["rt: cannot write: Permission denied", "rt: program_text NOT PROVED (exit 1, 1 s)"];
+    folder.put("kit/fails", format!("{error}\n{}\n", lines.join("\n")).as_bytes());
     let (status, printed, said) = job(&folder);
     assert_eq!((status, &printed[..]), (3, ""));
-    assert!(said.contains("rt: cannot write: Permission denied") && said.contains("job is not proved"), "{said}");
+    assert!(lines.iter().all(|line| said.contains(line)) && said.contains("job is not proved"), "{said}");
+    assert!(said.contains(error), "{said}");
 }
 
 /// A changed source in a tree that the user cannot write: exit status 3 and the system's reason. The prover is not called,
@@ -153,10 +167,15 @@ fn two_runs_prove_one_after_the_other() {
     });
     let [first, second] = runs.map(|run| ended(run.wait_with_output().unwrap()));
     assert_eq!((first.0, second.0), (0, 0), "{} {}", first.2, second.2);
+    do_not_overlap(&folder);
     assert!(first.2.contains("waiting for it") ^ second.2.contains("waiting for it"), "{} {}", first.2, second.2);
+}
+
+/// Every call of the stand-in ended before the next one started.
+fn do_not_overlap(folder: &Folder) {
     let calls = std::fs::read_to_string(folder.0.join("kit/calls")).unwrap();
-    assert!(calls.lines().step_by(2).all(|line| line.starts_with("start")), "{calls}");
-    assert!(calls.lines().skip(1).step_by(2).all(|line| line == "end"), "{calls}");
+    assert!(calls.lines().step_by(2).all(|line| line.starts_with("start")), "two at the same time:\n{calls}");
+    assert!(calls.lines().skip(1).step_by(2).all(|line| line == "end"), "two at the same time:\n{calls}");
 }
 
 /// `./run` waits for an `rt` that somebody else started in this tree, and stops its own proof if one starts meanwhile.
@@ -173,6 +192,7 @@ fn another_rt_goes_first() {
     let began = Instant::now();
     let (status, _, said) = job(&folder);
     assert!(gate.wait().unwrap().success());
+    do_not_overlap(&folder);
     assert!(status == 0 && said.contains("another rt works in this repository"), "{said}");
     assert!(began.elapsed() > Duration::from_secs(3));
     folder.put("crates/program_text/src/lib.rt", b"two");
@@ -192,12 +212,37 @@ fn another_rt_goes_first() {
     assert!(said.contains("another rt began to work here") && proofs(&folder) == before + 2, "{said}");
 }
 
-/// A proof says how far it is, and how long it takes before it starts; the prover's notes are not shown.
+/// A proof says how long it takes before it starts, by the sources that it proves, and how far it is; the prover's notes are
+/// not shown.
 #[test]
 fn a_proof_says_how_far_it_is() {
     let folder = tree("progress");
     let (_, _, said) = job(&folder);
     assert!(said.contains("proving job and the crates below it: about "), "{said}");
+    assert!(said.contains(" seconds on a free machine"), "{said}");
     assert!(said.contains("program_text: 1 of 2 crates, about ") && said.contains("job: 2 of 2 crates"), "{said}");
     assert!(said.lines().all(|line| line.starts_with("run: ")), "{said}");
+}
+
+/// `./run build` proves all programs in one proof; no program needs another one on its first use.
+#[test]
+fn build_proves_every_program_once() {
+    let folder = tree("build");
+    let (status, _, said) = ended(command(&folder, &["build"]).output().unwrap());
+    assert_eq!((status, proofs(&folder)), (0, 1), "{said}");
+    assert!(said.contains(": 7 of 7 crates"), "{said}");
+    let out = folder.0.join("out");
+    let out = out.to_str().unwrap();
+    for call in [
+        &["job", "file", "ring", "1"][..],
+        &["current", "amendment", "day", "ring", "1"],
+        &["write", "draft", "ring", out],
+        &["convert", "file", out],
+        &["differ", "first", "second"],
+        &["inspect", "file", "ring"],
+    ] {
+        let (status, printed, said) = ended(command(&folder, call).output().unwrap());
+        assert_eq!((status, &printed[..], &said[..]), (0, "0 0\none\n", ""), "{call:?}");
+    }
+    assert_eq!(proofs(&folder), 1);
 }

@@ -46,7 +46,8 @@ is_stream() { # PATH
     [ -n "$descriptor" ] || { [ -e "$1" ] && [ ! -f "$1" ]; }
 }
 
-# Creates the temporary file in OUT's folder, and sets $temporary, $stream (yes or no) and $place (the file to replace).
+# Creates the temporary file in OUT's folder, and sets $temporary, $ours (how the names of this run's files begin), $stream
+# (yes or no) and $place (the file to replace).
 prepare_out() { # OUT RING
     local said folder=${TMPDIR:-/tmp}/
     [ "$1" -ef "$2" ] && { say "OUT is the ring: nothing is written"; exit 2; }
@@ -63,12 +64,14 @@ prepare_out() { # OUT RING
     fi
     clean_up "$folder"
     # "run": the office program removes names of two numbers that no run has locked
-    said=$(umask 077; LC_ALL=C mktemp -- "$folder$MARK$$-run-XXXXXX" 2>&1) || cannot_write "$1" "${said##*: }"
-    temporary=$said
-    trap 'rm -f -- "$temporary" "$temporary".*' EXIT
+    ours=$folder$MARK$$-run-
+    # set before the file exists: a signal between the two would leave it
+    trap 'rm -f -- "$ours"*' EXIT
     trap 'exit 129' HUP
     trap 'exit 130' INT
     trap 'exit 143' TERM
+    said=$(umask 077; LC_ALL=C mktemp -- "${ours}XXXXXX" 2>&1) || cannot_write "$1" "${said##*: }"
+    temporary=$said
 }
 
 # Writes the finished file to a device, a pipe or an open descriptor.
