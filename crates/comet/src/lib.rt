@@ -91,8 +91,8 @@ fn crypt_core(
     block_step::tag::tag_of(tables, suite, state)
 }
 
-// `crypt_core` under the tables of AES, for suites 1 and 5. It is a function of its own, so that their 4 KiB are in its stack frame
-// and not in that of the other suites: the build of the archives does not inline it (tools/library).
+// `crypt_core` under the tables of AES, for suites 1 and 5. This function and the next are two, so that the 4 KiB of the tables are
+// in this one's stack frame alone: the build of the archives inlines neither (tools/library).
 fn crypt_with_tables(
     opening: bool,
     suite: u8,
@@ -110,6 +110,25 @@ fn crypt_with_tables(
 {
     let tables = cipher::tables(suite);
     crypt_core(&tables, opening, suite, key, nonce, ad, text)
+}
+
+// `crypt_core` without tables, for the other suites.
+fn crypt_without_tables(
+    opening: bool,
+    suite: u8,
+    key: &[u8],
+    nonce: &[u8],
+    ad: &[u8],
+    text: &mut [u8],
+) -> TagAndCalls
+    requires { ⌜ (needsTables suite ≡ false) × IsSuite suite × (length (now key) ≡ 16) × (length (now nonce) ≡ nonceOf suite) × (length (now ad) ≤ limit) × (length (now text) ≤ limit) ⌝ }
+    ensures text { λ _. ⌜ now (text .exit) ≡ textOut (cipherOf suite) opening (now (key .entry)) (now (nonce .entry)) (now (ad .entry)) (now (text .entry)) ⌝ }
+    ensures tag { λ r. ⌜ take (sizeOf suite) (wide (r .tag)) ≡ tagOut (cipherOf suite) opening (now (key .entry)) (now (nonce .entry)) (now (ad .entry))
+        (now (text .entry)) ⌝ }
+    ensures rest { λ r. ⌜ Clean suite (r .tag)
+        × (r .calls ≡ length (calls (cipherOf suite) opening (now (key .entry)) (now (nonce .entry)) (now (ad .entry)) (now (text .entry)))) ⌝ }
+{
+    crypt_core(&[], opening, suite, key, nonce, ad, text)
 }
 
 // `crypt_core` under the tables that the suite needs, or none.
@@ -131,7 +150,7 @@ fn crypt(
     if cipher::needs_tables(suite) {
         return crypt_with_tables(opening, suite, key, nonce, ad, text);
     }
-    crypt_core(&[], opening, suite, key, nonce, ad, text)
+    crypt_without_tables(opening, suite, key, nonce, ad, text)
 }
 
 // Seals text in place and writes its tag: what sealing into another buffer and in place share. Every length is right.
@@ -387,7 +406,7 @@ fn tag_core(
     last.tag
 }
 
-// `tag_core` under the tables of AES: a function of its own, as `crypt_with_tables` is.
+// `tag_core` under the tables of AES; a function of its own, as `crypt_with_tables` is.
 fn tag_with_tables(suite: u8, key: &[u8], nonce: &[u8], ad: &[u8], text: &[u8]) -> Block
     requires { ⌜ (needsTables suite ≡ true) × IsSuite suite × (length (now key) ≡ 16) × (length (now nonce) ≡ nonceOf suite) ⌝ }
     ensures tag { λ r. ⌜ take (sizeOf suite) (wide r) ≡ tagOut (cipherOf suite) true (now (key .entry)) (now (nonce .entry)) (now (ad .entry))
@@ -396,6 +415,16 @@ fn tag_with_tables(suite: u8, key: &[u8], nonce: &[u8], ad: &[u8], text: &[u8]) 
 {
     let tables = cipher::tables(suite);
     tag_core(&tables, suite, key, nonce, ad, text)
+}
+
+// `tag_core` without tables.
+fn tag_without_tables(suite: u8, key: &[u8], nonce: &[u8], ad: &[u8], text: &[u8]) -> Block
+    requires { ⌜ (needsTables suite ≡ false) × IsSuite suite × (length (now key) ≡ 16) × (length (now nonce) ≡ nonceOf suite) ⌝ }
+    ensures tag { λ r. ⌜ take (sizeOf suite) (wide r) ≡ tagOut (cipherOf suite) true (now (key .entry)) (now (nonce .entry)) (now (ad .entry))
+        (now (text .entry)) ⌝ }
+    ensures rest { λ r. ⌜ Clean suite r ⌝ }
+{
+    tag_core(&[], suite, key, nonce, ad, text)
 }
 
 // `tag_core` under the tables that the suite needs, or none.
@@ -408,7 +437,7 @@ fn tag_under(suite: u8, key: &[u8], nonce: &[u8], ad: &[u8], text: &[u8]) -> Blo
     if cipher::needs_tables(suite) {
         return tag_with_tables(suite, key, nonce, ad, text);
     }
-    tag_core(&[], suite, key, nonce, ad, text)
+    tag_without_tables(suite, key, nonce, ad, text)
 }
 
 // Whether a record is genuine: the opener's status, without writing a text anywhere.

@@ -1,7 +1,6 @@
--- `comet::tag_under` meets its contract: `tag_core` gets the tables that the suite needs, or none.
+-- `comet::tag_under` meets its contract: it calls the function for suites that need the tables, or the other.
 use borrow.Author.Needs.{needs}
 use mathlib.Core.Path.{sym, _∙_}
-use Rattle.cipher.proofs.Suites.{none-ready}
 use Rattle.comet.proofs.tag_under.Statement.{statement}
 use Rattle.comet.proofs.tag_under.Tie as tie
 
@@ -16,14 +15,10 @@ tag-with-tables-requires c κs =
 returns : tie.Need-returns
 returns c = search needs
 
-slice-aggregate-tag-core : tie.Need-slice-aggregate-tag-core
-slice-aggregate-tag-core c = search needs
-
-tag-core-requires : tie.Need-tag-core-requires
-tag-core-requires c κs =
-    let st = c .before .before .before .before .before .before .before in
-    let p = st .pre in
-    (none-ready (st .args .suite) (sym (c .before .before .needs-tables .ensures) ∙ c .before .if1 .left), p .0, p .1, p .2)
+tag-without-tables-requires : tie.Need-tag-without-tables-requires
+tag-without-tables-requires c κs =
+    let p = c .before .before .before .before .before .before .pre in
+    (sym (c .before .needs-tables .ensures) ∙ c .if1 .left, p .0, p .1, p .2)
 
 returns-2 : tie.Need-returns-2
 returns-2 c = search needs
@@ -35,6 +30,5 @@ tag-under-spec =
     needs-tables-requires
     tag-with-tables-requires
     returns
-    slice-aggregate-tag-core
-    tag-core-requires
+    tag-without-tables-requires
     returns-2)
