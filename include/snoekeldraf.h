@@ -206,11 +206,15 @@ void snoekeldraf_forget(void);
  */
 void comet_forget(uint8_t suite);
 
-/* What the deepest of these calls takes in suites 2, 3 and 6 (1,456 bytes on Cortex-M0+, at most 1,384 elsewhere), and 1,104 bytes
- * more.
+/* What the deepest of these calls takes in suites 2, 3 and 6 (992 bytes on AArch64, 1,592 on Cortex-M0+, less elsewhere), and
+ * at least 1,024 bytes more.
  */
 #ifndef COMET_STACK_BYTES
-#define COMET_STACK_BYTES 2560
+#if UINTPTR_MAX > 0xffffffffu
+#define COMET_STACK_BYTES 2048
+#else
+#define COMET_STACK_BYTES 3072
+#endif
 #endif
 
 /* ---- Records ---- */
