@@ -2,8 +2,8 @@
  *
  * For every input, a function returns the first status that applies, in the order given above its prototype, and leaves
  * every output in the state described there, on errors too. This is proved of every function that returns a status, of
- * shift_moved_length and of comet_session_wipe. The other three (snoekeldraf_version, snoekeldraf_words,
- * snoekeldraf_forget) are plain C in library/words.c and are tested, not proved.
+ * shift_moved_length and of comet_session_wipe. The other four (snoekeldraf_version, snoekeldraf_words,
+ * snoekeldraf_forget, comet_forget) are plain C in library/words.c and are tested, not proved.
  *
  * The caller guarantees what C does not check:
  *   - A pointer is valid for the length beside it, for the whole call. At length 0 it is not used and may be NULL.
@@ -198,6 +198,23 @@ void snoekeldraf_forget(void);
  */
 #ifndef SNOEKELDRAF_STACK_BYTES
 #define SNOEKELDRAF_STACK_BYTES 12288
+#endif
+
+/* As snoekeldraf_forget, for records of one suite: enough after comet_seal, comet_open, comet_verify, their counted variants and
+ * those in place, and not after a session or a function of the shift file. Suites 2, 3 and 6 have no tables on the stack:
+ * COMET_STACK_BYTES are overwritten. For every other number it does what snoekeldraf_forget does.
+ */
+void comet_forget(uint8_t suite);
+
+/* What the deepest of these calls takes in suites 2, 3 and 6 (992 bytes on AArch64, 1,592 on Cortex-M0+, less elsewhere), and
+ * at least 1,024 bytes more.
+ */
+#ifndef COMET_STACK_BYTES
+#if UINTPTR_MAX > 0xffffffffu
+#define COMET_STACK_BYTES 2048
+#else
+#define COMET_STACK_BYTES 3072
+#endif
 #endif
 
 /* ---- Records ---- */

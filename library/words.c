@@ -1,4 +1,4 @@
-/* The plain C part of the library: its version, every status in words, and snoekeldraf_forget.
+/* The plain C part of the library: its version, every status in words, snoekeldraf_forget and comet_forget.
  * C99, freestanding: no function of the C library is called. Tested by tools/test-c, not proved.
  */
 #include "snoekeldraf.h"
@@ -53,23 +53,44 @@ const char *snoekeldraf_words(uint32_t status)
     }
 }
 
-/* Never inlined: its frame must occupy the stack that the earlier calls used. On x86-64 one string instruction clears it, in a
- * quarter of the time that a store for each word takes; elsewhere the compiler keeps the volatile stores.
- */
+/* The functions that overwrite the stack are never inlined: their frames must occupy the stack that the earlier calls used. */
 #if defined(__GNUC__)
-__attribute__((noinline))
-#endif
-void snoekeldraf_forget(void)
-{
-    enum { WORDS_OF_STACK = SNOEKELDRAF_STACK_BYTES / sizeof(uintptr_t) };
-    volatile uintptr_t stack[WORDS_OF_STACK];
-#if defined(__GNUC__) && defined(__x86_64__) && !defined(__ILP32__)
-    volatile uintptr_t *to = stack;
-    uint64_t left = WORDS_OF_STACK;
-    __asm__ volatile("rep stosq" : "+D"(to), "+c"(left) : "a"(0) : "memory");
+#define OWN_FRAME __attribute__((noinline))
 #else
-    for (uint32_t i = 0; i < WORDS_OF_STACK; i++) {
-        stack[i] = 0;
+#define OWN_FRAME
+#endif
+
+/* Writes zeros. On x86-64 one string instruction does it, in a quarter of the time that a store for each word takes;
+ * elsewhere the compiler keeps the volatile stores.
+ */
+static void clear(volatile uintptr_t *words, uint32_t count)
+{
+#if defined(__GNUC__) && defined(__x86_64__) && !defined(__ILP32__)
+    uint64_t left = count;
+    __asm__ volatile("rep stosq" : "+D"(words), "+c"(left) : "a"(0) : "memory");
+#else
+    for (uint32_t i = 0; i < count; i++) {
+        words[i] = 0;
     }
 #endif
+}
+
+OWN_FRAME void snoekeldraf_forget(void)
+{
+    volatile uintptr_t stack[SNOEKELDRAF_STACK_BYTES / sizeof(uintptr_t)];
+    clear(stack, sizeof stack / sizeof stack[0]);
+}
+
+static OWN_FRAME void forget_plain(void)
+{
+    volatile uintptr_t stack[COMET_STACK_BYTES / sizeof(uintptr_t)];
+    clear(stack, sizeof stack / sizeof stack[0]);
+}
+
+void comet_forget(uint8_t suite)
+{
+    switch (suite) {
+    case COMET_CHAM128: case COMET_SPECK64: case COMET2_SPECK64: forget_plain(); break;
+    default: snoekeldraf_forget();
+    }
 }

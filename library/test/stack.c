@@ -1,13 +1,13 @@
-/* What a call leaves on the stack, with and without snoekeldraf_forget, and how much stack it takes.
+/* What a call leaves on the stack, with and without snoekeldraf_forget and comet_forget, and how much stack it takes.
  * Run it from the root of the repository: it reads samples/.
  *
  * Every call runs on a stack of its own that is filled with a pattern first. Afterwards the stack is searched for every
  * piece (PIECE bytes, at any offset, at most one of them zero) of the key, the message and the chaining values Y and Z,
  * which a session with the same inputs gives. A line for each call: stack bytes, pieces of key, message and state found
  * without snoekeldraf_forget, the same with it, and how many bytes that the call wrote are then still not zero.
- * Exit status 0: nothing is found with snoekeldraf_forget, something is found without it over all calls together, and no
- * call comes within MARGIN bytes of SNOEKELDRAF_STACK_BYTES. Runs on x86-64, AArch64, Cortex-M and
- * RISC-V.
+ * Exit status 0: nothing is found with snoekeldraf_forget, nor after a call on a record with comet_forget; something is found
+ * without them over all calls together; and no call comes within MARGIN bytes of SNOEKELDRAF_STACK_BYTES, or in suites 2, 3
+ * and 6 on a record of COMET_STACK_BYTES. Runs on x86-64, AArch64, Cortex-M and RISC-V.
  */
 #include <stdio.h>
 #include <string.h>
@@ -78,11 +78,12 @@ static uint8_t *here;
 #define TAGGED tag, COMET_TAG_BYTES(suite)
 #define CALL(name, call) static void name(void) { status = call; } \
                          static void name##_forget(void) { status = call; snoekeldraf_forget(); NOTE_HERE; }
-CALL(seal, comet_seal(KEYED, message, MESSAGE, output, MESSAGE, TAGGED))
-CALL(open, comet_open(KEYED, sealed, MESSAGE, TAGGED, output, MESSAGE))
-CALL(seal_in_place, comet_seal_in_place(KEYED, output, MESSAGE, TAGGED))
-CALL(open_in_place, comet_open_in_place(KEYED, output, MESSAGE, TAGGED))
-CALL(verify, comet_verify(KEYED, sealed, MESSAGE, TAGGED))
+#define RECORD(name, call) CALL(name, call) static void name##_suite(void) { status = call; comet_forget(suite); NOTE_HERE; }
+RECORD(seal, comet_seal(KEYED, message, MESSAGE, output, MESSAGE, TAGGED))
+RECORD(open, comet_open(KEYED, sealed, MESSAGE, TAGGED, output, MESSAGE))
+RECORD(seal_in_place, comet_seal_in_place(KEYED, output, MESSAGE, TAGGED))
+RECORD(open_in_place, comet_open_in_place(KEYED, output, MESSAGE, TAGGED))
+RECORD(verify, comet_verify(KEYED, sealed, MESSAGE, TAGGED))
 CALL(start, comet_session_start(&session, suite, key, sizeof key, nonce, COMET_NONCE_BYTES(suite)))
 CALL(data, comet_session_data(&session, ad, sizeof ad))
 CALL(part, comet_session_part(&session, message, MESSAGE, output, sizeof output, words))
@@ -164,7 +165,7 @@ static void learn_states(const uint8_t *msg, size_t len)
 }
 
 static int failures;
-static size_t deepest;
+static size_t deepest, deepest_plain;
 static unsigned without_forget[KINDS];
 
 static void run(void (*call)(void), void (*prepare)(void), unsigned count[KINDS])
@@ -176,21 +177,43 @@ static void run(void (*call)(void), void (*prepare)(void), unsigned count[KINDS]
     for (int kind = 0; kind < KINDS; kind++) count[kind] = found(kind);
 }
 
-/* Tests one call without and with snoekeldraf_forget. */
-static void try_call(const char *name, void (*call)(void), void (*forgetting)(void), void (*prepare)(void))
+/* Counts what is left of a call that took so many bytes, and was forgotten. */
+static unsigned forgotten(size_t taken, void (*forgetting)(void), void (*prepare)(void), unsigned count[KINDS])
 {
-    unsigned before[KINDS], after[KINDS], left = 0;
+    unsigned left = 0;
+    run(forgetting, prepare, count);
+    for (size_t i = STACK - taken; stack + i < here; i++) left += stack[i] != 0;
+    failures += count[KEYS] + count[MESSAGES] + count[STATES] != 0 || left > LEFT_MAX;
+    return left;
+}
+
+/* Tests one call without and with snoekeldraf_forget; returns how much stack it took. */
+static size_t try_call(const char *name, void (*call)(void), void (*forgetting)(void), void (*prepare)(void))
+{
+    unsigned before[KINDS], after[KINDS];
     run(call, prepare, before);
     size_t taken = depth();
     if (status != 0) { printf("%s: status %u\n", name, (unsigned)status); failures++; }
-    run(forgetting, prepare, after);
-    for (size_t i = STACK - taken; stack + i < here; i++) left += stack[i] != 0;
+    unsigned left = forgotten(taken, forgetting, prepare, after);
     printf("%-14s suite %u: %5u bytes; key %u, message %u, state %u; forgotten: key %u, message %u, state %u, left %u\n",
            name, (unsigned)suite, (unsigned)taken, before[KEYS], before[MESSAGES], before[STATES], after[KEYS],
            after[MESSAGES], after[STATES], left);
-    failures += after[KEYS] + after[MESSAGES] + after[STATES] != 0 || left > LEFT_MAX;
     for (int kind = 0; kind < KINDS; kind++) without_forget[kind] += before[kind];
     if (taken > deepest) deepest = taken;
+    return taken;
+}
+
+/* Tests one call on a record also with comet_forget. */
+static void try_record(const char *name, void (*call)(void), void (*forgetting)(void), void (*suite_forgetting)(void),
+                       void (*prepare)(void))
+{
+    unsigned after[KINDS];
+    size_t taken = try_call(name, call, forgetting, prepare);
+    unsigned left = forgotten(taken, suite_forgetting, prepare, after);
+    printf("%-14s suite %u: comet_forget: key %u, message %u, state %u, left %u\n", name, (unsigned)suite, after[KEYS],
+           after[MESSAGES], after[STATES], left);
+    int plain = suite == COMET_CHAM128 || suite == COMET_SPECK64 || suite == COMET2_SPECK64;
+    if (plain && taken > deepest_plain) deepest_plain = taken;
 }
 
 static void put_message(void) { memcpy(output, message, MESSAGE); }
@@ -206,11 +229,11 @@ static void try_records(uint8_t which)
     learn_states(message, MESSAGE);
     seal();
     memcpy(sealed, output, MESSAGE);
-    try_call("seal", seal, seal_forget, NULL);
-    try_call("open", open, open_forget, seal);
-    try_call("seal_in_place", seal_in_place, seal_in_place_forget, put_message);
-    try_call("open_in_place", open_in_place, open_in_place_forget, put_sealed);
-    try_call("verify", verify, verify_forget, seal);
+    try_record("seal", seal, seal_forget, seal_suite, NULL);
+    try_record("open", open, open_forget, open_suite, seal);
+    try_record("seal_in_place", seal_in_place, seal_in_place_forget, seal_in_place_suite, put_message);
+    try_record("open_in_place", open_in_place, open_in_place_forget, open_in_place_suite, put_sealed);
+    try_record("verify", verify, verify_forget, verify_suite, seal);
     try_call("session_start", start, start_forget, NULL);
     try_call("session_data", data, data_forget, to_data);
     try_call("session_part", part, part_forget, to_part);
@@ -290,7 +313,9 @@ int main(void)
     printf("deepest call: %u bytes; SNOEKELDRAF_STACK_BYTES is %u\n", (unsigned)deepest, (unsigned)SNOEKELDRAF_STACK_BYTES);
     printf("found without snoekeldraf_forget: key %u, message %u, state %u\n", without_forget[KEYS],
            without_forget[MESSAGES], without_forget[STATES]);
-    failures += deepest + MARGIN > SNOEKELDRAF_STACK_BYTES;
+    printf("deepest call on a record in suites 2, 3 and 6: %u bytes; COMET_STACK_BYTES is %u\n", (unsigned)deepest_plain,
+           (unsigned)COMET_STACK_BYTES);
+    failures += deepest + MARGIN > SNOEKELDRAF_STACK_BYTES || deepest_plain + MARGIN > COMET_STACK_BYTES;
     failures += without_forget[KEYS] == 0 || without_forget[MESSAGES] == 0 || without_forget[STATES] == 0;
     printf("%d failures\n", failures);
     return failures != 0;

@@ -195,6 +195,7 @@ static void check_plain(void) {
     for (uint32_t status = 0; status < 256; status++)
         if (snoekeldraf_words(status)[0] == 0) fault("snoekeldraf_words");
     snoekeldraf_forget();
+    for (unsigned suite = 0; suite < 256; suite++) comet_forget((uint8_t)suite);
 #endif
 }
 

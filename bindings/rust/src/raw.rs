@@ -137,6 +137,7 @@ extern "C" {
     ) -> u32;
     fn snoekeldraf_words(status: u32) -> *const c_char;
     fn snoekeldraf_forget();
+    fn comet_forget(suite: u8);
     fn snoekeldraf_version() -> u32;
 }
 
@@ -371,6 +372,11 @@ pub fn words(status: u32) -> &'static str {
 /// Overwrites the stack below the caller, as deep as any call of the library goes.
 pub fn forget() {
     call!(snoekeldraf_forget:)
+}
+
+/// Overwrites the stack below the caller, as deep as a call on a record of the suite goes.
+pub fn forget_record(suite: u8) {
+    call!(comet_forget: suite)
 }
 
 /// The library's version.

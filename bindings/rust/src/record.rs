@@ -1,7 +1,7 @@
 //! Sealing and opening records.
 
 use crate::refused::done;
-use crate::secret::forgetting;
+use crate::secret::forgetting_record;
 use crate::{raw, Key, Nonce, Refused, Suite, Tag};
 #[cfg(feature = "alloc")]
 use alloc::{vec, vec::Vec};
@@ -87,7 +87,7 @@ pub struct Sealed<'a> {
 pub fn seal(suite: Suite, key: &Key, nonce: Nonce, record: Record, out: &mut [u8]) -> Result<Tag, Refused> {
     let mut tag = Tag::unwritten(suite);
     let (nonce, to) = (nonce.as_bytes(), tag.as_mut_bytes());
-    done(forgetting(|| raw::seal(suite.number(), key.bytes(), nonce, record.ad, record.text, out, to)))?;
+    done(forgetting_record(suite, || raw::seal(suite.number(), key.bytes(), nonce, record.ad, record.text, out, to)))?;
     Ok(tag)
 }
 
@@ -113,7 +113,7 @@ pub fn seal(suite: Suite, key: &Key, nonce: Nonce, record: Record, out: &mut [u8
 /// ```
 pub fn open(suite: Suite, key: &Key, sealed: Sealed, out: &mut [u8]) -> Result<(), Refused> {
     let Sealed { nonce, ad, text, tag } = sealed;
-    done(forgetting(|| raw::open(suite.number(), key.bytes(), nonce, ad, text, tag, out)))
+    done(forgetting_record(suite, || raw::open(suite.number(), key.bytes(), nonce, ad, text, tag, out)))
 }
 
 /// Seals a message in place: `text` is the message before and the ciphertext after, and the tag is returned. The result is that
@@ -137,7 +137,7 @@ pub fn open(suite: Suite, key: &Key, sealed: Sealed, out: &mut [u8]) -> Result<(
 pub fn seal_in_place(suite: Suite, key: &Key, nonce: Nonce, ad: &[u8], text: &mut [u8]) -> Result<Tag, Refused> {
     let mut tag = Tag::unwritten(suite);
     let (nonce, to) = (nonce.as_bytes(), tag.as_mut_bytes());
-    done(forgetting(|| raw::seal_in_place(suite.number(), key.bytes(), nonce, ad, text, to)))?;
+    done(forgetting_record(suite, || raw::seal_in_place(suite.number(), key.bytes(), nonce, ad, text, to)))?;
     Ok(tag)
 }
 
@@ -165,7 +165,7 @@ pub fn open_in_place(
     tag: Tag,
 ) -> Result<(), Refused> {
     let tag = tag.as_bytes();
-    done(forgetting(|| raw::open_in_place(suite.number(), key.bytes(), nonce, ad, text, tag)))
+    done(forgetting_record(suite, || raw::open_in_place(suite.number(), key.bytes(), nonce, ad, text, tag)))
 }
 
 /// Checks that a sealed record is genuine and writes no message anywhere: `Ok` exactly if [`open`] with an output of the
@@ -188,7 +188,7 @@ pub fn open_in_place(
 /// ```
 pub fn verify(suite: Suite, key: &Key, sealed: Sealed) -> Result<(), Refused> {
     let Sealed { nonce, ad, text, tag } = sealed;
-    done(forgetting(|| raw::verify(suite.number(), key.bytes(), nonce, ad, text, tag)))
+    done(forgetting_record(suite, || raw::verify(suite.number(), key.bytes(), nonce, ad, text, tag)))
 }
 
 /// A result, and how many block cipher calls it took.
@@ -227,8 +227,9 @@ pub struct Counted<T> {
 pub fn seal_counted(suite: Suite, key: &Key, nonce: Nonce, record: Record, out: &mut [u8]) -> Counted<Tag> {
     let mut tag = Tag::unwritten(suite);
     let (nonce, to) = (nonce.as_bytes(), tag.as_mut_bytes());
-    let (number, calls) =
-        forgetting(|| raw::seal_counted(suite.number(), key.bytes(), nonce, record.ad, record.text, out, to));
+    let (number, calls) = forgetting_record(suite, || {
+        raw::seal_counted(suite.number(), key.bytes(), nonce, record.ad, record.text, out, to)
+    });
     Counted { result: done(number).map(|()| tag), calls }
 }
 
@@ -243,7 +244,8 @@ pub fn seal_counted(suite: Suite, key: &Key, nonce: Nonce, record: Record, out: 
 /// ```
 pub fn open_counted(suite: Suite, key: &Key, sealed: Sealed, out: &mut [u8]) -> Counted<()> {
     let Sealed { nonce, ad, text, tag } = sealed;
-    let (number, calls) = forgetting(|| raw::open_counted(suite.number(), key.bytes(), nonce, ad, text, tag, out));
+    let (number, calls) =
+        forgetting_record(suite, || raw::open_counted(suite.number(), key.bytes(), nonce, ad, text, tag, out));
     Counted { result: done(number), calls }
 }
 

@@ -1,6 +1,6 @@
 //! What keeps secrets from staying in memory, and the other `unsafe` code of this crate beside `raw.rs`.
 
-use crate::{raw, Key};
+use crate::{raw, Key, Suite};
 use core::ptr::write_volatile;
 use core::sync::atomic::{compiler_fence, Ordering};
 
@@ -17,6 +17,13 @@ pub(crate) fn wipe<T: Copy + Default>(values: &mut [T]) {
 pub(crate) fn forgetting<T>(call: impl FnOnce() -> T) -> T {
     let answer = call();
     raw::forget();
+    answer
+}
+
+/// Makes a call on a record of the suite, then overwrites the stack that it used: suites without tables use less.
+pub(crate) fn forgetting_record<T>(suite: Suite, call: impl FnOnce() -> T) -> T {
+    let answer = call();
+    raw::forget_record(suite.number());
     answer
 }
 

@@ -16,7 +16,7 @@ ghost use mathlib.Core.Bool.{true, false};
 ghost use Prim.Native.Nat.{_≤_};
 ghost use lib.ListN.{length, take};
 ghost use Rattle.block.specs.Blocks.{wide};
-ghost use Rattle.cipher.specs.Cipher.{TablesFit, IsSuite, sizeOf, nonceOf, cipherOf, limit};
+ghost use Rattle.cipher.specs.Cipher.{needsTables, TablesFit, IsSuite, sizeOf, nonceOf, cipherOf, limit};
 ghost use Rattle.mode.specs.Mode.{textOut, tagOut, calls};
 ghost use Rattle.block_step.specs.Two.{Clean};
 ghost use Rattle.status.specs.Verdicts.{numberOf, refusal};
@@ -91,8 +91,47 @@ fn crypt_core(
     block_step::tag::tag_of(tables, suite, state)
 }
 
-// `crypt_core` under the tables that the suite needs: only suites 1 and 5 spend time on filling them. Their 4 KiB are in this
-// function's stack frame, whichever the suite.
+// `crypt_core` under the tables of AES, for suites 1 and 5. This function and the next are two, so that the 4 KiB of the tables are
+// in this one's stack frame alone: the build of the archives inlines neither (tools/library).
+fn crypt_with_tables(
+    opening: bool,
+    suite: u8,
+    key: &[u8],
+    nonce: &[u8],
+    ad: &[u8],
+    text: &mut [u8],
+) -> TagAndCalls
+    requires { ⌜ (needsTables suite ≡ true) × IsSuite suite × (length (now key) ≡ 16) × (length (now nonce) ≡ nonceOf suite) × (length (now ad) ≤ limit) × (length (now text) ≤ limit) ⌝ }
+    ensures text { λ _. ⌜ now (text .exit) ≡ textOut (cipherOf suite) opening (now (key .entry)) (now (nonce .entry)) (now (ad .entry)) (now (text .entry)) ⌝ }
+    ensures tag { λ r. ⌜ take (sizeOf suite) (wide (r .tag)) ≡ tagOut (cipherOf suite) opening (now (key .entry)) (now (nonce .entry)) (now (ad .entry))
+        (now (text .entry)) ⌝ }
+    ensures rest { λ r. ⌜ Clean suite (r .tag)
+        × (r .calls ≡ length (calls (cipherOf suite) opening (now (key .entry)) (now (nonce .entry)) (now (ad .entry)) (now (text .entry)))) ⌝ }
+{
+    let tables = cipher::tables(suite);
+    crypt_core(&tables, opening, suite, key, nonce, ad, text)
+}
+
+// `crypt_core` without tables, for the other suites.
+fn crypt_without_tables(
+    opening: bool,
+    suite: u8,
+    key: &[u8],
+    nonce: &[u8],
+    ad: &[u8],
+    text: &mut [u8],
+) -> TagAndCalls
+    requires { ⌜ (needsTables suite ≡ false) × IsSuite suite × (length (now key) ≡ 16) × (length (now nonce) ≡ nonceOf suite) × (length (now ad) ≤ limit) × (length (now text) ≤ limit) ⌝ }
+    ensures text { λ _. ⌜ now (text .exit) ≡ textOut (cipherOf suite) opening (now (key .entry)) (now (nonce .entry)) (now (ad .entry)) (now (text .entry)) ⌝ }
+    ensures tag { λ r. ⌜ take (sizeOf suite) (wide (r .tag)) ≡ tagOut (cipherOf suite) opening (now (key .entry)) (now (nonce .entry)) (now (ad .entry))
+        (now (text .entry)) ⌝ }
+    ensures rest { λ r. ⌜ Clean suite (r .tag)
+        × (r .calls ≡ length (calls (cipherOf suite) opening (now (key .entry)) (now (nonce .entry)) (now (ad .entry)) (now (text .entry)))) ⌝ }
+{
+    crypt_core(&[], opening, suite, key, nonce, ad, text)
+}
+
+// `crypt_core` under the tables that the suite needs, or none.
 fn crypt(
     opening: bool,
     suite: u8,
@@ -109,10 +148,9 @@ fn crypt(
         × (r .calls ≡ length (calls (cipherOf suite) opening (now (key .entry)) (now (nonce .entry)) (now (ad .entry)) (now (text .entry)))) ⌝ }
 {
     if cipher::needs_tables(suite) {
-        let tables = cipher::tables(suite);
-        return crypt_core(&tables, opening, suite, key, nonce, ad, text);
+        return crypt_with_tables(opening, suite, key, nonce, ad, text);
     }
-    crypt_core(&[], opening, suite, key, nonce, ad, text)
+    crypt_without_tables(opening, suite, key, nonce, ad, text)
 }
 
 // Seals text in place and writes its tag: what sealing into another buffer and in place share. Every length is right.
@@ -368,7 +406,28 @@ fn tag_core(
     last.tag
 }
 
-// `tag_core` under the tables that the suite needs.
+// `tag_core` under the tables of AES; a function of its own, as `crypt_with_tables` is.
+fn tag_with_tables(suite: u8, key: &[u8], nonce: &[u8], ad: &[u8], text: &[u8]) -> Block
+    requires { ⌜ (needsTables suite ≡ true) × IsSuite suite × (length (now key) ≡ 16) × (length (now nonce) ≡ nonceOf suite) ⌝ }
+    ensures tag { λ r. ⌜ take (sizeOf suite) (wide r) ≡ tagOut (cipherOf suite) true (now (key .entry)) (now (nonce .entry)) (now (ad .entry))
+        (now (text .entry)) ⌝ }
+    ensures rest { λ r. ⌜ Clean suite r ⌝ }
+{
+    let tables = cipher::tables(suite);
+    tag_core(&tables, suite, key, nonce, ad, text)
+}
+
+// `tag_core` without tables.
+fn tag_without_tables(suite: u8, key: &[u8], nonce: &[u8], ad: &[u8], text: &[u8]) -> Block
+    requires { ⌜ (needsTables suite ≡ false) × IsSuite suite × (length (now key) ≡ 16) × (length (now nonce) ≡ nonceOf suite) ⌝ }
+    ensures tag { λ r. ⌜ take (sizeOf suite) (wide r) ≡ tagOut (cipherOf suite) true (now (key .entry)) (now (nonce .entry)) (now (ad .entry))
+        (now (text .entry)) ⌝ }
+    ensures rest { λ r. ⌜ Clean suite r ⌝ }
+{
+    tag_core(&[], suite, key, nonce, ad, text)
+}
+
+// `tag_core` under the tables that the suite needs, or none.
 fn tag_under(suite: u8, key: &[u8], nonce: &[u8], ad: &[u8], text: &[u8]) -> Block
     requires { ⌜ IsSuite suite × (length (now key) ≡ 16) × (length (now nonce) ≡ nonceOf suite) ⌝ }
     ensures tag { λ r. ⌜ take (sizeOf suite) (wide r) ≡ tagOut (cipherOf suite) true (now (key .entry)) (now (nonce .entry)) (now (ad .entry))
@@ -376,10 +435,9 @@ fn tag_under(suite: u8, key: &[u8], nonce: &[u8], ad: &[u8], text: &[u8]) -> Blo
     ensures rest { λ r. ⌜ Clean suite r ⌝ }
 {
     if cipher::needs_tables(suite) {
-        let tables = cipher::tables(suite);
-        return tag_core(&tables, suite, key, nonce, ad, text);
+        return tag_with_tables(suite, key, nonce, ad, text);
     }
-    tag_core(&[], suite, key, nonce, ad, text)
+    tag_without_tables(suite, key, nonce, ad, text)
 }
 
 // Whether a record is genuine: the opener's status, without writing a text anywhere.

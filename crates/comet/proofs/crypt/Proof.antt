@@ -1,23 +1,16 @@
--- `comet::crypt` meets its contract: `crypt_core` gets the tables that the suite needs, or none.
+-- `comet::crypt` meets its contract: it calls the function for suites that need the tables, or the other.
 use borrow.Author.Needs.{needs}
 use mathlib.Core.Path.{sym, _∙_}
-use Rattle.cipher.proofs.Suites.{none-ready}
 use Rattle.comet.proofs.crypt.Statement.{statement}
 use Rattle.comet.proofs.crypt.Tie as tie
 
 needs-tables-requires : tie.Need-needs-tables-requires
 needs-tables-requires c κs = search needs
 
-tables-requires : tie.Need-tables-requires
-tables-requires c κs = sym (c .before .needs-tables .ensures) ∙ c .if1 .taken
-
-slice-aggregate-crypt-core : tie.Need-slice-aggregate-crypt-core
-slice-aggregate-crypt-core c = search needs
-
-crypt-core-requires : tie.Need-crypt-core-requires
-crypt-core-requires c κs =
-    let p = c .before .before .before .before .before .before .before .before .before .pre in
-    (c .before .before .tables .ensures, p .0, p .1, p .2, p .3, p .4)
+crypt-with-tables-requires : tie.Need-crypt-with-tables-requires
+crypt-with-tables-requires c κs =
+    let p = c .before .before .before .before .before .before .before .pre in
+    (sym (c .before .before .needs-tables .ensures) ∙ c .before .if1 .taken, p .0, p .1, p .2, p .3, p .4)
 
 same-length : tie.Need-same-length
 same-length c = search needs
@@ -25,14 +18,10 @@ same-length c = search needs
 returns : tie.Need-returns
 returns c = search needs
 
-slice-aggregate-crypt-core-2 : tie.Need-slice-aggregate-crypt-core-2
-slice-aggregate-crypt-core-2 c = search needs
-
-crypt-core-requires-2 : tie.Need-crypt-core-requires-2
-crypt-core-requires-2 c κs =
-    let st = c .before .before .before .before .before .before .before .before in
-    let p = st .pre in
-    (none-ready (st .args .suite) (sym (c .before .before .before .needs-tables .ensures) ∙ c .before .before .if1 .left), p .0, p .1, p .2, p .3, p .4)
+crypt-without-tables-requires : tie.Need-crypt-without-tables-requires
+crypt-without-tables-requires c κs =
+    let p = c .before .before .before .before .before .before .before .pre in
+    (sym (c .before .before .needs-tables .ensures) ∙ c .before .if1 .left, p .0, p .1, p .2, p .3, p .4)
 
 same-length-2 : tie.Need-same-length-2
 same-length-2 c = search needs
@@ -45,12 +34,9 @@ crypt-spec =
     tie.close
     (tie.spec
     needs-tables-requires
-    tables-requires
-    slice-aggregate-crypt-core
-    crypt-core-requires
+    crypt-with-tables-requires
     same-length
     returns
-    slice-aggregate-crypt-core-2
-    crypt-core-requires-2
+    crypt-without-tables-requires
     same-length-2
     returns-2)

@@ -1,35 +1,24 @@
--- `comet::tag_under` meets its contract: `tag_core` gets the tables that the suite needs, or none.
+-- `comet::tag_under` meets its contract: it calls the function for suites that need the tables, or the other.
 use borrow.Author.Needs.{needs}
 use mathlib.Core.Path.{sym, _∙_}
-use Rattle.cipher.proofs.Suites.{none-ready}
 use Rattle.comet.proofs.tag_under.Statement.{statement}
 use Rattle.comet.proofs.tag_under.Tie as tie
 
 needs-tables-requires : tie.Need-needs-tables-requires
 needs-tables-requires c κs = search needs
 
-tables-requires : tie.Need-tables-requires
-tables-requires c κs = sym (c .before .needs-tables .ensures) ∙ c .if1 .taken
-
-slice-aggregate-tag-core : tie.Need-slice-aggregate-tag-core
-slice-aggregate-tag-core c = search needs
-
-tag-core-requires : tie.Need-tag-core-requires
-tag-core-requires c κs =
-    let p = c .before .before .before .before .before .before .before .before .pre in
-    (c .before .tables .ensures, p .0, p .1, p .2)
+tag-with-tables-requires : tie.Need-tag-with-tables-requires
+tag-with-tables-requires c κs =
+    let p = c .before .before .before .before .before .before .pre in
+    (sym (c .before .needs-tables .ensures) ∙ c .if1 .taken, p .0, p .1, p .2)
 
 returns : tie.Need-returns
 returns c = search needs
 
-slice-aggregate-tag-core-2 : tie.Need-slice-aggregate-tag-core-2
-slice-aggregate-tag-core-2 c = search needs
-
-tag-core-requires-2 : tie.Need-tag-core-requires-2
-tag-core-requires-2 c κs =
-    let st = c .before .before .before .before .before .before .before in
-    let p = st .pre in
-    (none-ready (st .args .suite) (sym (c .before .before .needs-tables .ensures) ∙ c .before .if1 .left), p .0, p .1, p .2)
+tag-without-tables-requires : tie.Need-tag-without-tables-requires
+tag-without-tables-requires c κs =
+    let p = c .before .before .before .before .before .before .pre in
+    (sym (c .before .needs-tables .ensures) ∙ c .if1 .left, p .0, p .1, p .2)
 
 returns-2 : tie.Need-returns-2
 returns-2 c = search needs
@@ -39,10 +28,7 @@ tag-under-spec =
     tie.close
     (tie.spec
     needs-tables-requires
-    tables-requires
-    slice-aggregate-tag-core
-    tag-core-requires
+    tag-with-tables-requires
     returns
-    slice-aggregate-tag-core-2
-    tag-core-requires-2
+    tag-without-tables-requires
     returns-2)
