@@ -300,7 +300,7 @@ fn statuses() {
         (&["job", "day", "ring", "4104"], 1, "32 0\n", "run: 32: no row has the job\n"),
         (&["job", "wrong", "ring", "4103"], 1, "8 0\n", "run: 8: the tag differs\n"),
         (&["job", "day", "day", "4103"], 1, "2 0\n", "run: 2: the ring is not 256 bytes long\n"),
-        (&["job", "missing", "ring", "4103"], 1, "20 0\n", "run: 20: missing cannot be read: No such file"),
+        (&["job", "missing", "ring", "4103"], 3, "20 0\n", "run: 20: missing cannot be read: No such file"),
         (
             &["job", "repeats", "ring", "10"],
             1,

@@ -483,7 +483,7 @@ fn permissions() {
     folder.put("secret", &samples::ring());
     set_mode(&folder.0.join("secret"), 0o600);
     let (status, printed, said) = as_nobody(&folder, &["job", "day", "secret", "4103"]);
-    assert!(status == 1 && printed == "2 0\n" && said.contains("secret cannot be read: Permission denied"), "{said}");
+    assert!(status == 3 && printed == "2 0\n" && said.contains("secret cannot be read: Permission denied"), "{said}");
     folder.put("out", b"as it was");
     let (status, printed, said) = as_nobody(&folder, &["write", "draft", "ring", "out"]);
     assert_eq!((status, &printed[..]), (3, NOT_WRITTEN));
@@ -603,12 +603,17 @@ fn the_version() {
 
 /// Exit status 1, and these words on the standard error.
 fn refused(folder: &Folder, call: &[&str], words: &[&str]) {
+    ends_with(folder, call, 1, words);
+}
+
+/// A call ends with a status, and its standard error contains the words.
+fn ends_with(folder: &Folder, call: &[&str], wanted: i32, words: &[&str]) {
     let (status, _, said) = folder.run(call);
-    assert_eq!(status, 1, "{call:?}: {said}");
+    assert_eq!(status, wanted, "{call:?}: {said}");
     assert!(words.iter().all(|words| said.contains(words)), "{call:?}: {said}");
 }
 
-/// An input that cannot be read is refused in the system's words, and in no others.
+/// An input that cannot be read has an exit status of its own, and is refused in the system's words and in no others.
 #[test]
 fn what_cannot_be_read() {
     if !is_built() {
@@ -625,7 +630,7 @@ fn what_cannot_be_read() {
         (&["inspect", "day", "missing"], "2: missing cannot be read: No such file or directory\n"),
         (&["differ", "day", "missing"], "20: missing cannot be read: No such file"),
     ] {
-        refused(&folder, call, &[words]);
+        ends_with(&folder, call, 3, &[words]);
         assert_eq!(folder.run(call).2.lines().count(), 1, "{call:?}");
     }
 }
@@ -759,7 +764,8 @@ fn a_path_has_a_status() {
     assert_eq!((status, &printed[..]), (1, "32 0\n"));
 }
 
-/// Forged, refused, mistyped and wrongly called: `inspect` says which, and a wrong call has its own exit status.
+/// Forged, refused, mistyped and wrongly called: `inspect` says which; a mistyped path and a wrong call have exit statuses of
+/// their own.
 #[test]
 fn inspect_has_statuses() {
     if !is_built() {
@@ -770,7 +776,7 @@ fn inspect_has_statuses() {
     folder.put("short", b"1234567");
     refused(&folder, &["inspect", "forged", "ring"], &["8 entries, 1 wrong"]);
     refused(&folder, &["inspect", "short", "ring"], &["run: 20: the file is shorter than 8 bytes", "short is 7 bytes"]);
-    refused(&folder, &["inspect", "shrt", "ring"], &["run: 20: shrt cannot be read: No such file or directory\n"]);
+    ends_with(&folder, &["inspect", "shrt", "ring"], 3, &["run: 20: shrt cannot be read: No such file or directory\n"]);
     wrong(&folder, &["inspect", "forged"], "1 arguments do not fit");
 }
 

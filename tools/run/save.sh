@@ -155,7 +155,8 @@ judge() { # NAME TEXT ARGS ..
     esac
 }
 
-# Says a refusal. An input that cannot be read counts as no bytes: then the system's reason is said, and not the status's.
+# Says a refusal. An input that cannot be read counts as no bytes: then the system's reason is said, not the status's, and the
+# exit status is 3, so that a mistyped path is not taken for a bad file.
 refuse() { # NAME FIRST_ARGUMENT STATUS ROW FILE WHOSE RING
     local input='' why=''
     case $3 in
@@ -164,7 +165,7 @@ refuse() { # NAME FIRST_ARGUMENT STATUS ROW FILE WHOSE RING
     esac
     if [ -n "$why" ]; then
         say "$3: ${input:-''} cannot be read: $why"
-        return 1
+        return 3
     fi
     means "$1" "$2" "$3" "$4" "$5" "$6"
     [ ! -f "$input" ] || say "$input is $(stat -L -c %s -- "$input") bytes long"
