@@ -101,7 +101,8 @@ fn crypt_with_tables(
     ad: &[u8],
     text: &mut [u8],
 ) -> TagAndCalls
-    requires { ⌜ (needsTables suite ≡ true) × IsSuite suite × (length (now key) ≡ 16) × (length (now nonce) ≡ nonceOf suite) × (length (now ad) ≤ limit) × (length (now text) ≤ limit) ⌝ }
+    requires { ⌜ (needsTables suite ≡ true) × IsSuite suite × (length (now key) ≡ 16) × (length (now nonce) ≡ nonceOf suite)
+        × (length (now ad) ≤ limit) × (length (now text) ≤ limit) ⌝ }
     ensures text { λ _. ⌜ now (text .exit) ≡ textOut (cipherOf suite) opening (now (key .entry)) (now (nonce .entry)) (now (ad .entry)) (now (text .entry)) ⌝ }
     ensures tag { λ r. ⌜ take (sizeOf suite) (wide (r .tag)) ≡ tagOut (cipherOf suite) opening (now (key .entry)) (now (nonce .entry)) (now (ad .entry))
         (now (text .entry)) ⌝ }
@@ -121,7 +122,8 @@ fn crypt_without_tables(
     ad: &[u8],
     text: &mut [u8],
 ) -> TagAndCalls
-    requires { ⌜ (needsTables suite ≡ false) × IsSuite suite × (length (now key) ≡ 16) × (length (now nonce) ≡ nonceOf suite) × (length (now ad) ≤ limit) × (length (now text) ≤ limit) ⌝ }
+    requires { ⌜ (needsTables suite ≡ false) × IsSuite suite × (length (now key) ≡ 16) × (length (now nonce) ≡ nonceOf suite)
+        × (length (now ad) ≤ limit) × (length (now text) ≤ limit) ⌝ }
     ensures text { λ _. ⌜ now (text .exit) ≡ textOut (cipherOf suite) opening (now (key .entry)) (now (nonce .entry)) (now (ad .entry)) (now (text .entry)) ⌝ }
     ensures tag { λ r. ⌜ take (sizeOf suite) (wide (r .tag)) ≡ tagOut (cipherOf suite) opening (now (key .entry)) (now (nonce .entry)) (now (ad .entry))
         (now (text .entry)) ⌝ }
