@@ -1,6 +1,6 @@
 // The entries of a file that passes, one after another: the job of each, and whether its tag is right.
 use shift_format::row::Row;
-use shift_jobs::lend::row_of;
+use shift_lookup::found::row_of;
 use shift_jobs::lend::verify_row;
 ghost use mathlib.Core.Path.{_≡_};
 ghost use Prim.Native.Nat.{_<_};

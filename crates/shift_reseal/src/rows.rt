@@ -5,7 +5,7 @@ use cipher::RETIRED;
 use shift_format::body::text_start;
 use shift_format::row::Row;
 use shift_jobs::lend::open_row;
-use shift_jobs::lend::row_of;
+use shift_lookup::found::row_of;
 use shift_writer::answers::Written;
 use shift_writer::piece::seal_into;
 use status::verdict::Verdict;

@@ -6,7 +6,7 @@ use byte_runs::wipe;
 use shift_format::body::text_of;
 use shift_format::body::text_start;
 use shift_jobs::lend::open_row;
-use shift_jobs::lend::row_of;
+use shift_lookup::found::row_of;
 use status::verdict::Verdict;
 ghost use mathlib.Core.Path.{_≡_};
 ghost use mathlib.Core.Bool.{true};

@@ -4,10 +4,10 @@ ghost use mathlib.Core.Path.{_≡_};
 ghost use Prim.Native.Nat.{_≤_};
 ghost use Rattle.status.specs.Answers.{answer};
 ghost use Rattle.shift_check.specs.Check.{checkFile};
-ghost use Rattle.shift_jobs.specs.declared.answers.Entry.{Entry};
+ghost use Rattle.shift_lookup.specs.declared.answers.Entry.{Entry};
 ghost use Rattle.shift_jobs.specs.declared.answers.Genuine.{Genuine};
-ghost use Rattle.shift_jobs.specs.Lookup.{lookupJob};
-ghost use Rattle.shift_jobs.specs.Entry.{entryOf};
+ghost use Rattle.shift_lookup.specs.Lookup.{lookupJob};
+ghost use Rattle.shift_lookup.specs.Entry.{entryOf};
 ghost use Rattle.shift_jobs.specs.Opening.{JobOpened, jobOpening};
 ghost use Rattle.shift_jobs.specs.Genuine.{jobVerifying};
 ghost use Rattle.snoekeldraf.specs.Located.{Located, locating};
@@ -34,7 +34,7 @@ pub extern "C" fn shift_check(file: &[u8], row: &mut u32) -> u32
 pub extern "C" fn shift_lookup(file: &[u8], job: u32, row: &mut u32) -> u32
     ensures { λ r. ⌜ answer r (now (row .exit)) ≡ lookupJob (now (file .entry)) job ⌝ }
 {
-    say(shift_jobs::lookup(file, job).answer(), row)
+    say(shift_lookup::lookup(file, job).answer(), row)
 }
 
 // The lookup's number, and where in the file the job's associated data lies; 0 and 0 if the lookup refuses.
@@ -42,7 +42,7 @@ pub extern "C" fn shift_lookup(file: &[u8], job: u32, row: &mut u32) -> u32
 pub extern "C" fn shift_associated(file: &[u8], job: u32, at: &mut u32, len: &mut u32) -> u32
     ensures { λ r. ⌜ _≡_ {A = Located} (record { number = r; at = now (at .exit); len = now (len .exit) }) (locating (now (file .entry)) job) ⌝ }
 {
-    let entry = shift_jobs::entry(file, job);
+    let entry = shift_lookup::entry(file, job);
     *at = entry.ad_at;
     *len = entry.ad_len;
     entry.number as u32
@@ -69,7 +69,7 @@ pub extern "C" fn shift_entry(
     })
         (entryOf (now (file .entry)) job) ⌝ }
 {
-    let entry = shift_jobs::entry(file, job);
+    let entry = shift_lookup::entry(file, job);
     *row = entry.row as u32;
     *ad_at = entry.ad_at;
     *ad_len = entry.ad_len;

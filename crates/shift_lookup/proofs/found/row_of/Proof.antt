@@ -1,7 +1,7 @@
 -- The table's row at the row size of the file's own edition.
 use borrow.Author.Needs.{needs}
-use Rattle.shift_jobs.proofs.lend.row_of.Statement.{statement}
-use Rattle.shift_jobs.proofs.lend.row_of.Tie as tie
+use Rattle.shift_lookup.proofs.found.row_of.Statement.{statement}
+use Rattle.shift_lookup.proofs.found.row_of.Tie as tie
 
 row-size-of-requires : tie.Need-row-size-of-requires
 row-size-of-requires c κs = search needs

@@ -4,11 +4,11 @@ use mathlib.Core.Path.{sym, ap, _∙_}
 use native.Mathlib.Omega.{arith}
 use borrow.Author.Needs.{needs}
 use denote.Ref.{now}
-use Rattle.shift_jobs.specs.Answers.{foundAnswer}
-use Rattle.shift_jobs.proofs.Lookups.{found-in, not-at}
-use Rattle.shift_jobs.proofs.Places.{places-found, places-none, text-low}
-use Rattle.shift_jobs.proofs.found.entry_found.Statement.{statement}
-use Rattle.shift_jobs.proofs.found.entry_found.Tie as tie
+use Rattle.shift_lookup.specs.Answers.{foundAnswer}
+use Rattle.shift_lookup.proofs.Lookups.{found-in, not-at}
+use Rattle.shift_lookup.proofs.Places.{places-found, places-none, text-low}
+use Rattle.shift_lookup.proofs.found.entry_found.Statement.{statement}
+use Rattle.shift_lookup.proofs.found.entry_found.Tie as tie
 
 enum-known-found : tie.Need-enum-known-found
 enum-known-found c = search needs

@@ -11,7 +11,7 @@ use Rattle.shift_format.specs.Format.{countOf, firstEdition, newest, rowSizeOf}
 use Rattle.shift_check.specs.Check.{checkFile}
 use Rattle.shift_check.proofs.Searches.{first-says}
 use Rattle.shift_check.proofs.Numbered.{Numbered, check-numbered}
-use Rattle.shift_jobs.specs.Lookup.{findFrom, lookupJob}
+use Rattle.shift_lookup.specs.Lookup.{findFrom, lookupJob}
 
 found-numbered : (w : ℕ) (f : List ℕ) (n job i : ℕ) → (findFrom w f n job i .number ≡ 0 → ⊥) → Numbered 32 (findFrom w f n job i)
 unfolding findFrom

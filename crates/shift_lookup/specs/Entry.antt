@@ -7,8 +7,8 @@ use lib.ListN.{length}
 use lib.Dec.{eqb}
 use Rattle.status.specs.declared.checked.Answer.{Answer}
 use Rattle.shift_format.specs.Format.{rowOf}
-use Rattle.shift_jobs.specs.declared.answers.Entry.{Entry}
-use Rattle.shift_jobs.specs.Lookup.{lookupJob}
+use Rattle.shift_lookup.specs.declared.answers.Entry.{Entry}
+use Rattle.shift_lookup.specs.Lookup.{lookupJob}
 
 -- where the associated data of the row that a lookup found starts; 0 if it refuses
 unfoldable pub dataStart : List ℕ → Answer → ℕ

@@ -15,11 +15,11 @@ use Rattle.shift_format.specs.Inside.{EntryIn}
 use Rattle.shift_check.proofs.Searches.{first-says}
 use Rattle.status.proofs.Numbers.{refusal-some}
 use Rattle.shift_check.proofs.Passed.{Passes, passes, both-zero, entry-in}
-use Rattle.shift_jobs.specs.declared.answers.Found.{Found}
-use Rattle.shift_jobs.specs.declared.answers.Found.the-variants as found
-use Rattle.shift_jobs.specs.Answers.{foundAnswer}
-use Rattle.shift_jobs.specs.Lookup.{findFrom, lookupJob}
-use Rattle.shift_jobs.proofs.answers.Found.{the-type}
+use Rattle.shift_lookup.specs.declared.answers.Found.{Found}
+use Rattle.shift_lookup.specs.declared.answers.Found.the-variants as found
+use Rattle.shift_lookup.specs.Answers.{foundAnswer}
+use Rattle.shift_lookup.specs.Lookup.{findFrom, lookupJob}
+use Rattle.shift_lookup.proofs.answers.Found.{the-type}
 
 -- row i of a file that passes has the job
 pub record Holding (f : List ℕ) (job i : ℕ) : Type 0 where

@@ -4,8 +4,8 @@ use shift_format::row::row_at;
 ghost use mathlib.Core.Path.{_≡_};
 ghost use lib.ListN.{length};
 ghost use Rattle.shift_format.specs.Inside.{TableIn};
-ghost use Rattle.shift_jobs.specs.Answers.{foundAnswer};
-ghost use Rattle.shift_jobs.specs.Halving.{jobsOf, halving};
+ghost use Rattle.shift_lookup.specs.Answers.{foundAnswer};
+ghost use Rattle.shift_lookup.specs.Halving.{jobsOf, halving};
 
 // What the search finds, and how many rows it looked at.
 pub struct Searched {

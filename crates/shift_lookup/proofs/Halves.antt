@@ -12,7 +12,7 @@ use lib.Dec.{eqb, ltb}
 use borrow.Author.Tests.{eq-eqb, ne-eqb, lt-ltb, le-ltb}
 use Rattle.status.specs.declared.checked.Answer.{Answer}
 use Rattle.status.specs.Answers.{answer}
-use Rattle.shift_jobs.specs.Halving.{Walk, ends, visit, halvingIn, halving}
+use Rattle.shift_lookup.specs.Halving.{Walk, ends, visit, halvingIn, halving}
 
 -- what follows a look at a row whose tests say a and b
 abbrev step : Bool → Bool → ℕ → Walk → Walk → Walk

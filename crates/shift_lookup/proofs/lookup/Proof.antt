@@ -2,13 +2,13 @@
 use mathlib.Core.Path.{sym}
 use native.Mathlib.Omega.{arith}
 use denote.Ref.{now}
-use Rattle.shift_jobs.specs.Lookup.{lookupJob}
+use Rattle.shift_lookup.specs.Lookup.{lookupJob}
 use Rattle.shift_format.specs.Format.{firstEdition, newest}
-use Rattle.shift_jobs.proofs.Finding.{halving-finds}
+use Rattle.shift_lookup.proofs.Finding.{halving-finds}
 use Rattle.shift_check.proofs.Passed.{passes, passed-zero, refused-stands}
 use borrow.Author.Needs.{needs}
-use Rattle.shift_jobs.proofs.lookup.Statement.{statement}
-use Rattle.shift_jobs.proofs.lookup.Tie as tie
+use Rattle.shift_lookup.proofs.lookup.Statement.{statement}
+use Rattle.shift_lookup.proofs.lookup.Tie as tie
 
 check-requires : tie.Need-check-requires
 check-requires c κs = search needs

@@ -12,11 +12,11 @@ use Rattle.shift_check.specs.Check.{checkFile}
 use Rattle.shift_check.proofs.Searches.{first-says}
 use Rattle.shift_check.proofs.Passed.{passes}
 use Rattle.shift_check.proofs.Rising.{rising, only}
-use Rattle.shift_jobs.specs.Lookup.{findFrom, lookupJob}
-use Rattle.shift_jobs.specs.Halving.{halving, jobsOf}
-use Rattle.shift_jobs.specs.Promised.{Has, JobFound}
-use Rattle.shift_jobs.proofs.Halves.{says}
-use Rattle.shift_jobs.proofs.Lookups.{holding}
+use Rattle.shift_lookup.specs.Lookup.{findFrom, lookupJob}
+use Rattle.shift_lookup.specs.Halving.{halving, jobsOf}
+use Rattle.shift_lookup.specs.Promised.{Has, JobFound}
+use Rattle.shift_lookup.proofs.Halves.{says}
+use Rattle.shift_lookup.proofs.Lookups.{holding}
 
 module _ (f : List ℕ) (job : ℕ) (z : checkFile f .number ≡ 0) where
   goes : lookupJob f job ≡ findFrom (rowSizeOf f) f (countOf f) job 0

@@ -2,9 +2,9 @@
 use denote.Ref.{now}
 use mathlib.Core.Path.{ap, _∙_}
 use borrow.Author.Needs.{needs}
-use Rattle.shift_jobs.specs.Entry.{entryAt}
-use Rattle.shift_jobs.proofs.entry.Statement.{statement}
-use Rattle.shift_jobs.proofs.entry.Tie as tie
+use Rattle.shift_lookup.specs.Entry.{entryAt}
+use Rattle.shift_lookup.proofs.entry.Statement.{statement}
+use Rattle.shift_lookup.proofs.entry.Tie as tie
 
 lookup-requires : tie.Need-lookup-requires
 lookup-requires c κs = search needs

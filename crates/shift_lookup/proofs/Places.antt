@@ -11,10 +11,10 @@ use Rattle.status.specs.declared.checked.Answer.{Answer}
 use Rattle.shift_format.specs.declared.row.Row.{Row}
 use Rattle.shift_format.specs.Format.{rowOf, bodyEnd}
 use Rattle.status.specs.Answers.{answer}
-use Rattle.shift_jobs.specs.declared.answers.Entry.{Entry}
-use Rattle.shift_jobs.specs.Lookup.{lookupJob}
-use Rattle.shift_jobs.specs.Entry.{dataStart, dataLength, textStart, textLength, entryAt, Lies, EntriesLie}
-use Rattle.shift_jobs.proofs.Lookups.{holding, found-in}
+use Rattle.shift_lookup.specs.declared.answers.Entry.{Entry}
+use Rattle.shift_lookup.specs.Lookup.{lookupJob}
+use Rattle.shift_lookup.specs.Entry.{dataStart, dataLength, textStart, textLength, entryAt, Lies, EntriesLie}
+use Rattle.shift_lookup.proofs.Lookups.{holding, found-in}
 
 -- an entry's six values
 abbrev placed : Answer → ℕ → ℕ → ℕ → ℕ → Entry

@@ -1,8 +1,8 @@
 -- The entry tells place and length, and they lie in the file.
 use borrow.Author.Needs.{needs}
-use Rattle.shift_jobs.proofs.Places.{data-in}
-use Rattle.shift_jobs.proofs.associated.Statement.{statement}
-use Rattle.shift_jobs.proofs.associated.Tie as tie
+use Rattle.shift_lookup.proofs.Places.{data-in}
+use Rattle.shift_lookup.proofs.associated.Statement.{statement}
+use Rattle.shift_lookup.proofs.associated.Tie as tie
 
 entry-requires : tie.Need-entry-requires
 entry-requires c κs = search needs
