@@ -27,7 +27,7 @@ use Rattle.shift_compare.specs.Comparing.{Comparison, comparison}
 use Rattle.shift_report.specs.Reporting.{Report, reporting}
 use Rattle.shift_reader.specs.declared.contents.HeaderFields.{HeaderFields}
 use Rattle.shift_reader.specs.Contents.{headerAnswer, rowAnswer}
-use Rattle.snoekeldraf.specs.Words.{Nine, ofWords, wordsOf, after, inWords}
+use Rattle.session_words.specs.Words.{Nine, ofWords, wordsOf, after, inWords}
 use Rattle.snoekeldraf.specs.Located.{Located, locating}
 use Rattle.snoekeldraf.specs.Amended.{Placed, placing}
 use Rattle.snoekeldraf.specs.Fields.{InFields, inFields}

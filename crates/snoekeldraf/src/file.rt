@@ -1,7 +1,6 @@
 // The shift file.
-use status::checked::Answer;
+use status::checked::say;
 ghost use mathlib.Core.Path.{_≡_};
-ghost use Prim.Native.Nat.{_≤_};
 ghost use Rattle.status.specs.Answers.{answer};
 ghost use Rattle.shift_check.specs.Check.{checkFile};
 ghost use Rattle.shift_lookup.specs.declared.answers.Entry.{Entry};
@@ -11,15 +10,6 @@ ghost use Rattle.shift_lookup.specs.Entry.{entryOf};
 ghost use Rattle.shift_jobs.specs.Opening.{JobOpened, jobOpening};
 ghost use Rattle.shift_jobs.specs.Genuine.{jobVerifying};
 ghost use Rattle.snoekeldraf.specs.Located.{Located, locating};
-
-// Writes the row that an answer carries, and returns its number.
-pub(crate) fn say(outcome: Answer, row: &mut u32) -> u32
-    requires { ⌜ outcome .row ≤ 512 ⌝ }
-    ensures { λ r. ⌜ answer r (now (row .exit)) ≡ outcome ⌝ }
-{
-    *row = outcome.row as u32;
-    outcome.number as u32
-}
 
 // The full check: numbers 20 to 31 and 34, and the row.
 #[no_mangle]

@@ -16,7 +16,7 @@ use Rattle.session.specs.declared.Session.{Session}
 use Rattle.session.specs.declared.Step.{Step}
 use Rattle.session.specs.Value.{Given, over, gave}
 use Rattle.session.specs.Structs.{asValue, gives}
-use Rattle.snoekeldraf.specs.Words.{Nine, ofWords, wordsOf, after, inWords}
+use Rattle.session_words.specs.Words.{Nine, ofWords, wordsOf, after, inWords}
 
 -- ---- two words side by side
 

@@ -1,9 +1,9 @@
--- `snoekeldraf::sessions::words_of` meets its contract: each word is read back from its eight bytes.
+-- `session_words::words_of` meets its contract: each word is read back from its eight bytes.
 use native.Mathlib.Omega.{arith}
-use Rattle.snoekeldraf.proofs.Words.{Small, its-words, its-session}
+use Rattle.session_words.proofs.Words.{Small, its-words, its-session}
 use borrow.Author.Needs.{needs}
-use Rattle.snoekeldraf.proofs.sessions.words_of.Statement.{statement}
-use Rattle.snoekeldraf.proofs.sessions.words_of.Tie as tie
+use Rattle.session_words.proofs.words_of.Statement.{statement}
+use Rattle.session_words.proofs.words_of.Tie as tie
 
 block-of-requires : tie.Need-block-of-requires
 block-of-requires c κs = search needs

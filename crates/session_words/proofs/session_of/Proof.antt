@@ -1,12 +1,12 @@
--- `snoekeldraf::sessions::session_of` meets its contract: the held bytes are the two words' bytes.
+-- `session_words::session_of` meets its contract: the held bytes are the two words' bytes.
 use mathlib.Core.Path.{ap}
 use mathlib.Core.List.{List, _++_}
 use Prim.Native.Nat.{ℕ}
 use lib.ListN.{getD}
 use Rattle.block.specs.Bytes.{bytes}
 use borrow.Author.Needs.{needs}
-use Rattle.snoekeldraf.proofs.sessions.session_of.Statement.{statement}
-use Rattle.snoekeldraf.proofs.sessions.session_of.Tie as tie
+use Rattle.session_words.proofs.session_of.Statement.{statement}
+use Rattle.session_words.proofs.session_of.Tie as tie
 
 array-read-t6 : tie.Need-array-read-t6
 array-read-t6 c = search needs
