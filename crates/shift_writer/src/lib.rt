@@ -1,6 +1,5 @@
 // The writer of shift files: seals a draft, and restores the draft of a sealed file.
 pub mod answers;
-pub mod piece;
 mod rows;
 mod suites;
 mod tags;

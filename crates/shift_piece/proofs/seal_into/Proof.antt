@@ -12,9 +12,9 @@ use Rattle.shift_format.specs.Part.{stretch}
 use Rattle.shift_format.proofs.Rows.{stretch-length}
 use Rattle.shift_jobs.proofs.Entries.{lendable}
 use Rattle.shift_draft.specs.Files.{pieceAs}
-use Rattle.shift_writer.proofs.Lending.{seal-told, part-is, put-both}
-use Rattle.shift_writer.proofs.piece.seal_into.Statement.{statement}
-use Rattle.shift_writer.proofs.piece.seal_into.Tie as tie
+use Rattle.shift_piece.proofs.Lending.{seal-told, part-is, put-both}
+use Rattle.shift_piece.proofs.seal_into.Statement.{statement}
+use Rattle.shift_piece.proofs.seal_into.Tie as tie
 
 cast-len : tie.Need-cast-len
 cast-len c = search needs

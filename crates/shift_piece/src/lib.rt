@@ -5,7 +5,7 @@ use shift_jobs::lend::seal_as;
 ghost use mathlib.Core.Path.{_≡_};
 ghost use lib.ListN.{take};
 ghost use Rattle.shift_draft.specs.Files.{pieceAs};
-ghost use Rattle.shift_writer.specs.Inside.{PieceWritable};
+ghost use Rattle.shift_piece.specs.Inside.{PieceWritable};
 
 // Seals the text at the output's front under a suite, with key, nonce and associated data of row i: ciphertext over the text, then the tag.
 pub fn seal_into(file: &[u8], ring: &[u8], index: usize, row: Row, suite: u8, out: &mut [u8])
