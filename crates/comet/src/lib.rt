@@ -8,9 +8,6 @@ use block_step::tag::TagAndCalls;
 use cipher::AesTables;
 use status::verdict::Verdict;
 use status::verdict::refused;
-
-mod text;
-
 ghost use mathlib.Core.Path.{_≡_};
 ghost use mathlib.Core.Bool.{true, false};
 ghost use Prim.Native.Nat.{_≤_};
@@ -75,7 +72,7 @@ fn crypt_core(
 {
     let mut state = block_step::state::start(tables, suite, key, nonce);
     if ad.len() != 0 {
-        state = text::absorb_all(
+        state = comet_text::absorb_all(
             tables,
             false,
             suite,
@@ -86,7 +83,7 @@ fn crypt_core(
         );
     }
     if 0 < text.len() {
-        state = text::crypt_all(tables, opening, suite, state, text);
+        state = comet_text::crypt_all(tables, opening, suite, state, text);
     }
     block_step::tag::tag_of(tables, suite, state)
 }
@@ -383,7 +380,7 @@ fn tag_core(
 {
     let mut state = block_step::state::start(tables, suite, key, nonce);
     if ad.len() != 0 {
-        state = text::absorb_all(
+        state = comet_text::absorb_all(
             tables,
             false,
             suite,
@@ -394,7 +391,7 @@ fn tag_core(
         );
     }
     if text.len() != 0 {
-        state = text::absorb_all(
+        state = comet_text::absorb_all(
             tables,
             true,
             suite,

@@ -25,7 +25,7 @@ use Rattle.block_step.specs.declared.state.State.{State}
 use Rattle.block_step.specs.Two.{twoOf}
 use Rattle.comet.specs.Answers.{opening}
 use Rattle.comet.proofs.Counts.{count-most, count-all}
-use Rattle.comet.proofs.Turns.{empty-count}
+use Rattle.comet_text.proofs.Turns.{empty-count}
 use Rattle.comet.proofs.crypt_core.Statement.{statement}
 use Rattle.comet.proofs.crypt_core.Tie as tie
 

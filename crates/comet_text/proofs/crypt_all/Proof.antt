@@ -1,4 +1,4 @@
--- `comet::text::crypt_all`, by three cases: the text is shorter than a block, it has whole blocks and a short one, or whole
+-- `comet_text::crypt_all`, by three cases: the text is shorter than a block, it has whole blocks and a short one, or whole
 -- blocks only. The walk over the whole blocks is the callee's; the laws `last-..` and `none-..` of `Turns` add the last block,
 -- or none.
 use borrow.Author.Needs.{needs}
@@ -16,9 +16,9 @@ use Rattle.mode.proofs.Chain.{some}
 use Rattle.mode.proofs.Cut.{rest-less}
 use Rattle.block_step.specs.Two.{twoOf}
 use Rattle.block_walk.proofs.Front.{left-long, walk-short, cover-short}
-use Rattle.comet.proofs.Turns.{lent, last-walk, last-out, none-walk, none-out, last-count, none-count, short-count}
-use Rattle.comet.proofs.text.crypt_all.Statement.{statement}
-use Rattle.comet.proofs.text.crypt_all.Tie as tie
+use Rattle.comet_text.proofs.Turns.{lent, last-walk, last-out, none-walk, none-out, last-count, none-count, short-count}
+use Rattle.comet_text.proofs.crypt_all.Statement.{statement}
+use Rattle.comet_text.proofs.crypt_all.Tie as tie
 
 module _ (g : tie.After-crypt) where
   abbrev st : tie.Start

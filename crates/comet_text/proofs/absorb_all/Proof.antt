@@ -1,4 +1,4 @@
--- `comet::text::absorb_all` meets its contract: after the whole blocks the short one is absorbed, if there is one.
+-- `comet_text::absorb_all` meets its contract: after the whole blocks the short one is absorbed, if there is one.
 use borrow.Author.Needs.{needs}
 use denote.Ref.{now}
 use lib.ListN.{length}
@@ -12,9 +12,9 @@ use Rattle.mode.specs.Walk.{rest}
 use Rattle.mode.proofs.Chain.{some}
 use Rattle.block_step.specs.Two.{twoOf}
 use Rattle.block_walk.proofs.Front.{left, left-long, left-short}
-use Rattle.comet.proofs.Turns.{last-walk, none-walk, last-count, none-count}
-use Rattle.comet.proofs.text.absorb_all.Statement.{statement}
-use Rattle.comet.proofs.text.absorb_all.Tie as tie
+use Rattle.comet_text.proofs.Turns.{last-walk, none-walk, last-count, none-count}
+use Rattle.comet_text.proofs.absorb_all.Statement.{statement}
+use Rattle.comet_text.proofs.absorb_all.Tie as tie
 
 absorb-requires : tie.Need-absorb-requires
 absorb-requires c κs = search needs

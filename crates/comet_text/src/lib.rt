@@ -1,4 +1,4 @@
-// All blocks of the associated data and of the text, a step each: the whole ones (crate block_walk), and then the short one, if there is one.
+// The functions that process all blocks of associated data or of a text: the whole blocks by `block_walk`, then the short one, if there is one.
 use block_step::marks::MARK_FIRST_TEXT;
 use block_step::marks::MARK_SHORT_TEXT;
 use block_step::one_block::absorb_short;
@@ -15,7 +15,7 @@ ghost use Rattle.mode.specs.Walk.{walked, covered};
 ghost use Rattle.block_step.specs.Two.{twoOf};
 
 // Absorbs all blocks of the bytes, one cipher call each, the first under the mark `first` and a short one also under the mark `short`; nothing is written.
-pub(crate) fn absorb_all(
+pub fn absorb_all(
     tables: &[AesTables],
     opening: bool,
     suite: u8,
@@ -46,7 +46,7 @@ pub(crate) fn absorb_all(
 }
 
 // Seals or opens all blocks of a nonempty text in place, one cipher call each.
-pub(crate) fn crypt_all(
+pub fn crypt_all(
     tables: &[AesTables],
     opening: bool,
     suite: u8,

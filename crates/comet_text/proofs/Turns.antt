@@ -1,4 +1,4 @@
--- Behind the whole blocks of a text stands a short block or nothing: with it the walk has gone over all blocks, and what was output is the whole text.
+-- After the whole blocks of a text comes a short block or nothing. With it the walk has covered all blocks, and the output is the whole text.
 use mathlib.Core.Path.{_≡_, sym, ap, ap₂, _∙_}
 use mathlib.Core.Bool.{Bool, cond}
 use Prim.Native.Nat.{ℕ, _+_, _-_, _^_, _%_, _<_}
@@ -66,13 +66,13 @@ module _ (κ : Cipher) (pos : 0 < κ .size) (d : Bool) (first short : ℕ) (s : 
     long : length front ≡ i
     long = omega (arith, ap length et, length-append front (rest n l), left-long n pos l i ei, left-within n pos l i ei, lt)
 
-    -- as the code lends it
+    -- the part that the code borrows
     pub lent : take (length l - i) (drop i text) ≡ rest n l
     lent =
         ap (take (length l - i)) (ap (drop i) et ∙ drop-at front (rest n l) i long)
         ∙ take-all (length l - i) (rest n l) (le-of-eq (left-long n pos l i ei))
 
-    -- a short block came back as o
+    -- the short block was overwritten with o
     pub last-out : 0 < length (rest n l) → (o : List ℕ) → o ≡ hidden κ (xor k short) u (take (length l - i) (drop i text))
         → putMid i (length l - i) text o ≡ covered κ d first short s (blocks n l)
     last-out some o eo =
