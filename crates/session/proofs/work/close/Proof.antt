@@ -12,7 +12,8 @@ use Rattle.cipher.proofs.Suites.{size-most}
 use Rattle.block_step.specs.Two.{twoOf}
 use Rattle.session.specs.Value.{endNumber, endDone, ending}
 use Rattle.session.specs.Structs.{asValue}
-use Rattle.session.proofs.Refuse.{end-passed, answer-done}
+use Rattle.session_ladder.proofs.Rungs.{end-passed}
+use Rattle.session.proofs.Refuse.{answer-done}
 use Rattle.session.proofs.Parts.{end-given}
 use Rattle.session.proofs.work.close.Statement.{statement}
 use Rattle.session.proofs.work.close.Tie as tie

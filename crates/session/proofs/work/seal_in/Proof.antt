@@ -11,7 +11,8 @@ use Prim.Native.Nat.{ℕ, _%_, _<_}
 use Rattle.block_step.specs.Two.{twoOf}
 use Rattle.session.specs.Value.{textNumber, textDone, textPart}
 use Rattle.session.specs.Structs.{asValue}
-use Rattle.session.proofs.Refuse.{text-passed, answer-done}
+use Rattle.session_ladder.proofs.Rungs.{text-passed}
+use Rattle.session.proofs.Refuse.{answer-done}
 use Rattle.session.proofs.Parts.{part-given, done-more}
 use Rattle.session.proofs.work.seal_in.Statement.{statement}
 use Rattle.session.proofs.work.seal_in.Tie as tie

@@ -15,7 +15,8 @@ use Rattle.mode.specs.Blocks.{blocks}
 use Rattle.mode.specs.Walk.{States, whole, rest, walked}
 use Rattle.session.specs.Value.{Value, valueOf, gave, states, dataNumber, dataStates, dataIn, dataPart}
 use Rattle.session.specs.Structs.{asValue}
-use Rattle.session.proofs.Refuse.{data-passed, answer-done}
+use Rattle.session_ladder.proofs.Rungs.{data-passed}
+use Rattle.session.proofs.Refuse.{answer-done}
 use Rattle.session.proofs.work.take_in.Statement.{statement}
 use Rattle.session.proofs.work.take_in.Tie as tie
 
