@@ -1,7 +1,7 @@
 -- Bytes held and joined, bytes written, and the block that held bytes and a part make, as laws on lists.
 use mathlib.Core.Path.{_≡_, sym, ap, ap₂, _∙_}
 use mathlib.Core.Bool.{false}
-use Prim.Native.Nat.{ℕ, _+_, _-_, _*_, _/_, _≤_, _<_}
+use Prim.Native.Nat.{ℕ, suc, _+_, _-_, _*_, _/_, _≤_, _<_}
 use native.Mathlib.Nat.{le-of-eq}
 use native.Mathlib.Omega.{arith}
 use mathlib.Core.List.{List, [], _++_, append-assoc, append-nil}
@@ -14,7 +14,8 @@ use Rattle.cipher.specs.Cipher.{Cipher}
 use Rattle.mode.specs.Blocks.{blocks}
 use Rattle.mode.proofs.Cut.{length-whole, cut-whole, cut-rest}
 use Rattle.mode.specs.Walk.{States, whole, rest, walked}
-use Rattle.block_walk.proofs.Front.{front-rest, front-walk, one-walk}
+use Rattle.block_walk.specs.Progress.{wholes}
+use Rattle.block_walk.proofs.Front.{front-blocks, front-rest, short-blocks, front-walk, one-walk}
 use Rattle.session_blocks.specs.Written.{written}
 
 -- ---- bytes held
@@ -129,3 +130,13 @@ module _ (κ : Cipher) (pos : 0 < κ .size) (short : ℕ) where
     more-rest r e =
         e ∙ ap (λ (l : List ℕ). filled (rest n l)) behind
         ∙ sym (ap (λ (l : List ℕ). filled (rest n l)) split ∙ ap filled (front-rest n pos (x ++ take need p) (drop need p) lb))
+
+    pub more-count : (k : ℕ) → k ≡ n → length (wholes n (take (k - 0) (drop 0 b))) + length (wholes n (take (length p - need) (drop need p)))
+        ≡ length (wholes n (x ++ p))
+    more-count k ek =
+        let first : length (wholes n (x ++ take need p)) ≡ 1 =
+        ap (λ (l : List ℕ). length (wholes n l)) (sym (append-nil (x ++ take need p))) ∙ ap length (front-blocks n pos (x ++ take need p) [] lb)
+        ∙ ap (λ (bs : List (List ℕ)). suc (length bs)) (short-blocks n pos [] pos) in
+        let all : length (wholes n (x ++ p)) ≡ suc (length (wholes n (drop need p))) =
+        ap (λ (l : List ℕ). length (wholes n l)) split ∙ ap length (front-blocks n pos (x ++ take need p) (drop need p) lb) in
+        ap₂ (λ (l m : List ℕ). length (wholes n l) + length (wholes n m)) (block-is k ek) behind ∙ omega (arith, first, all)

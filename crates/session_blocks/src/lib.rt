@@ -15,6 +15,7 @@ ghost use Rattle.mode.specs.Blocks.{blocks};
 ghost use Rattle.mode.specs.Walk.{whole, rest, walked, covered};
 ghost use Rattle.block_step.specs.Two.{twoOf};
 ghost use Rattle.block_walk.specs.Progress.{wholes, Passed};
+ghost use Rattle.session_blocks.specs.Counted.{Counted};
 ghost use Rattle.session_blocks.specs.Written.{written};
 
 // The two states, and the buffered bytes.
@@ -43,6 +44,7 @@ fn absorb_blocks(tables: &[AesTables], suite: u8, start: State, ad: &[u8]) -> Ab
     ensures states { λ r. ⌜ twoOf suite (r .s) ≡ walked (cipherOf suite) false 0 0x10 (twoOf suite start)
         (blocks (sizeOf suite) (whole (sizeOf suite) (now (ad .entry)))) ⌝ }
     ensures held { λ r. ⌜ r .held ≡ filled (rest (sizeOf suite) (now (ad .entry))) ⌝ }
+    ensures calls { λ r. ⌜ Counted suite (length (wholes (sizeOf suite) (now (ad .entry)))) start (r .s) ⌝ }
 {
     let whole = block_walk::absorb(tables, false, suite, start, 0, ad);
     let state = whole.s;
@@ -68,6 +70,7 @@ fn absorb_past(
     ensures states { λ r. ⌜ twoOf suite (r .s) ≡ walked (cipherOf suite) false mark 0x10 (twoOf suite state)
         (blocks (sizeOf suite) (whole (sizeOf suite) (take count held ++ now (ad .entry)))) ⌝ }
     ensures held { λ r. ⌜ r .held ≡ filled (rest (sizeOf suite) (take count held ++ now (ad .entry))) ⌝ }
+    ensures calls { λ r. ⌜ Counted suite (length (wholes (sizeOf suite) (take count held ++ now (ad .entry)))) state (r .s) ⌝ }
 {
     let n = cipher::size_of(suite);
     let need = n - count;
@@ -90,6 +93,7 @@ pub fn absorb_part(
     ensures states { λ r. ⌜ twoOf suite (r .s) ≡ walked (cipherOf suite) false mark 0x10 (twoOf suite state)
         (blocks (sizeOf suite) (whole (sizeOf suite) (take count held ++ now (ad .entry)))) ⌝ }
     ensures held { λ r. ⌜ r .held ≡ filled (rest (sizeOf suite) (take count held ++ now (ad .entry))) ⌝ }
+    ensures calls { λ r. ⌜ Counted suite (length (wholes (sizeOf suite) (take count held ++ now (ad .entry)))) state (r .s) ⌝ }
 {
     let n = cipher::size_of(suite);
     if ad.len() < n - count {
@@ -156,6 +160,7 @@ pub fn crypt_part(
     ensures states { λ r. ⌜ twoOf suite (r .s) ≡ walked (cipherOf suite) false mark 0x40 (twoOf suite start)
         (blocks (sizeOf suite) (whole (sizeOf suite) (take count held ++ now (part .entry)))) ⌝ }
     ensures held { λ r. ⌜ r .held ≡ filled (rest (sizeOf suite) (take count held ++ now (part .entry))) ⌝ }
+    ensures calls { λ r. ⌜ Counted suite (length (wholes (sizeOf suite) (take count held ++ now (part .entry)))) start (r .s) ⌝ }
 {
     let n = cipher::size_of(suite);
     let all = count + part.len();
@@ -195,6 +200,7 @@ pub fn last_in(
         (now (out .entry)) ⌝ }
     ensures count { λ _. ⌜ count ≡ length (covered (cipherOf suite) false mark 0x40 (twoOf suite state) (blocks (sizeOf suite) (take count held))) ⌝ }
     ensures state { λ r. ⌜ twoOf suite r ≡ walked (cipherOf suite) false mark 0x40 (twoOf suite state) (blocks (sizeOf suite) (take count held)) ⌝ }
+    ensures calls { λ r. ⌜ Counted suite (length (blocks (sizeOf suite) (take count held))) state r ⌝ }
 {
     if count == 0 {
         return state;

@@ -2,6 +2,7 @@
 -- fewer than a block and become the buffered bytes.
 use borrow.Author.Needs.{needs}
 use denote.Ref.{now}
+use mathlib.Core.Bool.{false}
 use mathlib.Core.Path.{ap, _∙_}
 use native.Mathlib.Omega.{arith}
 use Rattle.block.specs.Blocks.{filled}
@@ -10,6 +11,7 @@ use Rattle.cipher.proofs.Lawful.{lawful}
 use Rattle.cipher.proofs.Suites.{size-most}
 use Rattle.mode.proofs.Chain.{some}
 use Rattle.block_walk.proofs.Front.{left-within, left, left-short}
+use Rattle.session_blocks.proofs.Count.{counted-passed}
 use Rattle.session_blocks.proofs.absorb_blocks.Statement.{statement}
 use Rattle.session_blocks.proofs.absorb_blocks.Tie as tie
 
@@ -46,8 +48,11 @@ returns c =
     let suite = st .args .suite in
     let w = c .before .before .before .absorb in (
       w .ensures .two 0x10,
-      c .filled-bytes .ensures ∙ ap filled (left (sizeOf suite) (some (cipherOf suite) (lawful suite)) (now (st .args .ad)) (w .result .at)
-          (w .ensures .gone)),
+      (
+        c .filled-bytes .ensures ∙ ap filled (left (sizeOf suite) (some (cipherOf suite) (lawful suite)) (now (st .args .ad)) (w .result .at)
+            (w .ensures .gone)),
+        counted-passed suite false 0 (st .args .start) (now (st .args .ad)) (w .result) (w .ensures),
+      ),
     )
 
 pub absorb-blocks-spec : {M : Type 1} → statement M

@@ -5,7 +5,7 @@ use lib.ListN.{length, take, length-append}
 use lib.Seq.{length-take-le}
 use mathlib.Core.Bool.{false}
 use mathlib.Core.List.{List, _++_}
-use mathlib.Core.Path.{_≡_, sym, ap, _∙_}
+use mathlib.Core.Path.{_≡_, sym, ap, _∙_, subst}
 use native.Mathlib.Omega.{arith}
 use Prim.Native.Nat.{ℕ, _<_}
 use Rattle.block.specs.Blocks.{filled}
@@ -13,7 +13,9 @@ use Rattle.cipher.specs.Cipher.{sizeOf, cipherOf}
 use Rattle.cipher.proofs.Suites.{none-ready}
 use Rattle.block_step.specs.Two.{twoOf}
 use Rattle.mode.proofs.Cut.{rest-short}
-use Rattle.block_walk.proofs.Front.{short-walk}
+use Rattle.block_walk.proofs.Front.{short-blocks, short-walk}
+use Rattle.session_blocks.specs.Counted.{Counted}
+use Rattle.session_blocks.proofs.Count.{counted-none}
 use Rattle.session_blocks.proofs.absorb_part.Statement.{statement}
 use Rattle.session_blocks.proofs.absorb_part.Tie as tie
 
@@ -39,8 +41,12 @@ returns c =
     let lx : length x ≡ st .args .count = length-take-le (st .args .count) (st .args .held) (omega (arith, st .pre .1, size .ensures .1 .1)) in
     let l : length (x ++ part) < sizeOf suite = omega (arith, length-append x part, c .before .if1 .taken) in (
       sym (short-walk (cipherOf suite) pos false 0x10 (st .args .mark) (twoOf suite (st .args .state)) (x ++ part) l),
-      c .joined .ensures
-          ∙ ap filled (sym (rest-short (sizeOf suite) pos (x ++ part) l)),
+      (
+        c .joined .ensures
+            ∙ ap filled (sym (rest-short (sizeOf suite) pos (x ++ part) l)),
+        subst (λ (i : ℕ). Counted suite i (st .args .state) (st .args .state)) (sym (ap length (short-blocks (sizeOf suite) pos (x ++ part) l)))
+            (counted-none suite (st .args .state) (omega arith)),
+      ),
     )
 
 needs-tables-requires : tie.Need-needs-tables-requires

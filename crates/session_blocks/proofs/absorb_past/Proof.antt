@@ -5,12 +5,15 @@ use denote.Ref.{now}
 use lib.ListN.{length, take}
 use lib.Seq.{length-take-le}
 use mathlib.Core.List.{List}
-use mathlib.Core.Path.{_≡_}
+use mathlib.Core.Bool.{false}
+use mathlib.Core.Path.{_≡_, subst}
 use native.Mathlib.Omega.{arith}
 use Prim.Native.Nat.{ℕ, _+_, _-_, _≤_, _<_}
 use Rattle.cipher.specs.Cipher.{sizeOf, cipherOf}
 use Rattle.block_step.specs.Two.{twoOf}
-use Rattle.session_blocks.proofs.Hold.{more-walk, more-rest}
+use Rattle.session_blocks.specs.Counted.{Counted}
+use Rattle.session_blocks.proofs.Count.{counted-then, counted-passed}
+use Rattle.session_blocks.proofs.Hold.{more-walk, more-rest, more-count}
 use Rattle.session_blocks.proofs.absorb_past.Statement.{statement}
 use Rattle.session_blocks.proofs.absorb_past.Tie as tie
 
@@ -78,7 +81,14 @@ returns c =
       more-walk k pos 0x10 x part (j .result) h need lx ln lp most (j .ensures) (st .args .mark) (size .result) (twoOf suite (st .args .state))
           (twoOf suite (c .before .before .absorb .result .s)) _ en
           (c .before .before .absorb .ensures .two 0x10) (c .absorb-blocks .ensures .0),
-      more-rest k pos 0x10 x part (j .result) h need lx ln lp most (j .ensures) _ (c .absorb-blocks .ensures .1),
+      (
+        more-rest k pos 0x10 x part (j .result) h need lx ln lp most (j .ensures) _ (c .absorb-blocks .ensures .1 .0),
+        subst (λ (i : ℕ). Counted suite i (st .args .state) (c .absorb-blocks .result .s))
+            (more-count k pos 0x10 x part (j .result) h need lx ln lp most (j .ensures) (size .result) en)
+            (counted-then suite _ _ (st .args .state) (c .before .before .absorb .result .s) _
+            (counted-passed suite false (st .args .mark) (st .args .state) _ (c .before .before .absorb .result) (c .before .before .absorb .ensures))
+            (c .absorb-blocks .ensures .1 .1)),
+      ),
     )
 
 pub absorb-past-spec : {M : Type 1} → statement M

@@ -8,7 +8,7 @@ use lib.ListN.{length, take, drop, length-append}
 use lib.Seq.{length-take-le}
 use mathlib.Core.Bool.{false}
 use mathlib.Core.List.{List, _++_, append-nil}
-use mathlib.Core.Path.{_≡_, sym, ap, ap₂, _∙_}
+use mathlib.Core.Path.{_≡_, sym, ap, ap₂, _∙_, subst}
 use native.Mathlib.Nat.{div-add-mod', mod-lt, le-div-iff-mul-le, mul-le-mul-right}
 use native.Mathlib.Omega.{arith}
 use Prim.Native.Nat.{ℕ, _+_, _-_, _*_, _/_, _%_, _≤_, _<_}
@@ -18,8 +18,10 @@ use Rattle.mode.specs.Blocks.{blocks}
 use Rattle.mode.specs.Walk.{whole, rest, walked, covered}
 use Rattle.mode.proofs.Cut.{length-whole, rest-less, rest-short}
 use Rattle.block_step.specs.Two.{twoOf}
-use Rattle.block_walk.proofs.Front.{short-walk, short-cover}
+use Rattle.block_walk.proofs.Front.{short-blocks, short-walk, short-cover}
+use Rattle.session_blocks.specs.Counted.{Counted}
 use Rattle.session_blocks.specs.Written.{written}
+use Rattle.session_blocks.proofs.Count.{counted-none, counted-passed}
 use Rattle.session_blocks.proofs.Hold.{lent-again, twice-written, whole-is, rest-is, whole-alone}
 use Rattle.session_blocks.proofs.crypt_part.Statement.{statement}
 use Rattle.session_blocks.proofs.crypt_part.Tie as tie
@@ -115,7 +117,11 @@ returns c =
         ap length ec,
         (
           sym (short-walk k pos false 0x40 (st .args .mark) (twoOf suite (st .args .start)) (x ++ part) l),
-          c .joined .ensures ∙ ap filled (sym (rest-short (sizeOf suite) pos (x ++ part) l)),
+          (
+            c .joined .ensures ∙ ap filled (sym (rest-short (sizeOf suite) pos (x ++ part) l)),
+            subst (λ (i : ℕ). Counted suite i (st .args .start) (st .args .start)) (sym (ap length (short-blocks (sizeOf suite) pos (x ++ part) l)))
+                (counted-none suite (st .args .start) (omega arith)),
+          ),
         ),
       ),
     )
@@ -224,7 +230,12 @@ returns-2 c =
         (
           call .ensures .1 .two 0x40 ∙ ap (λ (b : List ℕ). walked κ false m 0x40 S (blocks n (whole n b))) el
               ∙ ap (λ (b : List ℕ). walked κ false m 0x40 S (blocks n b)) (whole-alone n (pos d) l .0),
-          c .filled-bytes .ensures ∙ ap filled (rest-is n (pos d) (x d) (part d) (st d .args .count) (w d) (lx d) (w-is d) (h-within d)),
+          (
+            c .filled-bytes .ensures ∙ ap filled (rest-is n (pos d) (x d) (part d) (st d .args .count) (w d) (lx d) (w-is d) (h-within d)),
+            subst (λ (i : ℕ). Counted (suite d) i (st d .args .start) (call .result .s))
+                (ap (λ (b : List ℕ). length (blocks n (whole n b))) el ∙ ap (λ (b : List ℕ). length (blocks n b)) (whole-alone n (pos d) l .0))
+                (counted-passed (suite d) false m (st d .args .start) _ (call .result) (call .ensures .1)),
+          ),
         ),
       ),
     )

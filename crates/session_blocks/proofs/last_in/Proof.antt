@@ -5,7 +5,7 @@ use lib.ListN.{length, take, drop}
 use lib.Seq.{length-take-le}
 use mathlib.Core.Bool.{false}
 use mathlib.Core.List.{List}
-use mathlib.Core.Path.{_≡_, sym, ap, _∙_}
+use mathlib.Core.Path.{_≡_, sym, ap, _∙_, subst}
 use native.Mathlib.Nat.{sub-zero}
 use native.Mathlib.Omega.{arith}
 use Prim.Native.Nat.{ℕ, _-_, _≤_, _<_}
@@ -15,8 +15,10 @@ use Rattle.cipher.proofs.Suites.{size-most}
 use Rattle.mode.specs.Blocks.{blocks}
 use Rattle.mode.specs.Walk.{hidden, turned, covered}
 use Rattle.block_step.specs.Two.{twoOf}
-use Rattle.block_walk.proofs.Front.{walk-none, cover-none, walk-short, cover-short}
+use Rattle.block_walk.proofs.Front.{one-block, no-block, walk-none, cover-none, walk-short, cover-short}
+use Rattle.session_blocks.specs.Counted.{Counted}
 use Rattle.session_blocks.specs.Written.{written}
+use Rattle.session_blocks.proofs.Count.{counted-none, counted-one}
 use Rattle.session_blocks.proofs.Hold.{lent-again, twice-written}
 use borrow.Author.Needs.{needs}
 use borrow.Rule.Slice.PartMut.{putMid}
@@ -36,7 +38,11 @@ returns c =
     let x : List ℕ = take (st .args .count) (st .args .t5) in
     let e : length x ≡ 0 = ap (λ (i : ℕ). length (take i (st .args .t5))) (c .if1 .taken) in
     let ec = sym (cover-none k pos false 0x40 (st .args .mark) s x e) in
-    (ap (λ (w : List ℕ). written w (now (st .args .out))) ec, (c .if1 .taken ∙ ap length ec, sym (walk-none k pos false 0x40 (st .args .mark) s x e)))
+    let none = subst (λ (i : ℕ). Counted suite i (st .args .state) (st .args .state)) (sym (ap length (no-block (sizeOf suite) pos x e)))
+    (counted-none suite (st .args .state) (omega arith)) in (
+      ap (λ (w : List ℕ). written w (now (st .args .out))) ec,
+      (c .if1 .taken ∙ ap length ec, (sym (walk-none k pos false 0x40 (st .args .mark) s x e), none)),
+    )
 
 sub-copy : tie.Need-sub-copy
 sub-copy c = search needs
@@ -110,7 +116,11 @@ returns-2 c =
       twice-written out y h ly ho o _ (call .kept .1 .1 .1 .1 .1 .0) ec,
       (
         sym lo ∙ ap length ec,
-        call .ensures .1 .two ∙ ap (turned k (xor (st .args .mark) 0x40) s) ex ∙ sym (walk-short k pos false 0x40 (st .args .mark) s x px (omega arith)),
+        (
+          call .ensures .1 .two ∙ ap (turned k (xor (st .args .mark) 0x40) s) ex ∙ sym (walk-short k pos false 0x40 (st .args .mark) s x px (omega arith)),
+          subst (λ (i : ℕ). Counted suite i (st .args .state) (call .result)) (sym (ap length (one-block (sizeOf suite) pos x px (omega arith))))
+              (counted-one suite (st .args .state) (call .result) (call .ensures .1 .clean) (call .ensures .1 .made)),
+        ),
       ),
     )
 

@@ -78,7 +78,7 @@ returns c =
     let f = c .before .before .before .before .before .before .before .before .before .last-in in
     let g = c .before .before .before .before .before .before .tag-of in
     end-given v (twoOf (s .suite) (two .result)) (n .result) (m .result) (two .ensures) (n .ensures .0) (m .ensures) o _ _ _ _ (twoOf (s .suite) (f .result))
-    (f .ensures .0) (f .ensures .1 .0) (c .ended .ensures) (f .ensures .1 .1)
+    (f .ensures .0) (f .ensures .1 .0) (c .ended .ensures) (f .ensures .1 .1 .0)
     (c .before .before .before .put .ensures ∙ ap (λ (k : ℕ). take k (wide (g .result .tag))) (p .2) ∙ g .ensures .0)
     ∙ answer-done 0 (endNumber (v .suite) (v .«ad_total») (v .«text_total») (length o) (length t)) (endDone v o) v o t refl (sym (st .pre .1))
 

@@ -66,7 +66,7 @@ returns c =
     let m = c .before .before .before .before .before .before .before .first-mark in
     let f = c .before .before .before .before .before .crypt-part in
     part-given v (twoOf (s .suite) (two .result)) (n .result) (m .result) (two .ensures) (n .ensures .0) (m .ensures) p o _ (f .result .count) _
-    (twoOf (s .suite) (f .result .s)) (f .result .held) (f .ensures .0) (f .ensures .1 .0) (c .packed .ensures) (f .ensures .1 .1 .0) (f .ensures .1 .1 .1)
+    (twoOf (s .suite) (f .result .s)) (f .result .held) (f .ensures .0) (f .ensures .1 .0) (c .packed .ensures) (f .ensures .1 .1 .0) (f .ensures .1 .1 .1 .0)
     ∙ done-more v p o (λ e. omega (arith, st .pre .1))
     ∙ answer-done 0 (textNumber (v .suite) (v .«ad_total») (v .«text_total») (length p) (length o)) (textDone v p o) v o [] refl (sym (st .pre .0))
 

@@ -60,7 +60,7 @@ returns c =
     let f = c .before .absorb-part in
     let es = f .ensures .0
     ∙ ap₂ (λ (m j : ℕ). walked k false m 0x10 (states k v) (blocks n (whole n (x j)))) (c .before .before .first-mark .ensures) (size .ensures .0) in
-    let eh = f .ensures .1 ∙ ap (λ (j : ℕ). filled (rest n (x j))) (size .ensures .0) in
+    let eh = f .ensures .1 .0 ∙ ap (λ (j : ℕ). filled (rest n (x j))) (size .ensures .0) in
     ap (λ (w : Value). gave 0 0 w [] [])
     (c .packed .ensures ∙ ap₂ (λ (s : States) (h : List ℕ). valueOf (v .suite) s h (v .«ad_total» + length p) (v .«text_total»)) es eh)
     ∙ answer-done 0 (dataNumber (v .suite) (v .«ad_total») (v .«text_total») (length p)) (gave 0 0 (dataIn k v p) [] []) v [] [] refl (sym (st .pre))
