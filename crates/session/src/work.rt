@@ -1,7 +1,6 @@
 // The work of the calls once nothing is refused.
 use crate::Session;
 use crate::Step;
-use crate::blocks::Absorbed;
 use block::Block;
 use block_step::marks::MARK_FIRST_DATA;
 use block_step::marks::MARK_FIRST_TEXT;
@@ -9,6 +8,7 @@ use block_step::marks::MARK_SHORT_DATA;
 use block_step::one_block::absorb_short;
 use block_step::state::State;
 use cipher::AesTables;
+use session_blocks::Absorbed;
 ghost use mathlib.Core.Path.{_≡_};
 ghost use mathlib.Core.Bool.{false};
 ghost use mathlib.Core.List.{[]};
@@ -128,7 +128,7 @@ pub(crate) fn take_in(session: Session, part: &[u8]) -> Step
         z: z,
         calls: 0,
     };
-    let absorbed = crate::blocks::absorb_part(suite, two, mark, held, held_len, part);
+    let absorbed = session_blocks::absorb_part(suite, two, mark, held, held_len, part);
     let next = packed(suite, absorbed, ad_total + part.len(), text_total);
     Step {
         next: next,
@@ -210,7 +210,7 @@ pub(crate) fn seal_in(session: Session, part: &[u8], out: &mut [u8]) -> Step
     let n = cipher::size_of(suite);
     let mark = first_mark(suite, MARK_FIRST_TEXT, text_total);
     let held_len = text_total % n;
-    let sealed = crate::blocks::crypt_part(suite, two, mark, held, held_len, part, out);
+    let sealed = session_blocks::crypt_part(suite, two, mark, held, held_len, part, out);
     let state = sealed.s;
     let buffered = sealed.held;
     let next = packed(
@@ -242,7 +242,7 @@ pub(crate) fn close(tables: &[AesTables], session: Session, out: &mut [u8], tag:
     let n = cipher::size_of(suite);
     let mark = first_mark(suite, MARK_FIRST_TEXT, text_total);
     let held_len = text_total % n;
-    let state = crate::blocks::last_in(tables, suite, two, mark, held, held_len, out);
+    let state = session_blocks::last_in(tables, suite, two, mark, held, held_len, out);
     let last = block_step::tag::tag_of(tables, suite, state);
     let computed = last.tag;
     byte_runs::put(computed, tag);

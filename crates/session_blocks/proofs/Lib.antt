@@ -1,0 +1,3 @@
+pub mod Hold
+pub mod Count
+pub mod Outcomes
