@@ -174,21 +174,6 @@ zeros-cut n b h k =
     ∙ drop-replicate j (16 - suc (length b)) 0
     ∙ ap (λ (i : ℕ). replicate i 0) z
 
--- ---- a nonce of fifteen bytes, and a zero after it
-
-xors-zero : (l : List ℕ) → length l ≡ 1 → xors l (0 ∷ []) ≡ l
-xors-zero [] e = absurd (native.Mathlib.Nat.suc-ne-zero 0 (sym e))
-xors-zero (a ∷ []) e = ap (λ (x : ℕ). x ∷ []) (zero-r a)
-xors-zero (a ∷ (b ∷ l)) e = absurd (native.Mathlib.Nat.suc-ne-zero (length l) (native.Mathlib.Nat.suc-inj e))
-
--- a nonce of fifteen bytes leaves the key's last byte
-pub nonce-on-key : (k v : List ℕ) → length k ≡ 16 → length v ≡ 15 → xors k (v ++ (0 ∷ [])) ≡ xors (take 15 k) v ++ drop 15 k
-nonce-on-key k v lk lv =
-    let lt : length (take 15 k) ≡ 15 = length-take-le 15 k (omega arith) in
-    ap (λ (l : List ℕ). xors l (v ++ (0 ∷ []))) (sym (take-append-drop 15 k))
-    ∙ xors-append (take 15 k) (drop 15 k) v (0 ∷ []) (lt ∙ sym lv)
-    ∙ ap (λ (l : List ℕ). xors (take 15 k) v ++ l) (xors-zero (drop 15 k) (length-drop 15 k ∙ omega arith))
-
 -- ---- the mask: zeros after the block do not matter
 
 pub mask-is : (b z h : List ℕ) (k : ℕ) → k ≡ length b → take k (xors (b ++ z) h) ≡ xors b h

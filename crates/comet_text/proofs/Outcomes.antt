@@ -6,8 +6,8 @@ use Prim.Native.Nat.{ℕ}
 use contract.Lifetimes.{Lfts}
 use borrow.Fn.Kinds.{Dens}
 use Rattle.block.specs.Outcome.{Outcome}
-use Rattle.block_step.specs.declared.state.State.{State}
-use Rattle.block_step.specs.Two.{twoOf}
+use Rattle.block_state.specs.declared.State.{State}
+use Rattle.block_state.specs.Two.{twoOf}
 use Rattle.comet_text.proofs.absorb_all.Kinds as absorb-all-kinds
 use Rattle.comet_text.proofs.absorb_all.Reads as absorb-all-reads
 use Rattle.comet_text.proofs.crypt_all.Kinds as crypt-all-kinds

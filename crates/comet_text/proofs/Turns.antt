@@ -16,7 +16,7 @@ use Rattle.mode.specs.Blocks.{blocks}
 use Rattle.mode.specs.Walk.{States, whole, rest, turned, hidden, messageOf, walked, covered}
 use Rattle.mode.proofs.Cut.{rest-less, blocks-whole-rest}
 use Rattle.mode.proofs.Walk.{later, later-first, walked-append, covered-append}
-use Rattle.block_step.specs.Two.{oneMore}
+use Rattle.block_state.specs.Two.{oneMore}
 use Rattle.block_walk.specs.Progress.{wholes}
 use Rattle.block_walk.proofs.Front.{one-block, no-block, left-within, left-long, walk-short, cover-short, walk-none, cover-none}
 

@@ -1,9 +1,9 @@
 // The functions that process all blocks of associated data or of a text: the whole blocks by `block_walk`, then the short one, if there is one.
-use block_step::marks::MARK_FIRST_TEXT;
-use block_step::marks::MARK_SHORT_TEXT;
+use block_state::marks::MARK_FIRST_TEXT;
+use block_state::marks::MARK_SHORT_TEXT;
 use block_step::one_block::absorb_short;
 use block_step::one_block::crypt_short;
-use block_step::state::State;
+use block_state::State;
 use cipher::AesTables;
 ghost use mathlib.Core.Path.{_≡_};
 ghost use Prim.Native.Nat.{_<_};
@@ -12,7 +12,7 @@ ghost use Rattle.block.specs.Words.{add};
 ghost use Rattle.cipher.specs.Cipher.{TablesFit, IsSuite, sizeOf, cipherOf};
 ghost use Rattle.mode.specs.Blocks.{blocks};
 ghost use Rattle.mode.specs.Walk.{walked, covered};
-ghost use Rattle.block_step.specs.Two.{twoOf};
+ghost use Rattle.block_state.specs.Two.{twoOf};
 
 // Absorbs all blocks of the bytes, one cipher call each, the first under the mark `first` and a short one also under the mark `short`; nothing is written.
 pub fn absorb_all(

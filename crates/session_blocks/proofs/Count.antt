@@ -15,8 +15,8 @@ use Rattle.block.specs.Words.{add}
 use Rattle.cipher.specs.Cipher.{sizeOf, cipherOf}
 use Rattle.cipher.proofs.Lawful.{lawful}
 use Rattle.mode.proofs.Chain.{some}
-use Rattle.block_step.specs.declared.state.State.{State}
-use Rattle.block_step.specs.Two.{Clean, oneMore}
+use Rattle.block_state.specs.declared.State.{State}
+use Rattle.block_state.specs.Two.{Clean, oneMore}
 use Rattle.block_walk.specs.declared.Progress.{Progress}
 use Rattle.block_walk.specs.Progress.{wholes, Passed}
 use Rattle.block_walk.proofs.Front.{short-blocks, turn-blocks}

@@ -2,16 +2,12 @@
 -- tell the code's state (`Counted`); the contract gives the buffered bytes, the output and its length.
 use mathlib.Core.Path.{_≡_, refl, sym, ap, _∙_}
 use mathlib.Core.List.{List}
-use Prim.Native.Nat.{ℕ, _^_, _<_}
+use Prim.Native.Nat.{ℕ}
 use native.Mathlib.Omega.{arith}
 use Rattle.block.specs.Outcome.{OneOutcome}
-use Rattle.block.specs.Blocks.{wide}
-use Rattle.block.proofs.Lists.{parts-told}
-use Rattle.block.proofs.Blocks.{wide-told}
-use Rattle.cipher.specs.Cipher.{sizeOf}
-use Rattle.mode.specs.Walk.{States}
-use Rattle.block_step.specs.declared.state.State.{State}
-use Rattle.block_step.specs.Two.{twoOf}
+use Rattle.block_state.specs.declared.State.{State}
+use Rattle.block_state.specs.Two.{twoOf}
+use Rattle.block_state.proofs.Outcomes.{Small, state-told}
 use Rattle.session_blocks.specs.declared.Absorbed.{Absorbed}
 use Rattle.session_blocks.specs.declared.Sealed.{Sealed}
 use Rattle.session_blocks.specs.Counted.{Counted}
@@ -22,21 +18,8 @@ use Rattle.session_blocks.proofs.crypt_part.Reads as crypt-reads
 use Rattle.session_blocks.proofs.last_in.Kinds as last-kinds
 use Rattle.session_blocks.proofs.last_in.Reads as last-reads
 
--- both blocks of a state are numbers of 64 bits
-record Small (r : State) : Type 0 where
-  ya : r .y .a < 2 ^ 64
-  yb : r .y .b < 2 ^ 64
-  za : r .z .a < 2 ^ 64
-  zb : r .z .b < 2 ^ 64
-
-state-told : (suite k : ℕ) (s r q : State) → Small r → Small q → twoOf suite r ≡ twoOf suite q → Counted suite k s r → Counted suite k s q → r ≡ q
-state-told suite k s r q a b e h j =
-    let ey : r .y ≡ q .y =
-    wide-told (r .y) (q .y) (a .ya) (a .yb) (b .ya) (b .yb)
-    (parts-told (sizeOf suite) (wide (r .y)) (wide (q .y)) (ap (λ (w : States). w .Y) e) (h .beside ∙ sym (j .beside))) in
-    let ez : r .z ≡ q .z = wide-told (r .z) (q .z) (a .za) (a .zb) (b .za) (b .zb) (ap (λ (w : States). w .Z) e) in
-    let ec : r .calls ≡ q .calls = h .made ∙ sym (j .made) in
-    λ i. record { y = ey i; z = ez i; calls = ec i }
+counted-told : (suite k : ℕ) (s r q : State) → Small r → Small q → twoOf suite r ≡ twoOf suite q → Counted suite k s r → Counted suite k s q → r ≡ q
+counted-told suite k s r q a b e h j = state-told suite r q a b e (h .beside ∙ sym (j .beside)) (h .made ∙ sym (j .made))
 
 absorbed-path : {r q : Absorbed} → r .s ≡ q .s → r .held ≡ q .held → r ≡ q
 absorbed-path es eh = λ i. record { s = es i; held = eh i }
@@ -46,7 +29,7 @@ sealed-path es eh ec = λ i. record { s = es i; held = eh i; count = ec i }
 
 pub absorb-part : OneOutcome absorb-kinds.ps absorb-kinds.r absorb-reads.Pre absorb-reads.Post
 absorb-part κs a h x y = (
-  absorbed-path (state-told _ _ _ (x .result .s) (y .result .s) (omega arith) (omega arith) (x .ensures .0 ∙ sym (y .ensures .0)) (x .ensures .1 .1)
+  absorbed-path (counted-told _ _ _ (x .result .s) (y .result .s) (omega arith) (omega arith) (x .ensures .0 ∙ sym (y .ensures .0)) (x .ensures .1 .1)
       (y .ensures .1 .1))
       (x .ensures .1 .0 ∙ sym (y .ensures .1 .0)),
   refl,
@@ -55,7 +38,7 @@ absorb-part κs a h x y = (
 pub crypt-part : OneOutcome crypt-kinds.ps crypt-kinds.r crypt-reads.Pre crypt-reads.Post
 crypt-part κs a h x y = (
   sealed-path
-      (state-told _ _ _ (x .result .s) (y .result .s) (omega (arith, x .ok)) (omega (arith, y .ok)) (x .ensures .1 .1 .0 ∙ sym (y .ensures .1 .1 .0))
+      (counted-told _ _ _ (x .result .s) (y .result .s) (omega (arith, x .ok)) (omega (arith, y .ok)) (x .ensures .1 .1 .0 ∙ sym (y .ensures .1 .1 .0))
       (x .ensures .1 .1 .1 .1) (y .ensures .1 .1 .1 .1))
       (x .ensures .1 .1 .1 .0 ∙ sym (y .ensures .1 .1 .1 .0)) (x .ensures .1 .0 ∙ sym (y .ensures .1 .0)),
   ap (λ (l : List ℕ). (tt, (tt, (tt, (tt, (tt, (tt, (l, tt)))))))) (x .ensures .0 ∙ sym (y .ensures .0)),
@@ -63,7 +46,7 @@ crypt-part κs a h x y = (
 
 pub last-in : OneOutcome last-kinds.ps last-kinds.r last-reads.Pre last-reads.Post
 last-in κs a h x y = (
-  state-told _ _ _ (x .result) (y .result) (omega (arith, x .ok)) (omega (arith, y .ok)) (x .ensures .1 .1 .0 ∙ sym (y .ensures .1 .1 .0))
+  counted-told _ _ _ (x .result) (y .result) (omega (arith, x .ok)) (omega (arith, y .ok)) (x .ensures .1 .1 .0 ∙ sym (y .ensures .1 .1 .0))
       (x .ensures .1 .1 .1) (y .ensures .1 .1 .1),
   ap (λ (l : List ℕ). (tt, (tt, (tt, (tt, (tt, (tt, (l, tt)))))))) (x .ensures .0 ∙ sym (y .ensures .0)),
 )

@@ -6,7 +6,7 @@ use lib.ListN.{drop, replicate}
 use Rattle.block.specs.Blocks.{wide}
 use Rattle.block.specs.Words.{add}
 use Rattle.cipher.specs.Cipher.{sizeOf}
-use Rattle.block_step.specs.declared.state.State.{State}
+use Rattle.block_state.specs.declared.State.{State}
 
 -- the unused bytes after k blocks: unchanged after none, else zero
 abbrev pub unused : ℕ → ℕ → List ℕ → List ℕ

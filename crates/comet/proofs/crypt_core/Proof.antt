@@ -21,8 +21,8 @@ use Rattle.mode.proofs.Chain.{some}
 use Rattle.mode.proofs.Walk.{text-walk, tag-walk}
 use Rattle.mode.proofs.Calls.{calls-count}
 use Rattle.block_walk.proofs.Front.{walk-none, cover-none}
-use Rattle.block_step.specs.declared.state.State.{State}
-use Rattle.block_step.specs.Two.{twoOf}
+use Rattle.block_state.specs.declared.State.{State}
+use Rattle.block_state.specs.Two.{twoOf}
 use Rattle.comet.specs.Answers.{opening}
 use Rattle.comet.proofs.Counts.{count-most, count-all}
 use Rattle.comet_text.proofs.Turns.{empty-count}

@@ -10,7 +10,7 @@ use Rattle.cipher.specs.Cipher.{sizeOf, cipherOf}
 use Rattle.cipher.proofs.Lawful.{lawful}
 use Rattle.mode.specs.Walk.{rest}
 use Rattle.mode.proofs.Chain.{some}
-use Rattle.block_step.specs.Two.{twoOf}
+use Rattle.block_state.specs.Two.{twoOf}
 use Rattle.block_walk.proofs.Front.{left, left-long, left-short}
 use Rattle.comet_text.proofs.Turns.{last-walk, none-walk, last-count, none-count}
 use Rattle.comet_text.proofs.absorb_all.Statement.{statement}

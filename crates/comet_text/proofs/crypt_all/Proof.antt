@@ -14,7 +14,7 @@ use Rattle.cipher.proofs.Lawful.{lawful}
 use Rattle.mode.specs.Walk.{States, rest}
 use Rattle.mode.proofs.Chain.{some}
 use Rattle.mode.proofs.Cut.{rest-less}
-use Rattle.block_step.specs.Two.{twoOf}
+use Rattle.block_state.specs.Two.{twoOf}
 use Rattle.block_walk.proofs.Front.{left-long, walk-short, cover-short}
 use Rattle.comet_text.proofs.Turns.{lent, last-walk, last-out, none-walk, none-out, last-count, none-count, short-count}
 use Rattle.comet_text.proofs.crypt_all.Statement.{statement}

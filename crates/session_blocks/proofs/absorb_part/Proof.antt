@@ -11,7 +11,7 @@ use Prim.Native.Nat.{ℕ, _<_}
 use Rattle.block.specs.Blocks.{filled}
 use Rattle.cipher.specs.Cipher.{sizeOf, cipherOf}
 use Rattle.cipher.proofs.Suites.{none-ready}
-use Rattle.block_step.specs.Two.{twoOf}
+use Rattle.block_state.specs.Two.{twoOf}
 use Rattle.mode.proofs.Cut.{rest-short}
 use Rattle.block_walk.proofs.Front.{short-blocks, short-walk}
 use Rattle.session_blocks.specs.Counted.{Counted}

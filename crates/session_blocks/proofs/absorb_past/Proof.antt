@@ -10,7 +10,7 @@ use mathlib.Core.Path.{_≡_, subst}
 use native.Mathlib.Omega.{arith}
 use Prim.Native.Nat.{ℕ, _+_, _-_, _≤_, _<_}
 use Rattle.cipher.specs.Cipher.{sizeOf, cipherOf}
-use Rattle.block_step.specs.Two.{twoOf}
+use Rattle.block_state.specs.Two.{twoOf}
 use Rattle.session_blocks.specs.Counted.{Counted}
 use Rattle.session_blocks.proofs.Count.{counted-then, counted-passed}
 use Rattle.session_blocks.proofs.Hold.{more-walk, more-rest, more-count}

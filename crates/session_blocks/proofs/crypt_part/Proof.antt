@@ -17,7 +17,7 @@ use Rattle.cipher.specs.Cipher.{sizeOf, cipherOf}
 use Rattle.mode.specs.Blocks.{blocks}
 use Rattle.mode.specs.Walk.{whole, rest, walked, covered}
 use Rattle.mode.proofs.Cut.{length-whole, rest-less, rest-short}
-use Rattle.block_step.specs.Two.{twoOf}
+use Rattle.block_state.specs.Two.{twoOf}
 use Rattle.block_walk.proofs.Front.{short-blocks, short-walk, short-cover}
 use Rattle.session_blocks.specs.Counted.{Counted}
 use Rattle.session_blocks.specs.Written.{written}

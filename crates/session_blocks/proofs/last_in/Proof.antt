@@ -14,7 +14,7 @@ use Rattle.cipher.specs.Cipher.{sizeOf, cipherOf}
 use Rattle.cipher.proofs.Suites.{size-most}
 use Rattle.mode.specs.Blocks.{blocks}
 use Rattle.mode.specs.Walk.{hidden, turned, covered}
-use Rattle.block_step.specs.Two.{twoOf}
+use Rattle.block_state.specs.Two.{twoOf}
 use Rattle.block_walk.proofs.Front.{one-block, no-block, walk-none, cover-none, walk-short, cover-short}
 use Rattle.session_blocks.specs.Counted.{Counted}
 use Rattle.session_blocks.specs.Written.{written}

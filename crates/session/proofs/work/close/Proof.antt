@@ -9,7 +9,7 @@ use native.Mathlib.Omega.{arith}
 use Prim.Native.Nat.{ℕ, _%_, _<_}
 use Rattle.block.specs.Blocks.{wide}
 use Rattle.cipher.proofs.Suites.{size-most}
-use Rattle.block_step.specs.Two.{twoOf}
+use Rattle.block_state.specs.Two.{twoOf}
 use Rattle.session.specs.Value.{endNumber, endDone, ending}
 use Rattle.session.specs.Structs.{asValue}
 use Rattle.session_ladder.proofs.Rungs.{end-passed}

@@ -8,7 +8,7 @@ use mathlib.Core.Path.{refl, sym, _∙_, subst}
 use native.Mathlib.Nat.{mod-lt}
 use native.Mathlib.Omega.{arith}
 use Prim.Native.Nat.{ℕ, _%_, _<_}
-use Rattle.block_step.specs.Two.{twoOf}
+use Rattle.block_state.specs.Two.{twoOf}
 use Rattle.session.specs.Value.{textNumber, textDone, textPart}
 use Rattle.session.specs.Structs.{asValue}
 use Rattle.session_ladder.proofs.Rungs.{text-passed}

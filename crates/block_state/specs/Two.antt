@@ -7,7 +7,7 @@ use Rattle.block.specs.Blocks.{wide}
 use Rattle.block.specs.Words.{add}
 use Rattle.cipher.specs.Cipher.{sizeOf, versionOf, cipherOf}
 use Rattle.mode.specs.Walk.{States, blockZ, imageOf}
-use Rattle.block_step.specs.declared.state.State.{State}
+use Rattle.block_state.specs.declared.State.{State}
 
 -- Y in the first bytes of y, as many as the suite's block has, and Z
 abbrev pub twoOf : ℕ → State → States

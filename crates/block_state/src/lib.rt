@@ -1,4 +1,7 @@
-// The two states Y and Z: their start, the cipher's call, and absorbing a block.
+// The two states Y and Z of COMET: their start, the cipher call of a block, absorbing a block, and the tag.
+pub mod marks;
+pub mod tag;
+
 use block::Block;
 use cipher::AesTables;
 ghost use mathlib.Core.Path.{_≡_};
@@ -7,7 +10,7 @@ ghost use Rattle.block.specs.Xors.{xors};
 ghost use Rattle.block.specs.Blocks.{wide};
 ghost use Rattle.cipher.specs.Cipher.{TablesFit, IsSuite, sizeOf, nonceOf, cipherOf};
 ghost use Rattle.mode.specs.Walk.{origin};
-ghost use Rattle.block_step.specs.Two.{twoOf, Clean, Holds, oneMore, imaged};
+ghost use Rattle.block_state.specs.Two.{twoOf, Clean, Holds, oneMore, imaged};
 
 // Y in the first bytes of y, as many as the suite's block has, Z, and the number of cipher calls so far. The count wraps
 // modulo 2^64, so that it adds no precondition for callers who do not read it.
@@ -49,7 +52,7 @@ pub fn start(tables: &[AesTables], suite: u8, key: &[u8], nonce: &[u8]) -> State
 }
 
 // The encryption of a block, chosen by its size n: a loop over blocks then tests only that number.
-pub(crate) fn image(tables: &[AesTables], suite: u8, n: usize, key: Block, block: Block) -> Block
+pub fn image(tables: &[AesTables], suite: u8, n: usize, key: Block, block: Block) -> Block
     requires { ⌜ TablesFit suite (now tables) × IsSuite suite × (n ≡ sizeOf suite) ⌝ }
     ensures image { λ r. ⌜ take (sizeOf suite) (wide r) ≡ cipherOf suite .E (wide key) (take (sizeOf suite) (wide block)) ⌝ }
     ensures rest { λ r. ⌜ Clean suite r ⌝ }
@@ -70,7 +73,7 @@ pub(crate) fn image(tables: &[AesTables], suite: u8, n: usize, key: Block, block
 }
 
 // The key of a block of n bytes with a mark; X, the encryption of Y under it, by one call; and the Z that is kept after the block.
-pub(crate) fn turn(tables: &[AesTables], suite: u8, state: State, mark: u8, n: usize) -> State
+pub fn turn(tables: &[AesTables], suite: u8, state: State, mark: u8, n: usize) -> State
     requires { ⌜ TablesFit suite (now tables) × IsSuite suite × (n ≡ sizeOf suite) ⌝ }
     ensures { λ r. ⌜ Holds suite r (imaged suite mark (twoOf suite state)) (oneMore (state .calls)) ⌝ }
 {
@@ -88,7 +91,7 @@ pub(crate) fn turn(tables: &[AesTables], suite: u8, state: State, mark: u8, n: u
 }
 
 // Y = X XOR the block.
-pub(crate) fn mix(state: State, input: Block) -> State
+pub fn mix(state: State, input: Block) -> State
     ensures y { λ r. ⌜ wide (r .y) ≡ xors (wide (state .y)) (wide input) ⌝ }
     ensures rest { λ r. ⌜ (wide (r .z) ≡ wide (state .z)) × (r .calls ≡ state .calls) ⌝ }
 {

@@ -1,4 +1,4 @@
--- `block_step::tag::same` meets its contract: the zeros after both do not matter.
+-- `block_state::tag::same` meets its contract: the zeros after both do not matter.
 use borrow.Author.Needs.{needs}
 use denote.Ref.{now}
 use lib.ListN.{length, take, replicate, take-append-drop}
@@ -12,8 +12,8 @@ use Rattle.block.specs.Blocks.{wide}
 use Rattle.block.specs.Bytes.{sameBytes}
 use Rattle.block.proofs.Blocks.{length-wide}
 use Rattle.block.proofs.SameBytes.{same-behind}
-use Rattle.block_step.proofs.tag.same.Statement.{statement}
-use Rattle.block_step.proofs.tag.same.Tie as tie
+use Rattle.block_state.proofs.tag.same.Statement.{statement}
+use Rattle.block_state.proofs.tag.same.Tie as tie
 
 whole-requires : tie.Need-whole-requires
 whole-requires c κs = search needs

@@ -1,9 +1,9 @@
--- `block_step::state::mix` meets its contract: the block is XORed into Y, and Z and the count stay.
+-- `block_state::mix` meets its contract: the block is XORed into Y, and Z and the count stay.
 use borrow.Author.Needs.{needs}
 use mathlib.Core.Path.{refl}
 use Prim.Native.Nat.{_-_}
-use Rattle.block_step.proofs.state.mix.Statement.{statement}
-use Rattle.block_step.proofs.state.mix.Tie as tie
+use Rattle.block_state.proofs.mix.Statement.{statement}
+use Rattle.block_state.proofs.mix.Tie as tie
 
 xor-requires : tie.Need-xor-requires
 xor-requires c κs = search needs

@@ -1,4 +1,4 @@
--- `block_step::state::start`, by cases on the block size. With 16 bytes Y is the key and Z the encryption of the nonce; with 8
+-- `block_state::start`, by cases on the block size. With 16 bytes Y is the key and Z the encryption of the nonce; with 8
 -- bytes Y is the encryption of zeros and Z the key XOR the nonce. Key and nonce are read in whole words, whose bytes are the
 -- definition's.
 use borrow.Author.Needs.{needs}
@@ -15,10 +15,9 @@ use Rattle.block.proofs.Blocks.{first-eight}
 use Rattle.cipher.specs.Cipher.{sizeOf, cipherOf}
 use Rattle.cipher.proofs.Suites.{size-other, nonce-wide, nonce-narrow}
 use Rattle.mode.proofs.Start.{startY-wide, startY-narrow, startZ-wide, startZ-narrow}
-use Rattle.block_step.proofs.Words.{nonce-on-key}
-use Rattle.block_step.proofs.Turns.{states-path, clean-16}
-use Rattle.block_step.proofs.state.start.Statement.{statement}
-use Rattle.block_step.proofs.state.start.Tie as tie
+use Rattle.block_state.proofs.Clean.{states-path, nonce-on-key, clean-16}
+use Rattle.block_state.proofs.start.Statement.{statement}
+use Rattle.block_state.proofs.start.Tie as tie
 
 sixteen-requires : tie.Need-sixteen-requires
 sixteen-requires c κs = search needs

@@ -1,4 +1,4 @@
--- `block_step::state::turn` meets its contract: the cipher is called under the block's key, and Z is kept after it.
+-- `block_state::turn` meets its contract: the cipher is called under the block's key, and Z is kept after it.
 use borrow.Author.Needs.{needs}
 use lib.ListN.{take}
 use mathlib.Core.List.{List}
@@ -7,9 +7,9 @@ use Prim.Native.Nat.{ℕ, _-_}
 use Rattle.block.specs.Blocks.{wide}
 use Rattle.cipher.specs.Cipher.{sizeOf, versionOf, cipherOf}
 use Rattle.mode.specs.Walk.{keptBehind}
-use Rattle.block_step.proofs.Turns.{states-path}
-use Rattle.block_step.proofs.state.turn.Statement.{statement}
-use Rattle.block_step.proofs.state.turn.Tie as tie
+use Rattle.block_state.proofs.Clean.{states-path}
+use Rattle.block_state.proofs.turn.Statement.{statement}
+use Rattle.block_state.proofs.turn.Tie as tie
 
 block-key-requires : tie.Need-block-key-requires
 block-key-requires c κs = search needs

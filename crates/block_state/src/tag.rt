@@ -1,6 +1,6 @@
 // The tag: computed, and compared as a whole.
 use crate::marks::MARK_TAG;
-use crate::state::State;
+use crate::State;
 use block::Block;
 use cipher::AesTables;
 ghost use mathlib.Core.Path.{_≡_};
@@ -11,7 +11,7 @@ ghost use Rattle.block.specs.Blocks.{wide};
 ghost use Rattle.block.specs.Bytes.{sameBytes};
 ghost use Rattle.cipher.specs.Cipher.{TablesFit, IsSuite, sizeOf, cipherOf};
 ghost use Rattle.mode.specs.Walk.{tagged};
-ghost use Rattle.block_step.specs.Two.{twoOf, Clean, oneMore};
+ghost use Rattle.block_state.specs.Two.{twoOf, Clean, oneMore};
 
 // The tag, and how many cipher calls were made: its own is the last.
 pub struct TagAndCalls {
@@ -29,7 +29,7 @@ pub fn tag_of(tables: &[AesTables], suite: u8, state: State) -> TagAndCalls
     let z = state.z;
     let key = block_key::next_key(suite, z, MARK_TAG);
     let n = cipher::size_of(suite);
-    let tag = crate::state::image(tables, suite, n, key, y);
+    let tag = crate::image(tables, suite, n, key, y);
     TagAndCalls {
         tag: tag,
         calls: std::num::wrapping_add_u64(state.calls, 1),

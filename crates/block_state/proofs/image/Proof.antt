@@ -1,4 +1,4 @@
--- `block_step::state::image` meets its contract: the image fills the front of the block, and zeros the rest.
+-- `block_state::image` meets its contract: the image fills the front of the block, and zeros the rest.
 use mathlib.Core.Path.{_≡_, sym, ap, _∙_}
 use mathlib.Core.List.{List, _++_}
 use Prim.Native.Nat.{ℕ}
@@ -9,8 +9,8 @@ use Rattle.block.proofs.Blocks.{length-wide, first-eight}
 use Rattle.cipher.specs.Cipher.{sizeOf, engineOf}
 use Rattle.cipher.proofs.Suites.{size-other}
 use Rattle.cipher.proofs.Paths.{whole, half}
-use Rattle.block_step.proofs.state.image.Statement.{statement}
-use Rattle.block_step.proofs.state.image.Tie as tie
+use Rattle.block_state.proofs.image.Statement.{statement}
+use Rattle.block_state.proofs.image.Tie as tie
 
 wide-is : (c : tie.Then1) → sizeOf (c .before .args .suite) ≡ 16
 wide-is c = sym (c .before .pre .2) ∙ c .if1 .taken

@@ -1,4 +1,4 @@
--- `block_step::tag::tag_of` meets its contract: the last call, under the key that the last mark makes.
+-- `block_state::tag::tag_of` meets its contract: the last call, under the key that the last mark makes.
 use borrow.Author.Needs.{needs}
 use lib.ListN.{take}
 use mathlib.Core.List.{List}
@@ -7,8 +7,8 @@ use Prim.Native.Nat.{ℕ, _-_}
 use Rattle.block.specs.Blocks.{wide}
 use Rattle.cipher.specs.Cipher.{sizeOf, cipherOf}
 use Rattle.mode.specs.Walk.{tagged}
-use Rattle.block_step.proofs.tag.tag_of.Statement.{statement}
-use Rattle.block_step.proofs.tag.tag_of.Tie as tie
+use Rattle.block_state.proofs.tag.tag_of.Statement.{statement}
+use Rattle.block_state.proofs.tag.tag_of.Tie as tie
 
 next-key-requires : tie.Need-next-key-requires
 next-key-requires c κs = search needs
