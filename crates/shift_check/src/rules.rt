@@ -1,8 +1,8 @@
 // The rules of one row: numbers 25 to 30, and 34.
 use cipher::LIMIT;
-use shift_format::limits::MAX_AD;
-use shift_format::limits::MAX_KEY;
-use shift_format::limits::MIN_AD;
+use shift_limits::MAX_AD;
+use shift_limits::MAX_KEY;
+use shift_limits::MIN_AD;
 use shift_format::row::Row;
 use shift_format::row::body_end;
 use shift_format::row::get32;

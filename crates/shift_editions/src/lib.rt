@@ -9,7 +9,7 @@ use front::put_part;
 use rows::put_rows;
 use shift_check::check_as;
 use shift_check::check_head;
-use shift_format::limits::MAX_FILE;
+use shift_limits::MAX_FILE;
 use shift_format::row::FIRST_EDITION;
 use shift_format::row::NEWEST;
 use shift_format::row::count;

@@ -1,7 +1,7 @@
 // Opening one entry.
 use crate::answers::JobAnswer;
 use crate::lend::open_row;
-use shift_format::limits::RING_LEN;
+use shift_limits::RING_LEN;
 use shift_lookup::answers::Found;
 use shift_lookup::found::row_of;
 use status::verdict::Verdict;

@@ -1,7 +1,7 @@
 // Verifying the tag of one entry: the offset of its associated data is returned only if the tag is right.
 use crate::answers::Genuine;
 use crate::lend::verify_row;
-use shift_format::limits::RING_LEN;
+use shift_limits::RING_LEN;
 use shift_lookup::answers::Found;
 use shift_lookup::found::row_of;
 ghost use mathlib.Core.Path.{_≡_};

@@ -5,7 +5,7 @@ mod entries;
 use answers::Reported;
 use entries::list_all;
 use shift_check::check;
-use shift_format::limits::RING_LEN;
+use shift_limits::RING_LEN;
 use shift_format::row::count;
 use status::checked::Checked;
 use status::checked::Refusal;

@@ -10,7 +10,7 @@ use rows::put_edition;
 use rows::seal_rows;
 use rows::unseal_rows;
 use shift_check::check_as;
-use shift_format::limits::RING_LEN;
+use shift_limits::RING_LEN;
 use shift_format::row::FIRST_EDITION;
 use shift_format::row::count;
 use status::checked::Checked;
