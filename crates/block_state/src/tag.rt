@@ -1,6 +1,6 @@
 // The tag: computed, and compared as a whole.
-use crate::marks::MARK_TAG;
 use crate::State;
+use crate::marks::MARK_TAG;
 use block::Block;
 use cipher::AesTables;
 ghost use mathlib.Core.Path.{_≡_};

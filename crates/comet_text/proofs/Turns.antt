@@ -2,7 +2,7 @@
 use mathlib.Core.Path.{_≡_, sym, ap, ap₂, _∙_}
 use mathlib.Core.Bool.{Bool, cond}
 use Prim.Native.Nat.{ℕ, _+_, _-_, _^_, _%_, _<_}
-use native.Mathlib.Nat.{mod-add-mod, mod-eq-of-lt, le-of-eq}
+use native.Mathlib.Nat.{mod-eq-of-lt, le-of-eq}
 use native.Mathlib.Omega.{arith}
 use mathlib.Core.List.{List, [], _++_, append-nil}
 use lib.ListN.{length, take, drop, length-append, drop-of-length-le}
@@ -16,7 +16,6 @@ use Rattle.mode.specs.Blocks.{blocks}
 use Rattle.mode.specs.Walk.{States, whole, rest, turned, hidden, messageOf, walked, covered}
 use Rattle.mode.proofs.Cut.{rest-less, blocks-whole-rest}
 use Rattle.mode.proofs.Walk.{later, later-first, walked-append, covered-append}
-use Rattle.block_state.specs.Two.{oneMore}
 use Rattle.block_walk.specs.Progress.{wholes}
 use Rattle.block_walk.proofs.Front.{one-block, no-block, left-within, left-long, walk-short, cover-short, walk-none, cover-none}
 
@@ -85,29 +84,24 @@ module _ (κ : Cipher) (pos : 0 < κ .size) (d : Bool) (first short : ℕ) (s : 
     pub none-out : length (rest n l) ≡ 0 → text ≡ covered κ d first short s (blocks n l)
     none-out none = et ∙ ap (λ (b : List ℕ). front ++ b) (nil-of (rest n l) none ∙ sym (cover-none κ pos d short k u (rest n l) none)) ∙ sym cover-on
 
--- the count after the whole blocks of l, y before them
-module _ (n : ℕ) (pos : 0 < n) (l : List ℕ) (x y : ℕ) (e : x ≡ add 64 y (length (wholes n l))) where
+-- how many blocks l has
+module _ (n : ℕ) (pos : 0 < n) (l : List ℕ) where
   blocks-all : length (blocks n l) ≡ length (wholes n l) + length (blocks n (rest n l))
   blocks-all = sym (ap length (blocks-whole-rest n pos l)) ∙ length-append (wholes n l) (blocks n (rest n l))
 
-  pub last-count : 0 < length (rest n l) → (k : ℕ) → k ≡ oneMore x → k ≡ add 64 y (length (blocks n l))
-  last-count some k ek =
-      let one : length (blocks n (rest n l)) ≡ 1 = ap length (one-block n pos (rest n l) some (rest-less n pos l)) in
-      let all : y + length (wholes n l) + 1 ≡ y + length (blocks n l) = omega (arith, blocks-all, one) in
-      ek ∙ ap oneMore e ∙ mod-add-mod (y + length (wholes n l)) (2 ^ 64) 1 ∙ ap (λ (j : ℕ). j % 2 ^ 64) all
+  pub last-more : 0 < length (rest n l) → length (wholes n l) + 1 ≡ length (blocks n l)
+  last-more some =
+      let one : length (blocks n (rest n l)) ≡ 1 = ap length (one-block n pos (rest n l) some (rest-less n pos l)) in omega (arith, blocks-all, one)
 
-  pub none-count : length (rest n l) ≡ 0 → x ≡ add 64 y (length (blocks n l))
-  none-count none =
-      let zero-left : length (blocks n (rest n l)) ≡ 0 = ap length (no-block n pos (rest n l) none) in
-      let all : y + length (wholes n l) ≡ y + length (blocks n l) = omega (arith, blocks-all, zero-left) in
-      e ∙ ap (λ (j : ℕ). j % 2 ^ 64) all
+  pub none-more : length (rest n l) ≡ 0 → length (wholes n l) ≡ length (blocks n l)
+  none-more none =
+      let zero-left : length (blocks n (rest n l)) ≡ 0 = ap length (no-block n pos (rest n l) none) in omega (arith, blocks-all, zero-left)
 
--- no byte, or less than a block, with y calls before it
-module _ (n : ℕ) (pos : 0 < n) (l : List ℕ) (y : ℕ) where
-  pub empty-count : length l ≡ 0 → y < 2 ^ 64 → y ≡ add 64 y (length (blocks n l))
-  empty-count e h =
+  pub short-one : 0 < length l → length l < n → 1 ≡ length (blocks n l)
+  short-one some less = sym (ap length (one-block n pos l some less))
+
+  -- no byte, with y calls before it
+  pub empty-count : (y : ℕ) → length l ≡ 0 → y < 2 ^ 64 → y ≡ add 64 y (length (blocks n l))
+  empty-count y e h =
       let z : y + length (blocks n l) ≡ y = omega (arith, ap length (no-block n pos l e)) in
       sym (ap (λ (j : ℕ). j % 2 ^ 64) z ∙ mod-eq-of-lt h)
-
-  pub short-count : 0 < length l → length l < n → (k : ℕ) → k ≡ oneMore y → k ≡ add 64 y (length (blocks n l))
-  short-count some less k ek = ek ∙ sym (ap (λ (bs : List (List ℕ)). add 64 y (length bs)) (one-block n pos l some less))

@@ -2,11 +2,11 @@
 use crate::Session;
 use crate::Step;
 use block::Block;
+use block_state::State;
 use block_state::marks::MARK_FIRST_DATA;
 use block_state::marks::MARK_FIRST_TEXT;
 use block_state::marks::MARK_SHORT_DATA;
 use block_step::one_block::absorb_short;
-use block_state::State;
 use cipher::AesTables;
 use session_blocks::Absorbed;
 ghost use mathlib.Core.Path.{_≡_};

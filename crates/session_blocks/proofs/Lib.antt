@@ -1,3 +1,2 @@
 pub mod Hold
-pub mod Count
 pub mod Outcomes

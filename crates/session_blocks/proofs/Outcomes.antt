@@ -5,21 +5,15 @@ use mathlib.Core.List.{List}
 use Prim.Native.Nat.{ℕ}
 use native.Mathlib.Omega.{arith}
 use Rattle.block.specs.Outcome.{OneOutcome}
-use Rattle.block_state.specs.declared.State.{State}
-use Rattle.block_state.specs.Two.{twoOf}
-use Rattle.block_state.proofs.Outcomes.{Small, state-told}
 use Rattle.session_blocks.specs.declared.Absorbed.{Absorbed}
 use Rattle.session_blocks.specs.declared.Sealed.{Sealed}
-use Rattle.session_blocks.specs.Counted.{Counted}
+use Rattle.block_walk.proofs.Count.{counted-told}
 use Rattle.session_blocks.proofs.absorb_part.Kinds as absorb-kinds
 use Rattle.session_blocks.proofs.absorb_part.Reads as absorb-reads
 use Rattle.session_blocks.proofs.crypt_part.Kinds as crypt-kinds
 use Rattle.session_blocks.proofs.crypt_part.Reads as crypt-reads
 use Rattle.session_blocks.proofs.last_in.Kinds as last-kinds
 use Rattle.session_blocks.proofs.last_in.Reads as last-reads
-
-counted-told : (suite k : ℕ) (s r q : State) → Small r → Small q → twoOf suite r ≡ twoOf suite q → Counted suite k s r → Counted suite k s q → r ≡ q
-counted-told suite k s r q a b e h j = state-told suite r q a b e (h .beside ∙ sym (j .beside)) (h .made ∙ sym (j .made))
 
 absorbed-path : {r q : Absorbed} → r .s ≡ q .s → r .held ≡ q .held → r ≡ q
 absorbed-path es eh = λ i. record { s = es i; held = eh i }

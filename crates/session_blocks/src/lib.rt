@@ -1,7 +1,7 @@
 // A session's buffered bytes followed by a part: whole blocks are processed (crate block_walk), and the rest is buffered.
+use block_state::State;
 use block_state::marks::MARK_SHORT_TEXT;
 use block_step::one_block::crypt_short;
-use block_state::State;
 use block_walk::Progress;
 use cipher::AesTables;
 ghost use mathlib.Core.Path.{_≡_};
@@ -15,7 +15,7 @@ ghost use Rattle.mode.specs.Blocks.{blocks};
 ghost use Rattle.mode.specs.Walk.{whole, rest, walked, covered};
 ghost use Rattle.block_state.specs.Two.{twoOf};
 ghost use Rattle.block_walk.specs.Progress.{wholes, Passed};
-ghost use Rattle.session_blocks.specs.Counted.{Counted};
+ghost use Rattle.block_walk.specs.Counted.{Counted};
 ghost use Rattle.session_blocks.specs.Written.{written};
 
 // The two states, and the buffered bytes.

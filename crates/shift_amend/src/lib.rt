@@ -1,10 +1,10 @@
 // Amendments: a small file that replaces some jobs of the day's.
 use shift_format::row::stretch;
+use shift_jobs::answers::JobAnswer;
+use shift_jobs::found::open_found;
 use shift_lookup::answers::Entry;
 use shift_lookup::answers::Found;
-use shift_jobs::answers::JobAnswer;
 use shift_lookup::found::entry_found;
-use shift_jobs::found::open_found;
 ghost use mathlib.Core.Path.{_≡_};
 ghost use Rattle.shift_lookup.specs.Answers.{foundAnswer};
 ghost use Rattle.shift_jobs.specs.Answers.{openedAnswer};

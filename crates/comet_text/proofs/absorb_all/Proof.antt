@@ -2,17 +2,20 @@
 use borrow.Author.Needs.{needs}
 use denote.Ref.{now}
 use lib.ListN.{length}
-use mathlib.Core.Path.{_≡_}
+use mathlib.Core.Path.{_≡_, subst}
 use native.Mathlib.Omega.{arith}
-use Prim.Native.Nat.{_<_}
+use Prim.Native.Nat.{ℕ, _<_}
 use Rattle.block.specs.Words.{xor}
 use Rattle.cipher.specs.Cipher.{sizeOf, cipherOf}
 use Rattle.cipher.proofs.Lawful.{lawful}
 use Rattle.mode.specs.Walk.{rest}
 use Rattle.mode.proofs.Chain.{some}
 use Rattle.block_state.specs.Two.{twoOf}
+use Rattle.block_walk.specs.Progress.{wholes}
+use Rattle.block_walk.specs.Counted.{Counted}
+use Rattle.block_walk.proofs.Count.{counted-then, counted-one, counted-passed}
 use Rattle.block_walk.proofs.Front.{left, left-long, left-short}
-use Rattle.comet_text.proofs.Turns.{last-walk, none-walk, last-count, none-count}
+use Rattle.comet_text.proofs.Turns.{last-walk, none-walk, last-more, none-more}
 use Rattle.comet_text.proofs.absorb_all.Statement.{statement}
 use Rattle.comet_text.proofs.absorb_all.Tie as tie
 
@@ -48,7 +51,9 @@ returns c =
       last-walk (cipherOf (a .suite)) pos (a .opening) (a .first) (a .short) (twoOf (a .suite) (a .start)) b (twoOf (a .suite) (w .result .s)) (w .result .mark)
           (w .ensures .two (a .short)) (w .ensures .next)
           _ (left n pos b i (w .ensures .gone)) more _ (c .absorb-short .ensures .two),
-      last-count n pos b (w .result .s .calls) (a .start .calls) (w .ensures .made) more _ (c .absorb-short .ensures .made),
+      subst (λ (k : ℕ). Counted (a .suite) k (a .start) (c .absorb-short .result)) (last-more n pos b more)
+          (counted-then (a .suite) (length (wholes n b)) 1 (a .start) (w .result .s) (c .absorb-short .result) (counted-passed (a .suite) _ _ (a .start) b (w .result) (w .ensures))
+          (counted-one (a .suite) (w .result .s) (c .absorb-short .result) (c .absorb-short .ensures .clean) (c .absorb-short .ensures .made))),
     )
 
 returns-2 : tie.Need-returns-2
@@ -62,7 +67,8 @@ returns-2 c =
     let none : length (rest n b) ≡ 0 = omega (arith, left-long n pos b i (w .ensures .gone), c .if1 .left) in (
       none-walk (cipherOf (a .suite)) pos (a .opening) (a .first) (a .short) (twoOf (a .suite) (a .start)) b (twoOf (a .suite) (w .result .s)) (w .result .mark)
           (w .ensures .two (a .short)) (w .ensures .next) none,
-      none-count n pos b (w .result .s .calls) (a .start .calls) (w .ensures .made) none,
+      subst (λ (k : ℕ). Counted (a .suite) k (a .start) (w .result .s)) (none-more n pos b none)
+          (counted-passed (a .suite) _ _ (a .start) b (w .result) (w .ensures)),
     )
 
 pub absorb-all-spec : {M : Type 1} → statement M

@@ -5,7 +5,7 @@ use borrow.Author.Needs.{needs}
 use denote.Ref.{now}
 use lib.ListN.{length, take, drop}
 use mathlib.Core.List.{List}
-use mathlib.Core.Path.{_≡_, sym, ap, _∙_}
+use mathlib.Core.Path.{_≡_, sym, ap, subst, _∙_}
 use native.Mathlib.Omega.{arith}
 use Prim.Native.Nat.{ℕ, _-_, _<_}
 use Rattle.block.specs.Words.{xor}
@@ -15,8 +15,11 @@ use Rattle.mode.specs.Walk.{States, rest}
 use Rattle.mode.proofs.Chain.{some}
 use Rattle.mode.proofs.Cut.{rest-less}
 use Rattle.block_state.specs.Two.{twoOf}
+use Rattle.block_walk.specs.Progress.{wholes}
+use Rattle.block_walk.specs.Counted.{Counted}
+use Rattle.block_walk.proofs.Count.{counted-then, counted-one, counted-passed}
 use Rattle.block_walk.proofs.Front.{left-long, walk-short, cover-short}
-use Rattle.comet_text.proofs.Turns.{lent, last-walk, last-out, none-walk, none-out, last-count, none-count, short-count}
+use Rattle.comet_text.proofs.Turns.{lent, last-walk, last-out, none-walk, none-out, last-more, none-more, short-one}
 use Rattle.comet_text.proofs.crypt_all.Statement.{statement}
 use Rattle.comet_text.proofs.crypt_all.Tie as tie
 
@@ -55,6 +58,9 @@ module _ (g : tie.After-crypt) where
       lent κ pos (st .args .opening) 0x20 0x40 S l U (g .crypt .result .mark) (w .two 0x40) (w .next) o i (g .crypt .ensures .0 0x40)
       (g .crypt .kept .1 .1 .1 .1 .1 .0) (w .gone)
 
+  whole-count : Counted (st .args .suite) (length (wholes n l)) (st .args .start) (g .crypt .result .s)
+  whole-count = counted-passed (st .args .suite) _ _ (st .args .start) l (g .crypt .result) (g .crypt .ensures .1)
+
 size-of-requires : tie.Need-size-of-requires
 size-of-requires c κs = search needs
 
@@ -82,7 +88,8 @@ returns c =
       call .ensures .0 ∙ sym (cover-short (cipherOf (a .suite)) pos (a .opening) 0x40 0x20 (twoOf (a .suite) (a .start)) l more less),
       (
         call .ensures .1 .two ∙ sym (walk-short (cipherOf (a .suite)) pos (a .opening) 0x40 0x20 (twoOf (a .suite) (a .start)) l more less),
-        short-count (sizeOf (a .suite)) pos l (a .start .calls) more less _ (call .ensures .1 .made),
+        subst (λ (k : ℕ). Counted (a .suite) k (a .start) (call .result)) (short-one (sizeOf (a .suite)) pos l more less)
+            (counted-one (a .suite) (a .start) (call .result) (call .ensures .1 .clean) (call .ensures .1 .made)),
       ),
     )
 
@@ -119,7 +126,9 @@ returns-2 c =
           (w .gone) more _ (call .ensures .0),
       (
         last-walk (κ g) (pos g) d 0x20 0x40 (S g) (l g) (U g) m (w .two 0x40) (w .next) _ (lent-is g) more _ (call .ensures .1 .two),
-        last-count (n g) (pos g) (l g) (g .crypt .result .s .calls) (st g .args .start .calls) (w .made) more _ (call .ensures .1 .made),
+        subst (λ (k : ℕ). Counted (st g .args .suite) k (st g .args .start) (call .result)) (last-more (n g) (pos g) (l g) more)
+            (counted-then (st g .args .suite) (length (wholes (n g) (l g))) 1 (st g .args .start) (g .crypt .result .s) (call .result) (whole-count g)
+            (counted-one (st g .args .suite) (g .crypt .result .s) (call .result) (call .ensures .1 .clean) (call .ensures .1 .made))),
       ),
     )
 
@@ -137,7 +146,7 @@ returns-3 c =
           (w .gone) none,
       (
         none-walk (κ g) (pos g) d 0x20 0x40 (S g) (l g) (U g) m (w .two 0x40) (w .next) none,
-        none-count (n g) (pos g) (l g) (g .crypt .result .s .calls) (st g .args .start .calls) (w .made) none,
+        subst (λ (k : ℕ). Counted (st g .args .suite) k (st g .args .start) (g .crypt .result .s)) (none-more (n g) (pos g) (l g) none) (whole-count g),
       ),
     )
 

@@ -11,7 +11,7 @@ use Rattle.cipher.proofs.Lawful.{lawful}
 use Rattle.cipher.proofs.Suites.{size-most}
 use Rattle.mode.proofs.Chain.{some}
 use Rattle.block_walk.proofs.Front.{left-within, left, left-short}
-use Rattle.session_blocks.proofs.Count.{counted-passed}
+use Rattle.block_walk.proofs.Count.{counted-passed}
 use Rattle.session_blocks.proofs.absorb_blocks.Statement.{statement}
 use Rattle.session_blocks.proofs.absorb_blocks.Tie as tie
 

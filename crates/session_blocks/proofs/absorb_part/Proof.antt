@@ -14,8 +14,8 @@ use Rattle.cipher.proofs.Suites.{none-ready}
 use Rattle.block_state.specs.Two.{twoOf}
 use Rattle.mode.proofs.Cut.{rest-short}
 use Rattle.block_walk.proofs.Front.{short-blocks, short-walk}
-use Rattle.session_blocks.specs.Counted.{Counted}
-use Rattle.session_blocks.proofs.Count.{counted-none}
+use Rattle.block_walk.specs.Counted.{Counted}
+use Rattle.block_walk.proofs.Count.{counted-none}
 use Rattle.session_blocks.proofs.absorb_part.Statement.{statement}
 use Rattle.session_blocks.proofs.absorb_part.Tie as tie
 

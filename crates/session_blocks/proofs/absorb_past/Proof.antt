@@ -11,8 +11,8 @@ use native.Mathlib.Omega.{arith}
 use Prim.Native.Nat.{ℕ, _+_, _-_, _≤_, _<_}
 use Rattle.cipher.specs.Cipher.{sizeOf, cipherOf}
 use Rattle.block_state.specs.Two.{twoOf}
-use Rattle.session_blocks.specs.Counted.{Counted}
-use Rattle.session_blocks.proofs.Count.{counted-then, counted-passed}
+use Rattle.block_walk.specs.Counted.{Counted}
+use Rattle.block_walk.proofs.Count.{counted-then, counted-passed}
 use Rattle.session_blocks.proofs.Hold.{more-walk, more-rest, more-count}
 use Rattle.session_blocks.proofs.absorb_past.Statement.{statement}
 use Rattle.session_blocks.proofs.absorb_past.Tie as tie

@@ -19,9 +19,9 @@ use Rattle.mode.specs.Walk.{whole, rest, walked, covered}
 use Rattle.mode.proofs.Cut.{length-whole, rest-less, rest-short}
 use Rattle.block_state.specs.Two.{twoOf}
 use Rattle.block_walk.proofs.Front.{short-blocks, short-walk, short-cover}
-use Rattle.session_blocks.specs.Counted.{Counted}
+use Rattle.block_walk.specs.Counted.{Counted}
 use Rattle.session_blocks.specs.Written.{written}
-use Rattle.session_blocks.proofs.Count.{counted-none, counted-passed}
+use Rattle.block_walk.proofs.Count.{counted-none, counted-passed}
 use Rattle.session_blocks.proofs.Hold.{lent-again, twice-written, whole-is, rest-is, whole-alone}
 use Rattle.session_blocks.proofs.crypt_part.Statement.{statement}
 use Rattle.session_blocks.proofs.crypt_part.Tie as tie

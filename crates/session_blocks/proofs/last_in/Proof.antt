@@ -16,9 +16,9 @@ use Rattle.mode.specs.Blocks.{blocks}
 use Rattle.mode.specs.Walk.{hidden, turned, covered}
 use Rattle.block_state.specs.Two.{twoOf}
 use Rattle.block_walk.proofs.Front.{one-block, no-block, walk-none, cover-none, walk-short, cover-short}
-use Rattle.session_blocks.specs.Counted.{Counted}
+use Rattle.block_walk.specs.Counted.{Counted}
 use Rattle.session_blocks.specs.Written.{written}
-use Rattle.session_blocks.proofs.Count.{counted-none, counted-one}
+use Rattle.block_walk.proofs.Count.{counted-none, counted-one}
 use Rattle.session_blocks.proofs.Hold.{lent-again, twice-written}
 use borrow.Author.Needs.{needs}
 use borrow.Rule.Slice.PartMut.{putMid}

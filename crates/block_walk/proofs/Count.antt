@@ -16,11 +16,12 @@ use Rattle.cipher.specs.Cipher.{sizeOf, cipherOf}
 use Rattle.cipher.proofs.Lawful.{lawful}
 use Rattle.mode.proofs.Chain.{some}
 use Rattle.block_state.specs.declared.State.{State}
-use Rattle.block_state.specs.Two.{Clean, oneMore}
+use Rattle.block_state.specs.Two.{twoOf, Clean, oneMore}
+use Rattle.block_state.proofs.Outcomes.{Small, state-told}
 use Rattle.block_walk.specs.declared.Progress.{Progress}
 use Rattle.block_walk.specs.Progress.{wholes, Passed}
 use Rattle.block_walk.proofs.Front.{short-blocks, turn-blocks}
-use Rattle.session_blocks.specs.Counted.{unused, Counted}
+use Rattle.block_walk.specs.Counted.{unused, Counted}
 
 -- no block
 pub counted-none : (suite : ℕ) (s : State) → s .calls < 2 ^ 64 → Counted suite 0 s s
@@ -69,3 +70,7 @@ pub counted-passed : (suite : ℕ) (d : Bool) (m : ℕ) (s : State) (l : List �
     → Counted suite (length (wholes (sizeOf suite) l)) s (r .s)
 counted-passed suite d m s l r h =
     record { beside = h .beside ∙ unused-whole suite l (drop (sizeOf suite) (wide (s .y))); made = h .made }
+
+-- the two states, the bytes beside them and the count tell the code's state
+pub counted-told : (suite k : ℕ) (s r q : State) → Small r → Small q → twoOf suite r ≡ twoOf suite q → Counted suite k s r → Counted suite k s q → r ≡ q
+counted-told suite k s r q a b e h j = state-told suite r q a b e (h .beside ∙ sym (j .beside)) (h .made ∙ sym (j .made))
