@@ -1,10 +1,10 @@
 -- Each part is one block, with zeros after it.
-use Rattle.shift_compare.proofs.Strings.{same-filled}
+use Rattle.shift_same.proofs.Strings.{same-filled}
 use mathlib.Core.Path.{_∙_}
 use denote.Ref.{now}
 use borrow.Author.Needs.{needs}
-use Rattle.shift_compare.proofs.entry.same_part.Statement.{statement}
-use Rattle.shift_compare.proofs.entry.same_part.Tie as tie
+use Rattle.shift_same.proofs.same_part.Statement.{statement}
+use Rattle.shift_same.proofs.same_part.Tie as tie
 
 sub-filled : tie.Need-sub-filled
 sub-filled c = search needs

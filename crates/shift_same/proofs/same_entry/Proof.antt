@@ -2,10 +2,10 @@
 use mathlib.Core.Path.{sym, _∙_}
 use borrow.Author.Tests.{not-true, not-false, eq-eqb, ne-eqb}
 use Rattle.shift_format.specs.Format.{nonceAt}
-use Rattle.shift_compare.specs.Comparing.{sameEntry}
+use Rattle.shift_same.specs.Same.{sameEntry}
 use borrow.Author.Needs.{needs}
-use Rattle.shift_compare.proofs.entry.same_entry.Statement.{statement}
-use Rattle.shift_compare.proofs.entry.same_entry.Tie as tie
+use Rattle.shift_same.proofs.same_entry.Statement.{statement}
+use Rattle.shift_same.proofs.same_entry.Tie as tie
 
 row-size-of-requires : tie.Need-row-size-of-requires
 row-size-of-requires c κs = search needs

@@ -2,8 +2,8 @@
 use Rattle.shift_format.specs.Format.{bodyEnd}
 use native.Mathlib.Omega.{arith}
 use borrow.Author.Needs.{needs}
-use Rattle.shift_compare.proofs.entry.body_of.Statement.{statement}
-use Rattle.shift_compare.proofs.entry.body_of.Tie as tie
+use Rattle.shift_same.proofs.body_of.Statement.{statement}
+use Rattle.shift_same.proofs.body_of.Tie as tie
 
 cast-at : tie.Need-cast-at
 cast-at c = search needs

@@ -15,7 +15,7 @@ ghost use Rattle.block.specs.Bytes.{sameBytes};
 ghost use Rattle.shift_format.specs.Part.{stretch};
 ghost use Rattle.shift_format.specs.Format.{rowSizeOf, bodyEnd};
 ghost use Rattle.shift_format.specs.Inside.{EntryIn};
-ghost use Rattle.shift_compare.specs.Comparing.{sameFields, sameEntry};
+ghost use Rattle.shift_same.specs.Same.{sameFields, sameEntry};
 
 // Whether the bytes from offset `start` to `end`, at most sixteen, are equal.
 fn same_part(first: &[u8], second: &[u8], start: usize, end: usize) -> bool
@@ -65,7 +65,7 @@ fn same_fields(first: Row, second: Row) -> bool
 }
 
 // Row i of the first file and row j of the second are the same entry.
-pub(crate) fn same_entry(first: &[u8], second: &[u8], i: usize, j: usize) -> bool
+pub fn same_entry(first: &[u8], second: &[u8], i: usize, j: usize) -> bool
     requires { ⌜ EntryIn (rowSizeOf (now first)) (now first) i × EntryIn (rowSizeOf (now second)) (now second) j ⌝ }
     ensures { λ r. ⌜ r ≡ sameEntry (now (first .entry)) (now (second .entry)) i j ⌝ }
 {

@@ -1,6 +1,6 @@
 -- By induction on the loop, sixteen bytes a turn: the bytes before i are equal, so the answer for both parts is the answer for
 -- what is left of them from i on.
-use Rattle.shift_compare.proofs.Strings.{same-turn, same-rest, unequal}
+use Rattle.shift_same.proofs.Strings.{same-turn, same-rest, unequal}
 use Rattle.block.specs.Bytes.{sameBytes}
 use lib.ListN.{length, drop}
 use mathlib.Core.Path.{_≡_, refl, sym, _∙_}
@@ -10,8 +10,8 @@ use borrow.Author.Needs.{needs}
 use denote.Ref.{now}
 use native.Mathlib.Omega.{arith}
 use Prim.Native.Nat.{_+_, _-_, _≤_}
-use Rattle.shift_compare.proofs.entry.same_bytes.Statement.{statement}
-use Rattle.shift_compare.proofs.entry.same_bytes.Tie as tie
+use Rattle.shift_same.proofs.same_bytes.Statement.{statement}
+use Rattle.shift_same.proofs.same_bytes.Tie as tie
 
 abbrev Inv-loop : tie.InvT-loop
 Inv-loop x y i₀ i = (length x ≡ length y) × (i ≤ length x) × (sameBytes (drop i x) (drop i y) ≡ sameBytes x y)

@@ -1,11 +1,11 @@
 -- The tests in the order of the definition.
-use Rattle.shift_compare.specs.Comparing.{sameFields}
+use Rattle.shift_same.specs.Same.{sameFields}
 use mathlib.Core.Path.{_≡_}
 use borrow.Author.Tests.{eq-eqb, ne-eqb}
 use lib.Dec.{eqb}
 use Rattle.shift_format.specs.declared.row.Row.{Row}
-use Rattle.shift_compare.proofs.entry.same_fields.Statement.{statement}
-use Rattle.shift_compare.proofs.entry.same_fields.Tie as tie
+use Rattle.shift_same.proofs.same_fields.Statement.{statement}
+use Rattle.shift_same.proofs.same_fields.Tie as tie
 
 returns : tie.Need-returns
 unfolding sameFields
