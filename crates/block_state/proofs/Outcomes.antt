@@ -1,6 +1,5 @@
 -- Every public function of `block_state` leaves one outcome: the two states, the bytes beside them and the count tell the code's state.
 use mathlib.Core.Path.{_≡_, refl, sym, ap, _∙_}
-use mathlib.Core.List.{List}
 use Prim.Native.Nat.{ℕ, _^_, _<_}
 use native.Mathlib.Omega.{arith}
 use lib.ListN.{drop}

@@ -6,13 +6,12 @@ use native.Mathlib.Omega.{arith}
 use native.Mathlib.Nat.{le-of-eq}
 use mathlib.Core.Bool.{Bool, true, false, cond}
 use mathlib.Core.List.{List, _++_}
-use lib.ListN.{length, take, drop, replicate, drop-of-length-le}
+use lib.ListN.{length, take, drop, replicate}
 use lib.Seq.{take-at, length-take-le}
 use Rattle.block.specs.Xors.{xors}
 use Rattle.block.specs.declared.Block.{Block}
 use Rattle.block.specs.Blocks.{wide}
-use Rattle.block.specs.Bytes.{bytes}
-use Rattle.block.proofs.Blocks.{length-wide, last-eight}
+use Rattle.block.proofs.Blocks.{length-wide}
 use Rattle.block.proofs.Xors.{take-xors, drop-xors, xors-take, xors-zeros}
 use Rattle.cipher.specs.Cipher.{sizeOf, cipherOf}
 use Rattle.cipher.proofs.Suites.{size-most}

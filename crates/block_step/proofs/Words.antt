@@ -3,16 +3,15 @@ use mathlib.Core.Path.{_≡_, refl, sym, ap, ap₂, _∙_}
 use Prim.Native.Nat.{ℕ, suc, _+_, _-_, _*_, _/_, _%_, _^_, _≤_, _<_}
 use native.Mathlib.Nat.{le-of-eq, mod-lt, mod-eq-of-lt, mul-one, pow-le-pow-right}
 use native.Mathlib.Omega.{arith}
-use mathlib.Core.List.{List, [], _∷_, _++_, append-assoc}
-use lib.ListN.{length, take, drop, replicate, length-append, length-drop, take-append-drop, replicate-append-replicate}
+use mathlib.Core.List.{List, _∷_, _++_, append-assoc}
+use lib.ListN.{length, take, drop, replicate, length-append, replicate-append-replicate}
 use lib.Seq.{take-at, take-all, take-append-le, take-append-add, drop-append-add, drop-at, length-take-le}
 use Rattle.block.specs.Words.{rotr}
 use Rattle.block.specs.Bytes.{value, bytes, word}
 use Rattle.block.specs.Xors.{xors}
-use Rattle.block.proofs.XorLaws.{zero-r}
 use Rattle.block.proofs.Lists.{part-take, take-replicate, drop-replicate}
 use Rattle.block.proofs.Bytes.{length-bytes, value-low, bytes-join, bytes-mod, bytes-split, bytes-zeros, reach}
-use Rattle.block.proofs.Xors.{take-xors, xors-take, xors-append}
+use Rattle.block.proofs.Xors.{take-xors, xors-take}
 use Rattle.mode.specs.Words.{Four, four, fourOf, bytesOf, shuffleWords, shuffle, pad}
 use Rattle.mode.proofs.Words.{pad-short, pad-full}
 

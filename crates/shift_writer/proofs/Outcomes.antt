@@ -1,8 +1,7 @@
 -- One outcome for each input: an answer's number and row are those of one case, so what a contract allows is one value.
-use Prim.Native.Nat.{ℕ, _<_}
+use Prim.Native.Nat.{_<_}
 use mathlib.Core.Path.{_≡_, refl, sym, ap, _∙_}
 use mathlib.Core.Bool.{cond}
-use mathlib.Core.List.{List}
 use lib.Dec.{eqb}
 use borrow.Author.Tests.{ne-eqb}
 use Rattle.block.specs.Outcome.{OneOutcome}
