@@ -6,36 +6,22 @@ use native.Mathlib.Omega.{arith}
 use native.Mathlib.Nat.{le-of-eq}
 use mathlib.Core.Bool.{Bool, true, false, cond}
 use mathlib.Core.List.{List, _++_}
-use lib.ListN.{length, take, drop, replicate, drop-of-length-le}
+use lib.ListN.{length, take, drop, replicate}
 use lib.Seq.{take-at, length-take-le}
 use Rattle.block.specs.Xors.{xors}
 use Rattle.block.specs.declared.Block.{Block}
 use Rattle.block.specs.Blocks.{wide}
-use Rattle.block.specs.Bytes.{bytes}
-use Rattle.block.proofs.Blocks.{length-wide, last-eight}
+use Rattle.block.proofs.Blocks.{length-wide}
 use Rattle.block.proofs.Xors.{take-xors, drop-xors, xors-take, xors-zeros}
 use Rattle.cipher.specs.Cipher.{sizeOf, cipherOf}
 use Rattle.cipher.proofs.Suites.{size-most}
 use Rattle.mode.specs.Words.{shuffle, pad}
 use Rattle.mode.specs.Walk.{States, turned, hidden, messageOf}
 use Rattle.mode.proofs.Words.{pad-full}
-use Rattle.block_step.specs.declared.state.State.{State}
-use Rattle.block_step.specs.Two.{twoOf, Clean, Holds, oneMore, imaged}
+use Rattle.block_state.specs.declared.State.{State}
+use Rattle.block_state.specs.Two.{twoOf, Clean, Holds, oneMore, imaged}
+use Rattle.block_state.proofs.Clean.{states-path}
 use Rattle.block_step.proofs.Words.{pad-kept, pad-cut, zeros-kept, zeros-cut, mask-is}
-
-pub states-path : {a b c d : List ℕ} → a ≡ b → c ≡ d → _≡_ {A = States} (record { Y = a; Z = c }) (record { Y = b; Z = d })
-states-path p q = λ i. record { Y = p i; Z = q i }
-
--- ---- clean blocks
-
-pub clean-16 : (suite : ℕ) (x : Block) → sizeOf suite ≡ 16 → Clean suite x
-clean-16 suite x e =
-    ap (λ (n : ℕ). drop n (wide x)) e ∙ drop-of-length-le (wide x) {i = 16} (le-of-eq (length-wide (x .a) (x .b)))
-    ∙ sym (ap (λ (n : ℕ). replicate (16 - n) 0) e)
-
-pub clean-8 : (suite y : ℕ) → sizeOf suite ≡ 8 → Clean suite (record { a = y; b = 0 })
-unfolding bytes
-clean-8 suite y e = ap (λ (n : ℕ). drop n (bytes 8 y ++ bytes 8 0)) e ∙ last-eight y 0 ∙ sym (ap (λ (n : ℕ). replicate (16 - n) 0) e)
 
 -- the XOR of two clean blocks is clean
 pub clean-xor : (suite : ℕ) (x y r : Block) → Clean suite x → Clean suite y → wide r ≡ xors (wide x) (wide y) → Clean suite r

@@ -3,16 +3,15 @@ use mathlib.Core.Path.{_≡_, refl, sym, ap, ap₂, _∙_}
 use Prim.Native.Nat.{ℕ, suc, _+_, _-_, _*_, _/_, _%_, _^_, _≤_, _<_}
 use native.Mathlib.Nat.{le-of-eq, mod-lt, mod-eq-of-lt, mul-one, pow-le-pow-right}
 use native.Mathlib.Omega.{arith}
-use mathlib.Core.List.{List, [], _∷_, _++_, append-assoc}
-use lib.ListN.{length, take, drop, replicate, length-append, length-drop, take-append-drop, replicate-append-replicate}
+use mathlib.Core.List.{List, _∷_, _++_, append-assoc}
+use lib.ListN.{length, take, drop, replicate, length-append, replicate-append-replicate}
 use lib.Seq.{take-at, take-all, take-append-le, take-append-add, drop-append-add, drop-at, length-take-le}
 use Rattle.block.specs.Words.{rotr}
 use Rattle.block.specs.Bytes.{value, bytes, word}
 use Rattle.block.specs.Xors.{xors}
-use Rattle.block.proofs.XorLaws.{zero-r}
 use Rattle.block.proofs.Lists.{part-take, take-replicate, drop-replicate}
 use Rattle.block.proofs.Bytes.{length-bytes, value-low, bytes-join, bytes-mod, bytes-split, bytes-zeros, reach}
-use Rattle.block.proofs.Xors.{take-xors, xors-take, xors-append}
+use Rattle.block.proofs.Xors.{take-xors, xors-take}
 use Rattle.mode.specs.Words.{Four, four, fourOf, bytesOf, shuffleWords, shuffle, pad}
 use Rattle.mode.proofs.Words.{pad-short, pad-full}
 
@@ -173,21 +172,6 @@ zeros-cut n b h k =
     ∙ drop-append-add b (1 ∷ replicate (16 - suc (length b)) 0) (suc j)
     ∙ drop-replicate j (16 - suc (length b)) 0
     ∙ ap (λ (i : ℕ). replicate i 0) z
-
--- ---- a nonce of fifteen bytes, and a zero after it
-
-xors-zero : (l : List ℕ) → length l ≡ 1 → xors l (0 ∷ []) ≡ l
-xors-zero [] e = absurd (native.Mathlib.Nat.suc-ne-zero 0 (sym e))
-xors-zero (a ∷ []) e = ap (λ (x : ℕ). x ∷ []) (zero-r a)
-xors-zero (a ∷ (b ∷ l)) e = absurd (native.Mathlib.Nat.suc-ne-zero (length l) (native.Mathlib.Nat.suc-inj e))
-
--- a nonce of fifteen bytes leaves the key's last byte
-pub nonce-on-key : (k v : List ℕ) → length k ≡ 16 → length v ≡ 15 → xors k (v ++ (0 ∷ [])) ≡ xors (take 15 k) v ++ drop 15 k
-nonce-on-key k v lk lv =
-    let lt : length (take 15 k) ≡ 15 = length-take-le 15 k (omega arith) in
-    ap (λ (l : List ℕ). xors l (v ++ (0 ∷ []))) (sym (take-append-drop 15 k))
-    ∙ xors-append (take 15 k) (drop 15 k) v (0 ∷ []) (lt ∙ sym lv)
-    ∙ ap (λ (l : List ℕ). xors (take 15 k) v ++ l) (xors-zero (drop 15 k) (length-drop 15 k ∙ omega arith))
 
 -- ---- the mask: zeros after the block do not matter
 

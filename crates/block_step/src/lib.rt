@@ -1,7 +1,4 @@
-// The block step of COMET: the two states Y and Z, absorbing a block, its output, and the tag.
-pub mod marks;
+// The block step of COMET: one block of associated data or text, absorbed, and its output.
 pub mod one_block;
 mod pad;
 mod shuffle;
-pub mod state;
-pub mod tag;

@@ -8,7 +8,7 @@ ghost use Rattle.block.specs.Bytes.{bytes};
 ghost use Rattle.block.specs.Blocks.{wide};
 ghost use Rattle.cipher.specs.Cipher.{sizeOf};
 ghost use Rattle.mode.specs.Words.{shuffle};
-ghost use Rattle.block_step.specs.Two.{Clean};
+ghost use Rattle.block_state.specs.Two.{Clean};
 
 // On four words of 32 bits.
 fn shuffled16(x: Block) -> Block

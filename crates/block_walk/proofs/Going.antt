@@ -16,8 +16,8 @@ use Rattle.block.specs.Words.{add}
 use Rattle.cipher.specs.Cipher.{sizeOf, cipherOf}
 use Rattle.mode.specs.Walk.{whole, rest, turned, hidden, messageOf, walked, covered}
 use Rattle.mode.proofs.Cut.{whole-short}
-use Rattle.block_step.specs.declared.state.State.{State}
-use Rattle.block_step.specs.Two.{twoOf, Holds, oneMore}
+use Rattle.block_state.specs.declared.State.{State}
+use Rattle.block_state.specs.Two.{twoOf, Holds, oneMore}
 use Rattle.block_walk.specs.Progress.{wholes, Passed}
 use Rattle.block_walk.proofs.Front.{short-blocks, short-walk, short-cover, block-long, turn-blocks, turn-long, turn-walk, turn-cover, behind, drop-later}
 

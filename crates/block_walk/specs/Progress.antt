@@ -10,8 +10,8 @@ use Rattle.block.specs.Words.{add}
 use Rattle.cipher.specs.Cipher.{sizeOf, cipherOf}
 use Rattle.mode.specs.Blocks.{blocks}
 use Rattle.mode.specs.Walk.{whole, walked}
-use Rattle.block_step.specs.declared.state.State.{State}
-use Rattle.block_step.specs.Two.{twoOf}
+use Rattle.block_state.specs.declared.State.{State}
+use Rattle.block_state.specs.Two.{twoOf}
 use Rattle.block_walk.specs.declared.Progress.{Progress}
 
 -- the whole blocks of a text, one by one

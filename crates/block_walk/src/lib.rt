@@ -1,10 +1,10 @@
 // The loops over the whole blocks of a text, shared by the one-call sealer, the opener and the sessions. Each loop has its
 // direction as a literal and is the only caller of its step, so that the compiler inlines the step.
+use block_state::State;
 use block_step::one_block::absorb_full;
 use block_step::one_block::open_full;
 use block_step::one_block::seal_full;
 use block_step::one_block::verify_full;
-use block_step::state::State;
 use cipher::AesTables;
 ghost use mathlib.Core.Path.{_≡_};
 ghost use mathlib.Core.Bool.{true, false};
@@ -12,7 +12,7 @@ ghost use mathlib.Core.List.{_++_};
 ghost use Prim.Native.Nat.{ℕ};
 ghost use Rattle.cipher.specs.Cipher.{TablesFit, IsSuite, sizeOf, cipherOf};
 ghost use Rattle.mode.specs.Walk.{rest, covered};
-ghost use Rattle.block_step.specs.Two.{twoOf};
+ghost use Rattle.block_state.specs.Two.{twoOf};
 ghost use Rattle.block_walk.specs.Progress.{wholes, Passed};
 
 // The result after the whole blocks: the state, the mark that is still due for the next block, and how many bytes were processed.

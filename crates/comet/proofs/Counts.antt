@@ -13,7 +13,7 @@ use Rattle.cipher.specs.Cipher.{cipherOf}
 use Rattle.mode.specs.Blocks.{blocks}
 use Rattle.mode.specs.Mode.{calls}
 use Rattle.mode.proofs.Blocks.{blocks-nil, blocks-more}
-use Rattle.block_step.specs.Two.{oneMore}
+use Rattle.block_state.specs.Two.{oneMore}
 use Rattle.status.specs.Verdicts.{refusal}
 use Rattle.comet.specs.Counted.{Counting, countedAs, callsOf, sealingCounted, openingCounted}
 use Rattle.status.proofs.Refuse.{passed}

@@ -1,4 +1,3 @@
-pub mod Turns
 pub mod Left
 pub mod Outcomes
 pub mod Counts

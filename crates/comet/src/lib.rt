@@ -1,16 +1,13 @@
 // The sealer and the opener: COMET under every suite.
 use block::Block;
-use block_step::marks::MARK_FIRST_DATA;
-use block_step::marks::MARK_FIRST_TEXT;
-use block_step::marks::MARK_SHORT_DATA;
-use block_step::marks::MARK_SHORT_TEXT;
-use block_step::tag::TagAndCalls;
+use block_state::marks::MARK_FIRST_DATA;
+use block_state::marks::MARK_FIRST_TEXT;
+use block_state::marks::MARK_SHORT_DATA;
+use block_state::marks::MARK_SHORT_TEXT;
+use block_state::tag::TagAndCalls;
 use cipher::AesTables;
 use status::verdict::Verdict;
 use status::verdict::refused;
-
-mod text;
-
 ghost use mathlib.Core.Path.{_≡_};
 ghost use mathlib.Core.Bool.{true, false};
 ghost use Prim.Native.Nat.{_≤_};
@@ -18,7 +15,7 @@ ghost use lib.ListN.{length, take};
 ghost use Rattle.block.specs.Blocks.{wide};
 ghost use Rattle.cipher.specs.Cipher.{needsTables, TablesFit, IsSuite, sizeOf, nonceOf, cipherOf, limit};
 ghost use Rattle.mode.specs.Mode.{textOut, tagOut, calls};
-ghost use Rattle.block_step.specs.Two.{Clean};
+ghost use Rattle.block_state.specs.Two.{Clean};
 ghost use Rattle.status.specs.Verdicts.{numberOf, refusal};
 ghost use Rattle.comet.specs.Answers.{Sealed, sealing, Opened, opening, verifying};
 ghost use Rattle.comet.specs.Counted.{Counting, sealingCounted, openingCounted};
@@ -73,9 +70,9 @@ fn crypt_core(
     ensures rest { λ r. ⌜ Clean suite (r .tag)
         × (r .calls ≡ length (calls (cipherOf suite) opening (now (key .entry)) (now (nonce .entry)) (now (ad .entry)) (now (text .entry)))) ⌝ }
 {
-    let mut state = block_step::state::start(tables, suite, key, nonce);
+    let mut state = block_state::start(tables, suite, key, nonce);
     if ad.len() != 0 {
-        state = text::absorb_all(
+        state = comet_text::absorb_all(
             tables,
             false,
             suite,
@@ -86,9 +83,9 @@ fn crypt_core(
         );
     }
     if 0 < text.len() {
-        state = text::crypt_all(tables, opening, suite, state, text);
+        state = comet_text::crypt_all(tables, opening, suite, state, text);
     }
-    block_step::tag::tag_of(tables, suite, state)
+    block_state::tag::tag_of(tables, suite, state)
 }
 
 // `crypt_core` under the tables of AES, for suites 1 and 5. This function and the next are two, so that the 4 KiB of the tables are
@@ -276,7 +273,7 @@ fn unseal_checked(
 {
     let done = crypt(true, suite, key, nonce, ad, text);
     let computed = done.tag;
-    let right = block_step::tag::same(computed, tag);
+    let right = block_state::tag::same(computed, tag);
     if !right {
         byte_runs::wipe(text);
         return Counted {
@@ -381,9 +378,9 @@ fn tag_core(
         (now (text .entry)) ⌝ }
     ensures rest { λ r. ⌜ Clean suite r ⌝ }
 {
-    let mut state = block_step::state::start(tables, suite, key, nonce);
+    let mut state = block_state::start(tables, suite, key, nonce);
     if ad.len() != 0 {
-        state = text::absorb_all(
+        state = comet_text::absorb_all(
             tables,
             false,
             suite,
@@ -394,7 +391,7 @@ fn tag_core(
         );
     }
     if text.len() != 0 {
-        state = text::absorb_all(
+        state = comet_text::absorb_all(
             tables,
             true,
             suite,
@@ -404,7 +401,7 @@ fn tag_core(
             text,
         );
     }
-    let last = block_step::tag::tag_of(tables, suite, state);
+    let last = block_state::tag::tag_of(tables, suite, state);
     last.tag
 }
 
@@ -460,7 +457,7 @@ pub fn verify(suite: u8, key: &[u8], nonce: &[u8], ad: &[u8], text: &[u8], tag: 
         return verdict;
     };
     let computed = tag_under(suite, key, nonce, ad, text);
-    let genuine = block_step::tag::same(computed, tag);
+    let genuine = block_state::tag::same(computed, tag);
     if !genuine {
         return Verdict::Forged;
     }

@@ -2,8 +2,8 @@
 //
 // Prints status and row on one line. OUT is written if the status is 0, and otherwise unchanged. A file that cannot
 // be read counts as zero bytes. The program takes files up to the format's 1,048,576 bytes (longer: 20).
-use shift_format::limits::MAX_FILE;
-use shift_format::limits::MAX_ROWS;
+use shift_limits::MAX_FILE;
+use shift_limits::MAX_ROWS;
 use status::checked::Answer;
 ghost use Prim.Native.Nat.{_≤_};
 

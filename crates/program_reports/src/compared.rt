@@ -4,7 +4,7 @@ use program_text::text::end;
 use program_text::text::number;
 use program_text::text::put;
 use shift_compare::Finding;
-use shift_format::limits::MAX_ROWS;
+use shift_limits::MAX_ROWS;
 
 fn number_line(out: &mut [u8], at: usize, value: u32) -> usize {
     let at = number(out, at, value as u64);

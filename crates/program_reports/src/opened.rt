@@ -13,14 +13,14 @@ use program_text::text::put;
 use shift_format::body::data_of;
 use shift_format::row::Row;
 use shift_format::row::station_of;
-use shift_jobs::answers::Found;
-use shift_jobs::found::entry_found;
 use shift_jobs::found::open_found;
-use shift_jobs::lend::row_of;
+use shift_lookup::answers::Found;
+use shift_lookup::found::entry_found;
+use shift_lookup::found::row_of;
 ghost use Rattle.shift_format.specs.Format.{rowSizeOf};
 ghost use Rattle.shift_format.specs.Inside.{RowIn, EntryIn};
-ghost use Rattle.shift_jobs.specs.Answers.{foundAnswer};
-ghost use Rattle.shift_jobs.specs.Inside.{FoundIn};
+ghost use Rattle.shift_lookup.specs.Answers.{foundAnswer};
+ghost use Rattle.shift_lookup.specs.Inside.{FoundIn};
 
 // A name and a number.
 fn number_line(out: &mut [u8], at: usize, name: &[u8], value: u64) -> usize {
@@ -134,7 +134,7 @@ fn open_job(file: &[u8], ring: &[u8], found: Found, message: &mut [u8], out: &mu
 // Looks the job up and opens what it finds (`open_job`). Only the lookup checks the file.
 pub fn job(file: &[u8], ring: &[u8], job: u32, out: &mut [u8]) -> usize {
     let mut message = [0u8; LIMIT];
-    let found = shift_jobs::lookup(file, job);
+    let found = shift_lookup::lookup(file, job);
     let len = entry_found(file, found).text_len as usize;
     if LIMIT < len {
         return 0;

@@ -4,7 +4,7 @@ use program_text::text::answer;
 use program_text::text::end;
 use program_text::text::number;
 use program_text::text::put;
-use shift_format::limits::MAX_ROWS;
+use shift_limits::MAX_ROWS;
 
 fn entry(out: &mut [u8], at: usize, job: u32, answer: u8) -> usize {
     let at = number(out, at, job as u64);

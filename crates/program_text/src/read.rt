@@ -1,7 +1,7 @@
 // Reading.
 use libc::STDIN_FILENO;
-use shift_format::limits::MAX_FILE;
-use shift_format::limits::RING_LEN;
+use shift_limits::MAX_FILE;
+use shift_limits::RING_LEN;
 ghost use mathlib.Core.Path.{_≡_};
 ghost use lib.ListN.{take, replicate};
 

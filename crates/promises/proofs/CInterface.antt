@@ -18,8 +18,8 @@ use Rattle.shift_check.proofs.Passed.{passes}
 use Rattle.shift_reader.specs.declared.contents.HeaderFields.{HeaderFields}
 use Rattle.shift_reader.proofs.ByRow.{header-given, row-given, row-past}
 use Rattle.snoekeldraf.specs.Fields.{InFields, inFields}
-use Rattle.snoekeldraf.specs.Words.{Nine, ofWords, wordsOf, after, inWords}
-use Rattle.snoekeldraf.proofs.Words.{kept, dead, dead-words}
+use Rattle.session_words.specs.Words.{Nine, ofWords, wordsOf, after, inWords}
+use Rattle.session_words.proofs.Words.{kept, dead, dead-words}
 use Rattle.snoekeldraf.proofs.Outcomes as one
 use Rattle.promises.specs.CInterface.{CInterface, CRoutines, CRows, CSessions}
 

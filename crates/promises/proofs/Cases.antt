@@ -17,13 +17,13 @@ use Rattle.status.specs.Answers.{answer}
 use Rattle.shift_check.specs.Check.{nonceSeen, headNumber, andThen, checkAs, checkFile}
 use Rattle.shift_format.specs.Inside.{EntryIn}
 use Rattle.shift_check.proofs.Searches.{first-at, first-none}
-use Rattle.shift_jobs.specs.Lookup.{lookupJob}
+use Rattle.shift_lookup.specs.Lookup.{lookupJob}
 use Rattle.shift_jobs.specs.Opening.{entryOpening, JobOpened, left, rowOpening, jobOpening}
-use Rattle.shift_jobs.proofs.Lookups.{found-in}
-use Rattle.shift_jobs.proofs.Finding.{finds}
-use Rattle.shift_jobs.specs.Halving.{Walk, ends, halving, jobsOf}
+use Rattle.shift_lookup.proofs.Lookups.{found-in}
+use Rattle.shift_lookup.proofs.Finding.{finds}
+use Rattle.shift_lookup.specs.Halving.{Walk, ends, halving, jobsOf}
 use Rattle.shift_search.specs.Searching.{searching}
-use Rattle.shift_jobs.proofs.Halves.{halved-number}
+use Rattle.shift_lookup.proofs.Halves.{halved-number}
 use Rattle.shift_draft.specs.Files.{entryTag}
 use Rattle.shift_draft.specs.Answers.{tagSet, rowRetired, tagRight, setFrom, retiredFrom, wrongFrom, lentAnswer, sealAnswer, openAnswer, unsealAnswer}
 use Rattle.shift_draft.specs.Answers.{fileSealing, fileUnsealing}

@@ -1,6 +1,6 @@
 -- The shift file by citation.
 use Rattle.shift_check.proofs.Bodies.{laid}
-use Rattle.shift_jobs.proofs.Finding.{finds}
+use Rattle.shift_lookup.proofs.Finding.{finds}
 use Rattle.shift_jobs.proofs.Jobs.{opens, answered}
 use Rattle.shift_jobs.proofs.Units.{unit-refused}
 use Rattle.shift_jobs.proofs.Tested.{verifies-as-opening, verified-places}

@@ -12,9 +12,9 @@ use Rattle.session.specs.Calls.{Shut}
 use Rattle.status.specs.Answers.{answer}
 use Rattle.shift_format.specs.Format.{editionOf, countOf, rowSizeOf, nonceStart, rowOf, stationOf}
 use Rattle.shift_check.specs.Check.{checkFile}
-use Rattle.shift_jobs.specs.declared.answers.Entry.{Entry}
-use Rattle.shift_jobs.specs.Lookup.{lookupJob}
-use Rattle.shift_jobs.specs.Entry.{entryOf}
+use Rattle.shift_lookup.specs.declared.answers.Entry.{Entry}
+use Rattle.shift_lookup.specs.Lookup.{lookupJob}
+use Rattle.shift_lookup.specs.Entry.{entryOf}
 use Rattle.shift_jobs.specs.Opening.{left, jobOpening}
 use Rattle.shift_jobs.specs.declared.answers.Genuine.{Genuine}
 use Rattle.shift_jobs.specs.Genuine.{jobVerifying}
@@ -27,7 +27,7 @@ use Rattle.shift_compare.specs.Comparing.{Comparison, comparison}
 use Rattle.shift_report.specs.Reporting.{Report, reporting}
 use Rattle.shift_reader.specs.declared.contents.HeaderFields.{HeaderFields}
 use Rattle.shift_reader.specs.Contents.{headerAnswer, rowAnswer}
-use Rattle.snoekeldraf.specs.Words.{Nine, ofWords, wordsOf, after, inWords}
+use Rattle.session_words.specs.Words.{Nine, ofWords, wordsOf, after, inWords}
 use Rattle.snoekeldraf.specs.Located.{Located, locating}
 use Rattle.snoekeldraf.specs.Amended.{Placed, placing}
 use Rattle.snoekeldraf.specs.Fields.{InFields, inFields}

@@ -10,10 +10,10 @@ use Rattle.cipher.specs.Cipher.{Seals}
 use Rattle.shift_format.specs.Format.{countOf, firstEdition, newest, rowSizeOf, rowOf, stationOf}
 use Rattle.status.specs.Answers.{answer}
 use Rattle.shift_check.specs.Check.{headNumber, checkAs, checkFile}
-use Rattle.shift_jobs.specs.Lookup.{lookupJob}
+use Rattle.shift_lookup.specs.Lookup.{lookupJob}
 use Rattle.shift_jobs.specs.Opening.{left, jobOpening}
-use Rattle.shift_jobs.specs.Promised.{Finds}
-use Rattle.shift_jobs.specs.Halving.{ends, halving, jobsOf}
+use Rattle.shift_lookup.specs.Promised.{Finds}
+use Rattle.shift_lookup.specs.Halving.{ends, halving, jobsOf}
 use Rattle.shift_search.specs.Searching.{searching}
 use Rattle.shift_draft.specs.Files.{draftEdition}
 use Rattle.shift_draft.specs.Answers.{fileSealing, fileUnsealing}

@@ -16,9 +16,10 @@ use Rattle.session.specs.Structs.{asValue, gives}
 use Rattle.shift_format.specs.Part.{PartOf}
 use Rattle.status.specs.Answers.{checkedAnswer}
 use Rattle.shift_check.specs.Check.{checkFile}
-use Rattle.shift_jobs.specs.Answers.{foundAnswer, openedAnswer}
-use Rattle.shift_jobs.specs.Lookup.{lookupJob}
-use Rattle.shift_jobs.specs.Entry.{dataStart, dataLength, entryOf}
+use Rattle.shift_lookup.specs.Answers.{foundAnswer}
+use Rattle.shift_jobs.specs.Answers.{openedAnswer}
+use Rattle.shift_lookup.specs.Lookup.{lookupJob}
+use Rattle.shift_lookup.specs.Entry.{dataStart, dataLength, entryOf}
 use Rattle.shift_jobs.specs.Opening.{left, jobOpening}
 use Rattle.shift_jobs.specs.Genuine.{jobVerifying}
 use Rattle.shift_search.specs.Searching.{searching}

@@ -19,7 +19,7 @@ use Rattle.mode.proofs.Cut.{rest-less}
 use Rattle.session.specs.Value.{Value, answered, gave, dataIn, dataNumber, dataPart, textNumber, textDone, textPart, endNumber, endDone, ending, sound}
 use Rattle.session.specs.Calls.{Next}
 use Rattle.session.proofs.Joined.{heldSoFar, soFar}
-use Rattle.session.proofs.Refuse.{text-is, end-is, data-begun, data-limit}
+use Rattle.session_ladder.proofs.Rungs.{text-is, end-is, data-begun, data-limit}
 use Rattle.session.proofs.Parts.{done-number}
 use Rattle.session.proofs.Count.{part-count, end-count}
 

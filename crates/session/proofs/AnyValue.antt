@@ -14,7 +14,8 @@ use Rattle.cipher.proofs.Suites.{size-most}
 use Rattle.mode.proofs.Chain.{some}
 use Rattle.session.specs.Value.{Value, sound, answered, gave, startNumber, fresh, over, starting, dataNumber, dataIn, dataPart, textNumber, textDone}
 use Rattle.session.specs.Value.{textPart, endNumber, endDone, ending}
-use Rattle.session.proofs.Refuse.{answer-kept, data-closed, text-passed, text-is, end-is}
+use Rattle.session_ladder.proofs.Rungs.{data-closed, text-passed, text-is, end-is}
+use Rattle.session.proofs.Refuse.{answer-kept}
 use Rattle.session.proofs.Count.{part-count, end-count}
 
 -- ---- a suite over 255

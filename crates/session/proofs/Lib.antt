@@ -1,6 +1,5 @@
 pub mod Joined
 pub mod SoFar
-pub mod Hold
 pub mod Refuse
 pub mod Flush
 pub mod Parts

@@ -20,13 +20,13 @@ use Rattle.session.proofs.Session.finish.Kinds as finish-kinds
 use Rattle.session.proofs.Session.finish.Reads as finish-reads
 
 -- the four numbers of Y and Z are of 64 bits
-record Words (s : Session) : Type 0 where
-  ya : s .y .a < 256 ^ 8
-  yb : s .y .b < 256 ^ 8
-  za : s .z .a < 256 ^ 8
-  zb : s .z .b < 256 ^ 8
+pub record Words (s : Session) : Type 0 where
+  pub ya : s .y .a < 256 ^ 8
+  pub yb : s .y .b < 256 ^ 8
+  pub za : s .z .a < 256 ^ 8
+  pub zb : s .z .b < 256 ^ 8
 
-session-told : (s t : Session) → Words s → Words t → asValue s ≡ asValue t → s ≡ t
+pub session-told : (s t : Session) → Words s → Words t → asValue s ≡ asValue t → s ≡ t
 session-told s t p q e =
     let ey : s .y ≡ t .y = wide-told (s .y) (t .y) (p .ya) (p .yb) (q .ya) (q .yb) (ap (λ (v : Value). v .Y) e) in
     let ez : s .z ≡ t .z = wide-told (s .z) (t .z) (p .za) (p .zb) (q .za) (q .zb) (ap (λ (v : Value). v .Z) e) in

@@ -9,7 +9,8 @@ use Rattle.block.specs.Blocks.{filled}
 use Rattle.cipher.specs.Cipher.{Cipher, cipherOf}
 use Rattle.mode.specs.Blocks.{blocks}
 use Rattle.mode.specs.Walk.{States, whole, rest, walked, covered, tagged}
-use Rattle.session.specs.Value.{Value, valueOf, written, gave, firstMark, begun, textStates, blocksOut, textIn, partOut, textGiven, textDone, endOut}
+use Rattle.session_blocks.specs.Written.{written}
+use Rattle.session.specs.Value.{Value, valueOf, gave, firstMark, begun, textStates, blocksOut, textIn, partOut, textGiven, textDone, endOut}
 use Rattle.session.specs.Value.{endTag, endDone, over}
 
 -- two, n and m are what the code found for the states, the block's size and the first mark

@@ -23,7 +23,7 @@ use Rattle.session.specs.Value.{Value, fresh, states, heldOf, firstMark,
 use Rattle.session.specs.Value.{endTag}
 use Rattle.session.proofs.Joined.{dataSoFar, textSoFar, outSoFar, statesSoFar, soFar}
 use Rattle.mode.proofs.Cut.{length-rest, whole-short, rest-short, blocks-whole-rest, blocks-more-bytes, rest-more}
-use Rattle.block_step.proofs.Turns.{states-path}
+use Rattle.block_state.proofs.Clean.{states-path}
 use Rattle.mode.proofs.Walk.{walked-append, covered-append, Fine, walked-fine, later-first, text-walk, tag-walk}
 
 -- ---- a walk over the whole blocks of l goes on with what comes after l

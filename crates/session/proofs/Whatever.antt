@@ -14,12 +14,13 @@ use Rattle.block.proofs.Lists.{nil-of, all-append, all-nil}
 use Rattle.cipher.proofs.Suites.{seals-has}
 use Rattle.cipher.specs.Cipher.{Block, isSuite, seals, Seals, cipherOf, nonceOf, limit}
 use Rattle.mode.specs.Mode.{ciphertext, tag}
-use Rattle.session.specs.Value.{Value, Given, over, answered, gave, written, startNumber, starting, dataNumber, dataPart, textNumber, textDone, textPart}
+use Rattle.session_blocks.specs.Written.{written}
+use Rattle.session.specs.Value.{Value, Given, over, answered, gave, startNumber, starting, dataNumber, dataPart, textNumber, textDone, textPart}
 use Rattle.session.specs.Value.{endNumber, endDone, ending, dataIn, partOut, endOut, fresh}
 use Rattle.session.proofs.Joined.{outSoFar, soFar}
 use Rattle.session.specs.Calls.{SessionCall, associated, message, finish, InBytes, AllInBytes, Run, accepted, endedBy, step, run, runOf, joined, Starts}
 use Rattle.session.specs.Calls.{Shut, RefusedShut, Next, Goes, Whatever}
-use Rattle.session.proofs.Refuse.{data-passed, text-passed, start-passed, start-is}
+use Rattle.session_ladder.proofs.Rungs.{data-passed, text-passed, start-passed, start-is}
 use Rattle.session.proofs.Accepts.{next-is}
 use Rattle.session.proofs.SoFar.{data-more, part-out, text-more, end-out, end-tag, fresh-is, none-out}
 

@@ -1,14 +1,16 @@
 -- A session: its value, and the status and output of each call (document 02, W2).
-use Prim.Native.Nat.{ℕ, zero, suc, _+_, _-_, _%_, _≤_}
-use mathlib.Core.Bool.{Bool, false, cond, not, _&&_}
+use Prim.Native.Nat.{ℕ, zero, suc, _+_, _%_}
+use mathlib.Core.Bool.{false, cond}
 use mathlib.Core.List.{List, [], _∷_, _++_}
-use lib.ListN.{length, take, drop, replicate}
-use lib.Dec.{leb, ltb, eqb}
+use lib.ListN.{length, take, replicate}
+use lib.Dec.{ltb, eqb}
 use Rattle.block.specs.Blocks.{filled}
-use Rattle.cipher.specs.Cipher.{Cipher, IsSuite, seals, cipherOf, sizeOf, limit}
-use Rattle.status.specs.Verdicts.{underKey}
+use Rattle.cipher.specs.Cipher.{Cipher, cipherOf}
 use Rattle.mode.specs.Blocks.{blocks}
 use Rattle.mode.specs.Walk.{States, whole, rest, walked, covered, tagged, origin}
+use Rattle.session_blocks.specs.Written.{written}
+pub use Rattle.session_ladder.specs.Numbers.{sound}
+unfoldable pub use Rattle.session_ladder.specs.Numbers.{startNumber, dataNumber, textNumber, endNumber}
 
 -- Y, Z and the buffered bytes in sixteen bytes each; the bytes of associated data and of message so far. The message has begun once one of its bytes has come
 pub record Value : Type 0 where
@@ -26,16 +28,6 @@ valueOf suite s held ad-total text-total = record { suite = suite; Y = filled (s
 -- a session that answers 9 to every call: a refused one, and one that has ended
 abbrev pub over : Value
 over = record { suite = 0; Y = replicate 16 0; Z = replicate 16 0; held = replicate 16 0; «ad_total» = 0; «text_total» = 0 }
-
--- a session in progress, by its suite and its totals: a suite that seals, and totals within the limit. No run of ours gives any other value
-abbrev pub sound : ℕ → ℕ → ℕ → Bool
-sound suite ad-total text-total = seals suite && (leb ad-total limit && leb text-total limit)
-
--- what a session in progress fulfils, as facts that the proofs use
-pub record Sound (suite ad-total text-total : ℕ) : Type 0 where
-  pub known : IsSuite suite
-  pub data-most : ad-total ≤ limit
-  pub text-most : text-total ≤ limit
 
 module _ (κ : Cipher) where
   -- the session's two states
@@ -103,15 +95,7 @@ abbrev pub answered : ℕ → Given → Value → List ℕ → List ℕ → Give
 answered zero done v out tag = done
 answered (suc k) done v out tag = gave (suc k) 0 v out tag
 
--- a buffer with its first bytes overwritten by `new`
-abbrev pub written : List ℕ → List ℕ → List ℕ
-written new out = new ++ drop (length new) out
-
 -- ---- start
-
--- 1, 10, 2, 3, from the suite and the lengths of key and nonce
-unfoldable pub startNumber : ℕ → ℕ → ℕ → ℕ
-startNumber suite key nonce = underKey (seals suite) suite key nonce 0
 
 -- the session after an accepted start
 abbrev pub fresh : ℕ → List ℕ → List ℕ → Value
@@ -122,19 +106,10 @@ starting suite key nonce = answered (startNumber suite (length key) (length nonc
 
 -- ---- associated data
 
--- 9 (not in progress, or the message has begun), 4, for a part of l bytes
-unfoldable pub dataNumber : ℕ → ℕ → ℕ → ℕ → ℕ
-dataNumber suite ad-total text-total l = cond (not (sound suite ad-total text-total && eqb text-total 0)) 9 (cond (ltb (limit - ad-total) l) 4 0)
-
 unfoldable pub dataPart : Value → List ℕ → Given
 dataPart v p = answered (dataNumber (v .suite) (v .«ad_total») (v .«text_total») (length p)) (gave 0 0 (dataIn (cipherOf (v .suite)) v p) [] []) v [] []
 
 -- ---- message: an empty part changes nothing
-
--- 9 (not in progress), 5, 6, for a part of l bytes and an output of o bytes
-unfoldable pub textNumber : ℕ → ℕ → ℕ → ℕ → ℕ → ℕ
-textNumber suite ad-total text-total l o =
-    cond (not (sound suite ad-total text-total)) 9 (cond (ltb (limit - text-total) l) 5 (cond (ltb o (l + (sizeOf suite - 1))) 6 0))
 
 abbrev pub textGiven : Value → List ℕ → List ℕ → Given
 textGiven v p out =
@@ -148,10 +123,6 @@ unfoldable pub textPart : Value → List ℕ → List ℕ → Given
 textPart v p out = answered (textNumber (v .suite) (v .«ad_total») (v .«text_total») (length p) (length out)) (textDone v p out) v out []
 
 -- ---- end
-
--- 9 (not in progress), 6, 7, for an output of o bytes and a tag buffer of t bytes
-unfoldable pub endNumber : ℕ → ℕ → ℕ → ℕ → ℕ → ℕ
-endNumber suite ad-total text-total o t = cond (not (sound suite ad-total text-total)) 9 (cond (ltb o (sizeOf suite)) 6 (cond (not (eqb t (sizeOf suite))) 7 0))
 
 abbrev pub endDone : Value → List ℕ → Given
 endDone v out =

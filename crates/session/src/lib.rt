@@ -1,8 +1,6 @@
 // Sealing in parts: a session by value, which every call returns.
 use block::Block;
 
-mod blocks;
-mod ladder;
 mod work;
 
 ghost use mathlib.Core.Path.{_≡_};
@@ -33,7 +31,7 @@ impl Session {
     pub fn start(suite: u8, key: &[u8], nonce: &[u8]) -> Step
         ensures { λ r. ⌜ gives r [] [] ≡ starting suite (now (key .entry)) (now (nonce .entry)) ⌝ }
     {
-        let number = ladder::start_number(suite, key.len(), nonce.len());
+        let number = session_ladder::start_number(suite, key.len(), nonce.len());
         if number != 0 {
             return work::refused(number);
         }
@@ -51,7 +49,7 @@ impl Session {
         let suite = self.suite;
         let ad_total = self.ad_total;
         let text_total = self.text_total;
-        let number = ladder::data_number(suite, ad_total, text_total, part.len());
+        let number = session_ladder::data_number(suite, ad_total, text_total, part.len());
         if number != 0 {
             return Step {
                 next: self,
@@ -69,7 +67,13 @@ impl Session {
         let suite = self.suite;
         let ad_total = self.ad_total;
         let text_total = self.text_total;
-        let number = ladder::text_number(suite, ad_total, text_total, part.len(), out.len());
+        let number = session_ladder::text_number(
+            suite,
+            ad_total,
+            text_total,
+            part.len(),
+            out.len(),
+        );
         if number != 0 {
             return Step {
                 next: self,
@@ -94,7 +98,7 @@ impl Session {
         let suite = self.suite;
         let ad_total = self.ad_total;
         let text_total = self.text_total;
-        let number = ladder::end_number(suite, ad_total, text_total, out.len(), tag.len());
+        let number = session_ladder::end_number(suite, ad_total, text_total, out.len(), tag.len());
         if number != 0 {
             return Step {
                 next: self,

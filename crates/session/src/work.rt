@@ -1,14 +1,14 @@
 // The work of the calls once nothing is refused.
 use crate::Session;
 use crate::Step;
-use crate::blocks::Absorbed;
 use block::Block;
-use block_step::marks::MARK_FIRST_DATA;
-use block_step::marks::MARK_FIRST_TEXT;
-use block_step::marks::MARK_SHORT_DATA;
+use block_state::State;
+use block_state::marks::MARK_FIRST_DATA;
+use block_state::marks::MARK_FIRST_TEXT;
+use block_state::marks::MARK_SHORT_DATA;
 use block_step::one_block::absorb_short;
-use block_step::state::State;
 use cipher::AesTables;
+use session_blocks::Absorbed;
 ghost use mathlib.Core.Path.{_≡_};
 ghost use mathlib.Core.Bool.{false};
 ghost use mathlib.Core.List.{[]};
@@ -17,7 +17,7 @@ ghost use lib.ListN.{length, take};
 ghost use Rattle.block.specs.Blocks.{wide, filled};
 ghost use Rattle.cipher.specs.Cipher.{TablesFit, IsSuite, sizeOf, cipherOf};
 ghost use Rattle.mode.specs.Walk.{turned, messageOf};
-ghost use Rattle.block_step.specs.Two.{twoOf, Holds, oneMore};
+ghost use Rattle.block_state.specs.Two.{twoOf, Holds, oneMore};
 ghost use Rattle.session.specs.Value.{valueOf, over, gave, firstMark, begun, startNumber, starting, dataNumber, dataPart, textNumber};
 ghost use Rattle.session.specs.Value.{textPart, endNumber, ending};
 ghost use Rattle.session.specs.Structs.{asValue, gives};
@@ -83,7 +83,7 @@ pub(crate) fn started(tables: &[AesTables], suite: u8, key: &[u8], nonce: &[u8])
     requires { ⌜ TablesFit suite (now tables) × (startNumber suite (length (now key)) (length (now nonce)) ≡ 0) ⌝ }
     ensures { λ r. ⌜ gives r [] [] ≡ starting suite (now (key .entry)) (now (nonce .entry)) ⌝ }
 {
-    let state = block_step::state::start(tables, suite, key, nonce);
+    let state = block_state::start(tables, suite, key, nonce);
     let zeros = [0u8; 16];
     let next = packed(
         suite,
@@ -128,7 +128,7 @@ pub(crate) fn take_in(session: Session, part: &[u8]) -> Step
         z: z,
         calls: 0,
     };
-    let absorbed = crate::blocks::absorb_part(suite, two, mark, held, held_len, part);
+    let absorbed = session_blocks::absorb_part(suite, two, mark, held, held_len, part);
     let next = packed(suite, absorbed, ad_total + part.len(), text_total);
     Step {
         next: next,
@@ -210,7 +210,7 @@ pub(crate) fn seal_in(session: Session, part: &[u8], out: &mut [u8]) -> Step
     let n = cipher::size_of(suite);
     let mark = first_mark(suite, MARK_FIRST_TEXT, text_total);
     let held_len = text_total % n;
-    let sealed = crate::blocks::crypt_part(suite, two, mark, held, held_len, part, out);
+    let sealed = session_blocks::crypt_part(suite, two, mark, held, held_len, part, out);
     let state = sealed.s;
     let buffered = sealed.held;
     let next = packed(
@@ -242,8 +242,8 @@ pub(crate) fn close(tables: &[AesTables], session: Session, out: &mut [u8], tag:
     let n = cipher::size_of(suite);
     let mark = first_mark(suite, MARK_FIRST_TEXT, text_total);
     let held_len = text_total % n;
-    let state = crate::blocks::last_in(tables, suite, two, mark, held, held_len, out);
-    let last = block_step::tag::tag_of(tables, suite, state);
+    let state = session_blocks::last_in(tables, suite, two, mark, held, held_len, out);
+    let last = block_state::tag::tag_of(tables, suite, state);
     let computed = last.tag;
     byte_runs::put(computed, tag);
     let next = ended();

@@ -14,12 +14,12 @@ use Rattle.status.specs.Answers.{answer}
 use Rattle.shift_check.specs.Check.{checkFile}
 use Rattle.status.proofs.Numbers.{refusal-range, refusal-some}
 use Rattle.shift_check.proofs.Numbered.{check-numbered}
-use Rattle.shift_jobs.specs.declared.answers.Found.{Found}
-use Rattle.shift_jobs.specs.declared.answers.Found.the-variants.{At, Missing, Refused}
-use Rattle.shift_jobs.specs.Answers.{foundAnswer}
-use Rattle.shift_jobs.specs.Lookup.{lookupJob}
-use Rattle.shift_jobs.specs.Entry.{dataStart, dataLength, textStart, textLength, entryOf}
-use Rattle.shift_jobs.proofs.Finding.{finds}
+use Rattle.shift_lookup.specs.declared.answers.Found.{Found}
+use Rattle.shift_lookup.specs.declared.answers.Found.the-variants.{At, Missing, Refused}
+use Rattle.shift_lookup.specs.Answers.{foundAnswer}
+use Rattle.shift_lookup.specs.Lookup.{lookupJob}
+use Rattle.shift_lookup.specs.Entry.{dataStart, dataLength, textStart, textLength, entryOf}
+use Rattle.shift_lookup.proofs.Finding.{finds}
 use Rattle.shift_amend.specs.declared.Amended.{Amended}
 use Rattle.shift_amend.specs.Amending.{noEntry, inFile, answerOf, amendedEntry}
 use Rattle.shift_amend.specs.Inside.{refusing, finding}

@@ -7,8 +7,9 @@ use borrow.Fn.Kinds.{Dens}
 use Rattle.block.specs.Outcome.{Outcome, OneOutcome}
 use Rattle.shift_format.proofs.Outcomes.{part-one}
 use Rattle.shift_jobs.specs.declared.answers.JobAnswer.{JobAnswer}
-use Rattle.shift_jobs.specs.declared.answers.Found.{Found}
-use Rattle.shift_jobs.proofs.Outcomes.{found-one, opened-one}
+use Rattle.shift_lookup.specs.declared.answers.Found.{Found}
+use Rattle.shift_lookup.proofs.Outcomes.{found-one}
+use Rattle.shift_jobs.proofs.Outcomes.{opened-one}
 use Rattle.shift_amend.specs.Amending.{AmendedOpening}
 use Rattle.shift_amend.proofs.look_up.Kinds as look-up-kinds
 use Rattle.shift_amend.proofs.look_up.Reads as look-up-reads

@@ -8,9 +8,9 @@ use Rattle.status.specs.declared.checked.Answer.{Answer}
 use Rattle.shift_format.specs.Part.{PartOf}
 use Rattle.status.specs.Answers.{answer}
 use Rattle.shift_check.specs.Check.{checkFile, refused}
-use Rattle.shift_jobs.specs.declared.answers.Entry.{Entry}
-use Rattle.shift_jobs.specs.Lookup.{lookupJob}
-use Rattle.shift_jobs.specs.Entry.{entryOf}
+use Rattle.shift_lookup.specs.declared.answers.Entry.{Entry}
+use Rattle.shift_lookup.specs.Lookup.{lookupJob}
+use Rattle.shift_lookup.specs.Entry.{entryOf}
 use Rattle.shift_jobs.specs.Opening.{JobOpened, left, jobOpening}
 use Rattle.shift_amend.specs.declared.Amended.{Amended}
 

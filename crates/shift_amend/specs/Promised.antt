@@ -8,10 +8,10 @@ use Rattle.shift_format.specs.Part.{PartOf}
 use Rattle.shift_format.specs.Format.{countOf}
 use Rattle.status.specs.Answers.{answer}
 use Rattle.shift_check.specs.Check.{checkFile}
-use Rattle.shift_jobs.specs.Lookup.{lookupJob}
-use Rattle.shift_jobs.specs.Entry.{dataStart, dataLength, entryOf}
+use Rattle.shift_lookup.specs.Lookup.{lookupJob}
+use Rattle.shift_lookup.specs.Entry.{dataStart, dataLength, entryOf}
 use Rattle.shift_jobs.specs.Opening.{jobOpening}
-use Rattle.shift_jobs.specs.Promised.{Has}
+use Rattle.shift_lookup.specs.Promised.{Has}
 use Rattle.shift_amend.specs.Amending.{noEntry, inFile, amendedEntry, holder, CurrentPart, openedIn, amendedOpening}
 
 -- both files pass the full check

@@ -1,12 +1,13 @@
 // Amendments: a small file that replaces some jobs of the day's.
 use shift_format::row::stretch;
-use shift_jobs::answers::Entry;
-use shift_jobs::answers::Found;
 use shift_jobs::answers::JobAnswer;
-use shift_jobs::found::entry_found;
 use shift_jobs::found::open_found;
+use shift_lookup::answers::Entry;
+use shift_lookup::answers::Found;
+use shift_lookup::found::entry_found;
 ghost use mathlib.Core.Path.{_≡_};
-ghost use Rattle.shift_jobs.specs.Answers.{foundAnswer, openedAnswer};
+ghost use Rattle.shift_lookup.specs.Answers.{foundAnswer};
+ghost use Rattle.shift_jobs.specs.Answers.{openedAnswer};
 ghost use Rattle.shift_amend.specs.Amending.{answerOf, amendedEntry, CurrentPart, AmendedOpening, amendedOpening};
 ghost use Rattle.shift_amend.specs.Inside.{refusing, finding};
 
@@ -57,14 +58,14 @@ pub fn look_up(amendment: &[u8], day: &[u8], job: u32) -> Looked
     ensures { λ r. ⌜ (r .file ≡ amendedEntry (now (amendment .entry)) (now (day .entry)) job .file)
         × (foundAnswer (r .found) ≡ answerOf (amendedEntry (now (amendment .entry)) (now (day .entry)) job)) ⌝ }
 {
-    let one = shift_jobs::lookup(amendment, job);
+    let one = shift_lookup::lookup(amendment, job);
     if refuses(one) {
         return Looked {
             file: 1,
             found: one,
         };
     }
-    let two = shift_jobs::lookup(day, job);
+    let two = shift_lookup::lookup(day, job);
     if refuses(two) {
         return Looked {
             file: 2,

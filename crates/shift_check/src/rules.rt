@@ -1,8 +1,5 @@
 // The rules of one row: numbers 25 to 30, and 34.
 use cipher::LIMIT;
-use shift_format::limits::MAX_AD;
-use shift_format::limits::MAX_KEY;
-use shift_format::limits::MIN_AD;
 use shift_format::row::Row;
 use shift_format::row::body_end;
 use shift_format::row::get32;
@@ -10,6 +7,9 @@ use shift_format::row::nonce_block;
 use shift_format::row::read_block;
 use shift_format::row::row_at;
 use shift_format::row::row_start;
+use shift_limits::MAX_AD;
+use shift_limits::MAX_KEY;
+use shift_limits::MIN_AD;
 use status::checked::Fault;
 use status::checked::RowCheck;
 ghost use mathlib.Core.Path.{_≡_};

@@ -2,7 +2,6 @@ pub mod Keeping
 pub mod Filling
 pub mod Turns
 pub mod Passing
-pub mod Strings
 pub mod Cases
 pub mod Members
 pub mod Rising

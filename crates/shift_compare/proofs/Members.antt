@@ -12,7 +12,8 @@ use Rattle.block.proofs.SameBytes.{same-refl, same-true}
 use Rattle.shift_format.specs.Format.{countOf}
 use Rattle.shift_check.proofs.Searches.{any-none, any-some, any-hit}
 use Rattle.shift_compare.specs.Kept.{kept}
-use Rattle.shift_compare.specs.Comparing.{sameFields, nonceBytes, bodyOf, sameEntry, jobAt, has, hasJob, differs, onlyIn, differing}
+use Rattle.shift_same.specs.Same.{sameFields, nonceBytes, bodyOf, sameEntry}
+use Rattle.shift_compare.specs.Comparing.{jobAt, has, hasJob, differs, onlyIn, differing}
 use Rattle.shift_compare.specs.Promised.{InFile, Same, Different}
 
 -- ---- what a filter keeps

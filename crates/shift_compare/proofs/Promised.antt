@@ -13,7 +13,8 @@ use Rattle.shift_check.specs.Check.{checkFile}
 use Rattle.shift_format.proofs.Rows.{stretch-length, station-none}
 use Rattle.shift_check.proofs.Passed.{passes, entry-in}
 use Rattle.shift_check.proofs.Searches.{any-hit, any-only}
-use Rattle.shift_compare.specs.Comparing.{bodyOf, sameEntry, jobAt, has, hasJob, differs, onlyIn, differing}
+use Rattle.shift_same.specs.Same.{bodyOf, sameEntry}
+use Rattle.shift_compare.specs.Comparing.{jobAt, has, hasJob, differs, onlyIn, differing}
 use Rattle.shift_compare.specs.Promised.{Same, Different, ExactlyListed, ListsRise, EqualRows, WithItself, FilesExchanged, OtherLength, OtherStation}
 use Rattle.shift_compare.specs.Promised.{NoStation}
 use Rattle.shift_compare.proofs.Keeping.{kept-none}

@@ -13,7 +13,8 @@ use Rattle.shift_check.specs.Check.{checkFile}
 use Rattle.shift_check.proofs.Searches.{any-none, any-only}
 use Rattle.shift_check.proofs.Passed.{passes}
 use Rattle.shift_check.proofs.Rising.{rising}
-use Rattle.shift_compare.specs.Comparing.{sameEntry, jobAt, has, hasJob, differs}
+use Rattle.shift_same.specs.Same.{sameEntry}
+use Rattle.shift_compare.specs.Comparing.{jobAt, has, hasJob, differs}
 use Rattle.shift_compare.specs.Inside.{At, firstTurn, secondTurn, Turned, onlyFrom, differFrom}
 use Rattle.shift_compare.proofs.Keeping.{kept-step}
 

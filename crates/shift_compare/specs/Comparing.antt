@@ -4,42 +4,16 @@ use mathlib.Core.Bool.{Bool, not, _&&_, _||_, cond}
 use mathlib.Core.List.{List}
 use lib.ListN.{length}
 use lib.Dec.{ltb, eqb}
-use Rattle.block.specs.Bytes.{sameBytes}
-use Rattle.shift_format.specs.declared.row.Row.{Row}
 use Rattle.status.specs.declared.checked.Answer.{Answer}
 use Rattle.shift_check.specs.Search.{anyBelow}
-use Rattle.shift_format.specs.Format.{countOf, rowSizeOf, rowOf, stationOf, nonceAt}
+use Rattle.shift_format.specs.Format.{countOf, rowOf}
 use Rattle.status.specs.Answers.{answer, refusalAnswer}
 use Rattle.shift_check.specs.Check.{checkFile, refused}
-use Rattle.shift_check.specs.Laid.{bodyAt}
+use Rattle.shift_same.specs.Same.{sameEntry}
 use Rattle.shift_compare.specs.declared.Finding.{Finding}
 use Rattle.shift_compare.specs.declared.Compared.{Compared}
 use Rattle.shift_compare.specs.declared.Compared.the-variants.{Done, First, Second, Room}
 use Rattle.shift_compare.specs.Kept.{kept, onList}
-
--- ---- one row of each
-
--- equal in suite, key number and associated data length; offsets do not count
-unfoldable pub sameFields : Row → Row → Bool
-sameFields x y = eqb (x .suite) (y .suite) && (eqb (x .key) (y .key) && eqb (x .«ad_len») (y .«ad_len»))
-
--- equal stations; in edition 1 a row's is 0
-abbrev pub sameStation : List ℕ → List ℕ → ℕ → ℕ → Bool
-sameStation f g i j = eqb (stationOf f i) (stationOf g j)
-
--- the nonce of row i, all sixteen bytes
-abbrev pub nonceBytes : List ℕ → ℕ → List ℕ
-nonceBytes f i = nonceAt (rowSizeOf f) f i
-
--- its body: associated data, ciphertext and tag
-abbrev pub bodyOf : List ℕ → ℕ → List ℕ
-bodyOf f i = bodyAt (rowSizeOf f) f i
-
--- rows i of f and j of g are equal in these, in station, in nonce and in body; each file has its own edition
-unfoldable pub sameEntry : List ℕ → List ℕ → ℕ → ℕ → Bool
-sameEntry f g i j =
-    sameFields (rowOf f i) (rowOf g j)
-    && (sameStation f g i j && (sameBytes (nonceBytes f i) (nonceBytes g j) && sameBytes (bodyOf f i) (bodyOf g j)))
 
 -- ---- the three lists
 

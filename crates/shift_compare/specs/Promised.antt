@@ -7,7 +7,8 @@ use lib.ListN.{length, getD}
 use Rattle.shift_format.specs.Format.{editionOf, countOf, firstEdition, rowOf, stationOf}
 use Rattle.status.specs.Answers.{answer}
 use Rattle.shift_check.specs.Check.{checkFile}
-use Rattle.shift_compare.specs.Comparing.{nonceBytes, bodyOf, onlyFirst, onlySecond, differing, refusedIn, stopped, comparison}
+use Rattle.shift_same.specs.Same.{nonceBytes, bodyOf}
+use Rattle.shift_compare.specs.Comparing.{onlyFirst, onlySecond, differing, refusedIn, stopped, comparison}
 
 -- ---- a job is in a list exactly as document 02 words it
 

@@ -1,5 +1,4 @@
 // The comparison of two shift files: three lists of job numbers.
-mod entry;
 mod merge;
 
 use merge::Counts;

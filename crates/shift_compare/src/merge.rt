@@ -1,8 +1,8 @@
 // One pass over the tables of two files that pass the check, as a merge.
-use crate::entry::same_entry;
 use shift_format::row::count;
 use shift_format::row::row_at;
 use shift_format::row::row_size_of;
+use shift_same::same_entry;
 ghost use mathlib.Core.Path.{_≡_};
 ghost use mathlib.Core.Bool.{true, cond, _&&_};
 ghost use Prim.Native.Nat.{_+_, _<_, _≤_};

@@ -19,13 +19,13 @@ use Rattle.shift_check.specs.Check.{checkFile}
 use Rattle.shift_format.proofs.Rows.{row-broad}
 use Rattle.shift_check.proofs.Passed.{passes}
 use Rattle.shift_check.proofs.Kept.{wider}
-use Rattle.shift_jobs.specs.Lookup.{lookupJob}
-use Rattle.shift_jobs.specs.Entry.{dataStart, dataLength}
+use Rattle.shift_lookup.specs.Lookup.{lookupJob}
+use Rattle.shift_lookup.specs.Entry.{dataStart, dataLength}
 use Rattle.shift_jobs.specs.Opening.{ringKey, nonceRead, entryOpening, left, rowOpening, jobOpening}
-use Rattle.shift_jobs.proofs.Lookups.{holding}
-use Rattle.shift_jobs.specs.Halving.{Walk, halving, jobsOf}
+use Rattle.shift_lookup.proofs.Lookups.{holding}
+use Rattle.shift_lookup.specs.Halving.{Walk, halving, jobsOf}
 use Rattle.shift_search.specs.Searching.{searching}
-use Rattle.shift_jobs.proofs.Halves.{jobs-same}
+use Rattle.shift_lookup.proofs.Halves.{jobs-same}
 use Rattle.shift_search.proofs.Promised.{goes, same-as-lookup}
 use Rattle.shift_editions.specs.Files.{carried, moved}
 use Rattle.shift_editions.specs.Answers.{toEdition2, toEdition1}

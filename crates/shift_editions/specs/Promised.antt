@@ -9,8 +9,8 @@ use Rattle.shift_format.specs.Format.{countOf, totalOf, firstEdition, newest, r
 use Rattle.shift_check.specs.Laid.{bodyAt}
 use Rattle.status.specs.Answers.{answer}
 use Rattle.shift_check.specs.Check.{checkAs}
-use Rattle.shift_jobs.specs.Lookup.{lookupJob}
-use Rattle.shift_jobs.specs.Entry.{dataStart, dataLength}
+use Rattle.shift_lookup.specs.Lookup.{lookupJob}
+use Rattle.shift_lookup.specs.Entry.{dataStart, dataLength}
 use Rattle.shift_jobs.specs.Opening.{jobOpening}
 use Rattle.shift_search.specs.Searching.{searching}
 use Rattle.shift_editions.specs.Files.{moved}

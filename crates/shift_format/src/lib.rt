@@ -1,4 +1,3 @@
 // The layout of the shift file: its header, its rows, and the body that each row names.
 pub mod body;
-pub mod limits;
 pub mod row;

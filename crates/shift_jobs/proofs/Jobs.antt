@@ -13,12 +13,12 @@ use Rattle.comet.specs.Answers.{openedAs}
 use Rattle.shift_format.specs.Format.{rowSizeOf, rowOf}
 use Rattle.status.specs.Answers.{answer}
 use Rattle.shift_format.specs.Inside.{EntryIn}
-use Rattle.shift_jobs.specs.Lookup.{lookupJob}
+use Rattle.shift_lookup.specs.Lookup.{lookupJob}
 use Rattle.shift_jobs.specs.Opening.{left, rowOpening, jobOpening}
 use Rattle.shift_jobs.specs.Promised.{Answered, OpensEntry, OpeningAnswers}
-use Rattle.shift_jobs.proofs.Lookups.{found-in}
+use Rattle.shift_lookup.proofs.Lookups.{found-in}
 use Rattle.shift_jobs.proofs.Entries.{entryRight, entryText, entry-opened, row-opens}
-use Rattle.shift_jobs.proofs.Numbered.{lookup-numbered}
+use Rattle.shift_lookup.proofs.Numbered.{lookup-numbered}
 
 pub opens : OpensEntry
 unfolding jobOpening

@@ -1,8 +1,3 @@
-pub mod Lookups
-pub mod Places
-pub mod Halves
-pub mod Finding
-pub mod Numbered
 pub mod Entries
 pub mod Jobs
 pub mod Tested

@@ -14,11 +14,11 @@ use Rattle.shift_format.specs.declared.row.Row.{Row}
 use Rattle.shift_format.specs.Format.{rowSizeOf, rowOf, textOf}
 use Rattle.shift_format.specs.Inside.{EntryIn}
 use Rattle.shift_jobs.specs.declared.answers.Genuine.{Genuine}
-use Rattle.shift_jobs.specs.Lookup.{lookupJob}
-use Rattle.shift_jobs.specs.Entry.{dataStart, dataLength, textLength}
+use Rattle.shift_lookup.specs.Lookup.{lookupJob}
+use Rattle.shift_lookup.specs.Entry.{dataStart, dataLength, textLength}
 use Rattle.shift_jobs.specs.Opening.{left, entryOpening, entryVerifying, rowOpening, jobOpening}
 use Rattle.shift_jobs.specs.Genuine.{withheld, rowVerifying, jobVerifying, VerifiesAsOpening, VerifiedPlaces}
-use Rattle.shift_jobs.proofs.Lookups.{found-in}
+use Rattle.shift_lookup.proofs.Lookups.{found-in}
 use Rattle.shift_jobs.proofs.Entries.{entryRight, entryText, test-number, text-long, entry-opened}
 
 -- ---- the code's two answers

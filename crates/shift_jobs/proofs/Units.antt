@@ -27,11 +27,11 @@ use Rattle.shift_format.proofs.Rows.{row-broad}
 use Rattle.shift_check.proofs.Alike.{AgreeTable, stretch-same, row-same, nonce-same, count-same}
 use Rattle.shift_check.proofs.Kept.{body-table, body-edition}
 use Rattle.shift_check.proofs.Units.{unit-long, unit-outside, unit-check}
-use Rattle.shift_jobs.specs.Lookup.{lookupJob}
+use Rattle.shift_lookup.specs.Lookup.{lookupJob}
 use Rattle.shift_jobs.specs.Opening.{JobOpened, left, rowOpening, jobOpening, entryOpening}
 use Rattle.shift_jobs.specs.Promised.{UnitRefused}
-use Rattle.shift_jobs.proofs.Lookups.{holding, found-in}
-use Rattle.shift_jobs.proofs.Finding.{finds}
+use Rattle.shift_lookup.proofs.Lookups.{holding, found-in}
+use Rattle.shift_lookup.proofs.Finding.{finds}
 use Rattle.shift_jobs.proofs.Entries.{entryRight, entryText, entry-opened}
 use Rattle.shift_jobs.proofs.Changed.{stretch-at, data-wrong}
 use Rattle.shift_jobs.proofs.Jobs.{opens}

@@ -9,8 +9,8 @@ use Rattle.status.specs.declared.checked.Answer.{Answer}
 use Rattle.status.specs.Answers.{answer}
 use Rattle.shift_format.specs.Format.{rowOf}
 use Rattle.shift_jobs.specs.declared.answers.Genuine.{Genuine}
-use Rattle.shift_jobs.specs.Lookup.{lookupJob}
-use Rattle.shift_jobs.specs.Entry.{dataStart, dataLength, textLength}
+use Rattle.shift_lookup.specs.Lookup.{lookupJob}
+use Rattle.shift_lookup.specs.Entry.{dataStart, dataLength, textLength}
 use Rattle.shift_jobs.specs.Opening.{entryVerifying, jobOpening}
 
 -- a status without offsets: both are 0

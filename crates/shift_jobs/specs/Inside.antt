@@ -3,11 +3,9 @@ use Prim.Native.Nat.{ℕ, _+_, _*_, _≤_}
 use mathlib.Core.Path.{_≡_}
 use mathlib.Core.List.{List}
 use lib.ListN.{length}
-use Rattle.status.specs.declared.checked.Answer.{Answer}
 use Rattle.shift_format.specs.declared.row.Row.{Row}
 use Rattle.shift_format.specs.Format.{rowSizeOf, rowOf, bodyEnd}
 use Rattle.shift_format.specs.Inside.{RowIn}
-use Rattle.shift_jobs.specs.Lookup.{lookupJob}
 
 -- the parts of row i that the opener borrows lie in the file and in the ring
 pub record Lendable (f ring : List ℕ) (i : ℕ) (r : Row) : Type 0 where
@@ -15,8 +13,3 @@ pub record Lendable (f ring : List ℕ) (i : ℕ) (r : Row) : Type 0 where
   pub row-in : RowIn (rowSizeOf f) f i
   pub key-in : 16 * r .key + 16 ≤ length ring
   pub body-in : bodyEnd r ≤ length f
-
--- a lookup in the file gave x
-pub record FoundIn (f : List ℕ) (x : Answer) : Type 0 where
-  pub job : ℕ
-  pub gives : x ≡ lookupJob f job

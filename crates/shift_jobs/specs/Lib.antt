@@ -1,7 +1,4 @@
 pub mod Answers
-pub mod Lookup
-pub mod Halving
-pub mod Entry
 pub mod Opening
 pub mod Genuine
 pub mod Nonces

@@ -10,7 +10,7 @@ use Rattle.status.specs.declared.checked.Answer.{Answer}
 use Rattle.shift_format.specs.Part.{stretch}
 use Rattle.shift_format.specs.Format.{rowSizeOf, nonceAt, nonceReadAt, rowOf, dataOf, textOf, tagOf}
 use Rattle.status.specs.Answers.{answer}
-use Rattle.shift_jobs.specs.Lookup.{lookupJob}
+use Rattle.shift_lookup.specs.Lookup.{lookupJob}
 
 -- the ring is 16 keys, 256 bytes; key k is bytes 16k to 16k + 15
 abbrev pub ringKey : List ℕ → ℕ → List ℕ

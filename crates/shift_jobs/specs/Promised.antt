@@ -1,33 +1,15 @@
--- What holds of every shift file: a job is found exactly if a row has it, opening a job is the opener on the entry's own bytes, and an altered unit is refused.
+-- What holds of every shift file: opening a job is the opener on the entry's own bytes, and an altered unit is refused.
 use Prim.Native.Nat.{ℕ, _+_, _<_}
 use mathlib.Core.Path.{_≡_}
 use mathlib.Core.Bool.{cond}
 use mathlib.Core.List.{List, []}
-use mathlib.Core.Logic.{_⊎_, _↔_}
+use mathlib.Core.Logic.{_⊎_}
 use lib.ListN.{length, replicate, set}
 use Rattle.block.specs.Bytes.{AllBytes}
-use Rattle.shift_format.specs.Format.{countOf, rowOf, unitOf, isUnit}
+use Rattle.shift_format.specs.Format.{rowOf, unitOf, isUnit}
 use Rattle.status.specs.Answers.{answer, Ranged}
-use Rattle.shift_check.specs.Check.{checkFile}
-use Rattle.shift_jobs.specs.Lookup.{lookupJob}
+use Rattle.shift_lookup.specs.Lookup.{lookupJob}
 use Rattle.shift_jobs.specs.Opening.{entryOpening, JobOpened, left, jobOpening}
-
--- row i of the file has the job
-pub record Has (f : List ℕ) (job i : ℕ) : Type 0 where
-  pub within : i < countOf f
-  pub right : rowOf f i .job ≡ job
-
--- the lookup of a job in a file that passes
-pub record Finds (f : List ℕ) (job : ℕ) : Type 0 where
-  -- the lookup gives row i exactly if that has the job
-  pub found : (i : ℕ) → (lookupJob f job ≡ answer 0 i) ↔ Has f job i
-  -- and 32 exactly if none has
-  pub missing : (lookupJob f job ≡ answer 32 0) ↔ ((i : ℕ) → Has f job i → ⊥)
-  -- one row at most has it
-  pub one : (i j : ℕ) → Has f job i → Has f job j → i ≡ j
-
-abbrev pub JobFound : Type 0
-JobFound = (f : List ℕ) (job : ℕ) → checkFile f .number ≡ 0 → Finds f job
 
 -- a found row and a ring of 256 bytes: number and output are the opener's on the entry's own bytes, 6 among them
 abbrev pub OpensEntry : Type 0

@@ -5,7 +5,6 @@ use shift_format::body::tag_of;
 use shift_format::body::text_of;
 use shift_format::row::Row;
 use shift_format::row::nonce_at;
-use shift_format::row::row_at;
 use shift_format::row::row_size_of;
 use shift_format::row::stretch;
 use status::verdict::Verdict;
@@ -15,18 +14,10 @@ ghost use lib.ListN.{length, take};
 ghost use Rattle.cipher.specs.Cipher.{nonceOf};
 ghost use Rattle.status.specs.Verdicts.{numberOf};
 ghost use Rattle.comet.specs.Answers.{Sealed, Opened};
-ghost use Rattle.shift_format.specs.Format.{rowSizeOf, rowOf, nonceAt};
+ghost use Rattle.shift_format.specs.Format.{rowSizeOf, nonceAt};
 ghost use Rattle.shift_format.specs.Inside.{RowIn};
 ghost use Rattle.shift_jobs.specs.Opening.{ringKey, entrySealingAs, entryOpening, entryVerifying};
 ghost use Rattle.shift_jobs.specs.Inside.{Lendable};
-
-// A row of a shift file, by its index.
-pub fn row_of(file: &[u8], index: usize) -> Row
-    requires { ⌜ RowIn (rowSizeOf (now file)) (now file) index ⌝ }
-    ensures { λ r. ⌜ r ≡ rowOf (now (file .entry)) index ⌝ }
-{
-    row_at(row_size_of(file), file, index)
-}
 
 // Key k of the ring.
 fn ring_key(ring: &[u8], k: u8) -> &[u8]

@@ -1,14 +1,15 @@
 // Opening one entry.
-use crate::answers::Found;
 use crate::answers::JobAnswer;
 use crate::lend::open_row;
-use crate::lend::row_of;
-use shift_format::limits::RING_LEN;
+use shift_limits::RING_LEN;
+use shift_lookup::answers::Found;
+use shift_lookup::found::row_of;
 use status::verdict::Verdict;
 ghost use mathlib.Core.Path.{_≡_};
 ghost use Rattle.shift_format.specs.Format.{rowSizeOf};
 ghost use Rattle.shift_format.specs.Inside.{EntryIn};
-ghost use Rattle.shift_jobs.specs.Answers.{foundAnswer, openedAnswer};
+ghost use Rattle.shift_lookup.specs.Answers.{foundAnswer};
+ghost use Rattle.shift_jobs.specs.Answers.{openedAnswer};
 ghost use Rattle.shift_jobs.specs.Opening.{JobOpened, rowOpening};
 
 // Opens a row: 2, 6, 8.

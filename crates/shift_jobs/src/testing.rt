@@ -1,15 +1,15 @@
 // Verifying the tag of one entry: the offset of its associated data is returned only if the tag is right.
-use crate::answers::Found;
 use crate::answers::Genuine;
-use crate::lend::row_of;
 use crate::lend::verify_row;
-use shift_format::limits::RING_LEN;
+use shift_limits::RING_LEN;
+use shift_lookup::answers::Found;
+use shift_lookup::found::row_of;
 ghost use mathlib.Core.Path.{_≡_};
 ghost use Rattle.shift_format.specs.Format.{rowSizeOf};
 ghost use Rattle.shift_format.specs.Inside.{EntryIn};
-ghost use Rattle.shift_jobs.specs.Answers.{foundAnswer};
+ghost use Rattle.shift_lookup.specs.Answers.{foundAnswer};
 ghost use Rattle.shift_jobs.specs.Genuine.{withheld, rowVerifying, foundVerifying};
-ghost use Rattle.shift_jobs.specs.Inside.{FoundIn};
+ghost use Rattle.shift_lookup.specs.Inside.{FoundIn};
 
 // A status without offsets.
 fn withhold(number: u8, row: usize) -> Genuine

@@ -21,9 +21,9 @@ use Rattle.shift_format.proofs.Rows.{row-in}
 use Rattle.shift_check.proofs.Sound.{headed}
 use Rattle.shift_check.specs.Check.{checkFile}
 use Rattle.shift_check.proofs.Passed.{passes, both-zero, entry-in}
-use Rattle.shift_jobs.proofs.Lookups.{holding}
-use Rattle.shift_jobs.proofs.Places.{places-found}
-use Rattle.shift_jobs.specs.Lookup.{lookupJob}
+use Rattle.shift_lookup.proofs.Lookups.{holding}
+use Rattle.shift_lookup.proofs.Places.{places-found}
+use Rattle.shift_lookup.specs.Lookup.{lookupJob}
 use Rattle.shift_reader.specs.declared.cursor.NextRow.the-variants.{Row, Ended}
 use Rattle.shift_reader.specs.declared.Reader.{Reader}
 use Rattle.shift_reader.specs.declared.Asked.{Asked}

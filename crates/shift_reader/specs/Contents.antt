@@ -8,9 +8,9 @@ use denote.Ref.{RefT, now}
 use Rattle.shift_format.specs.Format.{editionOf, countOf, firstEdition, newest, rowSizeOf, nonceStart, rowOf, stationOf}
 use Rattle.status.specs.Answers.{answer}
 use Rattle.shift_check.specs.Check.{headNumber, checkFile}
-use Rattle.shift_jobs.specs.declared.answers.Entry.{Entry}
-use Rattle.shift_jobs.specs.Lookup.{lookupJob}
-use Rattle.shift_jobs.specs.Entry.{entryOf}
+use Rattle.shift_lookup.specs.declared.answers.Entry.{Entry}
+use Rattle.shift_lookup.specs.Lookup.{lookupJob}
+use Rattle.shift_lookup.specs.Entry.{entryOf}
 use Rattle.shift_reader.specs.declared.cursor.Listed.{Listed}
 use Rattle.shift_reader.specs.declared.cursor.NextRow.{NextRow}
 use Rattle.shift_reader.specs.declared.cursor.NextRow.the-variants.{Row, Ended}

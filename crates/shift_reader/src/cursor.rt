@@ -8,7 +8,7 @@ use shift_format::row::count;
 use shift_format::row::nonce_start;
 use shift_format::row::row_size_of;
 use shift_format::row::station_of;
-use shift_jobs::lend::row_of;
+use shift_lookup::found::row_of;
 use status::checked::Checked;
 ghost use mathlib.Core.Path.{_≡_};
 ghost use Rattle.shift_format.specs.Format.{rowSizeOf};

@@ -10,8 +10,8 @@ use Rattle.shift_format.specs.Inside.{EntryIn}
 use Rattle.status.specs.Answers.{answer}
 use Rattle.shift_jobs.specs.Opening.{entryOpening, entryVerifying, JobOpened}
 use Rattle.shift_jobs.proofs.Entries.{text-long, test-number}
-use Rattle.shift_jobs.proofs.Lookups.{found-in}
-use Rattle.shift_jobs.proofs.Finding.{finds}
+use Rattle.shift_lookup.proofs.Lookups.{found-in}
+use Rattle.shift_lookup.proofs.Finding.{finds}
 use Rattle.shift_jobs.proofs.Jobs.{opens}
 use Rattle.shift_draft.specs.Files.{entryOut}
 use Rattle.shift_draft.specs.Answers.{tagRight}

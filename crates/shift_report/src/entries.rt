@@ -1,7 +1,7 @@
 // The entries of a file that passes, one after another: the job of each, and whether its tag is right.
 use shift_format::row::Row;
-use shift_jobs::lend::row_of;
 use shift_jobs::lend::verify_row;
+use shift_lookup::found::row_of;
 ghost use mathlib.Core.Path.{_≡_};
 ghost use Prim.Native.Nat.{_<_};
 ghost use Rattle.shift_report.specs.Reporting.{jobOf, tagNumber, front};

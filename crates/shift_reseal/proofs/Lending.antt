@@ -26,8 +26,8 @@ use Rattle.shift_draft.specs.Answers.{tagRight}
 use Rattle.shift_writer.specs.declared.answers.Written.{Written}
 use Rattle.shift_writer.specs.declared.answers.Written.the-variants as written
 use Rattle.shift_writer.specs.Answers.{writtenAnswer}
-use Rattle.shift_writer.specs.Inside.{PieceWritable}
-use Rattle.shift_writer.proofs.Lending.{body-fits, front-is}
+use Rattle.shift_piece.specs.Inside.{PieceWritable}
+use Rattle.shift_piece.proofs.Lending.{body-fits, front-is}
 use Rattle.shift_reseal.specs.Files.{successor, newSuite, resuited, retabled, againPiece}
 use Rattle.shift_reseal.specs.Answers.{wrongAgain, takeAnswer}
 use Rattle.shift_reseal.specs.Inside.{Passing, Resealable}

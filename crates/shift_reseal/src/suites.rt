@@ -6,7 +6,7 @@ use shift_format::row::Row;
 use shift_format::row::nonce_block;
 use shift_format::row::row_size_of;
 use shift_format::row::set_suite;
-use shift_jobs::lend::row_of;
+use shift_lookup::found::row_of;
 use shift_writer::answers::Written;
 use status::checked::Fault;
 use status::checked::Refusal;

@@ -2,8 +2,8 @@
 use mathlib.Core.Path.{refl, sym, ap₂, _∙_}
 use Prim.Native.Nat.{ℕ}
 use Rattle.block.specs.Outcome.{OneOutcome}
-use Rattle.shift_jobs.specs.declared.answers.Found.{Found}
-use Rattle.shift_jobs.proofs.Outcomes.{found-one}
+use Rattle.shift_lookup.specs.declared.answers.Found.{Found}
+use Rattle.shift_lookup.proofs.Outcomes.{found-one}
 use Rattle.shift_search.proofs.search.Kinds as search-kinds
 use Rattle.shift_search.proofs.search.Reads as search-reads
 

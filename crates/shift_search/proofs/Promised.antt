@@ -20,12 +20,12 @@ use Rattle.status.proofs.Numbers.{refusal-some}
 use Rattle.shift_format.proofs.Rows.{row-broad}
 use Rattle.shift_check.proofs.Sound.{headed}
 use Rattle.shift_check.proofs.Passed.{passes}
-use Rattle.shift_jobs.proofs.Finding.{halving-finds}
+use Rattle.shift_lookup.proofs.Finding.{halving-finds}
 use Rattle.shift_check.proofs.Alike.{Agree, AgreeTable, word-same, row-same}
-use Rattle.shift_jobs.specs.Halving.{Walk, ends, halving, jobsOf}
+use Rattle.shift_lookup.specs.Halving.{Walk, ends, halving, jobsOf}
 use Rattle.shift_search.specs.Searching.{headAnswer, searching}
 use Rattle.shift_search.specs.Promised.{Halves, SameJobs, RowsDecide, SameAsLookup, TenLooks, SameTable, BodiesUnread}
-use Rattle.shift_jobs.proofs.Halves.{halving-none, halving-hit, halving-up, halving-down, looks, row-most, jobs-same, Same, visited-same}
+use Rattle.shift_lookup.proofs.Halves.{halving-none, halving-hit, halving-up, halving-down, looks, row-most, jobs-same, Same, visited-same}
 
 -- the header passes: all rows are halved
 pub goes : (f : List ℕ) (job : ℕ) → headAnswer f .number ≡ 0 → searching f job ≡ halving (jobsOf (rowSizeOf f) f) job 0 (countOf f)

@@ -6,8 +6,8 @@ use lib.ListN.{length, take}
 use Rattle.shift_format.specs.Format.{countOf, rowSizeOf, rowStart, rowOf}
 use Rattle.status.specs.Answers.{answer}
 use Rattle.shift_check.specs.Check.{checkFile}
-use Rattle.shift_jobs.specs.Lookup.{lookupJob}
-use Rattle.shift_jobs.specs.Halving.{ends, visit, halving}
+use Rattle.shift_lookup.specs.Lookup.{lookupJob}
+use Rattle.shift_lookup.specs.Halving.{ends, visit, halving}
 use Rattle.shift_search.specs.Searching.{headAnswer, searching}
 
 -- the rule itself, of c rows at row s whose job numbers are `jobs`: its looks never run out

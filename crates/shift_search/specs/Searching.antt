@@ -7,7 +7,7 @@ use Rattle.status.specs.declared.checked.Answer.{Answer}
 use Rattle.status.specs.Answers.{answer}
 use Rattle.shift_format.specs.Format.{countOf, firstEdition, newest, rowSizeOf}
 use Rattle.shift_check.specs.Check.{headNumber}
-use Rattle.shift_jobs.specs.Halving.{Walk, ends, halving, jobsOf}
+use Rattle.shift_lookup.specs.Halving.{Walk, ends, halving, jobsOf}
 
 -- 20 to 24 alone
 abbrev pub headAnswer : List ℕ → Answer

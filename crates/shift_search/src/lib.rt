@@ -4,13 +4,13 @@ use shift_format::row::FIRST_EDITION;
 use shift_format::row::NEWEST;
 use shift_format::row::count;
 use shift_format::row::row_size_of;
-use shift_jobs::answers::Found;
-use shift_jobs::halving::Searched;
-use shift_jobs::halving::halve;
+use shift_lookup::answers::Found;
+use shift_lookup::halving::Searched;
+use shift_lookup::halving::halve;
 use status::checked::Checked;
 ghost use mathlib.Core.Path.{_≡_};
 ghost use lib.ListN.{length};
-ghost use Rattle.shift_jobs.specs.Answers.{foundAnswer};
+ghost use Rattle.shift_lookup.specs.Answers.{foundAnswer};
 ghost use Rattle.shift_search.specs.Searching.{searching};
 
 // Numbers 20 to 24, then the row that the binary search finds, or 32; and how many rows were looked at.

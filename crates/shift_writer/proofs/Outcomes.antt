@@ -1,8 +1,7 @@
 -- One outcome for each input: an answer's number and row are those of one case, so what a contract allows is one value.
-use Prim.Native.Nat.{ℕ, _<_}
+use Prim.Native.Nat.{_<_}
 use mathlib.Core.Path.{_≡_, refl, sym, ap, _∙_}
 use mathlib.Core.Bool.{cond}
-use mathlib.Core.List.{List}
 use lib.Dec.{eqb}
 use borrow.Author.Tests.{ne-eqb}
 use Rattle.block.specs.Outcome.{OneOutcome}
@@ -17,8 +16,6 @@ use Rattle.shift_writer.specs.Answers.{writtenAnswer}
 use Rattle.shift_draft.specs.Answers.{FileWritten}
 use Rattle.shift_writer.proofs.lent_refused.Kinds as lent-kinds
 use Rattle.shift_writer.proofs.lent_refused.Reads as lent-reads
-use Rattle.shift_writer.proofs.piece.seal_into.Kinds as into-kinds
-use Rattle.shift_writer.proofs.piece.seal_into.Reads as into-reads
 use Rattle.shift_writer.proofs.seal_file.Kinds as seal-kinds
 use Rattle.shift_writer.proofs.seal_file.Reads as seal-reads
 use Rattle.shift_writer.proofs.unseal_file.Kinds as unseal-kinds
@@ -59,9 +56,6 @@ written-one {x} {y} q = sym (written-back x) ∙ ap writtenOf q ∙ written-back
 
 pub lent-refused : OneOutcome lent-kinds.ps lent-kinds.r lent-reads.Pre lent-reads.Post
 lent-refused κs a h x y = (written-one (x .ensures ∙ sym (y .ensures)), refl)
-
-pub seal-into : OneOutcome into-kinds.ps into-kinds.r into-reads.Pre into-reads.Post
-seal-into κs a h x y = (refl, ap (λ (l : List ℕ). (tt, (tt, (tt, (tt, (tt, (l, tt))))))) (x .ensures ∙ sym (y .ensures)))
 
 pub seal-file : OneOutcome seal-kinds.ps seal-kinds.r seal-reads.Pre seal-reads.Post
 seal-file κs a h x y =

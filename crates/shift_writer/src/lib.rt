@@ -1,6 +1,5 @@
 // The writer of shift files: seals a draft, and restores the draft of a sealed file.
 pub mod answers;
-pub mod piece;
 mod rows;
 mod suites;
 mod tags;
@@ -11,9 +10,9 @@ use rows::put_edition;
 use rows::seal_rows;
 use rows::unseal_rows;
 use shift_check::check_as;
-use shift_format::limits::RING_LEN;
 use shift_format::row::FIRST_EDITION;
 use shift_format::row::count;
+use shift_limits::RING_LEN;
 use status::checked::Checked;
 use suites::first_retired;
 use tags::first_set;

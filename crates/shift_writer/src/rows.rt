@@ -1,12 +1,12 @@
 // The rows, from the file into the output: text and tag of each are replaced.
 use crate::answers::Written;
-use crate::piece::seal_into;
 use byte_runs::copy;
 use byte_runs::wipe;
 use shift_format::body::text_of;
 use shift_format::body::text_start;
 use shift_jobs::lend::open_row;
-use shift_jobs::lend::row_of;
+use shift_lookup::found::row_of;
+use shift_piece::seal_into;
 use status::verdict::Verdict;
 ghost use mathlib.Core.Path.{_≡_};
 ghost use mathlib.Core.Bool.{true};

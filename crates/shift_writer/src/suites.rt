@@ -1,6 +1,6 @@
 // 10: every suite of a draft has to seal.
 use crate::answers::Written;
-use shift_jobs::lend::row_of;
+use shift_lookup::found::row_of;
 ghost use mathlib.Core.Path.{_≡_};
 ghost use mathlib.Core.Bool.{not};
 ghost use Rattle.shift_format.specs.Format.{rowSizeOf};

@@ -2,7 +2,7 @@
 use crate::answers::Written;
 use byte_runs::all_zero;
 use shift_format::body::tag_of;
-use shift_jobs::lend::row_of;
+use shift_lookup::found::row_of;
 ghost use mathlib.Core.Path.{_≡_};
 ghost use mathlib.Core.Bool.{not};
 ghost use Rattle.shift_format.specs.Format.{rowSizeOf};

@@ -2,5 +2,4 @@ pub mod Rows
 pub mod AmendedRows
 pub mod Lists
 pub mod Reports
-pub mod Words
 pub mod Outcomes

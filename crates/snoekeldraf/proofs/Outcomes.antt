@@ -6,11 +6,11 @@ use Rattle.block.specs.Outcome.{OneOutcome}
 use Rattle.comet.specs.Answers.{Sealed, Opened}
 use Rattle.comet.specs.Counted.{Counting}
 use Rattle.status.specs.declared.checked.Answer.{Answer}
-use Rattle.shift_jobs.specs.declared.answers.Entry.{Entry}
+use Rattle.shift_lookup.specs.declared.answers.Entry.{Entry}
 use Rattle.shift_jobs.specs.declared.answers.Genuine.{Genuine}
 use Rattle.shift_jobs.specs.Opening.{JobOpened}
 use Rattle.snoekeldraf.specs.Located.{Located}
-use Rattle.snoekeldraf.specs.Words.{InWords}
+use Rattle.session_words.specs.Words.{InWords}
 use Rattle.snoekeldraf.proofs.record.comet_seal.Kinds as seal-kinds
 use Rattle.snoekeldraf.proofs.record.comet_seal.Reads as seal-reads
 use Rattle.snoekeldraf.proofs.record.comet_open.Kinds as open-kinds

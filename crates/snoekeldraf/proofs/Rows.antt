@@ -16,7 +16,7 @@ use Rattle.shift_check.specs.Check.{bodyStart, endAnswer, rowsFrom, headNumber,
 use Rattle.shift_check.proofs.Searches.{first-says}
 use Rattle.shift_check.proofs.Sound.{headed}
 use Rattle.shift_check.proofs.Passed.{passes, both-zero}
-use Rattle.shift_jobs.specs.Lookup.{findFrom, lookupJob}
+use Rattle.shift_lookup.specs.Lookup.{findFrom, lookupJob}
 use Rattle.shift_jobs.specs.Opening.{entryOpening, left, rowOpening, jobOpening, entryVerifying}
 use Rattle.shift_jobs.specs.Genuine.{withheld, rowVerifying, jobVerifying}
 use Rattle.shift_draft.specs.Files.{draftEdition}

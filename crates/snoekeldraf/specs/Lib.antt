@@ -1,4 +1,3 @@
-pub mod Words
 pub mod Located
 pub mod Amended
 pub mod Fields

@@ -1,8 +1,8 @@
 -- What `shift_associated` returns: the associated data as an offset into the file, since C has no slices (document 01, "The shift file").
 use Prim.Native.Nat.{ℕ}
 use mathlib.Core.List.{List}
-use Rattle.shift_jobs.specs.Lookup.{lookupJob}
-use Rattle.shift_jobs.specs.Entry.{dataStart, dataLength}
+use Rattle.shift_lookup.specs.Lookup.{lookupJob}
+use Rattle.shift_lookup.specs.Entry.{dataStart, dataLength}
 
 -- the lookup's number, and where the associated data starts and how long it is
 pub record Located : Type 0 where

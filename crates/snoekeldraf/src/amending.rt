@@ -1,5 +1,5 @@
 // Amendments.
-use crate::file::say;
+use status::checked::say;
 ghost use mathlib.Core.Path.{_≡_};
 ghost use Rattle.status.specs.Answers.{answer};
 ghost use Rattle.shift_amend.specs.Amending.{AmendedOpening, amendedOpening};

@@ -1,5 +1,5 @@
 // The length of a moved file, and the moves between editions 1 and 2.
-use crate::file::say;
+use status::checked::say;
 ghost use mathlib.Core.Path.{_≡_};
 ghost use Rattle.status.specs.Answers.{answer};
 ghost use Rattle.shift_editions.specs.Answers.{movedLength, FileMoved, toEdition2, toEdition1};

@@ -1,25 +1,15 @@
 // The shift file.
-use status::checked::Answer;
+use status::checked::say;
 ghost use mathlib.Core.Path.{_≡_};
-ghost use Prim.Native.Nat.{_≤_};
 ghost use Rattle.status.specs.Answers.{answer};
 ghost use Rattle.shift_check.specs.Check.{checkFile};
-ghost use Rattle.shift_jobs.specs.declared.answers.Entry.{Entry};
+ghost use Rattle.shift_lookup.specs.declared.answers.Entry.{Entry};
 ghost use Rattle.shift_jobs.specs.declared.answers.Genuine.{Genuine};
-ghost use Rattle.shift_jobs.specs.Lookup.{lookupJob};
-ghost use Rattle.shift_jobs.specs.Entry.{entryOf};
+ghost use Rattle.shift_lookup.specs.Lookup.{lookupJob};
+ghost use Rattle.shift_lookup.specs.Entry.{entryOf};
 ghost use Rattle.shift_jobs.specs.Opening.{JobOpened, jobOpening};
 ghost use Rattle.shift_jobs.specs.Genuine.{jobVerifying};
 ghost use Rattle.snoekeldraf.specs.Located.{Located, locating};
-
-// Writes the row that an answer carries, and returns its number.
-pub(crate) fn say(outcome: Answer, row: &mut u32) -> u32
-    requires { ⌜ outcome .row ≤ 512 ⌝ }
-    ensures { λ r. ⌜ answer r (now (row .exit)) ≡ outcome ⌝ }
-{
-    *row = outcome.row as u32;
-    outcome.number as u32
-}
 
 // The full check: numbers 20 to 31 and 34, and the row.
 #[no_mangle]
@@ -34,7 +24,7 @@ pub extern "C" fn shift_check(file: &[u8], row: &mut u32) -> u32
 pub extern "C" fn shift_lookup(file: &[u8], job: u32, row: &mut u32) -> u32
     ensures { λ r. ⌜ answer r (now (row .exit)) ≡ lookupJob (now (file .entry)) job ⌝ }
 {
-    say(shift_jobs::lookup(file, job).answer(), row)
+    say(shift_lookup::lookup(file, job).answer(), row)
 }
 
 // The lookup's number, and where in the file the job's associated data lies; 0 and 0 if the lookup refuses.
@@ -42,7 +32,7 @@ pub extern "C" fn shift_lookup(file: &[u8], job: u32, row: &mut u32) -> u32
 pub extern "C" fn shift_associated(file: &[u8], job: u32, at: &mut u32, len: &mut u32) -> u32
     ensures { λ r. ⌜ _≡_ {A = Located} (record { number = r; at = now (at .exit); len = now (len .exit) }) (locating (now (file .entry)) job) ⌝ }
 {
-    let entry = shift_jobs::entry(file, job);
+    let entry = shift_lookup::entry(file, job);
     *at = entry.ad_at;
     *len = entry.ad_len;
     entry.number as u32
@@ -69,7 +59,7 @@ pub extern "C" fn shift_entry(
     })
         (entryOf (now (file .entry)) job) ⌝ }
 {
-    let entry = shift_jobs::entry(file, job);
+    let entry = shift_lookup::entry(file, job);
     *row = entry.row as u32;
     *ad_at = entry.ad_at;
     *ad_len = entry.ad_len;

@@ -1,5 +1,5 @@
 // Binary search for a job.
-use crate::file::say;
+use status::checked::say;
 ghost use mathlib.Core.Path.{_≡_};
 ghost use lib.ListN.{length};
 ghost use Rattle.status.specs.Answers.{answer};

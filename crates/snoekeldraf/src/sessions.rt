@@ -1,67 +1,13 @@
 // Sealing in parts: the caller owns the session as nine words, and every call borrows them. Any nine words may arrive.
-use block::Block;
 use session::Session;
+use session_words::copied;
+use session_words::session_of;
+use session_words::words_of;
 ghost use mathlib.Core.Path.{_≡_};
 ghost use mathlib.Core.List.{[]};
-ghost use Prim.Native.Nat.{_<_};
-ghost use lib.ListN.{getD, replicate};
+ghost use lib.ListN.{replicate};
 ghost use Rattle.session.specs.Value.{starting, dataPart, textPart, ending};
-ghost use Rattle.session.specs.Structs.{asValue};
-ghost use Rattle.snoekeldraf.specs.Words.{ofWords, wordsOf, after, inWords};
-
-// The nine words by value.
-fn copied(state: &[u64; 9]) -> [u64; 9]
-    ensures { λ r. ⌜ r ≡ now (state .entry) ⌝ }
-{
-    *state
-}
-
-// The session that nine words stand for.
-fn session_of(words: [u64; 9]) -> Session
-    requires { ⌜ getD words 0 0 < 256 ⌝ }
-    ensures { λ r. ⌜ asValue r ≡ ofWords words ⌝ }
-{
-    let held = block::bytes_of(Block {
-        a: words[5],
-        b: words[6],
-    });
-    Session {
-        suite: words[0] as u8,
-        y: Block {
-            a: words[1],
-            b: words[2],
-        },
-        z: Block {
-            a: words[3],
-            b: words[4],
-        },
-        held: held,
-        ad_total: words[7] as usize,
-        text_total: words[8] as usize,
-    }
-}
-
-// The nine words of a session.
-fn words_of(state: Session) -> [u64; 9]
-    ensures words { λ r. ⌜ r ≡ wordsOf (asValue state) ⌝ }
-    ensures session { λ r. ⌜ ofWords r ≡ asValue state ⌝ }
-{
-    let y = state.y;
-    let z = state.z;
-    let held = state.held;
-    let buffered = block::block_of(held);
-    [
-        state.suite as u64,
-        y.a,
-        y.b,
-        z.a,
-        z.b,
-        buffered.a,
-        buffered.b,
-        state.ad_total as u64,
-        state.text_total as u64,
-    ]
-}
+ghost use Rattle.session_words.specs.Words.{ofWords, after, inWords};
 
 // Starts a session. A refused start leaves nine zeros, for which every later call returns 9.
 #[no_mangle]

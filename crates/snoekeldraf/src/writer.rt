@@ -1,5 +1,5 @@
 // The writer of shift files.
-use crate::file::say;
+use status::checked::say;
 ghost use mathlib.Core.Path.{_≡_};
 ghost use Rattle.status.specs.Answers.{answer};
 ghost use Rattle.shift_draft.specs.Answers.{FileWritten, fileSealing, fileUnsealing};

@@ -30,6 +30,8 @@ use Rattle.status.proofs.checked.Refusal.answer.Kinds as refusal-kinds
 use Rattle.status.proofs.checked.Refusal.answer.Reads as refusal-reads
 use Rattle.status.proofs.checked.Checked.answer.Kinds as checked-kinds
 use Rattle.status.proofs.checked.Checked.answer.Reads as checked-reads
+use Rattle.status.proofs.checked.say.Kinds as say-kinds
+use Rattle.status.proofs.checked.say.Reads as say-reads
 
 -- ---- sealer and opener
 
@@ -135,3 +137,8 @@ refusal-answer κs a h x y = (answer-one (x .ensures) (y .ensures), refl)
 
 pub checked-answer : OneOutcome checked-kinds.ps checked-kinds.r checked-reads.Pre checked-reads.Post
 checked-answer κs a h x y = (answer-one (x .ensures) (y .ensures), refl)
+
+pub say : OneOutcome say-kinds.ps say-kinds.r say-reads.Pre say-reads.Post
+say κs a h x y =
+    let e = x .ensures ∙ sym (y .ensures) in
+    (ap (λ (w : Answer). w .number) e, ap (λ (w : Answer). (tt, (w .row, tt))) e)

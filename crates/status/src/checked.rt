@@ -1,6 +1,7 @@
 // The answers of the check, and their numbers in document 01.
 ghost use mathlib.Core.Path.{_≡_};
-ghost use Rattle.status.specs.Answers.{faultNumber, refusalAnswer, checkedAnswer};
+ghost use Prim.Native.Nat.{_≤_};
+ghost use Rattle.status.specs.Answers.{answer, faultNumber, refusalAnswer, checkedAnswer};
 
 // A number of document 01 and the row that it carries.
 pub struct Answer {
@@ -86,4 +87,13 @@ impl Checked {
             Checked::Refused(refusal) => refusal.answer(),
         }
     }
+}
+
+// Writes the row that an answer carries, and returns its number.
+pub fn say(outcome: Answer, row: &mut u32) -> u32
+    requires { ⌜ outcome .row ≤ 512 ⌝ }
+    ensures { λ r. ⌜ answer r (now (row .exit)) ≡ outcome ⌝ }
+{
+    *row = outcome.row as u32;
+    outcome.number as u32
 }

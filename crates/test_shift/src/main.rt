@@ -13,7 +13,7 @@ mod search;
 
 use program_text::call::Call;
 use program_text::call::HEAD_LEN;
-use shift_format::limits::MAX_ROWS;
+use shift_limits::MAX_ROWS;
 
 // The most bytes of a file or an output, and of a ring, and the most places of a list, that a call can have here.
 const FILE_ROOM: usize = 65540;

@@ -29,13 +29,13 @@ fn and_answer(line: &mut [u8], at: usize, answered: Answer) -> usize {
 fn found(file: &[u8], job: u32, line: &mut [u8]) -> usize {
     let checked = shift_check::check(file).answer();
     let at = answer(line, 0, checked.number, checked.row);
-    and_answer(line, at, shift_jobs::lookup(file, job).answer())
+    and_answer(line, at, shift_lookup::lookup(file, job).answer())
 }
 
 // Offset, length and bytes of the associated data.
 fn place(file: &[u8], job: u32, line: &mut [u8], at: usize) -> usize {
-    let entry = shift_jobs::entry(file, job);
-    let ad = shift_jobs::associated(file, job);
+    let entry = shift_lookup::entry(file, job);
+    let ad = shift_lookup::associated(file, job);
     let at = and_number(line, at, entry.ad_at as u64);
     let at = and_number(line, at, ad.len() as u64);
     and_shown(line, at, ad)
@@ -99,7 +99,7 @@ fn answers(fold: u64, file: &[u8], ring: &[u8], job: u32, out_len: usize) -> u64
     ensures { λ r. ⌜ r < 4294967291 ⌝ }
 {
     let checked = shift_check::check(file).answer();
-    let found = shift_jobs::lookup(file, job).answer();
+    let found = shift_lookup::lookup(file, job).answer();
     let fold1 = program_text::fold::folded(fold, checked.number);
     let fold2 = program_text::fold::folded(fold1, low(checked.row));
     let fold3 = program_text::fold::folded(fold2, found.number);

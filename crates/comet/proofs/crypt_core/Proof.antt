@@ -21,11 +21,11 @@ use Rattle.mode.proofs.Chain.{some}
 use Rattle.mode.proofs.Walk.{text-walk, tag-walk}
 use Rattle.mode.proofs.Calls.{calls-count}
 use Rattle.block_walk.proofs.Front.{walk-none, cover-none}
-use Rattle.block_step.specs.declared.state.State.{State}
-use Rattle.block_step.specs.Two.{twoOf}
+use Rattle.block_state.specs.declared.State.{State}
+use Rattle.block_state.specs.Two.{twoOf}
 use Rattle.comet.specs.Answers.{opening}
 use Rattle.comet.proofs.Counts.{count-most, count-all}
-use Rattle.comet.proofs.Turns.{empty-count}
+use Rattle.comet_text.proofs.Turns.{empty-count}
 use Rattle.comet.proofs.crypt_core.Statement.{statement}
 use Rattle.comet.proofs.crypt_core.Tie as tie
 
@@ -67,7 +67,7 @@ module _ (j : tie.Joined1) where
       × (j .if1 .state .calls ≡ add 64 (begun .calls) (length (blocks (sizeOf suite) ad)))
   read-is =
       ⊎-elim
-      (λ w. (ap (twoOf suite) (w .2) ∙ w .1 .ensures .0, ap (λ (s : State). s .calls) (w .2) ∙ w .1 .ensures .1))
+      (λ w. (ap (twoOf suite) (w .2) ∙ w .1 .ensures .0, ap (λ (s : State). s .calls) (w .2) ∙ w .1 .ensures .1 .made))
       (λ w. (
         ap (twoOf suite) (w .1) ∙ sym (walk-none (cipherOf suite) pos false 0x10 0x08 (twoOf suite begun) ad (w .0 .left)),
         ap (λ (s : State). s .calls) (w .1) ∙ empty-count (sizeOf suite) pos ad (begun .calls) (w .0 .left) (omega (arith, j .before .start .ensures .made)),
@@ -94,7 +94,7 @@ module _ (k : tie.Joined2) where
       (λ w. (
         w .5 ∙ w .2 .ensures .0,
         ap (twoOf (suite j)) (w .6) ∙ w .2 .ensures .1 .0,
-        ap (λ (s : State). s .calls) (w .6) ∙ w .2 .ensures .1 .1,
+        ap (λ (s : State). s .calls) (w .6) ∙ w .2 .ensures .1 .1 .made,
         ap length (w .5) ∙ w .2 .kept .1 .1 .1 .1 .0,
       ))
       (λ w. (

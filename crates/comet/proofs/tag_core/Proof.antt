@@ -11,7 +11,7 @@ use Rattle.mode.specs.Walk.{States, walked, tagged, dataDone}
 use Rattle.mode.proofs.Chain.{some}
 use Rattle.mode.proofs.Walk.{tag-walk}
 use Rattle.block_walk.proofs.Front.{walk-none}
-use Rattle.block_step.specs.Two.{twoOf}
+use Rattle.block_state.specs.Two.{twoOf}
 use Rattle.comet.proofs.tag_core.Statement.{statement}
 use Rattle.comet.proofs.tag_core.Tie as tie
 

@@ -2,7 +2,7 @@
 use mathlib.Core.Path.{sym, ap, ap₂, _∙_}
 use borrow.Author.Needs.{needs}
 use denote.Ref.{now}
-use Rattle.shift_jobs.specs.Entry.{entryAt}
+use Rattle.shift_lookup.specs.Entry.{entryAt}
 use Rattle.shift_amend.specs.Amending.{inFile}
 use Rattle.shift_amend.proofs.Holding.{first-located, second-located, tells}
 use Rattle.shift_amend.proofs.locate.Statement.{statement}

@@ -3,7 +3,7 @@ use mathlib.Core.Path.{_≡_, sym, _∙_}
 use borrow.Author.Needs.{needs}
 use denote.Ref.{now}
 use Rattle.shift_check.specs.Check.{checkFile}
-use Rattle.shift_jobs.specs.Lookup.{lookupJob}
+use Rattle.shift_lookup.specs.Lookup.{lookupJob}
 use Rattle.shift_amend.proofs.Holding.{refuses-file, passes-file, finds-job, lacks-job, told-first, told-second, told-amendment, told-day, told-neither}
 use Rattle.shift_amend.proofs.Holding.{looked}
 use Rattle.shift_amend.proofs.look_up.Statement.{statement}

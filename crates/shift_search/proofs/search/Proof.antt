@@ -6,7 +6,7 @@ use Rattle.shift_format.specs.Format.{firstEdition, newest}
 use Rattle.status.specs.Answers.{checkedAnswer}
 use Rattle.shift_check.proofs.Sound.{headed}
 use Rattle.shift_check.proofs.Passed.{passed-zero}
-use Rattle.shift_jobs.specs.Halving.{Walk}
+use Rattle.shift_lookup.specs.Halving.{Walk}
 use Rattle.shift_search.proofs.Promised.{goes, stops}
 use borrow.Author.Needs.{needs}
 use Rattle.shift_search.proofs.search.Statement.{statement}

@@ -10,7 +10,7 @@ use Prim.Native.Nat.{ℕ}
 use Rattle.block.specs.Blocks.{wide}
 use Rattle.cipher.specs.Cipher.{cipherOf}
 use Rattle.mode.specs.Walk.{hidden}
-use Rattle.block_step.specs.Two.{twoOf}
+use Rattle.block_state.specs.Two.{twoOf}
 use Rattle.block_step.proofs.Turns.{cut-in, cut-goes, goes-out, put-in}
 use Rattle.block_step.proofs.one_block.crypt_short.Statement.{statement}
 use Rattle.block_step.proofs.one_block.crypt_short.Tie as tie

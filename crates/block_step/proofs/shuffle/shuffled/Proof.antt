@@ -9,7 +9,7 @@ use Rattle.block.proofs.Blocks.{length-wide, first-eight}
 use Rattle.cipher.specs.Cipher.{sizeOf}
 use Rattle.cipher.proofs.Suites.{size-other}
 use Rattle.mode.specs.Words.{shuffle}
-use Rattle.block_step.proofs.Turns.{clean-16, clean-8}
+use Rattle.block_state.proofs.Clean.{clean-16, clean-8}
 use Rattle.block_step.proofs.shuffle.shuffled.Statement.{statement}
 use Rattle.block_step.proofs.shuffle.shuffled.Tie as tie
 

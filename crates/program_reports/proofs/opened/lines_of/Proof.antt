@@ -2,8 +2,8 @@
 use mathlib.Core.Path.{sym, ap, _∙_}
 use denote.Ref.{now}
 use borrow.Author.Needs.{needs}
-use Rattle.shift_jobs.specs.Answers.{foundAnswer}
-use Rattle.shift_jobs.proofs.Lookups.{found-in}
+use Rattle.shift_lookup.specs.Answers.{foundAnswer}
+use Rattle.shift_lookup.proofs.Lookups.{found-in}
 use Rattle.program_reports.proofs.opened.lines_of.Statement.{statement}
 use Rattle.program_reports.proofs.opened.lines_of.Tie as tie
 

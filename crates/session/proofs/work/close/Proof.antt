@@ -9,10 +9,11 @@ use native.Mathlib.Omega.{arith}
 use Prim.Native.Nat.{ℕ, _%_, _<_}
 use Rattle.block.specs.Blocks.{wide}
 use Rattle.cipher.proofs.Suites.{size-most}
-use Rattle.block_step.specs.Two.{twoOf}
+use Rattle.block_state.specs.Two.{twoOf}
 use Rattle.session.specs.Value.{endNumber, endDone, ending}
 use Rattle.session.specs.Structs.{asValue}
-use Rattle.session.proofs.Refuse.{end-passed, answer-done}
+use Rattle.session_ladder.proofs.Rungs.{end-passed}
+use Rattle.session.proofs.Refuse.{answer-done}
 use Rattle.session.proofs.Parts.{end-given}
 use Rattle.session.proofs.work.close.Statement.{statement}
 use Rattle.session.proofs.work.close.Tie as tie
@@ -77,7 +78,7 @@ returns c =
     let f = c .before .before .before .before .before .before .before .before .before .last-in in
     let g = c .before .before .before .before .before .before .tag-of in
     end-given v (twoOf (s .suite) (two .result)) (n .result) (m .result) (two .ensures) (n .ensures .0) (m .ensures) o _ _ _ _ (twoOf (s .suite) (f .result))
-    (f .ensures .0) (f .ensures .1 .0) (c .ended .ensures) (f .ensures .1 .1)
+    (f .ensures .0) (f .ensures .1 .0) (c .ended .ensures) (f .ensures .1 .1 .0)
     (c .before .before .before .put .ensures ∙ ap (λ (k : ℕ). take k (wide (g .result .tag))) (p .2) ∙ g .ensures .0)
     ∙ answer-done 0 (endNumber (v .suite) (v .«ad_total») (v .«text_total») (length o) (length t)) (endDone v o) v o t refl (sym (st .pre .1))
 

@@ -8,10 +8,11 @@ use mathlib.Core.Path.{refl, sym, _∙_, subst}
 use native.Mathlib.Nat.{mod-lt}
 use native.Mathlib.Omega.{arith}
 use Prim.Native.Nat.{ℕ, _%_, _<_}
-use Rattle.block_step.specs.Two.{twoOf}
+use Rattle.block_state.specs.Two.{twoOf}
 use Rattle.session.specs.Value.{textNumber, textDone, textPart}
 use Rattle.session.specs.Structs.{asValue}
-use Rattle.session.proofs.Refuse.{text-passed, answer-done}
+use Rattle.session_ladder.proofs.Rungs.{text-passed}
+use Rattle.session.proofs.Refuse.{answer-done}
 use Rattle.session.proofs.Parts.{part-given, done-more}
 use Rattle.session.proofs.work.seal_in.Statement.{statement}
 use Rattle.session.proofs.work.seal_in.Tie as tie
@@ -65,7 +66,7 @@ returns c =
     let m = c .before .before .before .before .before .before .before .first-mark in
     let f = c .before .before .before .before .before .crypt-part in
     part-given v (twoOf (s .suite) (two .result)) (n .result) (m .result) (two .ensures) (n .ensures .0) (m .ensures) p o _ (f .result .count) _
-    (twoOf (s .suite) (f .result .s)) (f .result .held) (f .ensures .0) (f .ensures .1 .0) (c .packed .ensures) (f .ensures .1 .1 .0) (f .ensures .1 .1 .1)
+    (twoOf (s .suite) (f .result .s)) (f .result .held) (f .ensures .0) (f .ensures .1 .0) (c .packed .ensures) (f .ensures .1 .1 .0) (f .ensures .1 .1 .1 .0)
     ∙ done-more v p o (λ e. omega (arith, st .pre .1))
     ∙ answer-done 0 (textNumber (v .suite) (v .«ad_total») (v .«text_total») (length p) (length o)) (textDone v p o) v o [] refl (sym (st .pre .0))
 

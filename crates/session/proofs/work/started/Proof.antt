@@ -7,7 +7,8 @@ use mathlib.Core.Path.{refl, sym, ap, _∙_}
 use Rattle.cipher.proofs.Suites.{seals-has}
 use Rattle.mode.specs.Walk.{States}
 use Rattle.session.specs.Value.{Value, valueOf, over, gave, fresh, startNumber, starting}
-use Rattle.session.proofs.Refuse.{start-passed, answer-done}
+use Rattle.session_ladder.proofs.Rungs.{start-passed}
+use Rattle.session.proofs.Refuse.{answer-done}
 use Rattle.session.proofs.work.started.Statement.{statement}
 use Rattle.session.proofs.work.started.Tie as tie
 

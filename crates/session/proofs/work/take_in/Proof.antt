@@ -15,7 +15,8 @@ use Rattle.mode.specs.Blocks.{blocks}
 use Rattle.mode.specs.Walk.{States, whole, rest, walked}
 use Rattle.session.specs.Value.{Value, valueOf, gave, states, dataNumber, dataStates, dataIn, dataPart}
 use Rattle.session.specs.Structs.{asValue}
-use Rattle.session.proofs.Refuse.{data-passed, answer-done}
+use Rattle.session_ladder.proofs.Rungs.{data-passed}
+use Rattle.session.proofs.Refuse.{answer-done}
 use Rattle.session.proofs.work.take_in.Statement.{statement}
 use Rattle.session.proofs.work.take_in.Tie as tie
 
@@ -59,7 +60,7 @@ returns c =
     let f = c .before .absorb-part in
     let es = f .ensures .0
     ∙ ap₂ (λ (m j : ℕ). walked k false m 0x10 (states k v) (blocks n (whole n (x j)))) (c .before .before .first-mark .ensures) (size .ensures .0) in
-    let eh = f .ensures .1 ∙ ap (λ (j : ℕ). filled (rest n (x j))) (size .ensures .0) in
+    let eh = f .ensures .1 .0 ∙ ap (λ (j : ℕ). filled (rest n (x j))) (size .ensures .0) in
     ap (λ (w : Value). gave 0 0 w [] [])
     (c .packed .ensures ∙ ap₂ (λ (s : States) (h : List ℕ). valueOf (v .suite) s h (v .«ad_total» + length p) (v .«text_total»)) es eh)
     ∙ answer-done 0 (dataNumber (v .suite) (v .«ad_total») (v .«text_total») (length p)) (gave 0 0 (dataIn k v p) [] []) v [] [] refl (sym (st .pre))

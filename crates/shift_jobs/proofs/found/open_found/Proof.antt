@@ -3,8 +3,8 @@ use mathlib.Core.Path.{sym, ap, _∙_}
 use borrow.Author.Tests.{ne-eqb}
 use borrow.Author.Needs.{needs}
 use denote.Ref.{now}
-use Rattle.shift_jobs.specs.Answers.{foundAnswer}
-use Rattle.shift_jobs.proofs.Lookups.{found-in, not-at}
+use Rattle.shift_lookup.specs.Answers.{foundAnswer}
+use Rattle.shift_lookup.proofs.Lookups.{found-in, not-at}
 use Rattle.shift_jobs.proofs.found.open_found.Statement.{statement}
 use Rattle.shift_jobs.proofs.found.open_found.Tie as tie
 

@@ -1,7 +1,7 @@
 -- A found row is none of the cases.
 use mathlib.Core.Path.{ap}
-use Rattle.shift_jobs.specs.declared.answers.Found.{Found}
-use Rattle.shift_jobs.specs.Answers.{foundAnswer}
+use Rattle.shift_lookup.specs.declared.answers.Found.{Found}
+use Rattle.shift_lookup.specs.Answers.{foundAnswer}
 use borrow.Author.Needs.{needs}
 use Rattle.shift_jobs.proofs.opening.stopped.Statement.{statement}
 use Rattle.shift_jobs.proofs.opening.stopped.Tie as tie

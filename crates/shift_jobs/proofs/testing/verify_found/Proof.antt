@@ -2,8 +2,8 @@
 use mathlib.Core.Path.{sym, ap, _∙_}
 use borrow.Author.Tests.{ne-eqb}
 use denote.Ref.{now}
-use Rattle.shift_jobs.specs.Answers.{foundAnswer}
-use Rattle.shift_jobs.proofs.Lookups.{found-in, not-at}
+use Rattle.shift_lookup.specs.Answers.{foundAnswer}
+use Rattle.shift_lookup.proofs.Lookups.{found-in, not-at}
 use borrow.Author.Needs.{needs}
 use Rattle.shift_jobs.proofs.testing.verify_found.Statement.{statement}
 use Rattle.shift_jobs.proofs.testing.verify_found.Tie as tie

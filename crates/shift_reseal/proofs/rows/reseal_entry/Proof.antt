@@ -10,7 +10,7 @@ use Rattle.status.specs.Verdicts.{numberOf}
 use Rattle.status.proofs.Refuse.{other-some}
 use Rattle.shift_jobs.proofs.Entries.{lendable}
 use Rattle.shift_draft.specs.Put.{put}
-use Rattle.shift_writer.proofs.Lending.{open-told, put-over}
+use Rattle.shift_piece.proofs.Lending.{open-told, put-over}
 use Rattle.shift_reseal.proofs.Lending.{piece-in, text-in, text-own, opened-long, opened-in, piece-long, opened-is, can-seal, piece-four}
 use Rattle.shift_reseal.proofs.rows.reseal_entry.Statement.{statement}
 use Rattle.shift_reseal.proofs.rows.reseal_entry.Tie as tie

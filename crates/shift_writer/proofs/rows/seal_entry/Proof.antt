@@ -10,7 +10,7 @@ use borrow.Rule.Slice.PartMut.{putMid, same-len-mid}
 use Rattle.shift_format.specs.Part.{stretch}
 use Rattle.shift_format.proofs.Rows.{stretch-length}
 use Rattle.shift_draft.specs.Put.{put}
-use Rattle.shift_writer.proofs.Lending.{body-fits, front-is, put-over, row-sealed}
+use Rattle.shift_piece.proofs.Lending.{body-fits, front-is, put-over, row-sealed}
 use Rattle.shift_writer.proofs.rows.seal_entry.Statement.{statement}
 use Rattle.shift_writer.proofs.rows.seal_entry.Tie as tie
 

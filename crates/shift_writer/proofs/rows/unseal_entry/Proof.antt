@@ -16,7 +16,7 @@ use Rattle.shift_draft.specs.Put.{put}
 use Rattle.shift_jobs.proofs.Entries.{lendable}
 use Rattle.status.specs.Verdicts.{numberOf}
 use Rattle.status.proofs.Refuse.{other-some}
-use Rattle.shift_writer.proofs.Lending.{body-fits, open-told, put-two, row-opened}
+use Rattle.shift_piece.proofs.Lending.{body-fits, open-told, put-two, row-opened}
 use Rattle.shift_writer.proofs.rows.unseal_entry.Statement.{statement}
 use Rattle.shift_writer.proofs.rows.unseal_entry.Tie as tie
 

@@ -12,7 +12,7 @@ use Rattle.shift_format.specs.declared.row.Row.{Row}
 use Rattle.shift_format.specs.Format.{tagOf}
 use Rattle.shift_format.proofs.Rows.{stretch-length}
 use Rattle.shift_draft.specs.Answers.{tagSet}
-use Rattle.shift_writer.proofs.Lending.{body-fits}
+use Rattle.shift_piece.proofs.Lending.{body-fits}
 use Rattle.shift_writer.proofs.tags.tag_zero.Statement.{statement}
 use Rattle.shift_writer.proofs.tags.tag_zero.Tie as tie
 

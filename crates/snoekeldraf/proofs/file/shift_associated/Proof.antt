@@ -1,7 +1,7 @@
 -- The entry tells number, place and length.
 use mathlib.Core.Path.{ap}
 use borrow.Author.Needs.{needs}
-use Rattle.shift_jobs.specs.declared.answers.Entry.{Entry}
+use Rattle.shift_lookup.specs.declared.answers.Entry.{Entry}
 use Rattle.snoekeldraf.specs.Located.{Located}
 use Rattle.snoekeldraf.proofs.file.shift_associated.Statement.{statement}
 use Rattle.snoekeldraf.proofs.file.shift_associated.Tie as tie

@@ -6,8 +6,8 @@ use Prim.Native.Nat.{ℕ, _<_}
 use lib.ListN.{length, getD}
 use mir.Val.{Fits}
 use mir.Syntax.{w64}
-use Rattle.snoekeldraf.specs.Words.{Nine, ofWords}
-use Rattle.snoekeldraf.proofs.Words.{handed, stays}
+use Rattle.session_words.specs.Words.{Nine, ofWords}
+use Rattle.session_words.proofs.Words.{handed, stays}
 use Rattle.session.specs.Value.{Value, Given, ending}
 use Rattle.session.proofs.AnyValue.{end-shut, end-few}
 use Rattle.block.proofs.Blocks.{length-wide}

@@ -3,7 +3,7 @@ use denote.Ref.{now}
 use mathlib.Core.List.{[]}
 use mathlib.Core.Path.{_≡_, sym, ap, _∙_}
 use Rattle.session.specs.Value.{Given}
-use Rattle.snoekeldraf.proofs.Words.{handed}
+use Rattle.session_words.proofs.Words.{handed}
 use Rattle.session.proofs.AnyValue.{start-none}
 use borrow.Author.Needs.{needs}
 use Rattle.snoekeldraf.proofs.sessions.comet_session_start.Statement.{statement}
