@@ -31,7 +31,8 @@ FILES = pathlib.Path(sys.argv[1]).resolve()
 SHOTS = pathlib.Path(sys.argv[2]) if len(sys.argv) > 2 else None
 SAVED = pathlib.Path(tempfile.mkdtemp(prefix="inspect-saved-"))
 JOBS = ["4101", "4102", "4103", "4105", "4110", "4200", "4210", "4211"]
-WIDTHS = ((1280, 900, False), (1280, 900, True), (1920, 1080, False), (1920, 1080, True), (820, 1000, False), (390, 844, False), (390, 844, True))
+WIDTHS = ((1280, 900, False), (1280, 900, True), (1920, 1080, False), (1920, 1080, True), (1255, 900, False), (1040, 900, False),
+          (820, 1000, False), (390, 844, False), (390, 844, True))
 passed = 0
 
 

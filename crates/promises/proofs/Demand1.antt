@@ -18,7 +18,7 @@ use Rattle.comet.specs.Answers.{Sealed, sealedAs, sealing, Opened, openedAs, op
 use Rattle.comet.proofs.Outcomes as comet
 use Rattle.session.proofs.Outcomes as session
 use Rattle.shift_check.proofs.Outcomes as table
-use Rattle.shift_lookup.proofs.Outcomes as looked
+use Rattle.shift_lookup.proofs.Outcomes as lookups
 use Rattle.shift_jobs.proofs.Outcomes as shift
 use Rattle.shift_writer.proofs.Outcomes as writer
 use Rattle.shift_reseal.proofs.Outcomes as resealer
@@ -40,8 +40,8 @@ entry-points =
       unseal-in-place = record { asks-nothing = λ κs a. tt; one-outcome = comet.unseal-in-place };
       verify = record { asks-nothing = λ κs a. tt; one-outcome = comet.verify };
       check = record { asks-nothing = λ κs a. tt; one-outcome = table.check };
-      lookup = record { asks-nothing = λ κs a. tt; one-outcome = looked.lookup };
-      entry = record { asks-nothing = λ κs a. tt; one-outcome = looked.entry };
+      lookup = record { asks-nothing = λ κs a. tt; one-outcome = lookups.lookup };
+      entry = record { asks-nothing = λ κs a. tt; one-outcome = lookups.entry };
       open-job = record { asks-nothing = λ κs a. tt; one-outcome = shift.open-job };
       verified = record { asks-nothing = λ κs a. tt; one-outcome = shift.verified };
       session-start = record { asks-nothing = λ κs a. tt; one-outcome = session.start };
@@ -49,7 +49,7 @@ entry-points =
       session-part = record { asks-nothing = λ κs a. tt; one-outcome = session.message };
       session-end = record { asks-nothing = λ κs a. tt; one-outcome = session.finish };
       search = record { asks-nothing = λ κs a. tt; one-outcome = halving.search };
-      associated = record { asks-nothing = λ κs a. tt; one-outcome = looked.associated };
+      associated = record { asks-nothing = λ κs a. tt; one-outcome = lookups.associated };
       seal-file = record { asks-nothing = λ κs a. tt; one-outcome = writer.seal-file };
       unseal-file = record { asks-nothing = λ κs a. tt; one-outcome = writer.unseal-file };
       locate = record { asks-nothing = λ κs a. tt; one-outcome = amend.locate };

@@ -18,8 +18,8 @@ use Rattle.shift_lookup.specs.declared.answers.Found.the-variants as fou
 use Rattle.shift_lookup.specs.Answers.{foundAnswer}
 use Rattle.shift_lookup.proofs.lookup.Kinds as lookup-kinds
 use Rattle.shift_lookup.proofs.lookup.Reads as lookup-reads
-use Rattle.shift_lookup.proofs.halving.halve.Kinds as halve-kinds
-use Rattle.shift_lookup.proofs.halving.halve.Reads as halve-reads
+use Rattle.shift_lookup.proofs.binary_search.halve.Kinds as halve-kinds
+use Rattle.shift_lookup.proofs.binary_search.halve.Reads as halve-reads
 use Rattle.shift_lookup.proofs.entry.Kinds as entry-kinds
 use Rattle.shift_lookup.proofs.entry.Reads as entry-reads
 use Rattle.shift_lookup.proofs.associated.Kinds as associated-kinds

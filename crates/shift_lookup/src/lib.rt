@@ -1,7 +1,7 @@
 // The lookup of a job in the plant's shift file: its row, its entry and its associated data. No key is needed here.
 pub mod answers;
+pub mod binary_search;
 pub mod found;
-pub mod halving;
 
 use answers::Entry;
 use answers::Found;
@@ -27,7 +27,7 @@ pub fn lookup(file: &[u8], job: u32) -> Found
         }
         Checked::Passed => {}
     }
-    halving::halve(row_size_of(file), file, count(file), job).found
+    binary_search::halve(row_size_of(file), file, count(file), job).found
 }
 
 // The lookup, and offsets and lengths of the job's associated data and its text; 0 if the lookup refuses.

@@ -7,8 +7,8 @@ use Rattle.shift_format.specs.declared.row.Row.{Row}
 use Rattle.shift_format.proofs.Rows.{row-in}
 use Rattle.shift_lookup.specs.Halving.{jobsOf}
 use Rattle.shift_lookup.proofs.Halves.{Halfway, halfway-start, halfway-hit, halfway-up, halfway-down, halfway-end}
-use Rattle.shift_lookup.proofs.halving.halve.Statement.{statement}
-use Rattle.shift_lookup.proofs.halving.halve.Tie as tie
+use Rattle.shift_lookup.proofs.binary_search.halve.Statement.{statement}
+use Rattle.shift_lookup.proofs.binary_search.halve.Tie as tie
 
 abbrev Inv-loop : tie.InvT-loop
 Inv-loop w f n job s₀ c₀ looked₀ s c looked = Halfway (jobsOf w f) job n s c looked
