@@ -1,4 +1,5 @@
 // AES-128 by FIPS 197: the plain engine. Its only table is the S-box, which each step borrows.
+#![tactic(auto)]
 ghost use Rattle.std.specs.Prelude.{◌≡◌, [], ◌∷◌, map, ◌<◌, cond};
 ghost use Rattle.block.specs.Words.{xor};
 ghost use Rattle.block.specs.Bytes.{bytes};
@@ -13,7 +14,7 @@ use word::{le32, store4_32};
 mod sbox;
 
 // The four columns of the state or of a round key; row 0 is the low byte.
-#[derive(Drop)]
+#[derive(Clone, Copy)]
 pub struct Columns {
     pub a: u32,
     pub b: u32,

@@ -1,11 +1,12 @@
 // Blocks of sixteen bytes as two words of 64 bits.
+#![tactic(auto)]
 ghost use Rattle.std.specs.Prelude.{◌≡◌, [], ◌∷◌, ◌++◌, ◌⊎◌, length, take};
 ghost use Rattle.block.specs.Bytes.{value, bytes, same_bytes};
 ghost use Rattle.block.specs.Xors.{xors};
 ghost use Rattle.block.specs.Blocks.{wide, filled};
 
 // Bytes 0 to 7 and 8 to 15, the least first.
-#[derive(Drop)]
+#[derive(Clone, Copy)]
 pub struct Block {
     pub a: u64,
     pub b: u64,

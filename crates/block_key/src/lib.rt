@@ -1,4 +1,5 @@
 // The next block key: a mark into byte 15 of Z, and the doubling of its low bits, 64 in version 1 and 120 in version 2.
+#![tactic(auto)]
 ghost use Rattle.std.specs.Prelude.{◌≡◌};
 ghost use Rattle.block.specs.Blocks.{wide};
 ghost use Rattle.cipher.specs.Cipher.{one, two, version_of};
@@ -71,7 +72,7 @@ pub fn next_key(suite: u8, z: Block, mark: u8) -> Block
 }
 
 // A block's key, and the Z that is kept after the block.
-#[derive(Drop)]
+#[derive(Clone, Copy)]
 pub struct Keyed {
     pub key: Block,
     pub z: Block,

@@ -1,4 +1,5 @@
 // The two states Y and Z of COMET: their start, the cipher call of a block, absorbing a block, and the tag.
+#![tactic(auto)]
 pub mod marks;
 pub mod tag;
 
@@ -14,7 +15,7 @@ use cipher::AesTables;
 
 // Y in the first bytes of y, as many as the suite's block has, Z, and the number of cipher calls so far. The count wraps
 // modulo 2^64, so that it adds no precondition for callers who do not read it.
-#[derive(Drop)]
+#[derive(Clone, Copy)]
 pub struct State {
     pub y: Block,
     pub z: Block,

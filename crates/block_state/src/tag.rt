@@ -12,7 +12,7 @@ use block::Block;
 use cipher::AesTables;
 
 // The tag, and how many cipher calls were made: its own is the last.
-#[derive(Drop)]
+#[derive(Clone, Copy)]
 pub struct TagAndCalls {
     pub tag: Block,
     pub calls: u64,

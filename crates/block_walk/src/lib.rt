@@ -1,5 +1,6 @@
 // The loops over the whole blocks of a text, shared by the one-call sealer, the opener and the sessions. Each loop has its
 // direction as a literal and is the only caller of its step, so that the compiler inlines the step.
+#![tactic(auto)]
 ghost use Rattle.std.specs.Prelude.{◌≡◌, true, false, ◌++◌, ℕ};
 ghost use Rattle.cipher.specs.Cipher.{TablesFit, IsSuite, size_of, cipher_of};
 ghost use Rattle.mode.specs.Walk.{rest, covered};
@@ -11,7 +12,7 @@ use block_step::one_block::{absorb_full, open_full, seal_full, verify_full};
 use cipher::AesTables;
 
 // The result after the whole blocks: the state, the mark that is still due for the next block, and how many bytes were processed.
-#[derive(Drop)]
+#[derive(Clone, Copy)]
 pub struct Progress {
     pub s: State,
     pub mark: u8,

@@ -1,10 +1,11 @@
 // CHAM-64/128: words of 16 bits.
+#![tactic(auto)]
 ghost use Rattle.std.specs.Prelude.{◌≡◌, ◌+◌, ◌<◌, get_or};
 ghost use Rattle.block.specs.Bytes.{word};
 ghost use Rattle.cham_spec.specs.Cham.{key_word, mixed, second_place, round_keys, turned, cham};
 
 // The state.
-#[derive(Drop)]
+#[derive(Clone, Copy)]
 struct Words {
     s0: u16,
     s1: u16,

@@ -1,4 +1,5 @@
 // The block ciphers of the six suites under one contract.
+#![tactic(auto)]
 ghost use Rattle.std.specs.Prelude.{◌≡◌, true, ◌++◌, ◌-◌, ◌≤◌, ◌<◌, take, drop, replicate};
 ghost use Rattle.block.specs.Bytes.{bytes};
 ghost use Rattle.block.specs.Blocks.{wide};

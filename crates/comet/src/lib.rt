@@ -1,4 +1,5 @@
 // The sealer and the opener: COMET under every suite.
+#![tactic(auto)]
 ghost use Rattle.std.specs.Prelude.{◌≡◌, true, false, ◌≤◌, length, take};
 ghost use Rattle.block.specs.Blocks.{wide};
 ghost use Rattle.cipher.specs.Cipher.{needs_tables, TablesFit, IsSuite, size_of, nonce_of, cipher_of, limit};
@@ -15,7 +16,7 @@ use cipher::AesTables;
 use status::verdict::{Verdict, refused};
 
 // The status of a call, and how many cipher calls it took.
-#[derive(Drop)]
+#[derive(Clone, Copy)]
 pub struct Counted {
     pub verdict: Verdict,
     pub calls: u64,

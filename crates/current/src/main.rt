@@ -3,6 +3,7 @@
 // Prints status, file (1 the amendment, 2 the day's, 0 if neither has the job) and row on one line and, after status 0, a
 // line for each field of the entry (`program_reports::current`). A file that cannot be read counts as zero bytes. The
 // program takes files up to the format's 1,048,576 bytes each (longer: 20).
+#![tactic(auto)]
 use program_files::NO_JOB;
 use program_text::read::RING_ROOM;
 

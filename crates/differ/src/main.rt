@@ -3,6 +3,7 @@
 // Prints the jobs only in the first, only in the second, and in both but different, one number to a line, under the lines
 // "first", "second" and "differ"; on a refusal one line, "refused", file, status and row. A file that cannot be read counts
 // as zero bytes. The program takes files up to 65,280 bytes (longer: 20).
+#![tactic(auto)]
 use shift_report::MAX_REPORT;
 
 // The most bytes of each file, as of a supplier's file, and one more.

@@ -3,6 +3,7 @@
 // Prints "entries" and how many there are, and then a line for each, its job number and 0 if its tag is right under the
 // ring, 8 if it is wrong; on a refusal one line, "refused", status and row. A file that cannot be read counts as zero
 // bytes. The program takes files up to 65,280 bytes (longer: 20).
+#![tactic(auto)]
 use program_text::read::RING_ROOM;
 use shift_report::MAX_REPORT;
 

@@ -2,6 +2,7 @@
 //
 // Prints status and row on one line and, after status 0, a line for each field of the entry (`program_reports::job`).
 // A file that cannot be read counts as zero bytes. The program takes files up to the format's 1,048,576 bytes (longer: 20).
+#![tactic(auto)]
 use program_files::NO_JOB;
 use program_text::read::RING_ROOM;
 

@@ -1,4 +1,5 @@
 // Shared by the plant's programs: their arguments, the files that these name, and the answer of programs that write a file.
+#![tactic(auto)]
 mod save;
 
 ghost use Rattle.std.specs.Prelude.{◌≤◌};

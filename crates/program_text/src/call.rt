@@ -7,7 +7,7 @@ use libc::{STDIN_FILENO, STDOUT_FILENO};
 pub const HEAD_LEN: usize = 30;
 
 // What every call begins with: op, suite, job and six numbers, most of them lengths; 0 if a call has none.
-#[derive(Drop)]
+#[derive(Clone, Copy)]
 pub struct Call {
     pub op: u8,
     pub suite: u8,

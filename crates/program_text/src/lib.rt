@@ -1,4 +1,5 @@
 // What the programs share: the head of a call, the fields of an input, and the text that they write.
+#![tactic(auto)]
 pub mod call;
 pub mod fold;
 pub mod read;

@@ -1,4 +1,5 @@
 // Sealing in parts: a session by value, which every call returns.
+#![tactic(auto)]
 use block::Block;
 
 mod work;
@@ -9,7 +10,7 @@ ghost use Rattle.session.specs.Structs.{as_value, gives};
 
 // Y and Z, the buffered bytes (the first of the sixteen, as many as a total leaves over whole blocks), and the bytes of
 // associated data and of message so far. Any value may arrive: the methods have no precondition.
-#[derive(Drop)]
+#[derive(Clone, Copy)]
 pub struct Session {
     pub suite: u8,
     pub y: Block,
@@ -20,7 +21,7 @@ pub struct Session {
 }
 
 // The result of a call: the next session, the status, and how many bytes it wrote at the output's start.
-#[derive(Drop)]
+#[derive(Clone, Copy)]
 pub struct Step {
     pub next: Session,
     pub number: u8,

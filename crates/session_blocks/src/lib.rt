@@ -1,4 +1,5 @@
 // A session's buffered bytes followed by a part: whole blocks are processed (crate block_walk), and the rest is buffered.
+#![tactic(auto)]
 ghost use Rattle.std.specs.Prelude.{◌≡◌, false, ◌++◌, ℕ, ◌+◌, ◌-◌, ◌≤◌, ◌<◌, length, take};
 ghost use Rattle.block.specs.Blocks.{filled};
 ghost use Rattle.cipher.specs.Cipher.{TablesFit, IsSuite, size_of, cipher_of};
@@ -16,7 +17,7 @@ use block_walk::Progress;
 use cipher::AesTables;
 
 // The two states, and the buffered bytes.
-#[derive(Drop)]
+#[derive(Clone, Copy)]
 pub struct Absorbed {
     pub s: State,
     pub held: [u8; 16],
@@ -109,7 +110,7 @@ pub fn absorb_part(
 }
 
 // The two states, the buffered bytes, and how many bytes were output.
-#[derive(Drop)]
+#[derive(Clone, Copy)]
 pub struct Sealed {
     pub s: State,
     pub held: [u8; 16],

@@ -1,4 +1,5 @@
 // Amendments: a small file that replaces some jobs of the day's.
+#![tactic(auto)]
 ghost use Rattle.std.specs.Prelude.{◌≡◌};
 ghost use Rattle.shift_lookup.specs.Answers.{found_answer};
 ghost use Rattle.shift_jobs.specs.Answers.{opened_answer};
@@ -13,14 +14,14 @@ use shift_lookup::found::entry_found;
 
 // The current entry of a job: the file that its status concerns (1 the amendment, 2 the day's, 0 if neither has the
 // job), and the entry.
-#[derive(Drop)]
+#[derive(Clone, Copy)]
 pub struct Amended {
     pub file: u8,
     pub entry: Entry,
 }
 
 // The status of opening the current entry, and the file that it concerns.
-#[derive(Drop)]
+#[derive(Clone, Copy)]
 pub struct OpenedIn {
     pub file: u8,
     pub opened: JobAnswer,
@@ -28,7 +29,7 @@ pub struct OpenedIn {
 
 // What determines the current entry: the file that its status concerns, and that file's lookup (the day's, if neither
 // has the job).
-#[derive(Drop)]
+#[derive(Clone, Copy)]
 pub struct Looked {
     pub file: u8,
     pub found: Found,

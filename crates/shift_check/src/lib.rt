@@ -1,4 +1,5 @@
 // The table of contents of the plant's shift file: its rows, and the full check.
+#![tactic(auto)]
 mod marks;
 mod rules;
 

@@ -1,4 +1,5 @@
 // The comparison of two shift files: three lists of job numbers.
+#![tactic(auto)]
 mod merge;
 
 ghost use Rattle.std.specs.Prelude.{◌≡◌};
@@ -11,7 +12,7 @@ use shift_check::check;
 use status::checked::{Checked, Refusal};
 
 // The result of a comparison: a status, the file and row that it concerns, and the length of each list.
-#[derive(Drop)]
+#[derive(Clone, Copy)]
 pub struct Finding {
     pub number: u8,
     pub file: u8,
@@ -22,7 +23,7 @@ pub struct Finding {
 }
 
 // The lists' lengths, or why there is none: the first file is refused, or the second, or a list is longer than its buffer.
-#[derive(Drop)]
+#[derive(Clone, Copy)]
 pub enum Compared {
     Done(usize, usize, usize),
     First(Refusal),

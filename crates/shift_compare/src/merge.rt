@@ -9,7 +9,7 @@ use shift_format::row::{count, row_at, row_size_of};
 use shift_same::same_entry;
 
 // One iteration: which job is appended to which list, and the two indices after it.
-#[derive(Drop)]
+#[derive(Clone, Copy)]
 struct Turn {
     job: u32,
     first: bool,
@@ -20,7 +20,7 @@ struct Turn {
 }
 
 // How long the three lists are.
-#[derive(Drop)]
+#[derive(Clone, Copy)]
 pub(crate) struct Counts {
     pub(crate) first: usize,
     pub(crate) second: usize,

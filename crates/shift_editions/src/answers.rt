@@ -5,7 +5,7 @@ ghost use Rattle.shift_editions.specs.Answers.{moved_answer};
 use status::checked::{Answer, Refusal};
 
 // What a move to another edition gives.
-#[derive(Drop)]
+#[derive(Clone, Copy)]
 pub enum Moved {
     Done,
     Refused(Refusal),

@@ -1,4 +1,5 @@
 // A shift file in another edition: the move from edition 1 to 2, and back.
+#![tactic(auto)]
 pub mod answers;
 mod front;
 mod rows;

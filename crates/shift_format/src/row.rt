@@ -10,7 +10,7 @@ ghost use Rattle.shift_format.specs.Inside.{RowIn};
 use block::Block;
 
 // A row without its nonce. The body starts with the associated data, at `ad_at`.
-#[derive(Drop)]
+#[derive(Clone, Copy)]
 pub struct Row {
     pub job: u32,
     pub suite: u8,

@@ -5,7 +5,7 @@ ghost use Rattle.shift_jobs.specs.Answers.{opened_answer};
 use status::checked::{Answer, Refusal};
 
 // What opening one job gives.
-#[derive(Drop)]
+#[derive(Clone, Copy)]
 pub enum JobAnswer {
     Done,
     Missing,
@@ -32,7 +32,7 @@ impl JobAnswer {
 
 // A job's associated data, whose tag is right: number and row as opening the job gives them, and offset and length of the
 // associated data; 0 after every number but 0.
-#[derive(Drop)]
+#[derive(Clone, Copy)]
 pub struct Genuine {
     pub number: u8,
     pub row: usize,

@@ -1,4 +1,5 @@
 // The limits of document 01 on shift files and rings. `cipher::LIMIT` is the one on associated data and messages of a record.
+#![tactic(auto)]
 
 // The bytes of a file's header.
 pub const HEADER_LEN: usize = 8;

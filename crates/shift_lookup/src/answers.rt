@@ -5,7 +5,7 @@ ghost use Rattle.shift_lookup.specs.Answers.{found_answer};
 use status::checked::{Answer, Refusal};
 
 // What a lookup finds.
-#[derive(Drop)]
+#[derive(Clone, Copy)]
 pub enum Found {
     At(usize),
     Missing,
@@ -29,7 +29,7 @@ impl Found {
 
 // A job's entry: the lookup's number and row, and offsets and lengths in the file of its associated data and its text; 0 if
 // the lookup refuses.
-#[derive(Drop)]
+#[derive(Clone, Copy)]
 pub struct Entry {
     pub number: u8,
     pub row: usize,

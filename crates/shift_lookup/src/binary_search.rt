@@ -8,7 +8,7 @@ use crate::answers::Found;
 use shift_format::row::row_at;
 
 // What the search finds, and how many rows it looked at.
-#[derive(Drop)]
+#[derive(Clone, Copy)]
 pub struct Searched {
     pub found: Found,
     pub looked: usize,

@@ -8,7 +8,7 @@ use shift_format::row::{FIRST_EDITION, NEWEST, count, get16};
 use status::checked::Checked;
 
 // The status, and on 0 the edition and the number of rows; both are 0 after every other status.
-#[derive(Drop)]
+#[derive(Clone, Copy)]
 pub struct HeaderFields {
     pub status: u8,
     pub edition: u32,
@@ -17,7 +17,7 @@ pub struct HeaderFields {
 
 // The status, and on 0 the fields of a row, with the offsets in the file of its nonce, associated data and text; all are 0
 // after every other status.
-#[derive(Drop)]
+#[derive(Clone, Copy)]
 pub struct RowFields {
     pub status: u8,
     pub job: u32,

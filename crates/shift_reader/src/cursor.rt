@@ -10,7 +10,7 @@ use shift_lookup::found::row_of;
 use status::checked::Checked;
 
 // The row that is next, and how many rows there are.
-#[derive(Drop)]
+#[derive(Clone, Copy)]
 pub struct Cursor {
     at: usize,
     end: usize,
@@ -18,7 +18,7 @@ pub struct Cursor {
 
 // A row as the table has it: which one it is, its fields, its station (0 in edition 1), and where in the file its sixteen
 // nonce bytes start.
-#[derive(Drop)]
+#[derive(Clone, Copy)]
 pub struct Listed {
     pub index: usize,
     pub row: Row,
@@ -27,14 +27,14 @@ pub struct Listed {
 }
 
 // The result of a call: a row, or the end of the rows.
-#[derive(Drop)]
+#[derive(Clone, Copy)]
 pub enum NextRow {
     Row(Listed),
     Ended,
 }
 
 // The result of a call, and the cursor after it.
-#[derive(Drop)]
+#[derive(Clone, Copy)]
 pub struct Stepped {
     pub next: Cursor,
     pub entry: NextRow,

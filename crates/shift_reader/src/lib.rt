@@ -1,4 +1,5 @@
 // The entries of a shift file: a cursor by value, a reader that holds the file and its position, and rows by number.
+#![tactic(auto)]
 pub mod contents;
 pub mod cursor;
 
@@ -8,14 +9,14 @@ ghost use Rattle.shift_reader.specs.Reading.{ask_of, reader_of, next_of};
 use cursor::{Cursor, NextRow, Stepped, ask, start};
 
 // The reader: the file, and its position in it.
-#[derive(Drop)]
+#[derive(Clone, Copy)]
 pub struct Reader<'a> {
     src: &'a [u8],
     place: Cursor,
 }
 
 // The result of a call, and the reader after it.
-#[derive(Drop)]
+#[derive(Clone, Copy)]
 pub struct Asked<'a> {
     pub reader: Reader<'a>,
     pub entry: NextRow,

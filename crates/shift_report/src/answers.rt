@@ -6,7 +6,7 @@ ghost use Rattle.shift_report.specs.Reporting.{refuses, said_of};
 use status::checked::Refusal;
 
 // A number and the row that it carries, and how many entries there are.
-#[derive(Drop)]
+#[derive(Clone, Copy)]
 pub struct ReportSummary {
     pub number: u8,
     pub row: usize,
@@ -15,7 +15,7 @@ pub struct ReportSummary {
 
 // How many entries a file has, or why there is no report: the file is refused, the ring is not of 256 bytes, or a list has
 // fewer elements than the file has entries.
-#[derive(Drop)]
+#[derive(Clone, Copy)]
 pub enum Reported {
     Entries(usize),
     Refused(Refusal),

@@ -5,7 +5,7 @@ ghost use Rattle.shift_writer.specs.Answers.{written_answer};
 use status::checked::{Answer, Refusal};
 
 // What sealing a draft, or unsealing a file, gives.
-#[derive(Drop)]
+#[derive(Clone, Copy)]
 pub enum Written {
     Done,
     Refused(Refusal),

@@ -1,17 +1,18 @@
 // Speck-64/128: a round and a step of the key schedule are the same function of two words.
+#![tactic(auto)]
 ghost use Rattle.std.specs.Prelude.{◌≡◌};
 ghost use Rattle.block.specs.Bytes.{word};
 ghost use Rattle.speck.specs.Speck.{upper, lower, next_l, next_r, speck};
 
 // The state (X1, X0).
-#[derive(Drop)]
+#[derive(Clone, Copy)]
 struct Pair {
     x1: u32,
     x0: u32,
 }
 
 // The key schedule at round i: R(i), L(i), L(i + 1), L(i + 2).
-#[derive(Drop)]
+#[derive(Clone, Copy)]
 struct Keys {
     r: u32,
     l0: u32,

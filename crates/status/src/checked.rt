@@ -3,14 +3,14 @@ ghost use Rattle.std.specs.Prelude.{◌≡◌, ◌≤◌};
 ghost use Rattle.status.specs.Answers.{answer, fault_number, refusal_answer, checked_answer};
 
 // A number of document 01 and the row that it carries.
-#[derive(Drop)]
+#[derive(Clone, Copy)]
 pub struct Answer {
     pub number: u8,
     pub row: usize,
 }
 
 // What is wrong with a row.
-#[derive(Drop)]
+#[derive(Clone, Copy)]
 pub enum Fault {
     Order,
     Suite,
@@ -38,14 +38,14 @@ impl Fault {
 }
 
 // What the check of one row finds.
-#[derive(Drop)]
+#[derive(Clone, Copy)]
 pub enum RowCheck {
     Sound,
     Bad(Fault),
 }
 
 // Why a file is refused.
-#[derive(Drop)]
+#[derive(Clone, Copy)]
 pub enum Refusal {
     Size,
     Edition,
@@ -76,7 +76,7 @@ impl Refusal {
 }
 
 // What the full check finds.
-#[derive(Drop)]
+#[derive(Clone, Copy)]
 pub enum Checked {
     Passed,
     Refused(Refusal),

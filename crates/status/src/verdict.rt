@@ -5,7 +5,7 @@ ghost use Rattle.status.specs.Verdicts.{number_of, takes, under_key, texts_numbe
 use cipher::LIMIT;
 
 // The status of a call: Done, or why it was refused.
-#[derive(Drop)]
+#[derive(Clone, Copy)]
 pub enum Verdict {
     Done,
     Suite,

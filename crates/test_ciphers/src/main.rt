@@ -1,5 +1,6 @@
 // Prints the encryption of each input block in hexadecimal, one to a line; suite 1 by both AES engines.
 // A record is a suite (1 byte), a key (16) and a block (16 bytes for suites 1 and 2, 8 for 3 and 4).
+#![tactic(auto)]
 use libc::STDIN_FILENO;
 
 fn read8() -> [u8; 8] {

@@ -5,6 +5,7 @@
 // counted; 4 seals and 5 opens in place, and 6 verifies, without an output. A line is the number, for 2 and 3 the count of
 // the cipher calls, the output (for 4 and 5 the text) and, to seal, the tag; for 6 the number alone. Buffers that
 // are only written hold 0xa5 before the call.
+#![tactic(auto)]
 use cipher::LIMIT;
 use comet::Counted;
 use libc::STDIN_FILENO;

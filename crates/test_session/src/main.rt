@@ -4,6 +4,7 @@
 // message (its length and the output's; it follows), 3 ends (0, lengths of output and tag). Op 4 is no call: the session
 // gets this suite and the second and third number as its totals, and no line is written. A line is the
 // number, the count and, if the call has them, output and tag. The borrowed buffers hold 0xa5 before the call.
+#![tactic(auto)]
 use block::Block;
 use cipher::LIMIT;
 use program_text::call::{Call, HEAD_LEN};
@@ -19,7 +20,7 @@ const OUT_ROOM: usize = LIMIT + 64;
 const KEY_ROOM: usize = 40;
 
 // The current session, and whether the input goes on.
-#[derive(Drop)]
+#[derive(Clone, Copy)]
 struct After {
     next: Session,
     good: bool,

@@ -3,6 +3,7 @@
 // The call's op says which: 0 and 1 `opening`, 2 `search`, 3 `amended`, 4 `compared`, 5 `report`, 6 to 9 `printing`, 10
 // `contents`. What a call's numbers are, what follows them and what its lines say is in the module of that name. Borrowed
 // buffers hold 0xa5 before the call.
+#![tactic(auto)]
 mod amended;
 mod compared;
 mod contents;

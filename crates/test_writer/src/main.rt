@@ -3,6 +3,7 @@
 // A call's numbers are the lengths of file, ring and output; the file and the ring follow. Op 0 seals a draft, 1 gives the
 // draft of a file back, 2 seals suite 4 entries again as suite 3, 3 moves a file to edition 2 and 4 back to edition 1 (both
 // without a ring). A line is number, row and output, which holds 0xa5 before the call.
+#![tactic(auto)]
 use program_text::call::{Call, HEAD_LEN};
 use program_text::text::{and_shown, answer, end};
 use status::checked::Answer;

@@ -3,13 +3,14 @@
 //
 // Prints status and row on one line. OUT is written if the status is 0, and otherwise unchanged. A file that cannot
 // be read counts as zero bytes. The program takes files up to the format's 1,048,576 bytes (longer: 20).
+#![tactic(auto)]
 ghost use Rattle.std.specs.Prelude.{◌≤◌};
 
 use program_text::read::RING_ROOM;
 use status::checked::Answer;
 
 // What the program is to do.
-#[derive(Drop)]
+#[derive(Clone, Copy)]
 enum Way {
     Seal,
     Back,
