@@ -36,11 +36,11 @@ input suite key nonce cs out₀ tag₀ hk hv hc e0 e1 =
         key-length = f.1;
         nonce_bytes = hv;
         nonce_length = f.2;
-        ad-bytes = s.dataBytes;
-        text-bytes = s.textBytes;
+        ad-bytes = s.data_bytes;
+        text-bytes = s.text_bytes;
       };
-      ad-most = s.dataSmall;
-      text-most = s.textSmall;
+      ad-most = s.data_small;
+      text-most = s.text_small;
     }
 
 pub as_one_call : AsOneCall

@@ -73,12 +73,12 @@ module _ (suite : ℕ) (key nonce : List ℕ) (hk : Block 16 key) (hv : AllBytes
   data-zero : (a p o : List ℕ) → AllBytes p → length p ≤ limit - length a → S (value a []) a [] o → S (dataIn (cipher_of suite) (value a []) p) (a ++ p) [] o
   data-zero a p o hp lp s =
       record {
-        at = data-more suite key nonce hk hv lv a p s.dataBytes;
+        at = data-more suite key nonce hk hv lv a p s.data_bytes;
         out = s.out ∙ none_out suite key nonce hk hv lv a ∙ sym (none_out suite key nonce hk hv lv (a ++ p));
-        data_bytes = all_append a p s.dataBytes hp;
-        text_bytes = s.textBytes;
-        data_small = omega (arith, length-append a p, s.dataSmall);
-        text_small = s.textSmall;
+        data_bytes = all_append a p s.data_bytes hp;
+        text_bytes = s.text_bytes;
+        data_small = omega (arith, length-append a p, s.data_small);
+        text_small = s.text_small;
       }
 
   -- the same, but for what is empty
@@ -119,12 +119,12 @@ module _ (suite : ℕ) (key nonce : List ℕ) (hk : Block 16 key) (hv : AllBytes
   text-done a m o (x ∷ p) out hp lp s =
       let new : List ℕ = newOf a m (x ∷ p) in
       record {
-        at = text-more suite key nonce hk hv lv a m x p s.dataBytes s.textBytes;
-        out = ap₂ (λ (i j : List ℕ). i ++ j) s.out (front new out) ∙ part_out suite key nonce hk hv lv a m (x ∷ p) s.dataBytes s.textBytes;
-        data_bytes = s.dataBytes;
-        text_bytes = all_append m (x ∷ p) s.textBytes hp;
-        data_small = s.dataSmall;
-        text_small = omega (arith, length-append m (x ∷ p), s.textSmall);
+        at = text-more suite key nonce hk hv lv a m x p s.data_bytes s.text_bytes;
+        out = ap₂ (λ (i j : List ℕ). i ++ j) s.out (front new out) ∙ part_out suite key nonce hk hv lv a m (x ∷ p) s.data_bytes s.text_bytes;
+        data_bytes = s.data_bytes;
+        text_bytes = all_append m (x ∷ p) s.text_bytes hp;
+        data_small = s.data_small;
+        text_small = omega (arith, length-append m (x ∷ p), s.text_small);
       }
 
   text-go : (k : ℕ) (a m o p out : List ℕ) → AllBytes p → text_number suite (length a) (length m) (length p) (length out) ≡ k → S (value a m) a m o
@@ -205,8 +205,8 @@ module _ (suite : ℕ) (key nonce : List ℕ) (hk : Block 16 key) (hv : AllBytes
   last-go (suc k) a m o out tag₀ s e = absurd (suc-ne-zero k e)
   last-go zero a m o out tag₀ s e = (
     ap₂ (λ (i j : List ℕ). i ++ j) s.out (front (endOut (cipher_of suite) (value a m)) out)
-        ∙ end-out suite key nonce hk hv lv a m s.dataBytes s.textBytes,
-    end-tag suite key nonce hk hv lv a m s.dataBytes s.textBytes,
+        ∙ end-out suite key nonce hk hv lv a m s.data_bytes s.text_bytes,
+    end-tag suite key nonce hk hv lv a m s.data_bytes s.text_bytes,
   )
 
   last_step : (a m o out tag₀ : List ℕ) → S (value a m) a m o → (ending (value a m) out tag₀).number ≡ 0 → Last (ending (value a m) out tag₀) a m o
@@ -277,8 +277,8 @@ module _ (suite : ℕ) (key nonce : List ℕ) (cs : List SessionCall) (hk : AllB
   begins =
       stands
       (record {
-        at = st.next ∙ fresh-is suite key nonce bk hv st.nonceRight;
-        out = sym (none_out suite key nonce bk hv st.nonceRight []);
+        at = st.next ∙ fresh-is suite key nonce bk hv st.nonce_right;
+        out = sym (none_out suite key nonce bk hv st.nonce_right []);
         data_bytes = all_nil;
         text_bytes = all_nil;
         data_small = omega arith;
@@ -287,7 +287,7 @@ module _ (suite : ℕ) (key nonce : List ℕ) (cs : List SessionCall) (hk : AllB
       refl
 
   kept : Kept suite key nonce all
-  kept = all-steps suite key nonce bk hv st.nonceRight _ cs hc begins
+  kept = all-steps suite key nonce bk hv st.nonce_right _ cs hc begins
 
   not-both : {b : Bool} → b ≡ true → b ≡ false → ⊥
   not-both p q = subst T (sym p ∙ q) tt
@@ -296,7 +296,7 @@ module _ (suite : ℕ) (key nonce : List ℕ) (cs : List SessionCall) (hk : AllB
   going (closed e t) f = absurd (not-both t f)
   going (stands s eb) f =
       subst (λ (v : Value). Next suite (record { now = v; ad = all.ad; msg = all.msg; out = all.out; ended = all.ended })) (sym s.at)
-      (next_is suite key nonce st.still all.ad all.msg s.dataSmall s.textSmall all.out all.ended)
+      (next_is suite key nonce st.still all.ad all.msg s.data_small s.text_small all.out all.ended)
 
   shut : Kept suite key nonce all → all.ended ≡ true → Shut all.now
   shut (closed e t) f = subst Shut (sym e) over_shut
