@@ -1,4 +1,5 @@
--- Every public function of `program_text` that has a contract leaves one outcome: the contract gives the result.
+-- Every public function of `program_text` that has a contract and neither reads nor writes leaves one outcome: the contract
+-- gives the result.
 use mathlib.Core.Path.{◌≡◌, refl, sym, ◌∙◌}
 use contract.Lifetimes.{Lfts}
 use borrow.Fn.Kinds.{Dens}

@@ -1,7 +1,8 @@
 // A call of a test program: its head in the input, and the lines that it prints.
 ghost use Rattle.std.specs.Prelude.{◌<◌};
 
-use libc::{STDIN_FILENO, STDOUT_FILENO};
+use std::io;
+use std::io::{Read, Write};
 
 // The bytes of a call's head.
 pub const HEAD_LEN: usize = 30;
@@ -41,24 +42,28 @@ pub fn call_of(head: &[u8; HEAD_LEN]) -> Call {
 }
 
 // Prints `bad input` if it is bad, and returns whether it was good.
-fn said(good: bool) -> bool {
+fn said<W: Write>(output: &mut W, good: bool) -> io::Result<bool> {
     if !good {
-        io::write_all(STDOUT_FILENO, b"bad input\n");
+        output.write_all(b"bad input\n")?;
     }
-    good
+    Ok(good)
 }
 
 // Reads the head of the next call; false at the end of the input, or if it ends inside the head.
-pub fn next(head: &mut [u8; HEAD_LEN]) -> bool {
-    let got = io::read_full(STDIN_FILENO, head);
+pub fn next<R: Read, W: Write>(
+    input: &mut R,
+    output: &mut W,
+    head: &mut [u8; HEAD_LEN],
+) -> io::Result<bool> {
+    let got = crate::read::full(input, head)?;
     if got == 0 {
-        return false;
+        return Ok(false);
     }
-    said(got == HEAD_LEN)
+    said(output, got == HEAD_LEN)
 }
 
 // Writes the lines of a call, the first len bytes of a text; false if there are none: the call was bad.
-pub fn done(text: &[u8], len: usize) -> bool {
-    crate::text::write(text, len);
-    said(0 < len)
+pub fn done<W: Write>(output: &mut W, text: &[u8], len: usize) -> io::Result<bool> {
+    crate::text::write(output, text, len)?;
+    said(output, 0 < len)
 }

@@ -1,6 +1,8 @@
 // What the programs share: the head of a call, the fields of an input, and the text that they write.
 #![tactic(auto)]
+
 pub mod call;
+mod digits;
 pub mod fold;
 pub mod read;
 pub mod text;

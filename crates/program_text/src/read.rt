@@ -1,8 +1,10 @@
 // Reading.
-ghost use Rattle.std.specs.Prelude.{◌≡◌, take, replicate};
+ghost use Rattle.std.specs.Prelude.{◌≡◌, ◌<◌, ◌≤◌, IfOk, length, take, replicate};
+ghost use Rattle.std.specs.Io.KnownBytes.{Consumes, IsAtEnd};
 
-use libc::STDIN_FILENO;
 use shift_limits::{MAX_FILE, RING_LEN};
+use std::io;
+use std::io::Read;
 
 // The most bytes of a shift file, and of a ring, and one byte more: a file that is longer fills the whole buffer.
 const FILE_ROOM: usize = MAX_FILE + 1;
@@ -26,11 +28,28 @@ pub fn front(buf: &[u8], len: usize) -> &[u8]
     &buf[0..len]
 }
 
+// Reads until buf is full or the input ends, and returns how many bytes it put at the start of buf.
+pub fn full<R: Read>(input: &mut R, buf: &mut [u8]) -> io::Result<usize>
+    ensures bound { IfOk result (λ n. n ≤ length buf.new) }
+    ensures bytes { IfOk result (λ n. Consumes (R.remaining input.old) (R.remaining input.new) (take n buf.new)) }
+    ensures end { IfOk result (λ n. n < length buf.new → IsAtEnd (R.remaining input.new)) }
+{
+    let mut done: usize = 0;
+    while done < buf.len() {
+        let got = input.read(&mut buf[done..])?;
+        if got == 0 {
+            return Ok(done);
+        }
+        done += got;
+    }
+    Ok(done)
+}
+
 // Reads len bytes of the input into buf and returns them; fewer if buf is too short or the input ends.
-pub fn field(buf: &mut [u8], len: usize) -> &[u8] {
+pub fn field<'a, R: Read>(input: &mut R, buf: &'a mut [u8], len: usize) -> io::Result<&'a [u8]> {
     let mut got: usize = 0;
     if len <= buf.len() {
-        got = io::read_full(STDIN_FILENO, &mut buf[0..len]);
+        got = full(input, &mut buf[0..len])?;
     }
-    front(&buf[..], got)
+    Ok(front(&buf[..], got))
 }

@@ -1,6 +1,10 @@
 // Text, built in a buffer and written by one call. Each function writes at `at` and returns the offset after it; what does
 // not fit is left out.
-use libc::STDOUT_FILENO;
+ghost use Rattle.std.specs.Prelude.{take, OnOk};
+ghost use Rattle.std.specs.Io.KnownBytes.{Appends};
+
+use std::io;
+use std::io::Write;
 
 // One byte.
 pub fn byte(out: &mut [u8], at: usize, byte: u8) -> usize {
@@ -33,7 +37,7 @@ pub fn put(out: &mut [u8], at: usize, bytes: &[u8]) -> usize {
 // A number in decimal.
 pub fn number(out: &mut [u8], at: usize, value: u64) -> usize {
     let mut digits = [0u8; 20];
-    let len = io::decimal(value, &mut digits);
+    let len = crate::digits::decimal(value, &mut digits);
     put(out, at, &digits[..len])
 }
 
@@ -46,7 +50,7 @@ pub fn and_number(out: &mut [u8], at: usize, value: u64) -> usize {
 // A number in hexadecimal, of at least so many digits.
 pub fn hex_number(out: &mut [u8], at: usize, value: u64, width: usize) -> usize {
     let mut digits = [0u8; 16];
-    let len = io::hex(value, width, &mut digits);
+    let len = crate::digits::hex(value, width, &mut digits);
     put(out, at, &digits[..len])
 }
 
@@ -103,7 +107,9 @@ pub fn answer(out: &mut [u8], at: usize, answer: u8, row: usize) -> usize {
     and_number(out, to, row as u64)
 }
 
-// Writes the first bytes of a text to the standard output.
-pub fn write(text: &[u8], len: usize) -> bool {
-    io::write_all(STDOUT_FILENO, crate::read::front(text, len))
+// Writes the first bytes of a text to an output.
+pub fn write<W: Write>(output: &mut W, text: &[u8], len: usize) -> io::Result<()>
+    ensures { OnOk result (Appends (W.contents output.old) (W.contents output.new) (take len text.now)) }
+{
+    output.write_all(crate::read::front(text, len))
 }

@@ -1,0 +1,26 @@
+use Rattle.std.proofs.Common.{ℕ, suc, ◌<◌, length, drop, sym, ap, ◌∙◌}
+use native.Mathlib.Omega.{arith}
+use native.Mathlib.Numerals.{add-one}
+use lib.ListN.{drop_of_length-le}
+use lib.Seq.{drop-cons}
+use Rattle.program_text.specs.Fold.{fold_from}
+use Rattle.program_text.proofs.fold.fold_from.Goals as goal
+
+pub loop-i-preserved : goal.loop-i-preserved
+unfolding fold_from
+loop-i-preserved c =
+    let at = c.loop-i in
+    let b = c.args.bytes.now in
+    let h : at.i < length b = omega arith in (
+      omega arith,
+      c.folded-sum.ensures.1,
+      rw add-one (ap (λ (v : ℕ). fold_from v (drop (suc at.i) b)) c.folded-sum.ensures.0 ∙ sym (ap (fold_from at.sum) (drop-cons b at.i 0 h))
+          ∙ at.invariant.2),
+    )
+
+pub returns : goal.returns
+unfolding fold_from
+returns c =
+    let b = c.args.bytes.now in
+    let at = c.loop-i in
+    (sym (ap (fold_from at.sum) (drop_of_length-le b {i = at.i} (omega arith))) ∙ at.invariant.2, at.invariant.1)
