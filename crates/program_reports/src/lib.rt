@@ -1,5 +1,6 @@
 // What the plant's programs print, as text in a buffer; each function returns the text's length.
 #![tactic(auto)]
+
 mod compared;
 mod opened;
 mod readable;
