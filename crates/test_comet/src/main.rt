@@ -6,11 +6,14 @@
 // the cipher calls, the output (for 4 and 5 the text) and, to seal, the tag; for 6 the number alone. Buffers that
 // are only written hold 0xa5 before the call.
 #![tactic(auto)]
+
 use cipher::LIMIT;
 use comet::Counted;
-use libc::STDIN_FILENO;
 use program_text::call::{Call, HEAD_LEN};
+use program_text::read::{field, full};
 use program_text::text::{and_number, and_shown, end, number};
+use std::io;
+use std::io::{Read, Write};
 
 // The most bytes that a call can have here: of associated data and of text, one more than the limit; of an output; and of key,
 // nonce and tag.
@@ -82,7 +85,8 @@ fn seal(
 }
 
 // The tag is still to be read.
-fn unseal(
+fn unseal<R: Read>(
+    input: &mut R,
     call: Call,
     key: &[u8],
     nonce: &[u8],
@@ -91,26 +95,34 @@ fn unseal(
     out: &mut [u8],
     tag: &mut [u8],
     line: &mut [u8],
-) -> usize {
-    if io::read_full(STDIN_FILENO, tag) != tag.len() {
-        return 0;
+) -> io::Result<usize> {
+    if full(input, tag)? != tag.len() {
+        return Ok(0);
     }
     let at = unsealed(call, key, nonce, ad, text, tag, out, line);
     let at = and_shown(line, at, out);
-    end(line, at)
+    Ok(end(line, at))
 }
 
 // Runs a call on what was read; no line if a buffer is too small or the tag ends early.
-fn answer(call: Call, key: &[u8], nonce: &[u8], ad: &[u8], text: &[u8], line: &mut [u8]) -> usize {
+fn answer<R: Read>(
+    input: &mut R,
+    call: Call,
+    key: &[u8],
+    nonce: &[u8],
+    ad: &[u8],
+    text: &[u8],
+    line: &mut [u8],
+) -> io::Result<usize> {
     let mut out = [0xa5u8; OUT_ROOM];
     let mut tag = [0xa5u8; KEY_ROOM];
     let out_len = call.fifth;
     let tag_len = call.sixth;
     if OUT_ROOM < out_len || KEY_ROOM < tag_len || 3 < call.op {
-        return 0;
+        return Ok(0);
     }
     if call.op % 2 == 0 {
-        return seal(
+        return Ok(seal(
             call,
             key,
             nonce,
@@ -119,9 +131,10 @@ fn answer(call: Call, key: &[u8], nonce: &[u8], ad: &[u8], text: &[u8], line: &m
             &mut out[0..out_len],
             &mut tag[0..tag_len],
             line,
-        );
+        ));
     }
     unseal(
+        input,
         call,
         key,
         nonce,
@@ -134,7 +147,8 @@ fn answer(call: Call, key: &[u8], nonce: &[u8], ad: &[u8], text: &[u8], line: &m
 }
 
 // Reads the text and seals it in place.
-fn seal_in_place(
+fn seal_in_place<R: Read>(
+    input: &mut R,
     call: Call,
     key: &[u8],
     nonce: &[u8],
@@ -142,15 +156,15 @@ fn seal_in_place(
     text: &mut [u8],
     tag: &mut [u8],
     line: &mut [u8],
-) -> usize {
-    if io::read_full(STDIN_FILENO, text) != text.len() {
-        return 0;
+) -> io::Result<usize> {
+    if full(input, text)? != text.len() {
+        return Ok(0);
     }
     let verdict = comet::seal_in_place(call.suite, key, nonce, ad, text, tag);
     let at = number(line, 0, verdict.number() as u64);
     let at = and_shown(line, at, text);
     let at = and_shown(line, at, tag);
-    end(line, at)
+    Ok(end(line, at))
 }
 
 // Opens text in place, or verifies it.
@@ -175,7 +189,8 @@ fn unsealed_in_place(
 }
 
 // The same, once the text and its tag are read.
-fn unseal_in_place(
+fn unseal_in_place<R: Read>(
+    input: &mut R,
     call: Call,
     key: &[u8],
     nonce: &[u8],
@@ -183,26 +198,34 @@ fn unseal_in_place(
     text: &mut [u8],
     tag: &mut [u8],
     line: &mut [u8],
-) -> usize {
-    let text_read = io::read_full(STDIN_FILENO, text);
-    let tag_read = io::read_full(STDIN_FILENO, tag);
+) -> io::Result<usize> {
+    let text_read = full(input, text)?;
+    let tag_read = full(input, tag)?;
     if text_read != text.len() || tag_read != tag.len() {
-        return 0;
+        return Ok(0);
     }
-    unsealed_in_place(call, key, nonce, ad, text, tag, line)
+    Ok(unsealed_in_place(call, key, nonce, ad, text, tag, line))
 }
 
 // Runs a call in place; no line if text or tag do not fit or end early.
-fn in_place(call: Call, key: &[u8], nonce: &[u8], ad: &[u8], line: &mut [u8]) -> usize {
+fn in_place<R: Read>(
+    input: &mut R,
+    call: Call,
+    key: &[u8],
+    nonce: &[u8],
+    ad: &[u8],
+    line: &mut [u8],
+) -> io::Result<usize> {
     let mut text = [0u8; TEXT_ROOM];
     let mut tag = [0xa5u8; KEY_ROOM];
     let text_len = call.fourth;
     let tag_len = call.sixth;
     if TEXT_ROOM < text_len || KEY_ROOM < tag_len || 6 < call.op {
-        return 0;
+        return Ok(0);
     }
     if call.op == 4 {
         return seal_in_place(
+            input,
             call,
             key,
             nonce,
@@ -213,6 +236,7 @@ fn in_place(call: Call, key: &[u8], nonce: &[u8], ad: &[u8], line: &mut [u8]) ->
         );
     }
     unseal_in_place(
+        input,
         call,
         key,
         nonce,
@@ -224,42 +248,45 @@ fn in_place(call: Call, key: &[u8], nonce: &[u8], ad: &[u8], line: &mut [u8]) ->
 }
 
 // Reads the rest of a call and runs it; no line if a buffer is too small or the input ends.
-fn run(call: Call, line: &mut [u8]) -> usize {
+fn run<R: Read>(input: &mut R, call: Call, line: &mut [u8]) -> io::Result<usize> {
     let mut key_buf = [0u8; KEY_ROOM];
     let mut nonce_buf = [0u8; KEY_ROOM];
     let mut ad_buf = [0u8; TEXT_ROOM];
     let mut text_buf = [0u8; TEXT_ROOM];
-    let key = program_text::read::field(&mut key_buf, call.first);
-    let nonce = program_text::read::field(&mut nonce_buf, call.second);
-    let ad = program_text::read::field(&mut ad_buf, call.third);
+    let key = field(input, &mut key_buf, call.first)?;
+    let nonce = field(input, &mut nonce_buf, call.second)?;
+    let ad = field(input, &mut ad_buf, call.third)?;
     if key.len() != call.first || nonce.len() != call.second || ad.len() != call.third {
-        return 0;
+        return Ok(0);
     }
     if 3 < call.op {
-        return in_place(call, key, nonce, ad, line);
+        return in_place(input, call, key, nonce, ad, line);
     }
-    let text = program_text::read::field(&mut text_buf, call.fourth);
+    let text = field(input, &mut text_buf, call.fourth)?;
     if text.len() != call.fourth {
-        return 0;
+        return Ok(0);
     }
-    answer(call, key, nonce, ad, text, line)
+    answer(input, call, key, nonce, ad, text, line)
 }
 
 // Reads a call and runs it; false at the end of the input.
-fn turn() -> bool {
+fn turn<R: Read, W: Write>(input: &mut R, output: &mut W) -> io::Result<bool> {
     let mut head = [0u8; HEAD_LEN];
     let mut line = [0u8; 512];
-    if !program_text::call::next(&mut head) {
-        return false;
+    if !program_text::call::next(input, output, &mut head)? {
+        return Ok(false);
     }
-    let len = run(program_text::call::call_of(&head), &mut line);
-    program_text::call::done(&line, len)
+    let len = run(input, program_text::call::call_of(&head), &mut line)?;
+    program_text::call::done(output, &line, len)
 }
 
 // The end of an input is not provable, so the loop counts down from a number that no input reaches.
-fn main() {
+fn main(rt: HostRuntime) -> io::Result<()> {
+    let mut input = rt.stdin();
+    let mut output = rt.stdout();
     let mut left = u64::MAX;
-    while left > 0 && turn() {
+    while left > 0 && turn(&mut input, &mut output)? {
         left -= 1;
     }
+    Ok(())
 }
