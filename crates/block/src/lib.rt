@@ -1,5 +1,6 @@
 // Blocks of sixteen bytes as two words of 64 bits.
 #![tactic(auto)]
+
 ghost use Rattle.std.specs.Prelude.{◌≡◌, [], ◌∷◌, ◌++◌, ◌⊎◌, length, take};
 ghost use Rattle.block.specs.Bytes.{value, bytes, same_bytes};
 ghost use Rattle.block.specs.Xors.{xors};
