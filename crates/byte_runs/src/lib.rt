@@ -1,5 +1,6 @@
 // Runs of bytes: copying, wiping, comparison with zeros, and blocks of fewer than sixteen bytes.
 #![tactic(auto)]
+
 ghost use Rattle.std.specs.Prelude.{◌≡◌, ◌≤◌, length, take, replicate};
 ghost use Rattle.block.specs.Bytes.{same_bytes};
 ghost use Rattle.block.specs.Blocks.{wide, filled};
