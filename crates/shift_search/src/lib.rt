@@ -1,5 +1,6 @@
 // Binary search for a job in a shift file whose header alone was checked.
 #![tactic(auto)]
+
 ghost use Rattle.std.specs.Prelude.{◌≡◌, length};
 ghost use Rattle.shift_lookup.specs.Answers.{found_answer};
 ghost use Rattle.shift_search.specs.Searching.{searching};
