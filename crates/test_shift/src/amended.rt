@@ -5,6 +5,8 @@
 use crate::{FILE_ROOM, RING_ROOM};
 use program_text::call::Call;
 use program_text::text::{and_number, and_shown, end, number};
+use std::io;
+use std::io::Read;
 
 // Number, file and row.
 fn answer(line: &mut [u8], at: usize, answer: u8, file: u8, row: usize) -> usize {
@@ -48,20 +50,26 @@ fn opening(
 }
 
 // Runs a call, once both files are there; no line if the buffer of ring or output is too small.
-fn one<'a>(amendment: &'a [u8], day: &'a [u8], call: Call, line: &mut [u8]) -> usize {
+fn one<'a, R: Read>(
+    input: &mut R,
+    amendment: &'a [u8],
+    day: &'a [u8],
+    call: Call,
+    line: &mut [u8],
+) -> io::Result<usize> {
     let mut ring_buf = [0u8; RING_ROOM];
     let mut out = [0xa5u8; FILE_ROOM];
     let ring_len = call.third;
     let out_len = call.fourth;
-    let ring = program_text::read::field(&mut ring_buf, ring_len);
+    let ring = program_text::read::field(input, &mut ring_buf, ring_len)?;
     if ring.len() != ring_len {
-        return 0;
+        return Ok(0);
     }
     if FILE_ROOM < out_len {
-        return 0;
+        return Ok(0);
     }
     let at = located(amendment, day, call.job, line);
-    opening(
+    Ok(opening(
         amendment,
         day,
         ring,
@@ -69,22 +77,22 @@ fn one<'a>(amendment: &'a [u8], day: &'a [u8], call: Call, line: &mut [u8]) -> u
         &mut out[0..out_len],
         line,
         at,
-    )
+    ))
 }
 
 // Reads both files; no line if a buffer is too small or the input ends.
-pub(crate) fn run(call: Call, line: &mut [u8]) -> usize {
+pub(crate) fn run<R: Read>(input: &mut R, call: Call, line: &mut [u8]) -> io::Result<usize> {
     let mut amendment_buf = [0u8; FILE_ROOM];
     let mut day_buf = [0u8; FILE_ROOM];
     let amendment_len = call.first;
     let day_len = call.second;
-    let amendment = program_text::read::field(&mut amendment_buf, amendment_len);
+    let amendment = program_text::read::field(input, &mut amendment_buf, amendment_len)?;
     if amendment.len() != amendment_len {
-        return 0;
+        return Ok(0);
     }
-    let day = program_text::read::field(&mut day_buf, day_len);
+    let day = program_text::read::field(input, &mut day_buf, day_len)?;
     if day.len() != day_len {
-        return 0;
+        return Ok(0);
     }
-    one(amendment, day, call, line)
+    one(input, amendment, day, call, line)
 }

@@ -5,6 +5,8 @@ use crate::{FILE_ROOM, LIST_ROOM};
 use program_text::call::Call;
 use program_text::text::{and_list, and_number, end, number};
 use shift_compare::Finding;
+use std::io;
+use std::io::Read;
 
 fn found(finding: Finding, line: &mut [u8]) -> usize {
     let at = number(line, 0, finding.number as u64);
@@ -53,18 +55,18 @@ fn run_on(first: &[u8], second: &[u8], call: Call, line: &mut [u8]) -> usize {
 }
 
 // Reads both files; no line if a buffer is too small or the input ends.
-pub(crate) fn run(call: Call, line: &mut [u8]) -> usize {
+pub(crate) fn run<R: Read>(input: &mut R, call: Call, line: &mut [u8]) -> io::Result<usize> {
     let mut first_buf = [0u8; FILE_ROOM];
     let mut second_buf = [0u8; FILE_ROOM];
     let first_len = call.first;
     let second_len = call.second;
-    let first = program_text::read::field(&mut first_buf, first_len);
+    let first = program_text::read::field(input, &mut first_buf, first_len)?;
     if first.len() != first_len {
-        return 0;
+        return Ok(0);
     }
-    let second = program_text::read::field(&mut second_buf, second_len);
+    let second = program_text::read::field(input, &mut second_buf, second_len)?;
     if second.len() != second_len {
-        return 0;
+        return Ok(0);
     }
-    run_on(first, second, call, line)
+    Ok(run_on(first, second, call, line))
 }

@@ -5,6 +5,8 @@
 use program_text::call::Call;
 use program_text::text::{and_list, and_number, end, number};
 use shift_reader::contents::{RowFields, header, row};
+use std::io;
+use std::io::Read;
 
 fn header_line(file: &[u8], line: &mut [u8]) -> usize {
     let fields = header(file);
@@ -48,17 +50,22 @@ fn rows(file: &[u8], first: u32, count: usize, line: &mut [u8], start: usize) ->
 }
 
 // Reads the file of a call into file_buf and runs it; no line if file_buf is too small or the input ends.
-fn run_in(file_buf: &mut [u8], call: Call, line: &mut [u8]) -> usize {
+fn run_in<R: Read>(
+    input: &mut R,
+    file_buf: &mut [u8],
+    call: Call,
+    line: &mut [u8],
+) -> io::Result<usize> {
     let file_len = call.first;
-    let file = program_text::read::field(file_buf, file_len);
+    let file = program_text::read::field(input, file_buf, file_len)?;
     if file.len() != file_len {
-        return 0;
+        return Ok(0);
     }
     let at = header_line(file, line);
-    rows(file, call.job, call.second, line, at)
+    Ok(rows(file, call.job, call.second, line, at))
 }
 
-pub(crate) fn run(call: Call, line: &mut [u8]) -> usize {
+pub(crate) fn run<R: Read>(input: &mut R, call: Call, line: &mut [u8]) -> io::Result<usize> {
     let mut file_buf = program_text::read::file_room();
-    run_in(&mut file_buf, call, line)
+    run_in(input, &mut file_buf, call, line)
 }

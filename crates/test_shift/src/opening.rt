@@ -6,10 +6,12 @@
 ghost use Rattle.std.specs.Prelude.{◌≤◌, ◌<◌, length};
 
 use crate::{FILE_ROOM, RING_ROOM};
-use libc::STDIN_FILENO;
 use program_text::call::Call;
+use program_text::read::full;
 use program_text::text::{and_number, and_shown, answer, end, space};
 use status::checked::Answer;
+use std::io;
+use std::io::Read;
 
 // The most bytes of an output where every damage is tried.
 const SHORT_ROOM: usize = 300;
@@ -139,32 +141,42 @@ fn damage(file: &mut [u8], ring: &[u8], job: u32, out_len: usize, line: &mut [u8
 }
 
 // Runs a call on its file, once its ring is read.
-fn run_on(file: &mut [u8], call: Call, line: &mut [u8]) -> usize {
+fn run_on<R: Read>(
+    input: &mut R,
+    file: &mut [u8],
+    call: Call,
+    line: &mut [u8],
+) -> io::Result<usize> {
     let mut ring_buf = [0u8; RING_ROOM];
     let ring_len = call.second;
-    let ring = program_text::read::field(&mut ring_buf, ring_len);
+    let ring = program_text::read::field(input, &mut ring_buf, ring_len)?;
     if ring.len() != ring_len {
-        return 0;
+        return Ok(0);
     }
     if call.op == 0 {
-        return one(file, ring, call, line);
+        return Ok(one(file, ring, call, line));
     }
-    damage(file, ring, call.job, call.third, line)
+    Ok(damage(file, ring, call.job, call.third, line))
 }
 
 // Reads the file of a call into file_buf and runs it; no line if file_buf is too small or the input ends.
-fn run_in(file_buf: &mut [u8], call: Call, line: &mut [u8]) -> usize {
+fn run_in<R: Read>(
+    input: &mut R,
+    file_buf: &mut [u8],
+    call: Call,
+    line: &mut [u8],
+) -> io::Result<usize> {
     let file_len = call.first;
     if file_buf.len() < file_len {
-        return 0;
+        return Ok(0);
     }
-    if io::read_full(STDIN_FILENO, &mut file_buf[0..file_len]) != file_len {
-        return 0;
+    if full(input, &mut file_buf[0..file_len])? != file_len {
+        return Ok(0);
     }
-    run_on(&mut file_buf[0..file_len], call, line)
+    run_on(input, &mut file_buf[0..file_len], call, line)
 }
 
-pub(crate) fn run(call: Call, line: &mut [u8]) -> usize {
+pub(crate) fn run<R: Read>(input: &mut R, call: Call, line: &mut [u8]) -> io::Result<usize> {
     let mut file_buf = program_text::read::file_room();
-    run_in(&mut file_buf, call, line)
+    run_in(input, &mut file_buf, call, line)
 }

@@ -5,60 +5,77 @@
 use crate::{FILE_ROOM, RING_ROOM};
 use program_text::call::Call;
 use program_text::read::field;
+use std::io;
+use std::io::Read;
 
 // Ops 6, 8 and 9, once the first file is read.
-fn two_on(first: &[u8], call: Call, line: &mut [u8]) -> usize {
+fn two_on<R: Read>(input: &mut R, first: &[u8], call: Call, line: &mut [u8]) -> io::Result<usize> {
     let mut second_buf = [0u8; FILE_ROOM];
     let op = call.op;
     let second_len = call.second;
-    let second = field(&mut second_buf, second_len);
+    let second = field(input, &mut second_buf, second_len)?;
     if second.len() != second_len {
-        return 0;
+        return Ok(0);
     }
-    match op {
+    Ok(match op {
         6 => program_reports::job(first, second, call.job, line),
         8 => program_reports::differ(first, second, line),
         _ => program_reports::inspect(first, second, line),
-    }
+    })
 }
 
-fn two_in(first_buf: &mut [u8], call: Call, line: &mut [u8]) -> usize {
+fn two_in<R: Read>(
+    input: &mut R,
+    first_buf: &mut [u8],
+    call: Call,
+    line: &mut [u8],
+) -> io::Result<usize> {
     let first_len = call.first;
-    let first = field(first_buf, first_len);
+    let first = field(input, first_buf, first_len)?;
     if first.len() != first_len {
-        return 0;
+        return Ok(0);
     }
-    two_on(first, call, line)
+    two_on(input, first, call, line)
 }
 
-pub(crate) fn run(call: Call, line: &mut [u8]) -> usize {
+pub(crate) fn run<R: Read>(input: &mut R, call: Call, line: &mut [u8]) -> io::Result<usize> {
     let mut first_buf = program_text::read::file_room();
-    two_in(&mut first_buf, call, line)
+    two_in(input, &mut first_buf, call, line)
 }
 
 // Op 7, once both files are read.
-fn current<'a>(amendment: &'a [u8], day: &'a [u8], call: Call, line: &mut [u8]) -> usize {
+fn current<'a, R: Read>(
+    input: &mut R,
+    amendment: &'a [u8],
+    day: &'a [u8],
+    call: Call,
+    line: &mut [u8],
+) -> io::Result<usize> {
     let mut ring_buf = [0u8; RING_ROOM];
     let ring_len = call.third;
-    let ring = field(&mut ring_buf, ring_len);
+    let ring = field(input, &mut ring_buf, ring_len)?;
     if ring.len() != ring_len {
-        return 0;
+        return Ok(0);
     }
-    program_reports::current(amendment, day, ring, call.job, line)
+    Ok(program_reports::current(amendment, day, ring, call.job, line))
 }
 
-pub(crate) fn run_current(call: Call, line: &mut [u8]) -> usize {
+pub(crate) fn run_current<R: Read>(
+    input: &mut R,
+    call: Call,
+    line: &mut [u8],
+) -> io::Result<usize> {
     let mut amendment_buf = [0u8; FILE_ROOM];
     let mut day_buf = [0u8; FILE_ROOM];
     let amendment_len = call.first;
     let day_len = call.second;
-    let amendment = field(&mut amendment_buf, amendment_len);
+    let amendment = field(input, &mut amendment_buf, amendment_len)?;
     if amendment.len() != amendment_len {
-        return 0;
+        return Ok(0);
     }
-    let day = field(&mut day_buf, day_len);
+    let day = field(input, &mut day_buf, day_len)?;
     if day.len() != day_len {
-        return 0;
+        return Ok(0);
     }
-    current(amendment, day, call, line)
+    current(input, amendment, day, call, line)
 }

@@ -9,6 +9,8 @@ use program_text::text::{and_list, and_number, and_shown, answer, end, put};
 use shift_reader::cursor::{Listed, NextRow, start};
 use shift_reader::step_at;
 use shift_report::answers::ReportSummary;
+use std::io;
+use std::io::Read;
 
 fn said(summary: ReportSummary, line: &mut [u8]) -> usize {
     let at = answer(line, 0, summary.number, summary.row);
@@ -59,19 +61,19 @@ fn answers(file: &[u8], calls: usize, line: &mut [u8], at: usize) -> usize {
 }
 
 // Runs a call on its file, once its ring is read; no line if the buffer of ring or lists is too small.
-fn run_on(file: &[u8], call: Call, line: &mut [u8]) -> usize {
+fn run_on<R: Read>(input: &mut R, file: &[u8], call: Call, line: &mut [u8]) -> io::Result<usize> {
     let mut ring_buf = [0u8; RING_ROOM];
     let mut jobs = [0xa5a5a5a5u32; LIST_ROOM];
     let mut numbers = [0xa5u8; LIST_ROOM];
     let ring_len = call.second;
     let jobs_room = call.third;
     let numbers_room = call.fourth;
-    let ring = program_text::read::field(&mut ring_buf, ring_len);
+    let ring = program_text::read::field(input, &mut ring_buf, ring_len)?;
     if ring.len() != ring_len {
-        return 0;
+        return Ok(0);
     }
     if LIST_ROOM < jobs_room || LIST_ROOM < numbers_room {
-        return 0;
+        return Ok(0);
     }
     let at = report(
         file,
@@ -80,16 +82,16 @@ fn run_on(file: &[u8], call: Call, line: &mut [u8]) -> usize {
         &mut numbers[0..numbers_room],
         line,
     );
-    answers(file, call.fifth, line, at)
+    Ok(answers(file, call.fifth, line, at))
 }
 
 // Reads the file of a call and runs it; no line if its buffer is too small or the input ends.
-pub(crate) fn run(call: Call, line: &mut [u8]) -> usize {
+pub(crate) fn run<R: Read>(input: &mut R, call: Call, line: &mut [u8]) -> io::Result<usize> {
     let mut file_buf = [0u8; FILE_ROOM];
     let file_len = call.first;
-    let file = program_text::read::field(&mut file_buf, file_len);
+    let file = program_text::read::field(input, &mut file_buf, file_len)?;
     if file.len() != file_len {
-        return 0;
+        return Ok(0);
     }
-    run_on(file, call, line)
+    run_on(input, file, call, line)
 }

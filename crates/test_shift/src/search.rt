@@ -3,6 +3,8 @@
 // A line for each job from the first on: number, row, how many rows were looked at.
 use program_text::call::Call;
 use program_text::text::{and_number, answer, end};
+use std::io;
+use std::io::Read;
 
 fn one(file: &[u8], job: u32, line: &mut [u8], at: usize) -> usize {
     let search = shift_search::search(file, job);
@@ -30,16 +32,21 @@ fn searches(file: &[u8], first: u32, count: usize, line: &mut [u8]) -> usize {
 }
 
 // Reads the file of a call into file_buf and runs it; no line if file_buf is too small or the input ends.
-fn run_in(file_buf: &mut [u8], call: Call, line: &mut [u8]) -> usize {
+fn run_in<R: Read>(
+    input: &mut R,
+    file_buf: &mut [u8],
+    call: Call,
+    line: &mut [u8],
+) -> io::Result<usize> {
     let file_len = call.first;
-    let file = program_text::read::field(file_buf, file_len);
+    let file = program_text::read::field(input, file_buf, file_len)?;
     if file.len() != file_len {
-        return 0;
+        return Ok(0);
     }
-    searches(file, call.job, call.second, line)
+    Ok(searches(file, call.job, call.second, line))
 }
 
-pub(crate) fn run(call: Call, line: &mut [u8]) -> usize {
+pub(crate) fn run<R: Read>(input: &mut R, call: Call, line: &mut [u8]) -> io::Result<usize> {
     let mut file_buf = program_text::read::file_room();
-    run_in(&mut file_buf, call, line)
+    run_in(input, &mut file_buf, call, line)
 }
