@@ -5,7 +5,7 @@ use native.Mathlib.Decide.{dec_lt}
 use native.Mathlib.Omega.{arith}
 use mathlib.Core.Path.{◌≡◌, refl, sym, ap, ◌∙◌}
 use mathlib.Core.List.{List, ◌++◌}
-use mathlib.Core.Logic.{◌⊎◌, inl, inr, ⊎_elim}
+use mathlib.Core.Logic.{inl, inr, ⊎_elim}
 use lib.ListN.{length, get_or, drop}
 use lib.Seq.{get_or-take, get_or-drop, ext_get_or}
 use Rattle.block.specs.Bytes.{AllBytes, value, bytes}
@@ -25,7 +25,6 @@ use Rattle.shift_check.proofs.Passed.{Walked, passes, own_edition}
 use Rattle.shift_check.proofs.Bodies.{apart, after_table}
 use Rattle.shift_check.proofs.Alike.{AgreeTable, stretch-same, row_same, nonce-same, count_same}
 use Rattle.shift_check.proofs.Kept.{data_held, taken, check-kept}
-use Rattle.shift_draft.specs.Put.{put}
 use Rattle.shift_draft.specs.Files.{in_edition, piece_start, piece_size, rewritten}
 use Rattle.shift_draft.proofs.Puts.{Apart, Inside, Outside, where-is, put-length, put_in, put-beside, all-length, all-outside, all-inside, piece-stretch}
 
