@@ -1,5 +1,6 @@
 // Words of 16 and 32 bits: rotation, addition, and reading from and writing to bytes.
 #![tactic(auto)]
+
 ghost use Rattle.std.specs.Prelude.{◌≡◌, ◌+◌, ◌*◌, ◌^◌, ◌<◌, [], ◌∷◌, ◌++◌};
 ghost use Rattle.block.specs.Words.{rotl, add};
 ghost use Rattle.block.specs.Bytes.{value, bytes};
