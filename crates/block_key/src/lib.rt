@@ -1,5 +1,6 @@
 // The next block key: a mark into byte 15 of Z, and the doubling of its low bits, 64 in version 1 and 120 in version 2.
 #![tactic(auto)]
+
 ghost use Rattle.std.specs.Prelude.{◌≡◌};
 ghost use Rattle.block.specs.Blocks.{wide};
 ghost use Rattle.cipher.specs.Cipher.{one, two, version_of};
