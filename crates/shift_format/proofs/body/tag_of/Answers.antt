@@ -1,0 +1,16 @@
+-- The tag starts after the text, is one block long, and ends where the body does.
+use mathlib.Core.Path.{ap}
+use native.Mathlib.Omega.{arith}
+use Prim.Native.Nat.{ℕ, ◌+◌}
+use Rattle.shift_format.specs.Format.{body_end}
+use Rattle.shift_format.proofs.Parts.{part_at}
+use Rattle.shift_format.proofs.body.tag_of.Goals as goal
+
+pub stretch-requires : goal.stretch-requires
+unfolding body_end
+stretch-requires c = omega (arith, c.requires, c.text_start.ensures, c.size_of.ensures.is)
+
+pub returns : goal.returns
+returns c =
+    let len = c.args.row.text_len in
+    part_at c.stretch.ensures.0 (ap (λ (k : ℕ). k + len) c.text_start.ensures) c.size_of.ensures.is
