@@ -1,5 +1,5 @@
 -- What number 0 says: of a row that each of 25 to 30 and 34 lets it pass, of a header that each of 20 to 24 does.
-use Prim.Native.Nat.{ℕ, ◌+◌, ◌≤◌, ◌<◌}
+use Prim.Native.Nat.{ℕ, ◌+◌, ◌≤◌}
 use native.Mathlib.Omega.{arith}
 use mathlib.Core.Path.{◌≡◌}
 use mathlib.Core.Bool.{false, ◌||◌, not}

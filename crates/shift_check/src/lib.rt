@@ -1,5 +1,6 @@
 // The table of contents of the plant's shift file: its rows, and the full check.
 #![tactic(auto)]
+
 mod marks;
 mod rules;
 
