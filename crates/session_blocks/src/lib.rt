@@ -1,5 +1,6 @@
 // A session's buffered bytes followed by a part: whole blocks are processed (crate block_walk), and the rest is buffered.
 #![tactic(auto)]
+
 ghost use Rattle.std.specs.Prelude.{◌≡◌, false, ◌++◌, ℕ, ◌+◌, ◌-◌, ◌≤◌, ◌<◌, length, take};
 ghost use Rattle.block.specs.Blocks.{filled};
 ghost use Rattle.cipher.specs.Cipher.{TablesFit, IsSuite, size_of, cipher_of};
