@@ -1,5 +1,6 @@
 // Text and tag of a row are one piece: the text is sealed in place, under a suite that the caller chooses.
 #![tactic(auto)]
+
 ghost use Rattle.std.specs.Prelude.{◌≡◌, take};
 ghost use Rattle.shift_draft.specs.Files.{piece_as};
 ghost use Rattle.shift_piece.specs.Inside.{PieceWritable};
