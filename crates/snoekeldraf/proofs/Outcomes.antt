@@ -1,5 +1,5 @@
 -- One outcome for each input: a contract fixes the status and every borrowed output, so any two outcomes that it allows are equal.
-use mathlib.Core.Path.{◌≡◌, refl, sym, ap, ap₂, ◌∙◌}
+use mathlib.Core.Path.{refl, sym, ap, ap₂, ◌∙◌}
 use Prim.Native.Nat.{ℕ}
 use mathlib.Core.List.{List}
 use Rattle.block.specs.Outcome.{OneOutcome}

@@ -8,8 +8,7 @@ use status::checked::say;
 
 // The checks, or 32; then the file that holds the current entry (1 the amendment, 2 the day's), its row, and where in
 // that file its associated data lies; 0 and 0 on a refusal.
-#[unsafe(no_mangle)]
-pub extern "C" fn shift_amended(
+pub fn shift_amended(
     amendment: &[u8],
     day: &[u8],
     job: u32,
@@ -30,8 +29,7 @@ pub extern "C" fn shift_amended(
 }
 
 // Opens the current entry of a job into out: the checks, 32, then 2, 6, 8.
-#[unsafe(no_mangle)]
-pub extern "C" fn shift_open_amended(
+pub fn shift_open_amended(
     amendment: &[u8],
     day: &[u8],
     ring: &[u8],

@@ -3,8 +3,7 @@ ghost use Rattle.std.specs.Prelude.{◌≡◌};
 ghost use Rattle.shift_compare.specs.Comparing.{Comparison, comparison};
 
 // The first file's refusal, the second's, 36 if a list is longer than its buffer, else the three lists and their lengths.
-#[unsafe(no_mangle)]
-pub extern "C" fn shift_compare(
+pub fn shift_compare(
     first: &[u8],
     second: &[u8],
     only_first: &mut [u32],

@@ -4,8 +4,7 @@ ghost use Rattle.comet.specs.Answers.{Sealed, Opened};
 ghost use Rattle.comet.specs.Counted.{Counting, sealing_counted, opening_counted};
 
 // As comet_seal, and calls is how many cipher calls it took.
-#[unsafe(no_mangle)]
-pub extern "C" fn comet_seal_counted(
+pub fn comet_seal_counted(
     suite: u8,
     key: &[u8],
     nonce: &[u8],
@@ -28,8 +27,7 @@ pub extern "C" fn comet_seal_counted(
 }
 
 // As comet_open, and calls is how many cipher calls it took.
-#[unsafe(no_mangle)]
-pub extern "C" fn comet_open_counted(
+pub fn comet_open_counted(
     suite: u8,
     key: &[u8],
     nonce: &[u8],

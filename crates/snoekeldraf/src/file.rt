@@ -13,24 +13,21 @@ ghost use Rattle.snoekeldraf.specs.Located.{Located, locating};
 use status::checked::say;
 
 // The full check: numbers 20 to 31 and 34, and the row.
-#[unsafe(no_mangle)]
-pub extern "C" fn shift_check(file: &[u8], row: &mut u32) -> u32
+pub fn shift_check(file: &[u8], row: &mut u32) -> u32
     ensures { answer result row.new ≡ check_file file.now }
 {
     say(shift_check::check(file).answer(), row)
 }
 
 // The full check, and then the row that has the job, or 32.
-#[unsafe(no_mangle)]
-pub extern "C" fn shift_lookup(file: &[u8], job: u32, row: &mut u32) -> u32
+pub fn shift_lookup(file: &[u8], job: u32, row: &mut u32) -> u32
     ensures { answer result row.new ≡ lookup_job file.now job }
 {
     say(shift_lookup::lookup(file, job).answer(), row)
 }
 
 // The lookup's number, and where in the file the job's associated data lies; 0 and 0 if the lookup refuses.
-#[unsafe(no_mangle)]
-pub extern "C" fn shift_associated(file: &[u8], job: u32, at: &mut u32, len: &mut u32) -> u32
+pub fn shift_associated(file: &[u8], job: u32, at: &mut u32, len: &mut u32) -> u32
     ensures { ◌≡◌ {A = Located} (record { number = result; at = at.new; len = len.new }) (locating file.now job) }
 {
     let entry = shift_lookup::entry(file, job);
@@ -40,8 +37,7 @@ pub extern "C" fn shift_associated(file: &[u8], job: u32, at: &mut u32, len: &mu
 }
 
 // The lookup's number and row, and where in the file the job's associated data and its text lie; 0 if the lookup refuses.
-#[unsafe(no_mangle)]
-pub extern "C" fn shift_entry(
+pub fn shift_entry(
     file: &[u8],
     job: u32,
     row: &mut u32,
@@ -70,14 +66,7 @@ pub extern "C" fn shift_entry(
 }
 
 // Opens one job into out: the full check, 32, then 2, 6, 8.
-#[unsafe(no_mangle)]
-pub extern "C" fn shift_open_job(
-    file: &[u8],
-    ring: &[u8],
-    job: u32,
-    out: &mut [u8],
-    row: &mut u32,
-) -> u32
+pub fn shift_open_job(file: &[u8], ring: &[u8], job: u32, out: &mut [u8], row: &mut u32) -> u32
     ensures { ◌≡◌ {A = JobOpened} (record { answer = answer result row.new; out = out.new })
         (job_opening file.now ring.now job out.old) }
 {
@@ -85,8 +74,7 @@ pub extern "C" fn shift_open_job(
 }
 
 // The offset of the job's associated data, after its tag was compared: the full check, 32, then 2, 8; 0 and 0 after every number but 0.
-#[unsafe(no_mangle)]
-pub extern "C" fn shift_verified(
+pub fn shift_verified(
     file: &[u8],
     ring: &[u8],
     job: u32,

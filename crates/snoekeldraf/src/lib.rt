@@ -1,5 +1,6 @@
 // The C interface: every function that programs in other languages call. A slice passes as a pointer and a length.
 #![tactic(auto)]
+
 pub mod amending;
 pub mod compare;
 pub mod contents;

@@ -3,8 +3,7 @@ ghost use Rattle.std.specs.Prelude.{◌≡◌};
 ghost use Rattle.comet.specs.Answers.{Sealed, sealing, Opened, opening, verifying};
 
 // Seals msg into out and writes its tag to tag.
-#[unsafe(no_mangle)]
-pub extern "C" fn comet_seal(
+pub fn comet_seal(
     suite: u8,
     key: &[u8],
     nonce: &[u8],
@@ -21,8 +20,7 @@ pub extern "C" fn comet_seal(
 }
 
 // Opens text into out if its tag is right; else every byte of out is 0.
-#[unsafe(no_mangle)]
-pub extern "C" fn comet_open(
+pub fn comet_open(
     suite: u8,
     key: &[u8],
     nonce: &[u8],
@@ -39,8 +37,7 @@ pub extern "C" fn comet_open(
 }
 
 // Seals text in place and writes its tag to tag.
-#[unsafe(no_mangle)]
-pub extern "C" fn comet_seal_in_place(
+pub fn comet_seal_in_place(
     suite: u8,
     key: &[u8],
     nonce: &[u8],
@@ -56,8 +53,7 @@ pub extern "C" fn comet_seal_in_place(
 }
 
 // Opens text in place if its tag is right; else every byte of it is 0.
-#[unsafe(no_mangle)]
-pub extern "C" fn comet_open_in_place(
+pub fn comet_open_in_place(
     suite: u8,
     key: &[u8],
     nonce: &[u8],
@@ -73,15 +69,7 @@ pub extern "C" fn comet_open_in_place(
 }
 
 // Whether a record is genuine: the opener's status, without writing a text anywhere.
-#[unsafe(no_mangle)]
-pub extern "C" fn comet_verify(
-    suite: u8,
-    key: &[u8],
-    nonce: &[u8],
-    ad: &[u8],
-    text: &[u8],
-    tag: &[u8],
-) -> u32
+pub fn comet_verify(suite: u8, key: &[u8], nonce: &[u8], ad: &[u8], text: &[u8], tag: &[u8]) -> u32
     ensures { result ≡ verifying suite key.now nonce.now ad.now text.now tag.now }
 {
     let verdict = comet::verify(suite, key, nonce, ad, text, tag);

@@ -4,8 +4,7 @@ ghost use Rattle.shift_report.specs.Reporting.{Report, reporting};
 
 // A file over 65,280 bytes is 20; the file's checks; 2; 6 if a list has fewer elements than the file has entries; else the jobs, and
 // 0 or 8 for each.
-#[unsafe(no_mangle)]
-pub extern "C" fn shift_report(
+pub fn shift_report(
     file: &[u8],
     ring: &[u8],
     jobs: &mut [u32],

@@ -6,8 +6,7 @@ ghost use Rattle.shift_search.specs.Searching.{searching};
 use status::checked::say;
 
 // Numbers 20 to 24, then the row that the binary search finds, or 32; and how many rows were looked at.
-#[unsafe(no_mangle)]
-pub extern "C" fn shift_search(file: &[u8], job: u32, row: &mut u32, looked: &mut u32) -> u32
+pub fn shift_search(file: &[u8], job: u32, row: &mut u32, looked: &mut u32) -> u32
     ensures { (answer result row.new ≡ (searching file.now job).says)
         × (looked.new ≡ length (searching file.now job).rows) }
 {

@@ -7,13 +7,7 @@ use session::Session;
 use session_words::{copied, session_of, words_of};
 
 // Starts a session. A refused start leaves nine zeros, for which every later call returns 9.
-#[unsafe(no_mangle)]
-pub extern "C" fn comet_session_start(
-    state: &mut [u64; 9],
-    suite: u8,
-    key: &[u8],
-    nonce: &[u8],
-) -> u32
+pub fn comet_session_start(state: &mut [u64; 9], suite: u8, key: &[u8], nonce: &[u8]) -> u32
     ensures { after result 0 state.new [] [] ≡ in_words (starting suite key.now nonce.now) }
 {
     let step = Session::start(suite, key, nonce);
@@ -23,8 +17,7 @@ pub extern "C" fn comet_session_start(
 }
 
 // A part of the associated data.
-#[unsafe(no_mangle)]
-pub extern "C" fn comet_session_data(state: &mut [u64; 9], ad: &[u8]) -> u32
+pub fn comet_session_data(state: &mut [u64; 9], ad: &[u8]) -> u32
     ensures { after result 0 state.new [] [] ≡ in_words (data_part (of_words state.old) ad.now) }
 {
     let words = copied(state);
@@ -38,13 +31,7 @@ pub extern "C" fn comet_session_data(state: &mut [u64; 9], ad: &[u8]) -> u32
 }
 
 // A part of the message.
-#[unsafe(no_mangle)]
-pub extern "C" fn comet_session_part(
-    state: &mut [u64; 9],
-    msg: &[u8],
-    out: &mut [u8],
-    count: &mut u32,
-) -> u32
+pub fn comet_session_part(state: &mut [u64; 9], msg: &[u8], out: &mut [u8], count: &mut u32) -> u32
     ensures { after result count.new state.new out.new []
         ≡ in_words (text_part (of_words state.old) msg.now out.old) }
 {
@@ -61,8 +48,7 @@ pub extern "C" fn comet_session_part(
 }
 
 // The end: the rest of the ciphertext into out, and the tag; the session is over.
-#[unsafe(no_mangle)]
-pub extern "C" fn comet_session_end(
+pub fn comet_session_end(
     state: &mut [u64; 9],
     out: &mut [u8],
     tag: &mut [u8],
@@ -84,8 +70,7 @@ pub extern "C" fn comet_session_end(
 }
 
 // Wipes a session: nine zeros, for which every later call returns 9.
-#[unsafe(no_mangle)]
-pub extern "C" fn comet_session_wipe(state: &mut [u64; 9])
+pub fn comet_session_wipe(state: &mut [u64; 9])
     ensures { state.new ≡ replicate 9 0 }
 {
     *state = [0u64; 9];

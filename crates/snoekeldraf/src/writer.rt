@@ -6,8 +6,7 @@ ghost use Rattle.shift_draft.specs.Answers.{FileWritten, file_sealing, file_unse
 use status::checked::say;
 
 // Seals a draft into out: the checks with 0 for the edition, 33, 10, 2, 6.
-#[unsafe(no_mangle)]
-pub extern "C" fn shift_seal_file(draft: &[u8], ring: &[u8], out: &mut [u8], row: &mut u32) -> u32
+pub fn shift_seal_file(draft: &[u8], ring: &[u8], out: &mut [u8], row: &mut u32) -> u32
     ensures { ◌≡◌ {A = FileWritten} (record { answer = answer result row.new; out = out.new })
         (file_sealing draft.now ring.now out.old) }
 {
@@ -15,8 +14,7 @@ pub extern "C" fn shift_seal_file(draft: &[u8], ring: &[u8], out: &mut [u8], row
 }
 
 // Restores the draft of a file into out: the checks, 2, 6, 8.
-#[unsafe(no_mangle)]
-pub extern "C" fn shift_unseal_file(file: &[u8], ring: &[u8], out: &mut [u8], row: &mut u32) -> u32
+pub fn shift_unseal_file(file: &[u8], ring: &[u8], out: &mut [u8], row: &mut u32) -> u32
     ensures { ◌≡◌ {A = FileWritten} (record { answer = answer result row.new; out = out.new })
         (file_unsealing file.now ring.now out.old) }
 {

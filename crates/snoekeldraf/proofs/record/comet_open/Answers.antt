@@ -1,0 +1,5 @@
+-- The opener's outcome, with its answer as document 01's number.
+use Rattle.snoekeldraf.proofs.record.comet_open.Goals as goal
+
+pub returns : goal.returns
+returns c = rw c.number.ensures c.unseal-verdict.ensures

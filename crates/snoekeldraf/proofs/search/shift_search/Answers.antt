@@ -1,0 +1,21 @@
+-- The row that is found and the number of looks fit, so what the search says passes whole.
+use Prim.Native.Nat.{◌≤◌}
+use native.Mathlib.Omega.{arith}
+use mathlib.Core.Path.{◌∙◌}
+use Rattle.shift_search.proofs.Promised.{ten_looks, says-low}
+use Rattle.status.proofs.Outcomes.{same_answer}
+use Rattle.snoekeldraf.proofs.search.shift_search.Goals as goal
+
+pub overflow_cast-looked : goal.overflow_cast-looked
+overflow_cast-looked c =
+    let low : c.search-search.result.looked ≤ 10 = rw c.search-search.ensures.1 (ten_looks _ _) in
+    omega arith
+
+pub say-requires : goal.say-requires
+say-requires c = rw (c.answer.ensures.1, c.search-search.ensures.0) (says-low _ _)
+
+pub returns : goal.returns
+returns c = (
+  c.say.ensures ∙ same_answer c.answer.ensures ∙ c.search-search.ensures.0,
+  c.search-search.ensures.1,
+)
