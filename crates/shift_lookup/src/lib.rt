@@ -1,5 +1,6 @@
 // The lookup of a job in the plant's shift file: its row, its entry and its associated data. No key is needed here.
 #![tactic(auto)]
+
 pub mod answers;
 pub mod binary_search;
 pub mod found;

@@ -1,0 +1,27 @@
+-- A refusal is no row, so its places are 0; a row that was found tells them.
+use Prim.Native.Nat.{◌+◌, ◌≤◌}
+use mathlib.Core.Path.{sym, ap, ◌∙◌}
+use native.Mathlib.Omega.{arith}
+use borrow.Author.Rules.{rules}
+use Rattle.shift_lookup.specs.Answers.{found_answer}
+use Rattle.shift_lookup.proofs.Lookups.{found_in, not_at}
+use Rattle.shift_lookup.proofs.Places.{places-found, places-none, text_low}
+use Rattle.shift_lookup.proofs.found.entry_found.Goals as goal
+
+pub returns-in_default : goal.returns-in_default
+returns-in_default c =
+    places-none c.args.file.now (found_answer c.args.found) c.answer-answer.result c.answer-answer.ensures (not_at c.args.found (search rules))
+
+pub row_of-row-requires : goal.row_of-row-requires
+row_of-row-requires c =
+    (found_in c.args.file.now c.requires.job _ (sym c.requires.gives ∙ ap found_answer c.in-At.is)).row_in
+
+pub overflow_add-result : goal.overflow_add-result
+overflow_add-result c =
+    let t = text_low c.args.file.now c.requires.job _ (sym c.requires.gives ∙ ap found_answer c.in-At.is) in
+    let u : c.row_of-row.result.ad_at + c.row_of-row.result.ad_len ≤ 1048576 = rw c.row_of-row.ensures t in
+    omega arith
+
+pub returns : goal.returns
+returns c =
+    rw c.row_of-row.ensures (places-found c.args.file.now (found_answer c.args.found) _ (ap found_answer c.in-At.is))
