@@ -1,5 +1,6 @@
 // The jobs of the plant's shift file, opened and verified with the key ring.
 #![tactic(auto)]
+
 pub mod answers;
 pub mod found;
 pub mod lend;
