@@ -1,7 +1,7 @@
 -- How many bytes a call writes: a message part as many as the whole blocks of the held bytes and its own, the end what is held.
 use mathlib.Core.Path.{◌≡◌, sym, ap, ap₂, ◌∙◌}
 use mathlib.Core.Bool.{false}
-use Prim.Native.Nat.{ℕ, zero, suc, ◌+◌, ◌-◌, ◌*◌, ◌/◌, ◌%◌, ◌≤◌, ◌<◌, min}
+use Prim.Native.Nat.{ℕ, zero, suc, ◌+◌, ◌*◌, ◌/◌, ◌%◌, ◌≤◌, ◌<◌, min}
 use native.Mathlib.Nat.{le_refl, mod-lt}
 use native.Mathlib.Omega.{arith}
 use native.Mathlib.Decide.{dec_le}

@@ -1,5 +1,6 @@
 // Sealing in parts: a session by value, which every call returns.
 #![tactic(auto)]
+
 use block::Block;
 
 mod work;
