@@ -1,5 +1,6 @@
 // Two rows, compared as entries; each file has its own edition.
 #![tactic(auto)]
+
 ghost use Rattle.std.specs.Prelude.{◌≡◌, ◌-◌, ◌≤◌, length};
 ghost use Rattle.block.specs.Bytes.{same_bytes};
 ghost use Rattle.shift_format.specs.Part.{stretch};
