@@ -10,7 +10,6 @@ use lib.ListN.{length}
 use Rattle.cipher.specs.Cipher.{cipher_of}
 use Rattle.cipher.proofs.Lawful.{lawful}
 use Rattle.mode.specs.Blocks.{blocks, chop}
-use Rattle.mode.specs.Mode.{calls}
 use Rattle.mode.proofs.Chain.{some}
 use Rattle.mode.proofs.Calls.{calls_count, calls_same, calls-decide}
 use Rattle.status.specs.Verdicts.{refusal}

@@ -1,7 +1,7 @@
 -- The functions that C links (crate `snoekeldraf`): each has no precondition and one outcome, which is the definition's value.
 use Rattle.std.specs.Prelude.{◌≡◌, ℕ, ◌+◌, ◌≤◌, ◌<◌, List, [], ◌∷◌, length, get_or, replicate}
 use contract.Lifetimes.{Lfts}
-use Rattle.std.specs.Borrow.{Bor}
+use Rattle.std.specs.Borrow.{Bor, MutBor}
 use Rattle.comet.specs.Answers.{Sealed, sealing, Opened, opening, verifying}
 use Rattle.comet.specs.Counted.{Counting, sealing_counted, opening_counted}
 use Rattle.session.specs.Value.{starting, data_part, text_part, ending}
@@ -28,7 +28,7 @@ use Rattle.session_words.specs.Words.{Nine, of_words, words_of, after, in_words}
 use Rattle.snoekeldraf.specs.Located.{Located, locating}
 use Rattle.snoekeldraf.specs.Amended.{Placed, placing}
 use Rattle.snoekeldraf.specs.Fields.{InFields, in_fields}
-use Rattle.promises.specs.Contracts as the
+use Rattle.promises.specs.Signatures as the
 use Rattle.promises.specs.Demand1.{Answers, Gave}
 
 pub record CInterface : Type 0 where
@@ -66,96 +66,96 @@ pub record CInterface : Type 0 where
 
 pub record CRoutines : Type 0 where
   -- sealer and opener; in place; the verifier; with their cipher calls
-  pub comet_seal : (κs : Lfts 6) (suite : ℕ) (key nonce ad msg out tag : Bor (List ℕ))
+  pub comet_seal : (κs : Lfts 6) (suite : ℕ) (key nonce ad msg : Bor (List ℕ)) (out tag : MutBor (List ℕ))
       (x : Gave the.comet_seal κs (suite, (key, (nonce, (ad, (msg, (out, (tag, tt)))))))) →
       let (_, (_, (_, (_, (_, (out', (tag', _))))))) = x.last in
       ◌≡◌ {A = Sealed} (record { number = x.result; out = out'; tag = tag' }) (sealing suite key.now nonce.now ad.now msg.now out.now tag.now)
-  pub comet_open : (κs : Lfts 6) (suite : ℕ) (key nonce ad text tag out : Bor (List ℕ))
+  pub comet_open : (κs : Lfts 6) (suite : ℕ) (key nonce ad text tag : Bor (List ℕ)) (out : MutBor (List ℕ))
       (x : Gave the.comet_open κs (suite, (key, (nonce, (ad, (text, (tag, (out, tt)))))))) →
       let (_, (_, (_, (_, (_, (_, (out', _))))))) = x.last in
       ◌≡◌ {A = Opened} (record { number = x.result; out = out' }) (opening suite key.now nonce.now ad.now text.now tag.now out.now)
-  pub comet_seal_in_place : (κs : Lfts 5) (suite : ℕ) (key nonce ad text tag : Bor (List ℕ))
+  pub comet_seal_in_place : (κs : Lfts 5) (suite : ℕ) (key nonce ad : Bor (List ℕ)) (text tag : MutBor (List ℕ))
       (x : Gave the.comet_seal_in_place κs (suite, (key, (nonce, (ad, (text, (tag, tt))))))) →
       let (_, (_, (_, (_, (text', (tag', _)))))) = x.last in
       ◌≡◌ {A = Sealed} (record { number = x.result; out = text'; tag = tag' }) (sealing suite key.now nonce.now ad.now text.now text.now tag.now)
-  pub comet_open_in_place : (κs : Lfts 5) (suite : ℕ) (key nonce ad text tag : Bor (List ℕ))
+  pub comet_open_in_place : (κs : Lfts 5) (suite : ℕ) (key nonce ad : Bor (List ℕ)) (text : MutBor (List ℕ)) (tag : Bor (List ℕ))
       (x : Gave the.comet_open_in_place κs (suite, (key, (nonce, (ad, (text, (tag, tt))))))) →
       let (_, (_, (_, (_, (text', _))))) = x.last in
       ◌≡◌ {A = Opened} (record { number = x.result; out = text' }) (opening suite key.now nonce.now ad.now text.now tag.now text.now)
   pub comet_verify : (κs : Lfts 5) (suite : ℕ) (key nonce ad text tag : Bor (List ℕ))
       (x : Gave the.comet_verify κs (suite, (key, (nonce, (ad, (text, (tag, tt))))))) →
       x.result ≡ verifying suite key.now nonce.now ad.now text.now tag.now
-  pub comet_seal_counted : (κs : Lfts 7) (suite : ℕ) (key nonce ad msg out tag : Bor (List ℕ)) (calls : Bor ℕ)
+  pub comet_seal_counted : (κs : Lfts 7) (suite : ℕ) (key nonce ad msg : Bor (List ℕ)) (out tag : MutBor (List ℕ)) (calls : MutBor ℕ)
       (x : Gave the.comet_seal_counted κs (suite, (key, (nonce, (ad, (msg, (out, (tag, (calls, tt))))))))) →
       let (_, (_, (_, (_, (_, (out', (tag', (calls', _)))))))) = x.last in
       ◌≡◌ {A = Counting Sealed} (record { leaves = record { number = x.result; out = out'; tag = tag' }; calls = calls' })
       (sealing_counted suite key.now nonce.now ad.now msg.now out.now tag.now)
-  pub comet_open_counted : (κs : Lfts 7) (suite : ℕ) (key nonce ad text tag out : Bor (List ℕ)) (calls : Bor ℕ)
+  pub comet_open_counted : (κs : Lfts 7) (suite : ℕ) (key nonce ad text tag : Bor (List ℕ)) (out : MutBor (List ℕ)) (calls : MutBor ℕ)
       (x : Gave the.comet_open_counted κs (suite, (key, (nonce, (ad, (text, (tag, (out, (calls, tt))))))))) →
       let (_, (_, (_, (_, (_, (_, (out', (calls', _)))))))) = x.last in
       ◌≡◌ {A = Counting Opened} (record { leaves = record { number = x.result; out = out' }; calls = calls' })
       (opening_counted suite key.now nonce.now ad.now text.now tag.now out.now)
   -- a session's calls, on the value that its nine words stand for; after each, the words are the next session's own and stand for it; and the wipe
-  pub comet_session_start : (κs : Lfts 3) (state : Bor (List ℕ)) (suite : ℕ) (key nonce : Bor (List ℕ))
+  pub comet_session_start : (κs : Lfts 3) (state : MutBor (List ℕ)) (suite : ℕ) (key nonce : Bor (List ℕ))
       (x : Gave the.comet_session_start κs (state, (suite, (key, (nonce, tt))))) →
       let (state', _) = x.last in
       after x.result 0 state' [] [] ≡ in_words (starting suite key.now nonce.now)
-  pub comet_session_data : (κs : Lfts 2) (state part : Bor (List ℕ)) (x : Gave the.comet_session_data κs (state, (part, tt))) →
+  pub comet_session_data : (κs : Lfts 2) (state : MutBor (List ℕ)) (part : Bor (List ℕ)) (x : Gave the.comet_session_data κs (state, (part, tt))) →
       let (state', _) = x.last in
       after x.result 0 state' [] [] ≡ in_words (data_part (of_words state.now) part.now)
-  pub comet_session_part : (κs : Lfts 4) (state part out : Bor (List ℕ)) (count : Bor ℕ)
+  pub comet_session_part : (κs : Lfts 4) (state : MutBor (List ℕ)) (part : Bor (List ℕ)) (out : MutBor (List ℕ)) (count : MutBor ℕ)
       (x : Gave the.comet_session_part κs (state, (part, (out, (count, tt))))) →
       let (state', (_, (out', (count', _)))) = x.last in
       after x.result count' state' out' [] ≡ in_words (text_part (of_words state.now) part.now out.now)
-  pub comet_session_end : (κs : Lfts 4) (state out tag : Bor (List ℕ)) (count : Bor ℕ)
+  pub comet_session_end : (κs : Lfts 4) (state out tag : MutBor (List ℕ)) (count : MutBor ℕ)
       (x : Gave the.comet_session_end κs (state, (out, (tag, (count, tt))))) →
       let (state', (out', (tag', (count', _)))) = x.last in
       after x.result count' state' out' tag' ≡ in_words (ending (of_words state.now) out.now tag.now)
-  pub comet_session_wipe : (κs : Lfts 1) (state : Bor (List ℕ)) (x : Gave the.comet_session_wipe κs (state, tt)) →
+  pub comet_session_wipe : (κs : Lfts 1) (state : MutBor (List ℕ)) (x : Gave the.comet_session_wipe κs (state, tt)) →
       let (state', _) = x.last in
       state' ≡ replicate 9 0
   -- the shift file; the search
-  pub shift_check : (κs : Lfts 2) (file : Bor (List ℕ)) (row : Bor ℕ) (x : Gave the.shift_check κs (file, (row, tt))) →
+  pub shift_check : (κs : Lfts 2) (file : Bor (List ℕ)) (row : MutBor ℕ) (x : Gave the.shift_check κs (file, (row, tt))) →
       let (_, (row', _)) = x.last in
       answer x.result row' ≡ check_file file.now
-  pub shift_lookup : (κs : Lfts 2) (file : Bor (List ℕ)) (job : ℕ) (row : Bor ℕ) (x : Gave the.shift_lookup κs (file, (job, (row, tt)))) →
+  pub shift_lookup : (κs : Lfts 2) (file : Bor (List ℕ)) (job : ℕ) (row : MutBor ℕ) (x : Gave the.shift_lookup κs (file, (job, (row, tt)))) →
       let (_, (_, (row', _))) = x.last in
       answer x.result row' ≡ lookup_job file.now job
-  pub shift_associated : (κs : Lfts 3) (file : Bor (List ℕ)) (job : ℕ) (at len : Bor ℕ) (x : Gave the.shift_associated κs (file, (job, (at, (len, tt))))) →
+  pub shift_associated : (κs : Lfts 3) (file : Bor (List ℕ)) (job : ℕ) (at len : MutBor ℕ) (x : Gave the.shift_associated κs (file, (job, (at, (len, tt))))) →
       let (_, (_, (at', (len', _)))) = x.last in
       ◌≡◌ {A = Located} (record { number = x.result; at = at'; len = len' }) (locating file.now job)
-  pub shift_entry : (κs : Lfts 6) (file : Bor (List ℕ)) (job : ℕ) (row ad-at ad-len text-at text-len : Bor ℕ)
+  pub shift_entry : (κs : Lfts 6) (file : Bor (List ℕ)) (job : ℕ) (row ad-at ad-len text-at text-len : MutBor ℕ)
       (x : Gave the.shift_entry κs (file, (job, (row, (ad-at, (ad-len, (text-at, (text-len, tt)))))))) →
       let (_, (_, (row', (ad-at', (ad-len', (text-at', (text-len', _))))))) = x.last in
       ◌≡◌ {A = Entry} (record { number = x.result; row = row'; ad_at = ad-at'; ad_len = ad-len'; text_at = text-at'; text_len = text-len' })
       (entry_of file.now job)
-  pub shift_open_job : (κs : Lfts 4) (file ring : Bor (List ℕ)) (job : ℕ) (out : Bor (List ℕ)) (row : Bor ℕ)
+  pub shift_open_job : (κs : Lfts 4) (file ring : Bor (List ℕ)) (job : ℕ) (out : MutBor (List ℕ)) (row : MutBor ℕ)
       (x : Gave the.shift_open_job κs (file, (ring, (job, (out, (row, tt)))))) →
       let (_, (_, (_, (out', (row', _))))) = x.last in
       left (answer x.result row') out' ≡ job_opening file.now ring.now job out.now
-  pub shift_verified : (κs : Lfts 5) (file ring : Bor (List ℕ)) (job : ℕ) (row at len : Bor ℕ)
+  pub shift_verified : (κs : Lfts 5) (file ring : Bor (List ℕ)) (job : ℕ) (row at len : MutBor ℕ)
       (x : Gave the.shift_verified κs (file, (ring, (job, (row, (at, (len, tt))))))) →
       let (_, (_, (_, (row', (at', (len', _)))))) = x.last in
       ◌≡◌ {A = Genuine} (record { number = x.result; row = row'; ad_at = at'; ad_len = len' }) (job_verifying file.now ring.now job)
-  pub shift_search : (κs : Lfts 3) (file : Bor (List ℕ)) (job : ℕ) (row looked : Bor ℕ) (x : Gave the.shift_search κs (file, (job, (row, (looked, tt))))) →
+  pub shift_search : (κs : Lfts 3) (file : Bor (List ℕ)) (job : ℕ) (row looked : MutBor ℕ) (x : Gave the.shift_search κs (file, (job, (row, (looked, tt))))) →
       let (_, (_, (row', (looked', _)))) = x.last in
       (answer x.result row' ≡ (searching file.now job).says) × (looked' ≡ length (searching file.now job).rows)
   -- the writer; the reseal pass
-  pub shift_seal_file : (κs : Lfts 4) (draft ring out : Bor (List ℕ)) (row : Bor ℕ) (x : Gave the.shift_seal_file κs (draft, (ring, (out, (row, tt))))) →
+  pub shift_seal_file : (κs : Lfts 4) (draft ring : Bor (List ℕ)) (out : MutBor (List ℕ)) (row : MutBor ℕ) (x : Gave the.shift_seal_file κs (draft, (ring, (out, (row, tt))))) →
       let (_, (_, (out', (row', _)))) = x.last in
       writes (answer x.result row') out' ≡ file_sealing draft.now ring.now out.now
-  pub shift_unseal_file : (κs : Lfts 4) (file ring out : Bor (List ℕ)) (row : Bor ℕ) (x : Gave the.shift_unseal_file κs (file, (ring, (out, (row, tt))))) →
+  pub shift_unseal_file : (κs : Lfts 4) (file ring : Bor (List ℕ)) (out : MutBor (List ℕ)) (row : MutBor ℕ) (x : Gave the.shift_unseal_file κs (file, (ring, (out, (row, tt))))) →
       let (_, (_, (out', (row', _)))) = x.last in
       writes (answer x.result row') out' ≡ file_unsealing file.now ring.now out.now
-  pub shift_reseal : (κs : Lfts 4) (file ring out : Bor (List ℕ)) (row : Bor ℕ) (x : Gave the.shift_reseal κs (file, (ring, (out, (row, tt))))) →
+  pub shift_reseal : (κs : Lfts 4) (file ring : Bor (List ℕ)) (out : MutBor (List ℕ)) (row : MutBor ℕ) (x : Gave the.shift_reseal κs (file, (ring, (out, (row, tt))))) →
       let (_, (_, (out', (row', _)))) = x.last in
       writes (answer x.result row') out' ≡ file_resealing file.now ring.now out.now
   -- amendments
-  pub shift_amended : (κs : Lfts 6) (amendment day : Bor (List ℕ)) (job : ℕ) (file row at len : Bor ℕ)
+  pub shift_amended : (κs : Lfts 6) (amendment day : Bor (List ℕ)) (job : ℕ) (file row at len : MutBor ℕ)
       (x : Gave the.shift_amended κs (amendment, (day, (job, (file, (row, (at, (len, tt)))))))) →
       let (_, (_, (_, (file', (row', (at', (len', _))))))) = x.last in
       ◌≡◌ {A = Placed} (record { number = x.result; file = file'; row = row'; at = at'; len = len' }) (placing amendment.now day.now job)
-  pub shift_open_amended : (κs : Lfts 6) (amendment day ring : Bor (List ℕ)) (job : ℕ) (out : Bor (List ℕ)) (file row : Bor ℕ)
+  pub shift_open_amended : (κs : Lfts 6) (amendment day ring : Bor (List ℕ)) (job : ℕ) (out : MutBor (List ℕ)) (file row : MutBor ℕ)
       (x : Gave the.shift_open_amended κs (amendment, (day, (ring, (job, (out, (file, (row, tt)))))))) →
       let (_, (_, (_, (_, (out', (file', (row', _))))))) = x.last in
       ◌≡◌ {A = AmendedOpening} (record { file = file'; answer = answer x.result row'; out = out' })
@@ -163,14 +163,14 @@ pub record CRoutines : Type 0 where
   -- the length of a moved file, and the moves
   pub shift_moved_length : (κs : Lfts 1) (file : Bor (List ℕ)) (x : Gave the.shift_moved_length κs (file, tt)) →
       x.result ≡ moved_length_of file.now
-  pub shift_to_edition2 : (κs : Lfts 3) (file out : Bor (List ℕ)) (row : Bor ℕ) (x : Gave the.shift_to_edition2 κs (file, (out, (row, tt)))) →
+  pub shift_to_edition2 : (κs : Lfts 3) (file : Bor (List ℕ)) (out : MutBor (List ℕ)) (row : MutBor ℕ) (x : Gave the.shift_to_edition2 κs (file, (out, (row, tt)))) →
       let (_, (out', (row', _))) = x.last in
       ◌≡◌ {A = FileMoved} (record { answer = answer x.result row'; out = out' }) (to_edition2_of file.now out.now)
-  pub shift_to_edition1 : (κs : Lfts 3) (file out : Bor (List ℕ)) (row : Bor ℕ) (x : Gave the.shift_to_edition1 κs (file, (out, (row, tt)))) →
+  pub shift_to_edition1 : (κs : Lfts 3) (file : Bor (List ℕ)) (out : MutBor (List ℕ)) (row : MutBor ℕ) (x : Gave the.shift_to_edition1 κs (file, (out, (row, tt)))) →
       let (_, (out', (row', _))) = x.last in
       ◌≡◌ {A = FileMoved} (record { answer = answer x.result row'; out = out' }) (to_edition1_of file.now out.now)
   -- compare; the report
-  pub shift_compare : (κs : Lfts 10) (f g first second differ : Bor (List ℕ)) (n-first n-second n-differ file row : Bor ℕ)
+  pub shift_compare : (κs : Lfts 10) (f g : Bor (List ℕ)) (first second differ : MutBor (List ℕ)) (n-first n-second n-differ file row : MutBor ℕ)
       (x : Gave the.shift_compare κs (f, (g, (first, (second, (differ, (n-first, (n-second, (n-differ, (file, (row, tt))))))))))) →
       let (_, (_, (first', (second', (differ', (n-first', (n-second', (n-differ', (file', (row', _)))))))))) = x.last in
       ◌≡◌ {A = Comparison} (record {
@@ -180,28 +180,28 @@ pub record CRoutines : Type 0 where
         differ = differ';
       })
       (comparison f.now g.now first.now second.now differ.now)
-  pub shift_report : (κs : Lfts 6) (file ring jobs numbers : Bor (List ℕ)) (count row : Bor ℕ)
+  pub shift_report : (κs : Lfts 6) (file ring : Bor (List ℕ)) (jobs numbers : MutBor (List ℕ)) (count row : MutBor ℕ)
       (x : Gave the.shift_report κs (file, (ring, (jobs, (numbers, (count, (row, tt))))))) →
       let (_, (_, (jobs', (numbers', (count', (row', _)))))) = x.last in
       ◌≡◌ {A = Report} (record { said = record { number = x.result; row = row'; count = count' }; jobs = jobs'; numbers = numbers' })
       (reporting file.now ring.now jobs.now numbers.now)
   -- the table of contents by row number
-  pub shift_rows : (κs : Lfts 3) (file : Bor (List ℕ)) (edition count : Bor ℕ) (x : Gave the.shift_rows κs (file, (edition, (count, tt)))) →
+  pub shift_rows : (κs : Lfts 3) (file : Bor (List ℕ)) (edition count : MutBor ℕ) (x : Gave the.shift_rows κs (file, (edition, (count, tt)))) →
       let (_, (edition', (count', _))) = x.last in
       ◌≡◌ {A = HeaderFields} (record { status = x.result; edition = edition'; count = count' }) (header_answer file.now)
-  pub shift_row : (κs : Lfts 2) (file : Bor (List ℕ)) (row : ℕ) (fields : Bor (List ℕ)) (x : Gave the.shift_row κs (file, (row, (fields, tt)))) →
+  pub shift_row : (κs : Lfts 2) (file : Bor (List ℕ)) (row : ℕ) (fields : MutBor (List ℕ)) (x : Gave the.shift_row κs (file, (row, (fields, tt)))) →
       let (_, (_, (fields', _))) = x.last in
       ◌≡◌ {A = InFields} (record { status = x.result; fields = fields' }) (in_fields (row_answer file.now row))
 
 -- what C gets of the rows of a file that passes the check
 pub record CRows : Type 0 where
   -- the edition and the row count
-  pub counted : (κs : Lfts 3) (file : Bor (List ℕ)) (edition count : Bor ℕ) (x : Gave the.shift_rows κs (file, (edition, (count, tt))))
+  pub counted : (κs : Lfts 3) (file : Bor (List ℕ)) (edition count : MutBor ℕ) (x : Gave the.shift_rows κs (file, (edition, (count, tt))))
       → (check_file file.now).number ≡ 0 →
       let (_, (edition', (count', _))) = x.last in
       (x.result ≡ 0) × (edition' ≡ edition_of file.now) × (count' ≡ count_of file.now)
   -- of each row its nine fields: the text follows the associated data, and its offset does not wrap
-  pub given : (κs : Lfts 2) (file : Bor (List ℕ)) (i : ℕ) (fields : Bor (List ℕ))
+  pub given : (κs : Lfts 2) (file : Bor (List ℕ)) (i : ℕ) (fields : MutBor (List ℕ))
       (x : Gave the.shift_row κs (file, (i, (fields, tt)))) → (check_file file.now).number ≡ 0 → i < count_of file.now →
       let (_, (_, (fields', _))) = x.last in
       let r = row_of file.now i in
@@ -209,7 +209,7 @@ pub record CRows : Type 0 where
       × (fields' ≡ r.job ∷ station_of file.now i ∷ r.suite ∷ r.key ∷ nonce_start (row_size_of file.now) i
       ∷ r.ad_at ∷ r.ad_len ∷ (r.ad_at + r.ad_len) ∷ r.text_len ∷ [])
   -- past the rows 32, and nine zeros
-  pub past : (κs : Lfts 2) (file : Bor (List ℕ)) (i : ℕ) (fields : Bor (List ℕ))
+  pub past : (κs : Lfts 2) (file : Bor (List ℕ)) (i : ℕ) (fields : MutBor (List ℕ))
       (x : Gave the.shift_row κs (file, (i, (fields, tt)))) → (check_file file.now).number ≡ 0 → count_of file.now ≤ i →
       let (_, (_, (fields', _))) = x.last in
       (x.result ≡ 32) × (fields' ≡ replicate 9 0)

@@ -5,8 +5,8 @@ use Rattle.std.specs.Borrow.{Bor}
 use borrow.Fn.Kinds.{Dens, res_t}
 use Rattle.block.specs.Outcome.{Outcome, OneOutcome}
 use Rattle.comet.specs.Answers.{Sealed, sealing, Opened, opening, verifying}
-use Rattle.promises.specs.Contracts.{Contract}
-use Rattle.promises.specs.Contracts as the
+use Rattle.promises.specs.Signatures.{Contract}
+use Rattle.promises.specs.Signatures as the
 
 -- an outcome of a routine that its own contract allows
 abbrev pub Gave : (f : Contract) (κs : Lfts f.lifetimes) → Dens κs f.params → Type 0
@@ -22,7 +22,7 @@ pub record Answers (f : Contract) : Type 0 where
 pub record AnswersPart (f : Contract) (part : (κs : Lfts f.lifetimes) → (res_t f.result κs).Denot → Bor (List ℕ)) : Type 0 where
   pub asks_nothing : (κs : Lfts f.lifetimes) (a : Dens κs f.params) → f.Pre κs a
   pub one-outcome : (κs : Lfts f.lifetimes) (a : Dens κs f.params) (x y : Gave f κs a)
-      → ((part κs x.result).now ≡ (part κs y.result).now) × ((part κs x.result).ptr ≡ (part κs y.result).ptr)
+      → ((part κs x.result).now ≡ (part κs y.result).now) × ((part κs x.result).ref_ptr ≡ (part κs y.result).ref_ptr)
 
 -- every entry point of document 01, and those that document 02 adds
 pub record EntryPoints : Type 0 where

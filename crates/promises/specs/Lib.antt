@@ -1,5 +1,5 @@
 pub mod Input
-pub mod Contracts
+pub mod Signatures
 pub mod Demand1
 pub mod Tables
 pub mod Orders

@@ -6,7 +6,7 @@ pub record Line : Type 1 where
   pub number : ℕ
   pub applies : Type 0
 
-infix 1 ◌when◌
+infix 0 ◌when◌
 abbrev pub ◌when◌ : ℕ → Type 0 → Line
 k when c = record { number = k; applies = c }
 
