@@ -3,25 +3,28 @@
 // Prints status and row on one line. OUT is written if the status is 0, and otherwise unchanged. A file that cannot
 // be read counts as zero bytes. The program takes files up to the format's 1,048,576 bytes (longer: 20).
 #![tactic(auto)]
+
 ghost use Rattle.std.specs.Prelude.{◌≤◌};
 
 use shift_limits::{MAX_FILE, MAX_ROWS};
 use status::checked::Answer;
 
 // The argument names the output.
-fn say(answer: Answer, out: &[u8], argument: usize) {
-    program_files::answered(answer.number, answer.row, out, argument);
+fn say(rt: &HostRuntime, answer: Answer, out: &[u8], argument: usize) {
+    program_files::answered(rt, answer.number, answer.row, out, argument);
 }
 
-fn run(back: bool, file: &[u8], argument: usize, out: &mut [u8]) {
+fn run(rt: &HostRuntime, back: bool, file: &[u8], argument: usize, out: &mut [u8]) {
     if back {
         say(
+            rt,
             shift_editions::to_edition1(file, out).answer(),
             out,
             argument,
         );
     } else {
         say(
+            rt,
             shift_editions::to_edition2(file, out).answer(),
             out,
             argument,
@@ -30,10 +33,10 @@ fn run(back: bool, file: &[u8], argument: usize, out: &mut [u8]) {
 }
 
 // An output of the moved file's length; the buffer holds 512 stations more than the file, so the test always holds.
-fn run_in(back: bool, file: &[u8], argument: usize, out: &mut [u8]) {
+fn run_in(rt: &HostRuntime, back: bool, file: &[u8], argument: usize, out: &mut [u8]) {
     let len = shift_editions::moved_length(file);
     if len <= out.len() {
-        run(back, file, argument, &mut out[0..len]);
+        run(rt, back, file, argument, &mut out[0..len]);
     }
 }
 
@@ -47,21 +50,22 @@ fn moved_room() -> [u8; MOVED_ROOM] {
 }
 
 // The argument names the file, the next one the output.
-fn convert(back: bool, argument: usize)
+fn convert(rt: &HostRuntime, back: bool, argument: usize)
     requires { argument ≤ 2 }
 {
     let mut file_buf = program_text::read::file_room();
     let mut out_buf = moved_room();
-    let file = program_files::load(argument, &mut file_buf);
-    run_in(back, file, argument + 1, &mut out_buf);
+    let file = program_files::load(rt, argument, &mut file_buf);
+    run_in(rt, back, file, argument + 1, &mut out_buf);
 }
 
-fn main() {
-    if os::arg_count() == 3 {
-        convert(false, 1);
-    } else if os::arg_count() == 4 && program_files::is_word(1, b"back") {
-        convert(true, 2);
+fn main(rt: HostRuntime) {
+    let count = program_files::arg_count(&rt);
+    if count == 3 {
+        convert(&rt, false, 1);
+    } else if count == 4 && program_files::is_word(&rt, 1, b"back") {
+        convert(&rt, true, 2);
     } else {
-        program_files::usage(b"convert FILE OUT\nconvert back FILE OUT\n");
+        program_files::usage(&rt, b"convert FILE OUT\nconvert back FILE OUT\n");
     }
 }
