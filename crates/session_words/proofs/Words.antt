@@ -6,7 +6,7 @@ use native.Mathlib.Omega.{arith}
 use mathlib.Core.List.{List, [], ◌∷◌, ◌++◌}
 use lib.ListN.{length, get_or, take, drop, replicate}
 use lib.Seq.{take_all}
-use Rattle.block.specs.Bytes.{value, bytes, part}
+use Rattle.block.specs.Bytes.{value, bytes}
 use Rattle.block.specs.Blocks.{wide}
 use Rattle.block.specs.declared.Block.{Block}
 use Rattle.block.proofs.Bytes.{value-bytes}

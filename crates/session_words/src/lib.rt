@@ -1,5 +1,6 @@
 // A session as nine 64-bit words, which a C program owns and every call borrows. Any nine words may arrive.
 #![tactic(auto)]
+
 ghost use Rattle.std.specs.Prelude.{◌≡◌, ◌<◌, get_or};
 ghost use Rattle.session.specs.Structs.{as_value};
 ghost use Rattle.session_words.specs.Words.{of_words, words_of};
