@@ -1,5 +1,6 @@
 // The two states Y and Z of COMET: their start, the cipher call of a block, absorbing a block, and the tag.
 #![tactic(auto)]
+
 pub mod marks;
 pub mod tag;
 
