@@ -13,7 +13,7 @@ use denote.Triple.Clauses.{Ended, Clauses, AtExit}
 use Rattle.shift_reader.specs.Reading.{ask_of, reader_of, next_of}
 use Rattle.shift_reader.specs.Held.{Held}
 use Rattle.shift_reader.specs.contracts.read as Read-of
-use Rattle.shift_reader.specs.contracts.Reader.next as next_of
+use Rattle.shift_reader.specs.contracts.Reader.next as next-of
 use Rattle.shift_reader.specs.contracts.step_at as step-at-of
 
 -- two values that each equal a third
@@ -42,8 +42,8 @@ module _ {M : Type 1} {𝓤 : Ura M} (𝓛 : Logic 𝓤) (mem : Memory → SProp
   pub read : Held 𝓤 Read-of.ended (Read-of.clauses 𝓛 mem run) (λ κs x u. x) (λ κs a. reader_of a.0)
   read = held 𝓤 Read-of.ended (Read-of.clauses 𝓛 mem run) (λ κs x u. x) (λ κs a. reader_of a.0) (λ κs a. (tt, top 𝓤)) (λ κs a g x u. id⊢ 𝓤 _)
 
-  pub next : Held 𝓤 next_of.ended (next_of.clauses 𝓛 mem run) (λ κs x u. x) (λ κs a. next_of a.0)
-  next = held 𝓤 next_of.ended (next_of.clauses 𝓛 mem run) (λ κs x u. x) (λ κs a. next_of a.0) (λ κs a. (tt, top 𝓤)) (λ κs a g x u. id⊢ 𝓤 _)
+  pub next : Held 𝓤 next-of.ended (next-of.clauses 𝓛 mem run) (λ κs x u. x) (λ κs a. next_of a.0)
+  next = held 𝓤 next-of.ended (next-of.clauses 𝓛 mem run) (λ κs x u. x) (λ κs a. next_of a.0) (λ κs a. (tt, top 𝓤)) (λ κs a g x u. id⊢ 𝓤 _)
 
   pub step-at : Held 𝓤 step-at-of.ended (step-at-of.clauses 𝓛 mem run) (λ κs x u. x) (λ κs a. ask_of a.1.0 a.0.now)
   step-at =

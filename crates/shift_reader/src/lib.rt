@@ -1,5 +1,6 @@
 // The entries of a shift file: a cursor by value, a reader that holds the file and its position, and rows by number.
 #![tactic(auto)]
+
 pub mod contents;
 pub mod cursor;
 
