@@ -1,5 +1,4 @@
 -- One outcome for each input: an answer's number and row are those of one case, so what a contract allows is one value.
-use Prim.Native.Nat.{◌<◌}
 use mathlib.Core.Path.{◌≡◌, refl, sym, ap, ◌∙◌}
 use mathlib.Core.Bool.{cond}
 use lib.Dec.{eqb}

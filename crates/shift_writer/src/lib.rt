@@ -1,5 +1,6 @@
 // The writer of shift files: seals a draft, and restores the draft of a sealed file.
 #![tactic(auto)]
+
 pub mod answers;
 mod rows;
 mod suites;
