@@ -1,5 +1,6 @@
 // AES-128 by FIPS 197: the plain engine. Its only table is the S-box, which each step borrows.
 #![tactic(auto)]
+
 ghost use Rattle.std.specs.Prelude.{◌≡◌, [], ◌∷◌, map, ◌<◌, cond};
 ghost use Rattle.block.specs.Words.{xor};
 ghost use Rattle.block.specs.Bytes.{bytes};

@@ -4,12 +4,8 @@ use Rattle.block.specs.Words.{xor}
 use Rattle.aes_spec.specs.Field.{xtime, multiples, ◌•◌}
 use Rattle.aes_spec.specs.Sbox.{affine}
 use Rattle.aes_spec.proofs.Sbox.{table_rule}
-use Rattle.aes_plain.proofs.sbox_table.Statement.{statement}
-use Rattle.aes_plain.proofs.sbox_table.Tie as tie
+use Rattle.aes_plain.proofs.sbox_table.Goals as goal
 
-returns : tie.Need-returns
+pub returns : goal.returns
 unfolding affine ◌•◌ multiples xtime xor
 returns c = table_rule _ refl tt
-
-pub sbox-table-spec : {M : Type 1} → statement M
-sbox-table-spec = tie.close (tie.spec returns)
