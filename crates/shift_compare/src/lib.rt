@@ -1,5 +1,6 @@
 // The comparison of two shift files: three lists of job numbers.
 #![tactic(auto)]
+
 mod merge;
 
 ghost use Rattle.std.specs.Prelude.{◌≡◌};
