@@ -1,5 +1,6 @@
 // AES-128 by FIPS 197: the engine by columns. Its only constant is the four tables, which each step borrows.
 #![tactic(auto)]
+
 ghost use Rattle.std.specs.Prelude.{◌≡◌, [], ◌∷◌, ◌<◌};
 ghost use Rattle.block.specs.Bytes.{bytes};
 ghost use Rattle.aes_spec.specs.Sbox.{sub_byte};

@@ -5,12 +5,8 @@ use Rattle.block.specs.Bytes.{value, bytes}
 use Rattle.aes_spec.specs.Field.{xtime, multiples, ◌•◌}
 use Rattle.aes_spec.specs.Sbox.{affine}
 use Rattle.aes_tables.proofs.Table.{table_rule}
-use Rattle.aes_tables.proofs.tables.Statement.{statement}
-use Rattle.aes_tables.proofs.tables.Tie as tie
+use Rattle.aes_tables.proofs.tables.Goals as goal
 
-returns : tie.Need-returns
+pub returns : goal.returns
 unfolding affine ◌•◌ multiples xtime xor value bytes
 returns c = table_rule _ refl tt
-
-pub tables-spec : {M : Type 1} → statement M
-tables-spec = tie.close (tie.spec returns)

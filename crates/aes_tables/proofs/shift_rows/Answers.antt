@@ -1,0 +1,10 @@
+-- `aes_tables::shift_rows`: the callee gives one column, and the state's bytes are its four columns one after the other
+-- (`four`, as in `aes_plain`).
+use Rattle.block.specs.Bytes.{bytes}
+use Rattle.aes_spec.specs.Cipher.{sub_bytes, shift_rows}
+use Rattle.aes_plain.proofs.Column.{four}
+use Rattle.aes_tables.proofs.shift_rows.Goals as goal
+
+pub returns : goal.returns
+unfolding bytes shift_rows sub_bytes
+returns c = four c.shifted.ensures c.shifted-2.ensures c.shifted-3.ensures c.shifted-4.ensures
