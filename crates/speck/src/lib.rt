@@ -1,5 +1,6 @@
 // Speck-64/128: a round and a step of the key schedule are the same function of two words.
 #![tactic(auto)]
+
 ghost use Rattle.std.specs.Prelude.{◌≡◌};
 ghost use Rattle.block.specs.Bytes.{word};
 ghost use Rattle.speck.specs.Speck.{upper, lower, next_l, next_r, speck};
