@@ -1,5 +1,6 @@
 // CHAM-128/128: words of 32 bits.
 #![tactic(auto)]
+
 ghost use Rattle.std.specs.Prelude.{◌≡◌, ◌+◌, ◌<◌, get_or};
 ghost use Rattle.block.specs.Bytes.{word};
 ghost use Rattle.cham_spec.specs.Cham.{key_word, mixed, second_place, round_keys, turned, cham};
