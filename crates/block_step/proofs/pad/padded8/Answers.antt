@@ -1,12 +1,10 @@
 -- `block_step::pad::padded8` meets its contract: what lies above the bytes falls to the remainder, and 1 stands there.
-use borrow.Author.Rules.{rules}
 use mathlib.Core.Path.{sym, subst}
 use native.Mathlib.Nat.{mod-lt}
 use native.Mathlib.Omega.{arith}
 use Prim.Native.Nat.{ℕ, ◌+◌, ◌*◌, ◌%◌, ◌^◌, ◌<◌}
 use Rattle.block_step.proofs.Words.{pad-low, place_is, place-low}
-use Rattle.block_step.proofs.pad.padded8.Statement.{statement}
-use Rattle.block_step.proofs.pad.padded8.Tie as tie
+use Rattle.block_step.proofs.pad.padded8.Goals as goal
 
 -- the place of the byte after k others
 place : ℕ → ℕ
@@ -21,25 +19,5 @@ sum_fits : (k x : ℕ) → k < 8 → x % place k + place k < 2 ^ 64
 unfolding place
 sum_fits k x h = omega (arith, place_is k h, place-low k h, mod-lt x (place-some k h))
 
-mul-marker : tie.Need-overflow-mul-marker
-mul-marker c = search rules
-
-cast-marker : tie.Need-overflow-cast-marker
-cast-marker c = search rules
-
-shl-marker : tie.Need-overflow-shl-marker
-shl-marker c = search rules
-
-rem-result : tie.Need-nonzero-rem-result
-unfolding place
-rem-result c = place-some c.args.len c.requires
-
-add-result : tie.Need-overflow-add-result
-unfolding place
-add-result c = record { fits = sum_fits c.args.len c.args.number c.requires }
-
-returns : tie.Need-returns
+pub returns : goal.returns
 returns c = pad-low 8 c.args.len c.args.number _ c.requires (place_is c.args.len c.requires)
-
-pub padded8-spec : {M : Type 1} → statement M
-padded8-spec = tie.close (tie.spec mul-marker cast-marker shl-marker rem-result add-result returns)
