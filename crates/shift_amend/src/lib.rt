@@ -1,5 +1,6 @@
 // Amendments: a small file that replaces some jobs of the day's.
 #![tactic(auto)]
+
 ghost use Rattle.std.specs.Prelude.{◌≡◌};
 ghost use Rattle.shift_lookup.specs.Answers.{found_answer};
 ghost use Rattle.shift_jobs.specs.Answers.{opened_answer};
