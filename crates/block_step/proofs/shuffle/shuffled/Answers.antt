@@ -13,12 +13,23 @@ use Rattle.block_step.proofs.shuffle.shuffled.Goals as goal
 
 pub returns-then-n-eq16 : goal.returns-then-n-eq16
 returns-then-n-eq16 c =
-    let en : size_of c.args.suite ≡ 16 = sym c.requires ∙ c.if-n-eq16.true in record {
-      is = rw en (take_all 16 (wide c.shuffled16.result) (le_of_eq (length-wide c.shuffled16.result.a c.shuffled16.result.b)) ∙ c.shuffled16.ensures
-          ∙ ap (shuffle 16) (sym (take_all 16 (wide c.args.x) (le_of_eq (length-wide c.args.x.a c.args.x.b)))));
-      clean = clean_16 c.args.suite c.shuffled16.result en;
+    let x = c.args.x in
+    let r = c.shuffled16.result in
+    let en : size_of c.args.suite ≡ 16 = sym c.requires ∙ c.if-n-eq16.true in
+    record {
+      is =
+          rw en
+          (take_all 16 (wide r) (le_of_eq (length-wide r.a r.b)) ∙ c.shuffled16.ensures
+          ∙ ap (shuffle 16) (sym (take_all 16 (wide x) (le_of_eq (length-wide x.a x.b)))));
+      clean = clean_16 c.args.suite r en;
     }
 
 pub returns : goal.returns
 returns c =
-    let en : size_of c.args.suite ≡ 8 = size_other c.args.suite (λ e. c.if-n-eq16.false (c.requires ∙ e)) in record { is = rw en (first_eight c.shuffled8.result 0 ∙ c.shuffled8.ensures ∙ ap (shuffle 8) (sym (first_eight c.args.x.a c.args.x.b))); clean = clean_8 c.args.suite c.shuffled8.result en }
+    let x = c.args.x in
+    let r = c.shuffled8.result in
+    let en : size_of c.args.suite ≡ 8 = size_other c.args.suite (λ e. c.if-n-eq16.false (c.requires ∙ e)) in
+    record {
+      is = rw en (first_eight r 0 ∙ c.shuffled8.ensures ∙ ap (shuffle 8) (sym (first_eight x.a x.b)));
+      clean = clean_8 c.args.suite r en;
+    }
