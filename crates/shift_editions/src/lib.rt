@@ -1,5 +1,6 @@
 // A shift file in another edition: the move from edition 1 to 2, and back.
 #![tactic(auto)]
+
 pub mod answers;
 mod front;
 mod rows;
