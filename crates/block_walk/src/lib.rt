@@ -1,6 +1,7 @@
 // The loops over the whole blocks of a text, shared by the one-call sealer, the opener and the sessions. Each loop has its
 // direction as a literal and is the only caller of its step, so that the compiler inlines the step.
 #![tactic(auto)]
+
 ghost use Rattle.std.specs.Prelude.{◌≡◌, true, false, ◌++◌, ℕ};
 ghost use Rattle.cipher.specs.Cipher.{TablesFit, IsSuite, size_of, cipher_of};
 ghost use Rattle.mode.specs.Walk.{rest, covered};
