@@ -1,5 +1,6 @@
 // The statuses of a session's four calls, from the suite, the totals and the lengths: the first that applies.
 #![tactic(auto)]
+
 ghost use Rattle.std.specs.Prelude.{◌≡◌};
 ghost use Rattle.session_ladder.specs.Numbers.{sound, start_number, data_number, text_number, end_number};
 
