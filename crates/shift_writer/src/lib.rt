@@ -23,7 +23,8 @@ use tags::first_set;
 // The edition of a draft.
 const DRAFT: u16 = 0;
 
-// 2 and 6, from the lengths of file, ring and output.
+// 2 and 6, from the lengths of file, ring and output: each length that is not the right one is its own number.
+#[tactic(auto, unfolding(shift_draft::specs::Answers::lent_answer))]
 pub fn lent_refused(file: usize, ring: usize, out: usize) -> Written
     ensures { written_answer result ≡ lent_answer file ring out }
 {
