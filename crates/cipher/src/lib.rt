@@ -1,5 +1,6 @@
 // The block ciphers of the six suites under one contract.
 #![tactic(auto)]
+
 ghost use Rattle.std.specs.Prelude.{◌≡◌, true, ◌++◌, ◌-◌, ◌≤◌, ◌<◌, take, drop, replicate};
 ghost use Rattle.block.specs.Bytes.{bytes};
 ghost use Rattle.block.specs.Blocks.{wide};
