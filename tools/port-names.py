@@ -27,6 +27,28 @@ def in_snake_case(name):
     return re.sub(r"(?<=[a-z0-9])[A-Z](?![A-Z])|(?<=[a-z0-9])[A-Z]$", lambda m: "_" + m[0].lower(), name)
 
 
+def inner():
+    """The same for the camel case names that stand inside a `module _ (..) where`, in comments too; a lemma that has the new
+    spelling already gets `_lem`."""
+    files = [f for part in ("specs/**/*.antt", "proofs/**/*.antt", "src/**/*.rt") for f in glob.glob("crates/*/" + part, recursive=True)]
+    files += glob.glob("crates/*/must-fail/*.edit")
+    texts = {f: read(f) for f in files}
+    mine = set()
+    for f, text in texts.items():
+        if f.endswith(".antt"):
+            mine.update(n for n in re.findall(rf"^ *(?:(?:abbrev|unfoldable|pub) )*({NAME}) (?:[({{].*)?:", text, re.M) if re.search("[a-z0-9][A-Z]", n) and n[0].islower())
+    for old in sorted(mine):
+        new = in_snake_case(old)
+        whole = lambda n: re.compile(rf"(?<![\w'-]){re.escape(n)}(?![\w'-])")
+        if any(whole(old).search(t) and whole(new).search(t) for t in texts.values()):
+            texts = {f: whole(new).sub(new + "_lem", t) for f, t in texts.items()}
+        texts = {f: whole(old).sub(new, t) for f, t in texts.items()}
+    for f, text in texts.items():
+        if text != read(f):
+            with open(f, "w", encoding="utf-8") as file:
+                file.write(text)
+
+
 def main():
     specs = sorted(glob.glob("crates/*/specs/**/*.antt", recursive=True))
     proofs = sorted(glob.glob("crates/*/proofs/**/*.antt", recursive=True))
@@ -111,6 +133,7 @@ def main():
         if new != text:
             with open(f, "w", encoding="utf-8") as file:
                 file.write(new)
+    inner()
     for old in sorted(turn):
         print(f"{old}\t{turn[old]}")
     for old in sorted(left):

@@ -16,7 +16,7 @@ use Rattle.block.proofs.Xors.{take-xors, drop-xors, xors-take, xors-zeros}
 use Rattle.cipher.specs.Cipher.{size_of, cipher_of}
 use Rattle.cipher.proofs.Suites.{size_most}
 use Rattle.mode.specs.Words.{shuffle, pad}
-use Rattle.mode.specs.Walk.{States, turned, hidden, messageOf}
+use Rattle.mode.specs.Walk.{States, turned, hidden, message_of}
 use Rattle.mode.proofs.Words.{pad_full}
 use Rattle.block_state.specs.declared.State.{State}
 use Rattle.block_state.specs.Two.{two_of, Clean, Holds, one_more_of, imaged}
@@ -107,7 +107,7 @@ module _ (suite m : ℕ) (s t : State) (h : Holds suite t (imaged suite m (two_o
       }
 
   -- the block that is absorbed: c where a ciphertext is opened, else p
-  full-in : (opening : Bool) → length b ≡ size_of suite → Goes suite (messageOf (cipher_of suite) opening m (two_of suite s) b) (cond opening c p)
+  full-in : (opening : Bool) → length b ≡ size_of suite → Goes suite (message_of (cipher_of suite) opening m (two_of suite s) b) (cond opening c p)
   full-in true e = out-goes e
   full-in false e = full_goes suite b p e ep
 
@@ -115,5 +115,5 @@ module _ (suite m : ℕ) (s t : State) (h : Holds suite t (imaged suite m (two_o
   pub full-turn : (opening : Bool) (r : State) → length b ≡ size_of suite
       → wide r.y ≡ xors (wide t.y) (wide (cond opening c p)) → (wide r.z ≡ wide t.z) × (r.calls ≡ t.calls)
       → (take (length b) (wide c) ≡ hidden (cipher_of suite) m (two_of suite s) b)
-      × Holds suite r (turned (cipher_of suite) m (two_of suite s) (messageOf (cipher_of suite) opening m (two_of suite s) b)) (one_more_of s.calls)
+      × Holds suite r (turned (cipher_of suite) m (two_of suite s) (message_of (cipher_of suite) opening m (two_of suite s) b)) (one_more_of s.calls)
   full-turn opening r e ey ez = (goes-out (le_of_eq e), put_in suite m s t h _ (cond opening c p) r (full-in opening e) ey ez)

@@ -2,7 +2,7 @@
 // output overwrites the block of text.
 ghost use Rattle.std.specs.Prelude.{◌≡◌, true, false, ◌<◌, length};
 ghost use Rattle.cipher.specs.Cipher.{TablesFit, IsSuite, size_of, cipher_of};
-ghost use Rattle.mode.specs.Walk.{turned, hidden, messageOf};
+ghost use Rattle.mode.specs.Walk.{turned, hidden, message_of};
 ghost use Rattle.block_state.specs.Two.{two_of, Holds, one_more_of};
 
 use block_state::State;
@@ -11,7 +11,7 @@ use cipher::AesTables;
 // Absorbs a full block of associated data under its mark.
 pub fn absorb_full(tables: &[AesTables], suite: u8, state: State, mark: u8, block: &[u8]) -> State
     requires { TablesFit suite tables.now × IsSuite suite × (length block.now ≡ size_of suite) }
-    ensures { Holds suite result (turned (cipher_of suite) mark (two_of suite state) (messageOf (cipher_of suite) false mark (two_of suite state) block.now)) (one_more_of state.calls) }
+    ensures { Holds suite result (turned (cipher_of suite) mark (two_of suite state) (message_of (cipher_of suite) false mark (two_of suite state) block.now)) (one_more_of state.calls) }
 {
     let enciphered = block_state::turn(tables, suite, state, mark, block.len());
     let data = block::whole(block);
@@ -22,7 +22,7 @@ pub fn absorb_full(tables: &[AesTables], suite: u8, state: State, mark: u8, bloc
 pub fn verify_full(tables: &[AesTables], suite: u8, state: State, mark: u8, block: &[u8]) -> State
     requires { TablesFit suite tables.now × IsSuite suite × (length block.now ≡ size_of suite) }
     ensures { Holds suite result (turned (cipher_of suite) mark (two_of suite state)
-        (messageOf (cipher_of suite) true mark (two_of suite state) block.now)) (one_more_of state.calls) }
+        (message_of (cipher_of suite) true mark (two_of suite state) block.now)) (one_more_of state.calls) }
 {
     let enciphered = block_state::turn(tables, suite, state, mark, block.len());
     let x = enciphered.y;
@@ -37,7 +37,7 @@ pub fn seal_full(tables: &[AesTables], suite: u8, state: State, mark: u8, block:
     requires { TablesFit suite tables.now × IsSuite suite × (length block.old ≡ size_of suite) }
     ensures text { block.new ≡ hidden (cipher_of suite) mark (two_of suite state) block.old }
     ensures state { Holds suite result (turned (cipher_of suite) mark (two_of suite state)
-        (messageOf (cipher_of suite) false mark (two_of suite state) block.old)) (one_more_of state.calls) }
+        (message_of (cipher_of suite) false mark (two_of suite state) block.old)) (one_more_of state.calls) }
 {
     let enciphered = block_state::turn(tables, suite, state, mark, block.len());
     let x = enciphered.y;
@@ -53,7 +53,7 @@ pub fn open_full(tables: &[AesTables], suite: u8, state: State, mark: u8, block:
     requires { TablesFit suite tables.now × IsSuite suite × (length block.old ≡ size_of suite) }
     ensures text { block.new ≡ hidden (cipher_of suite) mark (two_of suite state) block.old }
     ensures state { Holds suite result (turned (cipher_of suite) mark (two_of suite state)
-        (messageOf (cipher_of suite) true mark (two_of suite state) block.old)) (one_more_of state.calls) }
+        (message_of (cipher_of suite) true mark (two_of suite state) block.old)) (one_more_of state.calls) }
 {
     let enciphered = block_state::turn(tables, suite, state, mark, block.len());
     let x = enciphered.y;
@@ -75,7 +75,7 @@ pub fn absorb_short(
 ) -> State
     requires { TablesFit suite tables.now × IsSuite suite × (length block.now < size_of suite) }
     ensures { Holds suite result (turned (cipher_of suite) mark (two_of suite state)
-        (messageOf (cipher_of suite) opening mark (two_of suite state) block.now)) (one_more_of state.calls) }
+        (message_of (cipher_of suite) opening mark (two_of suite state) block.now)) (one_more_of state.calls) }
 {
     let n = cipher::size_of(suite);
     let enciphered = block_state::turn(tables, suite, state, mark, n);
@@ -101,7 +101,7 @@ pub fn crypt_short(
     requires { TablesFit suite tables.now × IsSuite suite × (length block.old < size_of suite) }
     ensures text { block.new ≡ hidden (cipher_of suite) mark (two_of suite state) block.old }
     ensures state { Holds suite result (turned (cipher_of suite) mark (two_of suite state)
-        (messageOf (cipher_of suite) opening mark (two_of suite state) block.old)) (one_more_of state.calls) }
+        (message_of (cipher_of suite) opening mark (two_of suite state) block.old)) (one_more_of state.calls) }
 {
     let len = block.len();
     let n = cipher::size_of(suite);

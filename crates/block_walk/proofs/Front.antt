@@ -12,7 +12,7 @@ use Rattle.block.specs.Words.{xor}
 use Rattle.block.proofs.Lists.{nil_of}
 use Rattle.cipher.specs.Cipher.{Cipher}
 use Rattle.mode.specs.Blocks.{blocks}
-use Rattle.mode.specs.Walk.{States, whole, rest, mark_of, turned, hidden, messageOf, walked, covered}
+use Rattle.mode.specs.Walk.{States, whole, rest, mark_of, turned, hidden, message_of, walked, covered}
 use Rattle.mode.proofs.Blocks.{blocks-nil, blocks-cons, blocks_more}
 use Rattle.mode.proofs.Cut.{length_whole, whole_append, rest-append, rest-less, whole-short}
 use Rattle.mode.proofs.Walk.{mark_full, mark_short}
@@ -90,25 +90,25 @@ module _ (κ : Cipher) (pos : 0 < κ.size) (d : Bool) (short : ℕ) where
 
   -- a whole block has no short mark
   pub walk-full : (m : ℕ) (s : States) (b : List ℕ) (bs : List (List ℕ)) → length b ≡ n
-      → walked κ d m short s (b ∷ bs) ≡ walked κ d 0 short (turned κ m s (messageOf κ d m s b)) bs
+      → walked κ d m short s (b ∷ bs) ≡ walked κ d 0 short (turned κ m s (message_of κ d m s b)) bs
   unfolding walked
-  walk-full m s b bs e = ap (λ (k : ℕ). walked κ d 0 short (turned κ k s (messageOf κ d k s b)) bs) (mark_full n m short (length b) e)
+  walk-full m s b bs e = ap (λ (k : ℕ). walked κ d 0 short (turned κ k s (message_of κ d k s b)) bs) (mark_full n m short (length b) e)
 
   pub cover-full : (m : ℕ) (s : States) (b : List ℕ) (bs : List (List ℕ)) → length b ≡ n
-      → covered κ d m short s (b ∷ bs) ≡ hidden κ m s b ++ covered κ d 0 short (turned κ m s (messageOf κ d m s b)) bs
+      → covered κ d m short s (b ∷ bs) ≡ hidden κ m s b ++ covered κ d 0 short (turned κ m s (message_of κ d m s b)) bs
   unfolding covered
-  cover-full m s b bs e = ap (λ (k : ℕ). hidden κ k s b ++ covered κ d 0 short (turned κ k s (messageOf κ d k s b)) bs) (mark_full n m short (length b) e)
+  cover-full m s b bs e = ap (λ (k : ℕ). hidden κ k s b ++ covered κ d 0 short (turned κ k s (message_of κ d k s b)) bs) (mark_full n m short (length b) e)
 
   pub front-walk : (m : ℕ) (s : States) (b l : List ℕ) → length b ≡ n
-      → walked κ d m short s (wholes n (b ++ l)) ≡ walked κ d 0 short (turned κ m s (messageOf κ d m s b)) (wholes n l)
+      → walked κ d m short s (wholes n (b ++ l)) ≡ walked κ d 0 short (turned κ m s (message_of κ d m s b)) (wholes n l)
   front-walk m s b l e = ap (walked κ d m short s) (front-blocks n pos b l e) ∙ walk-full m s b (wholes n l) e
 
   -- a short block
   pub walk-short : (m : ℕ) (s : States) (x : List ℕ) → 0 < length x → length x < n
-      → walked κ d m short s (blocks n x) ≡ turned κ (xor m short) s (messageOf κ d (xor m short) s x)
+      → walked κ d m short s (blocks n x) ≡ turned κ (xor m short) s (message_of κ d (xor m short) s x)
   unfolding walked
   walk-short m s x h k =
-      ap (walked κ d m short s) (one_block n pos x h k) ∙ ap (λ (j : ℕ). turned κ j s (messageOf κ d j s x)) (mark_short n m short (length x) k)
+      ap (walked κ d m short s) (one_block n pos x h k) ∙ ap (λ (j : ℕ). turned κ j s (message_of κ d j s x)) (mark_short n m short (length x) k)
 
   pub cover-short : (m : ℕ) (s : States) (x : List ℕ) → 0 < length x → length x < n → covered κ d m short s (blocks n x) ≡ hidden κ (xor m short) s x
   unfolding covered
@@ -135,14 +135,14 @@ module _ (κ : Cipher) (pos : 0 < κ.size) (d : Bool) (short : ℕ) where
   short-cover m s l h = ap (covered κ d m short s) (short-blocks n pos l h)
 
   -- one whole block alone
-  pub one-walk : (m : ℕ) (s : States) (b : List ℕ) → length b ≡ n → walked κ d m short s (wholes n b) ≡ turned κ m s (messageOf κ d m s b)
+  pub one-walk : (m : ℕ) (s : States) (b : List ℕ) → length b ≡ n → walked κ d m short s (wholes n b) ≡ turned κ m s (message_of κ d m s b)
   one-walk m s b e =
       ap (λ (x : List ℕ). walked κ d m short s (wholes n x)) (sym (append-nil b)) ∙ front-walk m s b [] e
-      ∙ short-walk 0 (turned κ m s (messageOf κ d m s b)) [] pos
+      ∙ short-walk 0 (turned κ m s (message_of κ d m s b)) [] pos
 
   -- a loop's turn: the block from i to e of l is absorbed, under the mark m
   module _ (l : List ℕ) (i e : ℕ) (q : e ≡ i + n) (h : e ≤ length l) (m : ℕ) (s t : States)
-      (et : t ≡ turned κ m s (messageOf κ d m s (take (e - i) (drop i l)))) where
+      (et : t ≡ turned κ m s (message_of κ d m s (take (e - i) (drop i l)))) where
     abbrev block : List ℕ
     block = take (e - i) (drop i l)
 

@@ -14,7 +14,7 @@ use borrow.Rule.Slice.PartMut.{post_of, put_mid, same_len_mid, drop_put}
 use Rattle.block.specs.Blocks.{wide}
 use Rattle.block.specs.Words.{add}
 use Rattle.cipher.specs.Cipher.{size_of, cipher_of}
-use Rattle.mode.specs.Walk.{whole, rest, turned, hidden, messageOf, walked, covered}
+use Rattle.mode.specs.Walk.{whole, rest, turned, hidden, message_of, walked, covered}
 use Rattle.mode.proofs.Cut.{whole-short}
 use Rattle.block_state.specs.declared.State.{State}
 use Rattle.block_state.specs.Two.{two_of, Holds, one_more_of}
@@ -58,7 +58,7 @@ module _ {suite : ℕ} {d : Bool} {m : ℕ} {s : State} {l : List ℕ} where
 
     -- the block from i on is absorbed
     pub turn : {r : State} → i + n ≤ length l
-        → Holds suite r (turned (cipher_of suite) k (two_of suite t) (messageOf (cipher_of suite) d k (two_of suite t) (take (i + n - i) (drop i l))))
+        → Holds suite r (turned (cipher_of suite) k (two_of suite t) (message_of (cipher_of suite) d k (two_of suite t) (take (i + n - i) (drop i l))))
         (one_more_of t.calls)
         → Going suite d m s l r 0 (i + n)
     turn {r} h holds =
@@ -114,7 +114,7 @@ module _ {suite : ℕ} {d : Bool} {m : ℕ} {s : State} {l : List ℕ} where
     -- the block from i on, which was borrowed, has come back as x
     pub placed-turn : {r : State} {x : List ℕ} → i + n ≤ length l → length x ≡ length (take (i + n - i) (drop i text))
         → (x ≡ hidden (cipher_of suite) k (two_of suite t) (take (i + n - i) (drop i text)))
-        × Holds suite r (turned (cipher_of suite) k (two_of suite t) (messageOf (cipher_of suite) d k (two_of suite t) (take (i + n - i) (drop i text))))
+        × Holds suite r (turned (cipher_of suite) k (two_of suite t) (message_of (cipher_of suite) d k (two_of suite t) (take (i + n - i) (drop i text))))
         (one_more_of t.calls)
         → Placed suite d m s l r 0 (i + n) (put_mid i (i + n - i) text x)
     placed-turn {r} {x} h lx made =
@@ -123,9 +123,9 @@ module _ {suite : ℕ} {d : Bool} {m : ℕ} {s : State} {l : List ℕ} where
         let pos : 0 < size_of suite = size_pos suite size in
         let came : take (e - i) (drop i text) ≡ take (e - i) (drop i l) = ap (take (e - i)) w.old in
         let le : length x ≡ e - i = lx ∙ ap length came ∙ block-long (size_of suite) pos l i e q h ∙ omega (arith, q) in
-        let holds : Holds suite r (turned (cipher_of suite) k (two_of suite t) (messageOf (cipher_of suite) d k (two_of suite t) (take (e - i) (drop i l))))
+        let holds : Holds suite r (turned (cipher_of suite) k (two_of suite t) (message_of (cipher_of suite) d k (two_of suite t) (take (e - i) (drop i l))))
         (one_more_of t.calls) =
-        subst (λ (b : List ℕ). Holds suite r (turned (cipher_of suite) k (two_of suite t) (messageOf (cipher_of suite) d k (two_of suite t) b))
+        subst (λ (b : List ℕ). Holds suite r (turned (cipher_of suite) k (two_of suite t) (message_of (cipher_of suite) d k (two_of suite t) b))
         (one_more_of t.calls)) came made.1 in
         record {
           going = turn size w.going h holds;

@@ -8,7 +8,7 @@ use mathlib.Core.List.{List}
 use lib.ListN.{length, replicate}
 use Rattle.block.specs.Bytes.{same_bytes}
 use Rattle.cipher.specs.Cipher.{cipher_of}
-use Rattle.mode.specs.Mode.{ciphertext, tag, textOut, tagOut}
+use Rattle.mode.specs.Mode.{ciphertext, tag, text_out, tag_out}
 use Rattle.status.specs.Verdicts.{refusal}
 use Rattle.status.proofs.Refuse.{passed}
 use Rattle.comet.specs.Answers.{Sealed, sealed_as, sealing, Opened, opened_as, opening}
@@ -64,14 +64,14 @@ module _ (s : ℕ) (k v a c g o : List ℕ) (n : ℕ) (e : n ≡ refusal true s 
   pub opening-kept : 0 < n → ◌≡◌ {A = Opened} (record { number = n; out = o }) (opening s k v a c g o)
   unfolding opening
   opening-kept h =
-      as_was n (same_bytes (tagOut (cipher_of s) true k v a c) g) (textOut (cipher_of s) true k v a c) o h
-      ∙ ap (λ (j : ℕ). opened_as j (same_bytes (tagOut (cipher_of s) true k v a c) g) (textOut (cipher_of s) true k v a c) o) e
+      as_was n (same_bytes (tag_out (cipher_of s) true k v a c) g) (text_out (cipher_of s) true k v a c) o h
+      ∙ ap (λ (j : ℕ). opened_as j (same_bytes (tag_out (cipher_of s) true k v a c) g) (text_out (cipher_of s) true k v a c) o) e
 
   -- b is what the comparison gave
-  pub opening-done : n ≡ 0 → (b : Bool) → b ≡ same_bytes (tagOut (cipher_of s) true k v a c) g
-      → opened_as 0 b (textOut (cipher_of s) true k v a c) o ≡ opening s k v a c g o
+  pub opening-done : n ≡ 0 → (b : Bool) → b ≡ same_bytes (tag_out (cipher_of s) true k v a c) g
+      → opened_as 0 b (text_out (cipher_of s) true k v a c) o ≡ opening s k v a c g o
   unfolding opening
-  opening-done z b eb = ap₂ (λ (j : ℕ) (d : Bool). opened_as j d (textOut (cipher_of s) true k v a c) o) (sym z ∙ e) eb
+  opening-done z b eb = ap₂ (λ (j : ℕ) (d : Bool). opened_as j d (text_out (cipher_of s) true k v a c) o) (sym z ∙ e) eb
 
 over-same : (b : Bool) (x o o' : List ℕ) → length o ≡ length o' → opened_as 0 b x o ≡ opened_as 0 b x o'
 over-same true x o o' e = refl
@@ -84,6 +84,6 @@ unfolding opening
 opening-over s k v a c g o z =
     let room : length o ≡ length c = (passed true s _ _ _ _ _ _ z).room in
     let passes = copy_passes true s (length k) (length v) (length a) (length c) (length o) (length g) z (length c) refl in
-    let right : Bool = same_bytes (tagOut (cipher_of s) true k v a c) g in
-    let message : List ℕ = textOut (cipher_of s) true k v a c in
+    let right : Bool = same_bytes (tag_out (cipher_of s) true k v a c) g in
+    let message : List ℕ = text_out (cipher_of s) true k v a c in
     ap (λ (j : ℕ). opened_as j right message c) passes ∙ over-same right message c o (sym room) ∙ sym (ap (λ (j : ℕ). opened_as j right message o) z)

@@ -3,7 +3,7 @@ use Rattle.std.specs.Prelude.{Bool, true, false, ℕ, zero, suc, List, length, r
 use Rattle.block.specs.Bytes.{same_bytes}
 use Rattle.cipher.specs.Cipher.{cipher_of}
 use Rattle.status.specs.Verdicts.{refusal}
-use Rattle.mode.specs.Mode.{ciphertext, tag, textOut, tagOut}
+use Rattle.mode.specs.Mode.{ciphertext, tag, text_out, tag_out}
 
 -- the status, output and tag of a sealer call
 pub record Sealed : Type 0 where
@@ -37,7 +37,7 @@ opened_as (suc j) right text out₀ = record { number = suc j; out = out₀ }
 unfoldable pub opening : ℕ → List ℕ → List ℕ → List ℕ → List ℕ → List ℕ → List ℕ → Opened
 opening s key nonce ad text tag out₀ =
     opened_as (refusal true s (length key) (length nonce) (length ad) (length text) (length out₀) (length tag))
-    (same_bytes (tagOut (cipher_of s) true key nonce ad text) tag) (textOut (cipher_of s) true key nonce ad text) out₀
+    (same_bytes (tag_out (cipher_of s) true key nonce ad text) tag) (text_out (cipher_of s) true key nonce ad text) out₀
 
 -- the verifier's status: the opener's, for an output of the text's length, so never 6
 unfoldable pub verifying : ℕ → List ℕ → List ℕ → List ℕ → List ℕ → List ℕ → ℕ

@@ -3,7 +3,7 @@
 ghost use Rattle.std.specs.Prelude.{◌≡◌, true, false, ◌≤◌, length, take};
 ghost use Rattle.block.specs.Blocks.{wide};
 ghost use Rattle.cipher.specs.Cipher.{needs_tables, TablesFit, IsSuite, size_of, nonce_of, cipher_of, limit};
-ghost use Rattle.mode.specs.Mode.{textOut, tagOut, calls};
+ghost use Rattle.mode.specs.Mode.{text_out, tag_out, calls};
 ghost use Rattle.block_state.specs.Two.{Clean};
 ghost use Rattle.status.specs.Verdicts.{number_of, refusal};
 ghost use Rattle.comet.specs.Answers.{Sealed, sealing, Opened, opening, verifying};
@@ -60,8 +60,8 @@ fn crypt_core(
 ) -> TagAndCalls
     requires { TablesFit suite tables.now × IsSuite suite × (length key.now ≡ 16) × (length nonce.now ≡ nonce_of suite) × (length ad.now ≤ limit)
         × (length text.old ≤ limit) }
-    ensures text { text.new ≡ textOut (cipher_of suite) opening key.now nonce.now ad.now text.old }
-    ensures tag { take (size_of suite) (wide result.tag) ≡ tagOut (cipher_of suite) opening key.now nonce.now ad.now
+    ensures text { text.new ≡ text_out (cipher_of suite) opening key.now nonce.now ad.now text.old }
+    ensures tag { take (size_of suite) (wide result.tag) ≡ tag_out (cipher_of suite) opening key.now nonce.now ad.now
         text.old }
     ensures rest { Clean suite result.tag
         × (result.calls ≡ length (calls (cipher_of suite) opening key.now nonce.now ad.now text.old)) }
@@ -96,8 +96,8 @@ fn crypt_with_tables(
 ) -> TagAndCalls
     requires { (needs_tables suite ≡ true) × IsSuite suite × (length key.now ≡ 16) × (length nonce.now ≡ nonce_of suite)
         × (length ad.now ≤ limit) × (length text.old ≤ limit) }
-    ensures text { text.new ≡ textOut (cipher_of suite) opening key.now nonce.now ad.now text.old }
-    ensures tag { take (size_of suite) (wide result.tag) ≡ tagOut (cipher_of suite) opening key.now nonce.now ad.now
+    ensures text { text.new ≡ text_out (cipher_of suite) opening key.now nonce.now ad.now text.old }
+    ensures tag { take (size_of suite) (wide result.tag) ≡ tag_out (cipher_of suite) opening key.now nonce.now ad.now
         text.old }
     ensures rest { Clean suite result.tag
         × (result.calls ≡ length (calls (cipher_of suite) opening key.now nonce.now ad.now text.old)) }
@@ -117,8 +117,8 @@ fn crypt_without_tables(
 ) -> TagAndCalls
     requires { (needs_tables suite ≡ false) × IsSuite suite × (length key.now ≡ 16) × (length nonce.now ≡ nonce_of suite)
         × (length ad.now ≤ limit) × (length text.old ≤ limit) }
-    ensures text { text.new ≡ textOut (cipher_of suite) opening key.now nonce.now ad.now text.old }
-    ensures tag { take (size_of suite) (wide result.tag) ≡ tagOut (cipher_of suite) opening key.now nonce.now ad.now
+    ensures text { text.new ≡ text_out (cipher_of suite) opening key.now nonce.now ad.now text.old }
+    ensures tag { take (size_of suite) (wide result.tag) ≡ tag_out (cipher_of suite) opening key.now nonce.now ad.now
         text.old }
     ensures rest { Clean suite result.tag
         × (result.calls ≡ length (calls (cipher_of suite) opening key.now nonce.now ad.now text.old)) }
@@ -136,8 +136,8 @@ fn crypt(
     text: &mut [u8],
 ) -> TagAndCalls
     requires { IsSuite suite × (length key.now ≡ 16) × (length nonce.now ≡ nonce_of suite) × (length ad.now ≤ limit) × (length text.old ≤ limit) }
-    ensures text { text.new ≡ textOut (cipher_of suite) opening key.now nonce.now ad.now text.old }
-    ensures tag { take (size_of suite) (wide result.tag) ≡ tagOut (cipher_of suite) opening key.now nonce.now ad.now
+    ensures text { text.new ≡ text_out (cipher_of suite) opening key.now nonce.now ad.now text.old }
+    ensures tag { take (size_of suite) (wide result.tag) ≡ tag_out (cipher_of suite) opening key.now nonce.now ad.now
         text.old }
     ensures rest { Clean suite result.tag
         × (result.calls ≡ length (calls (cipher_of suite) opening key.now nonce.now ad.now text.old)) }
@@ -370,7 +370,7 @@ fn tag_core(
     text: &[u8],
 ) -> Block
     requires { TablesFit suite tables.now × IsSuite suite × (length key.now ≡ 16) × (length nonce.now ≡ nonce_of suite) }
-    ensures tag { take (size_of suite) (wide result) ≡ tagOut (cipher_of suite) true key.now nonce.now ad.now
+    ensures tag { take (size_of suite) (wide result) ≡ tag_out (cipher_of suite) true key.now nonce.now ad.now
         text.now }
     ensures rest { Clean suite result }
 {
@@ -404,7 +404,7 @@ fn tag_core(
 // `tag_core` under the tables of AES; a function of its own, as `crypt_with_tables` is.
 fn tag_with_tables(suite: u8, key: &[u8], nonce: &[u8], ad: &[u8], text: &[u8]) -> Block
     requires { (needs_tables suite ≡ true) × IsSuite suite × (length key.now ≡ 16) × (length nonce.now ≡ nonce_of suite) }
-    ensures tag { take (size_of suite) (wide result) ≡ tagOut (cipher_of suite) true key.now nonce.now ad.now
+    ensures tag { take (size_of suite) (wide result) ≡ tag_out (cipher_of suite) true key.now nonce.now ad.now
         text.now }
     ensures rest { Clean suite result }
 {
@@ -415,7 +415,7 @@ fn tag_with_tables(suite: u8, key: &[u8], nonce: &[u8], ad: &[u8], text: &[u8]) 
 // `tag_core` without tables.
 fn tag_without_tables(suite: u8, key: &[u8], nonce: &[u8], ad: &[u8], text: &[u8]) -> Block
     requires { (needs_tables suite ≡ false) × IsSuite suite × (length key.now ≡ 16) × (length nonce.now ≡ nonce_of suite) }
-    ensures tag { take (size_of suite) (wide result) ≡ tagOut (cipher_of suite) true key.now nonce.now ad.now
+    ensures tag { take (size_of suite) (wide result) ≡ tag_out (cipher_of suite) true key.now nonce.now ad.now
         text.now }
     ensures rest { Clean suite result }
 {
@@ -425,7 +425,7 @@ fn tag_without_tables(suite: u8, key: &[u8], nonce: &[u8], ad: &[u8], text: &[u8
 // `tag_core` under the tables that the suite needs, or none.
 fn tag_under(suite: u8, key: &[u8], nonce: &[u8], ad: &[u8], text: &[u8]) -> Block
     requires { IsSuite suite × (length key.now ≡ 16) × (length nonce.now ≡ nonce_of suite) }
-    ensures tag { take (size_of suite) (wide result) ≡ tagOut (cipher_of suite) true key.now nonce.now ad.now
+    ensures tag { take (size_of suite) (wide result) ≡ tag_out (cipher_of suite) true key.now nonce.now ad.now
         text.now }
     ensures rest { Clean suite result }
 {

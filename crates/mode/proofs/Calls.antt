@@ -11,8 +11,8 @@ use Rattle.cipher.specs.Cipher.{Cipher}
 use Rattle.mode.specs.Blocks.{blocks}
 use Rattle.mode.specs.Words.{shuffle, pad}
 use Rattle.mode.specs.Keys.{marks, keys}
-use Rattle.mode.specs.Mode.{CipherCall, Chain, Trail, later_keys, enciphered, startCall, nextCall, image, startY, startZ, start, absorbed, masked, message}
-use Rattle.mode.specs.Mode.{trail, afterData, textOut, tagOut, calls}
+use Rattle.mode.specs.Mode.{CipherCall, Chain, Trail, later_keys, enciphered, start_call, next_call, image, start_y, start_z, start, absorbed, masked, message}
+use Rattle.mode.specs.Mode.{trail, after_data, text_out, tag_out, calls}
 use Rattle.mode.specs.Calls.{Agree, none, more, other}
 use Rattle.mode.proofs.Blocks.{as_many}
 
@@ -30,7 +30,7 @@ unfolding calls
 calls_count κ d key nonce ad text =
     let r : Trail = trail κ false (start κ key nonce (length ad) (length text)) (blocks κ.size ad) in
     let t : Trail = trail κ d r.end (blocks κ.size text) in
-    let l : List CipherCall = nextCall κ t.end ∷ [] in
+    let l : List CipherCall = next_call κ t.end ∷ [] in
     omega (
       arith,
       length-append r.made (t.made ++ l),
@@ -68,12 +68,12 @@ module _ (κ : Cipher) (E' : List ℕ → List ℕ → List ℕ) where
       let n = κ.size in
       let o : List ℕ → List ℕ = λ x. xors b (shuffle n x) in
       let next : List ℕ → Chain = λ x. record { Y = xors x (pad n (cond d (o x) b)); left = later_keys c.left } in
-      let join : List ℕ → Trail → Trail = λ x r. record { made = nextCall κ c ∷ r.made; out = o x ++ r.out; end = r.end } in
+      let join : List ℕ → Trail → Trail = λ x r. record { made = next_call κ c ∷ r.made; out = o x ++ r.out; end = r.end } in
       ap (join (image κ c)) (same-trail d (next (image κ c)) bs h) ∙ ap (λ (x : List ℕ). join x (trail κ' d (next x) bs)) e
 
-  same_start : (key nonce : List ℕ) (a m : ℕ) → enciphered κ (startCall κ key nonce) ≡ enciphered κ' (startCall κ key nonce)
+  same_start : (key nonce : List ℕ) (a m : ℕ) → enciphered κ (start_call κ key nonce) ≡ enciphered κ' (start_call κ key nonce)
       → start κ key nonce a m ≡ start κ' key nonce a m
-  unfolding start startY startZ
+  unfolding start start_y start_z
   same_start key nonce a m e =
       let t = eqb κ.size 16 in
       let v = κ.version in
@@ -81,8 +81,8 @@ module _ (κ : Cipher) (E' : List ℕ → List ℕ → List ℕ) where
 
   -- a cipher that gives the same for the calls of the list gives the same text and tag
   pub calls-decide : (d : Bool) (key nonce ad text : List ℕ) → Agree κ κ' (calls κ d key nonce ad text)
-      → (textOut κ d key nonce ad text ≡ textOut κ' d key nonce ad text) × (tagOut κ d key nonce ad text ≡ tagOut κ' d key nonce ad text)
-  unfolding calls afterData textOut tagOut
+      → (text_out κ d key nonce ad text ≡ text_out κ' d key nonce ad text) × (tag_out κ d key nonce ad text ≡ tag_out κ' d key nonce ad text)
+  unfolding calls after_data text_out tag_out
   calls-decide d key nonce ad text (more e h) =
       let n = κ.size in
       let s = start κ key nonce (length ad) (length text) in

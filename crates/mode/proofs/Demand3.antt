@@ -17,7 +17,7 @@ use Rattle.block.proofs.Xors.{xors_comm, xors_inj}
 use Rattle.cipher.specs.Cipher.{Cipher, Lawful, Block}
 use Rattle.mode.specs.Blocks.{blocks}
 use Rattle.mode.specs.Words.{pad}
-use Rattle.mode.specs.Mode.{Chain, first_key, later_keys, image, nonceSize, start, absorbed, message, trail, absorb, afterData, tagOut, tag}
+use Rattle.mode.specs.Mode.{Chain, first_key, later_keys, image, nonce_size, start, absorbed, message, trail, absorb, after_data, tag_out, tag}
 use Rattle.mode.proofs.Blocks.{AllBlocks, none, more, all_blocks, blocks-split}
 use Rattle.mode.proofs.Words.{pad_block, pad-front}
 use Rattle.mode.proofs.Keys.{enough_first}
@@ -90,7 +90,7 @@ module _ (κ : Cipher) (L : Lawful κ) where
   -- the tag is what the cipher makes of all blocks, those of the associated data first
   tag-chain : (key nonce a m : List ℕ) → tag κ key nonce a m ≡ image κ (absorb κ (start κ key nonce (length a) (length m))
       (blocks κ.size a ++ blocks κ.size m))
-  unfolding tagOut afterData
+  unfolding tag_out after_data
   tag-chain key nonce a m = sym (ap (image κ) (absorb-append (start κ key nonce (length a) (length m)) (blocks κ.size a) (blocks κ.size m)))
 
 -- ---- lists that differ only inside block j
@@ -171,7 +171,7 @@ module _ (κ : Cipher) (L : Lawful κ) (j : ℕ) (x y : List ℕ) (hx : AllBytes
             sym (parts n j x) ∙ ap₂ (λ (u v : List ℕ). u ++ v) before (ap₂ (λ (u v : List ℕ). u ++ v) same behind) ∙ parts n j y
       ]
 
-  module _ (key nonce other : List ℕ) (hk : Block 16 key) (hv : AllBytes nonce) (lv : length nonce ≡ nonceSize κ) (ho : AllBytes other) where
+  module _ (key nonce other : List ℕ) (hk : Block 16 key) (hv : AllBytes nonce) (lv : length nonce ≡ nonce_size κ) (ho : AllBytes other) where
     other-blocks : AllBlocks κ.size (blocks κ.size other)
     other-blocks = all_blocks (length other) κ.size (some κ L) other (le_refl (length other)) ho
 

@@ -11,7 +11,7 @@ use Rattle.block.specs.Bytes.{AllBytes}
 use Rattle.block.proofs.Lists.{all_take}
 use Rattle.cipher.specs.Cipher.{Cipher, Lawful, Block}
 use Rattle.mode.specs.Blocks.{blocks}
-use Rattle.mode.specs.Mode.{Chain, nonceSize, absorbed, masked, message, trail, after, crypted, afterData, textOut, tagOut}
+use Rattle.mode.specs.Mode.{Chain, nonce_size, absorbed, masked, message, trail, after, crypted, after_data, text_out, tag_out}
 use Rattle.mode.proofs.Blocks.{blocks-split}
 use Rattle.mode.proofs.Chain.{undone, some}
 use Rattle.mode.proofs.Demand2.{text-length, text-bytes, text-back, tag_back}
@@ -37,22 +37,22 @@ module _ (κ : Cipher) (L : Lawful κ) (j : ℕ) where
 
   module _ (key nonce ad x y : List ℕ) (hx : AllBytes x) (hy : AllBytes y) (l : length x ≡ length y)
       (inside : j * κ.size < length x) (last : length x ≤ j * κ.size + κ.size) (before : take (j * κ.size) x ≡ take (j * κ.size) y) where
-    text-before : (d : Bool) → take (j * κ.size) (textOut κ d key nonce ad x) ≡ take (j * κ.size) (textOut κ d key nonce ad y)
-    unfolding textOut
+    text-before : (d : Bool) → take (j * κ.size) (text_out κ d key nonce ad x) ≡ take (j * κ.size) (text_out κ d key nonce ad y)
+    unfolding text_out
     text-before d =
         let n = κ.size in
-        let C : ℕ → Chain = λ k. afterData κ key nonce ad k in
+        let C : ℕ → Chain = λ k. after_data κ key nonce ad k in
         front d (C (length x)) x hx inside
         ∙ ap₂ (λ (k : ℕ) (p : List ℕ). crypted κ d (C k) (blocks n p)) l before
         ∙ sym (front d (C (length y)) y hy (subst (λ (k : ℕ). j * n < k) l inside))
 
     -- two ciphertexts that differ in the last block alone: equal tags only if they are equal
-    pub last-told : Block 16 key → AllBytes nonce → length nonce ≡ nonceSize κ → AllBytes ad → tagOut κ true key nonce ad x ≡ tagOut κ true key nonce ad y
+    pub last-told : Block 16 key → AllBytes nonce → length nonce ≡ nonce_size κ → AllBytes ad → tag_out κ true key nonce ad x ≡ tag_out κ true key nonce ad y
         → x ≡ y
     last-told hk hv lv ha e =
         let n = κ.size in
-        let u = textOut κ true key nonce ad x in
-        let w = textOut κ true key nonce ad y in
+        let u = text_out κ true key nonce ad x in
+        let w = text_out κ true key nonce ad y in
         let hu : AllBytes u = text-bytes κ L key nonce ad true x hx in
         let hw : AllBytes w = text-bytes κ L key nonce ad true y hy in
         let lu : length u ≡ length x = text-length κ L key nonce ad true x hx in
@@ -62,4 +62,4 @@ module _ (κ : Cipher) (L : Lawful κ) (j : ℕ) where
         let same : u ≡ w =
         message-told κ L j u w hu hw (lu ∙ l ∙ sym lw) (text-before true) behind key nonce ad hk hv lv ha
         (tag_back κ L key nonce ad true x hx ∙ e ∙ sym (tag_back κ L key nonce ad true y hy)) in
-        sym (text-back κ L key nonce ad true x hx) ∙ ap (textOut κ false key nonce ad) same ∙ text-back κ L key nonce ad true y hy
+        sym (text-back κ L key nonce ad true x hx) ∙ ap (text_out κ false key nonce ad) same ∙ text-back κ L key nonce ad true y hy

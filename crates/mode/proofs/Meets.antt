@@ -111,12 +111,12 @@ module _ (κ : Cipher) (L : Lawful κ) where
   -- d stands after the end of every list of calls
   module _ (d : CipherCall) where
     -- the output at block i, by the list of calls
-    abbrev pub outputOf : Chain → List (List ℕ) → ℕ → List ℕ
-    outputOf c bs i = enciphered κ (get_or (trail κ true c bs).made i d)
+    abbrev pub output_of : Chain → List (List ℕ) → ℕ → List ℕ
+    output_of c bs i = enciphered κ (get_or (trail κ true c bs).made i d)
 
     -- at some block from number f on the outputs are complements
     abbrev pub Complemented : ℕ → Chain → Chain → List (List ℕ) → List (List ℕ) → Type 0
-    Complemented f c c' bs bs' = (i : ℕ) × (f ≤ i) × (i < length bs) × Complements κ.size (outputOf c bs i) (outputOf c' bs' i)
+    Complemented f c c' bs bs' = (i : ℕ) × (f ≤ i) × (i < length bs) × Complements κ.size (output_of c bs i) (output_of c' bs' i)
 
     -- equal tags exactly then
     abbrev pub Meets : ℕ → Chain → Chain → List (List ℕ) → List (List ℕ) → Type 0

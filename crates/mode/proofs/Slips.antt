@@ -16,16 +16,16 @@ use Rattle.block.proofs.Xors.{xors_comm, xors_inj}
 use Rattle.cipher.specs.Cipher.{Cipher, Lawful, Block}
 use Rattle.mode.specs.Blocks.{blocks}
 use Rattle.mode.specs.Words.{shuffle}
-use Rattle.mode.specs.Mode.{CipherCall, Chain, Trail, enciphered, startCall, nextCall, image, nonceSize, start, absorbed, masked, message, trail, after}
-use Rattle.mode.specs.Mode.{absorb, afterData, tagOut, calls}
-use Rattle.mode.specs.Slips.{outputAt, ComplementFrom, ChangedIn, in-data, in-text, FullFrom, SlipsThrough}
+use Rattle.mode.specs.Mode.{CipherCall, Chain, Trail, enciphered, start_call, next_call, image, nonce_size, start, absorbed, masked, message, trail, after}
+use Rattle.mode.specs.Mode.{absorb, after_data, tag_out, calls}
+use Rattle.mode.specs.Slips.{output_at, ComplementFrom, ChangedIn, in-data, in-text, FullFrom, SlipsThrough}
 use Rattle.mode.proofs.Blocks.{AllBlocks, all_blocks, blocks-split, as_many, first-blocks}
 use Rattle.mode.proofs.Words.{shuffle_block}
 use Rattle.mode.proofs.Chain.{Good, good-after, good-message, length-message, all-message, some}
 use Rattle.mode.proofs.Start.{good-data}
 use Rattle.mode.proofs.Demand3.{absorbed-left, block-told, same-before, same_behind, parts, data-told}
 use Rattle.mode.proofs.Calls.{made_count}
-use Rattle.mode.proofs.Meets.{same-chain, Full, outputOf, Meets, changed-at, meets}
+use Rattle.mode.proofs.Meets.{same-chain, Full, output_of, Meets, changed-at, meets}
 
 module _ (κ : Cipher) (L : Lawful κ) where
   -- ---- the same keys
@@ -38,8 +38,8 @@ module _ (κ : Cipher) (L : Lawful κ) where
   absorb-left c c' (b ∷ bs) [] l e = absurd (suc-ne-zero (length bs) l)
   absorb-left c c' (b ∷ bs) (b' ∷ bs') l e = absorb-left (absorbed κ c b) (absorbed κ c' b') bs bs' (suc_inj l) (absorbed-left κ L c c' b b' e)
 
-  data-left : (key nonce ad ad' : List ℕ) (l : ℕ) → length ad ≡ length ad' → (afterData κ key nonce ad l).left ≡ (afterData κ key nonce ad' l).left
-  unfolding afterData
+  data-left : (key nonce ad ad' : List ℕ) (l : ℕ) → length ad ≡ length ad' → (after_data κ key nonce ad l).left ≡ (after_data κ key nonce ad' l).left
+  unfolding after_data
   data-left key nonce ad ad' l e =
       let n = κ.size in
       absorb-left (start κ key nonce (length ad) l) (start κ key nonce (length ad') l) (blocks n ad) (blocks n ad')
@@ -74,16 +74,16 @@ module _ (κ : Cipher) (L : Lawful κ) where
         (λ e. ne (opened-told u b b' lb (omega arith)
         (block-told κ L (length Q) u m m' gu (all-message κ L true u b hb) (all-message κ L true u b' hb') (lm ∙ l ∙ sym lm') (omega arith) e))))
 
-    module _ (key nonce : List ℕ) (hk : Block 16 key) (hv : AllBytes nonce) (lv : length nonce ≡ nonceSize κ) where
+    module _ (key nonce : List ℕ) (hk : Block 16 key) (hv : AllBytes nonce) (lv : length nonce ≡ nonce_size κ) where
       -- a block of the associated data is changed
       data-meets : (ad ad' c : List ℕ) (j : ℕ) → AllBytes ad → AllBytes ad' → AllBytes c → ChangedIn κ.size j ad ad' → FullFrom κ.size 0 c
-          → Meets κ L d 0 (afterData κ key nonce ad (length c)) (afterData κ key nonce ad' (length c)) (blocks κ.size c) (blocks κ.size c)
-      unfolding tagOut
+          → Meets κ L d 0 (after_data κ key nonce ad (length c)) (after_data κ key nonce ad' (length c)) (blocks κ.size c) (blocks κ.size c)
+      unfolding tag_out
       data-meets ad ad' c j ha ha' hc ch full =
           let n = κ.size in
           let l : length ad ≡ length ad' = ch.same_length in
-          let u = afterData κ key nonce ad (length c) in
-          let u' = afterData κ key nonce ad' (length c) in
+          let u = after_data κ key nonce ad (length c) in
+          let u' = after_data κ key nonce ad' (length c) in
           let el : u.left ≡ u'.left = data-left key nonce ad ad' (length c) l in
           meets κ L d u u' (all_blocks (length c) n (some κ L) c (le_refl (length c)) hc) (λ i h. full i (omega arith) h)
           (good-data κ L key nonce hk hv lv ad c ha) (good-data κ L key nonce hk hv lv ad' c ha') el
@@ -93,7 +93,7 @@ module _ (κ : Cipher) (L : Lawful κ) where
 
       -- a block of the ciphertext is changed
       text-meets : (ad c c' : List ℕ) (j : ℕ) → AllBytes ad → AllBytes c → AllBytes c' → ChangedIn κ.size j c c' → FullFrom κ.size (suc j) c
-          → Meets κ L d (suc j) (afterData κ key nonce ad (length c)) (afterData κ key nonce ad (length c')) (blocks κ.size c) (blocks κ.size c')
+          → Meets κ L d (suc j) (after_data κ key nonce ad (length c)) (after_data κ key nonce ad (length c')) (blocks κ.size c) (blocks κ.size c')
       text-meets ad c c' j ha hc hc' ch full =
           let n = κ.size in
           let pos : 0 < n = some κ L in
@@ -110,7 +110,7 @@ module _ (κ : Cipher) (L : Lawful κ) where
                 let Q = blocks n r in
                 let b = take n (drop k c) in
                 let b' = take n (drop k c') in
-                let A : ℕ → Chain = afterData κ key nonce ad in
+                let A : ℕ → Chain = after_data κ key nonce ad in
                 let ec : blocks n c ≡ P ++ (b ∷ Q) = blocks-split n pos j c (omega arith) in
                 let ec' : blocks n c' ≡ P ++ (b' ∷ Q) =
                 blocks-split n pos j c' (omega arith) ∙ ap₂ (λ (x y : List ℕ). blocks n x ++ (b' ∷ blocks n y)) (sym before) (sym behind) in
@@ -142,32 +142,32 @@ module _ (κ : Cipher) (L : Lawful κ) where
 
   module _ (key nonce : List ℕ) where
     abbrev d₀ : CipherCall
-    d₀ = startCall κ key nonce
+    d₀ = start_call κ key nonce
 
     -- the message's calls stand in the list after the start's and those of the associated data
     output-is : (ad c : List ℕ) (i : ℕ) → i < length (blocks κ.size c)
-        → outputAt κ key nonce ad c i ≡ outputOf κ L d₀ (afterData κ key nonce ad (length c)) (blocks κ.size c) i
-    unfolding outputAt calls afterData
+        → output_at κ key nonce ad c i ≡ output_of κ L d₀ (after_data κ key nonce ad (length c)) (blocks κ.size c) i
+    unfolding output_at calls after_data
     output-is ad c i h =
         let n = κ.size in
         let s = start κ key nonce (length ad) (length c) in
         let r : Trail = trail κ false s (blocks n ad) in
         let t : Trail = trail κ true r.end (blocks n c) in
-        let l : List CipherCall = nextCall κ t.end ∷ [] in
+        let l : List CipherCall = next_call κ t.end ∷ [] in
         ap (enciphered κ)
         (ap (λ (k : ℕ). get_or (r.made ++ (t.made ++ l)) (k + i) d₀) (sym (made_count κ false s (blocks n ad)))
         ∙ get_or-append-add r.made (t.made ++ l) i d₀
         ∙ get_or-append t.made l d₀ i (omega (arith, made_count κ true r.end (blocks n c))))
 
-    told : (first : ℕ) (ad c ad' c' t : List ℕ) → length c ≡ length c' → tagOut κ true key nonce ad c ≡ t
-        → Meets κ L d₀ first (afterData κ key nonce ad (length c)) (afterData κ key nonce ad' (length c')) (blocks κ.size c) (blocks κ.size c')
-        → (tagOut κ true key nonce ad' c' ≡ t) ↔ ComplementFrom κ first key nonce ad c ad' c'
-    unfolding tagOut
+    told : (first : ℕ) (ad c ad' c' t : List ℕ) → length c ≡ length c' → tag_out κ true key nonce ad c ≡ t
+        → Meets κ L d₀ first (after_data κ key nonce ad (length c)) (after_data κ key nonce ad' (length c')) (blocks κ.size c) (blocks κ.size c')
+        → (tag_out κ true key nonce ad' c' ≡ t) ↔ ComplementFrom κ first key nonce ad c ad' c'
+    unfolding tag_out
     told first ad c ad' c' t l acc m =
         let n = κ.size in
         let both : (i : ℕ) → i < length (blocks n c)
-        → xors (outputAt κ key nonce ad c i) (outputAt κ key nonce ad' c' i)
-        ≡ xors (outputOf κ L d₀ (afterData κ key nonce ad (length c)) (blocks n c) i) (outputOf κ L d₀ (afterData κ key nonce ad' (length c')) (blocks n c') i)
+        → xors (output_at κ key nonce ad c i) (output_at κ key nonce ad' c' i)
+        ≡ xors (output_of κ L d₀ (after_data κ key nonce ad (length c)) (blocks n c) i) (output_of κ L d₀ (after_data κ key nonce ad' (length c')) (blocks n c') i)
         = λ i h. ap₂ xors (output-is ad c i h) (output-is ad' c' i (omega (arith, as_many n (some κ L) c c' l))) in (
           λ e. let s = m.0 (acc ∙ sym e) in (s.0, s.1, s.2, both s.0 s.2 ∙ s.3),
           λ s. sym (m.1 (s.0, s.1, s.2, sym (both s.0 s.2) ∙ s.3)) ∙ acc,
@@ -175,8 +175,8 @@ module _ (κ : Cipher) (L : Lawful κ) where
 
 pub slips_through : SlipsThrough
 slips_through κ L key nonce ad ad' c c' t first hk hv lv ha ha' hc hc' acc (in-data j ch ec) full =
-    subst (λ (x : List ℕ). (tagOut κ true key nonce ad' x ≡ t) ↔ ComplementFrom κ 0 key nonce ad c ad' x) ec
-    (told κ L key nonce 0 ad c ad' c t refl acc (data-meets κ L (startCall κ key nonce) key nonce hk hv lv ad ad' c j ha ha' hc ch full))
+    subst (λ (x : List ℕ). (tag_out κ true key nonce ad' x ≡ t) ↔ ComplementFrom κ 0 key nonce ad c ad' x) ec
+    (told κ L key nonce 0 ad c ad' c t refl acc (data-meets κ L (start_call κ key nonce) key nonce hk hv lv ad ad' c j ha ha' hc ch full))
 slips_through κ L key nonce ad ad' c c' t first hk hv lv ha ha' hc hc' acc (in-text j ea ch) full =
-    subst (λ (x : List ℕ). (tagOut κ true key nonce x c' ≡ t) ↔ ComplementFrom κ (suc j) key nonce ad c x c') ea
-    (told κ L key nonce (suc j) ad c ad c' t ch.same_length acc (text-meets κ L (startCall κ key nonce) key nonce hk hv lv ad c c' j ha hc hc' ch full))
+    subst (λ (x : List ℕ). (tag_out κ true key nonce x c' ≡ t) ↔ ComplementFrom κ (suc j) key nonce ad c x c') ea
+    (told κ L key nonce (suc j) ad c ad c' t ch.same_length acc (text-meets κ L (start_call κ key nonce) key nonce hk hv lv ad c c' j ha hc hc' ch full))

@@ -18,7 +18,7 @@ use Rattle.cipher.specs.Cipher.{Cipher, Lawful, Block, cipher_of, size_of, nonce
 use Rattle.cipher.proofs.Suites as suites
 use Rattle.mode.specs.Blocks.{blocks, lengths}
 use Rattle.mode.specs.Keys.{marks}
-use Rattle.mode.specs.Mode.{nonceSize, startY, startZ, start, afterData}
+use Rattle.mode.specs.Mode.{nonce_size, start_y, start_z, start, after_data}
 use Rattle.mode.proofs.Blocks.{count_same, all_blocks}
 use Rattle.mode.proofs.Keys.{marks-bytes, marks-count, enough_keys}
 use Rattle.mode.proofs.Chain.{Good, good-after, some}
@@ -32,16 +32,16 @@ module _ (κ : Cipher) where
   narrow-test : κ.size ≡ 8 → eqb κ.size 16 ≡ false
   narrow-test e = ne_eqb κ.size 16 (λ q. omega arith)
 
-  pub nonce_wide : κ.size ≡ 16 → nonceSize κ ≡ 16
-  unfolding nonceSize
+  pub nonce_wide : κ.size ≡ 16 → nonce_size κ ≡ 16
+  unfolding nonce_size
   nonce_wide e = ap (λ (t : Bool). cond t 16 15) (wide_test e)
 
-  pub nonce_narrow : κ.size ≡ 8 → nonceSize κ ≡ 15
-  unfolding nonceSize
+  pub nonce_narrow : κ.size ≡ 8 → nonce_size κ ≡ 15
+  unfolding nonce_size
   nonce_narrow e = ap (λ (t : Bool). cond t 16 15) (narrow-test e)
 
-  pub nonce_most : nonceSize κ ≤ 16
-  unfolding nonceSize
+  pub nonce_most : nonce_size κ ≤ 16
+  unfolding nonce_size
   nonce_most = two (eqb κ.size 16)
     where
       two : (t : Bool) → cond t 16 15 ≤ 16
@@ -49,38 +49,38 @@ module _ (κ : Cipher) where
       two false = omega arith
 
   module _ (key nonce : List ℕ) where
-    pub start_y_wide : κ.size ≡ 16 → startY κ key nonce ≡ key
-    unfolding startY
+    pub start_y_wide : κ.size ≡ 16 → start_y κ key nonce ≡ key
+    unfolding start_y
     start_y_wide e = ap (λ (t : Bool). cond t key (κ.E key (cond t nonce (replicate 8 0)))) (wide_test e)
 
-    pub start_y_narrow : κ.size ≡ 8 → startY κ key nonce ≡ κ.E key (replicate 8 0)
-    unfolding startY
+    pub start_y_narrow : κ.size ≡ 8 → start_y κ key nonce ≡ κ.E key (replicate 8 0)
+    unfolding start_y
     start_y_narrow e = ap (λ (t : Bool). cond t key (κ.E key (cond t nonce (replicate 8 0)))) (narrow-test e)
 
-    pub start_z_wide : κ.size ≡ 16 → startZ κ key nonce ≡ κ.E key nonce
-    unfolding startZ
+    pub start_z_wide : κ.size ≡ 16 → start_z κ key nonce ≡ κ.E key nonce
+    unfolding start_z
     start_z_wide e = ap (λ (t : Bool). cond t (κ.E key (cond t nonce (replicate 8 0))) (xors (take 15 key) nonce ++ drop 15 key)) (wide_test e)
 
-    pub start_z_narrow : κ.size ≡ 8 → startZ κ key nonce ≡ xors (take 15 key) nonce ++ drop 15 key
-    unfolding startZ
+    pub start_z_narrow : κ.size ≡ 8 → start_z κ key nonce ≡ xors (take 15 key) nonce ++ drop 15 key
+    unfolding start_z
     start_z_narrow e = ap (λ (t : Bool). cond t (κ.E key (cond t nonce (replicate 8 0))) (xors (take 15 key) nonce ++ drop 15 key)) (narrow-test e)
 
 -- the table's nonce is the mode's
-pub suite_nonce : (s : ℕ) → nonceSize (cipher_of s) ≡ nonce_of s
+pub suite_nonce : (s : ℕ) → nonce_size (cipher_of s) ≡ nonce_of s
 suite_nonce s = two (suites.sizes_two s)
   where
-    two : (size_of s ≡ 16) ⊎ (size_of s ≡ 8) → nonceSize (cipher_of s) ≡ nonce_of s
+    two : (size_of s ≡ 16) ⊎ (size_of s ≡ 8) → nonce_size (cipher_of s) ≡ nonce_of s
     two (inl e) = nonce_wide (cipher_of s) e ∙ sym (suites.nonce_wide s e)
     two (inr e) = nonce_narrow (cipher_of s) e ∙ sym (suites.nonce_narrow s e)
 
-module _ (κ : Cipher) (L : Lawful κ) (key nonce : List ℕ) (hk : Block 16 key) (hv : AllBytes nonce) (lv : length nonce ≡ nonceSize κ) where
-  pub y-block : (κ.size ≡ 16) ⊎ (κ.size ≡ 8) → Block κ.size (startY κ key nonce)
+module _ (κ : Cipher) (L : Lawful κ) (key nonce : List ℕ) (hk : Block 16 key) (hv : AllBytes nonce) (lv : length nonce ≡ nonce_size κ) where
+  pub y-block : (κ.size ≡ 16) ⊎ (κ.size ≡ 8) → Block κ.size (start_y κ key nonce)
   y-block (inl e) = subst (Block κ.size) (sym (start_y_wide κ key nonce e)) (subst (λ (n : ℕ). Block n key) (sym e) hk)
   y-block (inr e) =
       subst (Block κ.size) (sym (start_y_narrow κ key nonce e))
       (L.image key (replicate 8 0) hk (record { long = sym e; bytes = all_replicate 8 0 (omega arith) }))
 
-  pub z-block : (κ.size ≡ 16) ⊎ (κ.size ≡ 8) → Block 16 (startZ κ key nonce)
+  pub z-block : (κ.size ≡ 16) ⊎ (κ.size ≡ 8) → Block 16 (start_z κ key nonce)
   z-block (inl e) =
       let bv : Block κ.size nonce = record { long = lv ∙ nonce_wide κ e ∙ sym e; bytes = hv } in
       subst (Block 16) (sym (start_z_wide κ key nonce e)) (subst (λ (n : ℕ). Block n (κ.E key nonce)) e (L.image key nonce hk bv))
@@ -103,7 +103,7 @@ module _ (κ : Cipher) (L : Lawful κ) (key nonce : List ℕ) (hk : Block 16 key
       record {
         y = y-block L.sizes;
         enough =
-            enough_keys κ.version f (startZ κ key nonce) (marks κ.version κ.size a m) (z-block L.sizes) (marks-bytes κ.version κ.size a m)
+            enough_keys κ.version f (start_z κ key nonce) (marks κ.version κ.size a m) (z-block L.sizes) (marks-bytes κ.version κ.size a m)
             (omega (arith, marks-count κ.version κ.size a m));
       }
 
@@ -115,8 +115,8 @@ module _ (κ : Cipher) (L : Lawful κ) (key nonce : List ℕ) (hk : Block 16 key
       (sym (ap₂ (λ (x y : ℕ). x + y) (count_same n (some κ L) a) (count_same n (some κ L) m)))
       (good_start (length a) (length m))
 
-  pub good-data : (a m : List ℕ) → AllBytes a → Good κ (length (blocks κ.size m)) (afterData κ key nonce a (length m))
-  unfolding afterData
+  pub good-data : (a m : List ℕ) → AllBytes a → Good κ (length (blocks κ.size m)) (after_data κ key nonce a (length m))
+  unfolding after_data
   good-data a m ha =
       good-after κ L false (length (blocks κ.size m)) (start κ key nonce (length a) (length m))
       (all_blocks (length a) κ.size (some κ L) a (le_refl (length a)) ha) (good-start-blocks a m)

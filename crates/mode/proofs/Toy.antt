@@ -7,8 +7,8 @@ use Rattle.cipher.specs.Cipher.{Lawful}
 use Rattle.mode.specs.Blocks.{chop, blocks, chop_lengths, lengths}
 use Rattle.mode.specs.Words.{double_by, shuffle, pad}
 use Rattle.mode.specs.Keys.{text_marks, marks, marked, on_low, next_key, keys}
-use Rattle.mode.specs.Mode.{startY, startZ, start, absorbed, masked, message, trail, afterData, tagOut, calls}
-use Rattle.mode.specs.Slips.{outputAt}
+use Rattle.mode.specs.Mode.{start_y, start_z, start, absorbed, masked, message, trail, after_data, tag_out, calls}
+use Rattle.mode.specs.Slips.{output_at}
 use Rattle.mode.specs.Toy.{toy, Toy}
 
 toy_lawful : Lawful toy
@@ -16,7 +16,7 @@ toy_lawful = record { sizes = inr refl; image = Î» k b hk hb. hb; one-to-one = Î
 
 pub toy-holds : Toy
 unfolding xor value bytes chop blocks chop_lengths lengths double_by shuffle pad text_marks marks marked
-    on_low next_key keys startY startZ start absorbed masked message trail afterData tagOut calls outputAt
+    on_low next_key keys start_y start_z start absorbed masked message trail after_data tag_out calls output_at
 toy-holds =
     record {
       lawful = toy_lawful;

@@ -17,10 +17,10 @@ use Rattle.cipher.specs.Cipher.{Cipher, Lawful, Block}
 use Rattle.mode.specs.Blocks.{blocks, lengths}
 use Rattle.mode.specs.Words.{shuffle, pad}
 use Rattle.mode.specs.Keys.{short_mark, text_marks, placed, marks, keys}
-use Rattle.mode.specs.Mode.{Chain, first_key, later_keys, start, image, absorbed, masked, message, trail, after, crypted, absorb, afterData, textOut}
-use Rattle.mode.specs.Mode.{tagOut}
-use Rattle.mode.specs.Walk.{States, chain_of, whole, block_key, block_z, mark_of, image_of, turned, hidden, messageOf, walked, covered, tagged, origin}
-use Rattle.mode.specs.Walk.{dataDone}
+use Rattle.mode.specs.Mode.{Chain, first_key, later_keys, start, image, absorbed, masked, message, trail, after, crypted, absorb, after_data, text_out}
+use Rattle.mode.specs.Mode.{tag_out}
+use Rattle.mode.specs.Walk.{States, chain_of, whole, block_key, block_z, mark_of, image_of, turned, hidden, message_of, walked, covered, tagged, origin}
+use Rattle.mode.specs.Walk.{data_done}
 use Rattle.mode.proofs.Blocks.{sizes, blocks-sizes, blocks-nil, blocks_more, blocks-turn, AllBlocks, none, more}
 use Rattle.mode.proofs.Words.{pad_block}
 use Rattle.mode.proofs.Keys.{short_lt}
@@ -69,65 +69,65 @@ module _ (κ : Cipher) where
   unfolding masked hidden
   hidden-chain m s b ms = ap (λ (l : List (List ℕ)). xors b (shuffle κ.size (κ.E (first_key l) s.Y))) (step_left m s ms)
 
-  pub message-chain : (d : Bool) (m : ℕ) (s : States) (b : List ℕ) (ms : List ℕ) → message κ d (chain_of κ.version s (m ∷ ms)) b ≡ messageOf κ d m s b
+  pub message-chain : (d : Bool) (m : ℕ) (s : States) (b : List ℕ) (ms : List ℕ) → message κ d (chain_of κ.version s (m ∷ ms)) b ≡ message_of κ d m s b
   unfolding message
   message-chain d m s b ms = ap (λ (o : List ℕ). cond d o b) (hidden-chain m s b ms)
 
   step-chain : (d : Bool) (m : ℕ) (s : States) (b : List ℕ) (ms : List ℕ)
       → absorbed κ (chain_of κ.version s (m ∷ ms)) (message κ d (chain_of κ.version s (m ∷ ms)) b)
-      ≡ chain_of κ.version (turned κ m s (messageOf κ d m s b)) ms
-  step-chain d m s b ms = ap (absorbed κ (chain_of κ.version s (m ∷ ms))) (message-chain d m s b ms) ∙ turned-chain m s (messageOf κ d m s b) ms
+      ≡ chain_of κ.version (turned κ m s (message_of κ d m s b)) ms
+  step-chain d m s b ms = ap (absorbed κ (chain_of κ.version s (m ∷ ms))) (message-chain d m s b ms) ∙ turned-chain m s (message_of κ d m s b) ms
 
-  abbrev marksOf : ℕ → ℕ → List (List ℕ) → List ℕ → List ℕ
-  marksOf first short bs ms = text_marks κ.size first short (sizes bs) ++ ms
+  abbrev marks_of : ℕ → ℕ → List (List ℕ) → List ℕ → List ℕ
+  marks_of first short bs ms = text_marks κ.size first short (sizes bs) ++ ms
 
   pub after-walk : (d : Bool) (first short : ℕ) (s : States) (bs : List (List ℕ)) (ms : List ℕ)
-      → after κ d (chain_of κ.version s (marksOf first short bs ms)) bs ≡ chain_of κ.version (walked κ d first short s bs) ms
+      → after κ d (chain_of κ.version s (marks_of first short bs ms)) bs ≡ chain_of κ.version (walked κ d first short s bs) ms
   unfolding trail walked text_marks
   after-walk d first short s [] ms = refl
   after-walk d first short s (b ∷ bs) ms =
       let m = mark_of κ first short b in
-      ap (λ (c : Chain). after κ d c bs) (step-chain d m s b (marksOf 0 short bs ms))
-      ∙ after-walk d 0 short (turned κ m s (messageOf κ d m s b)) bs ms
+      ap (λ (c : Chain). after κ d c bs) (step-chain d m s b (marks_of 0 short bs ms))
+      ∙ after-walk d 0 short (turned κ m s (message_of κ d m s b)) bs ms
 
   pub crypted-walk : (d : Bool) (first short : ℕ) (s : States) (bs : List (List ℕ)) (ms : List ℕ)
-      → crypted κ d (chain_of κ.version s (marksOf first short bs ms)) bs ≡ covered κ d first short s bs
+      → crypted κ d (chain_of κ.version s (marks_of first short bs ms)) bs ≡ covered κ d first short s bs
   unfolding trail covered text_marks
   crypted-walk d first short s [] ms = refl
   crypted-walk d first short s (b ∷ bs) ms =
       let m = mark_of κ first short b in
-      let ms' = marksOf 0 short bs ms in
+      let ms' = marks_of 0 short bs ms in
       ap₂ (λ (x : List ℕ) (c : Chain). x ++ crypted κ d c bs) (hidden-chain m s b ms') (step-chain d m s b ms')
-      ∙ ap (λ (x : List ℕ). hidden κ m s b ++ x) (crypted-walk d 0 short (turned κ m s (messageOf κ d m s b)) bs ms)
+      ∙ ap (λ (x : List ℕ). hidden κ m s b ++ x) (crypted-walk d 0 short (turned κ m s (message_of κ d m s b)) bs ms)
 
   -- ---- the whole of it
 
   module _ (pos : 0 < κ.size) (key nonce a t : List ℕ) where
     marks-walk : (first short : ℕ) (l ms : List ℕ) → text_marks κ.size first short (lengths κ.size (length l)) ++ ms
-        ≡ marksOf first short (blocks κ.size l) ms
+        ≡ marks_of first short (blocks κ.size l) ms
     marks-walk first short l ms =
         ap (λ (ks : List ℕ). text_marks κ.size first short ks ++ ms) (sym (blocks-sizes κ.size pos (length l) l (le_refl (length l))))
 
-    data-walk : afterData κ key nonce a (length t) ≡ chain_of κ.version (dataDone κ key nonce a) (marksOf 0x20 0x40 (blocks κ.size t) [])
-    unfolding afterData start marks
+    data-walk : after_data κ key nonce a (length t) ≡ chain_of κ.version (data_done κ key nonce a) (marks_of 0x20 0x40 (blocks κ.size t) [])
+    unfolding after_data start marks
     data-walk =
         let s = origin κ key nonce in
-        let ms : List ℕ = marksOf 0x20 0x40 (blocks κ.size t) [] in
+        let ms : List ℕ = marks_of 0x20 0x40 (blocks κ.size t) [] in
         let q : text_marks κ.size 0x20 0x40 (lengths κ.size (length t)) ≡ ms = sym (append-nil _) ∙ marks-walk 0x20 0x40 t [] in
         ap (λ (x : List ℕ). absorb κ (chain_of κ.version s (text_marks κ.size 0x08 0x10 (lengths κ.size (length a)) ++ x)) (blocks κ.size a)) q
         ∙ ap (λ (x : List ℕ). absorb κ (chain_of κ.version s x) (blocks κ.size a)) (marks-walk 0x08 0x10 a ms)
         ∙ after-walk false 0x08 0x10 s (blocks κ.size a) ms
 
-    pub text-walk : (d : Bool) → textOut κ d key nonce a t ≡ covered κ d 0x20 0x40 (dataDone κ key nonce a) (blocks κ.size t)
-    unfolding textOut
-    text-walk d = ap (λ (c : Chain). crypted κ d c (blocks κ.size t)) data-walk ∙ crypted-walk d 0x20 0x40 (dataDone κ key nonce a) (blocks κ.size t) []
+    pub text-walk : (d : Bool) → text_out κ d key nonce a t ≡ covered κ d 0x20 0x40 (data_done κ key nonce a) (blocks κ.size t)
+    unfolding text_out
+    text-walk d = ap (λ (c : Chain). crypted κ d c (blocks κ.size t)) data-walk ∙ crypted-walk d 0x20 0x40 (data_done κ key nonce a) (blocks κ.size t) []
 
-    pub tag-walk : (d : Bool) → tagOut κ d key nonce a t ≡ tagged κ (walked κ d 0x20 0x40 (dataDone κ key nonce a) (blocks κ.size t))
-    unfolding tagOut tagged
+    pub tag-walk : (d : Bool) → tag_out κ d key nonce a t ≡ tagged κ (walked κ d 0x20 0x40 (data_done κ key nonce a) (blocks κ.size t))
+    unfolding tag_out tagged
     tag-walk d =
-        let w = walked κ d 0x20 0x40 (dataDone κ key nonce a) (blocks κ.size t) in
+        let w = walked κ d 0x20 0x40 (data_done κ key nonce a) (blocks κ.size t) in
         ap (λ (c : Chain). image κ (after κ d c (blocks κ.size t))) data-walk
-        ∙ ap (image κ) (after-walk d 0x20 0x40 (dataDone κ key nonce a) (blocks κ.size t) [])
+        ∙ ap (image κ) (after-walk d 0x20 0x40 (data_done κ key nonce a) (blocks κ.size t) [])
         ∙ ap (λ (l : List (List ℕ)). κ.E (first_key l) w.Y) (tag_step κ.version w.Z)
 
   -- ---- a walk goes on
@@ -139,7 +139,7 @@ module _ (κ : Cipher) where
   walked-append d first short s (b ∷ []) ys = refl
   walked-append d first short s (b ∷ (x ∷ xs)) ys =
       let m = mark_of κ first short b in
-      walked-append d 0 short (turned κ m s (messageOf κ d m s b)) (x ∷ xs) ys
+      walked-append d 0 short (turned κ m s (message_of κ d m s b)) (x ∷ xs) ys
 
   pub covered-append : (d : Bool) (first short : ℕ) (s : States) (xs ys : List (List ℕ))
       → covered κ d first short s (xs ++ ys) ≡ covered κ d first short s xs ++ covered κ d (later first xs) short (walked κ d first short s xs) ys
@@ -147,10 +147,10 @@ module _ (κ : Cipher) where
   covered-append d first short s [] ys = refl
   covered-append d first short s (b ∷ []) ys =
       let m = mark_of κ first short b in
-      ap (λ (x : List ℕ). x ++ covered κ d 0 short (turned κ m s (messageOf κ d m s b)) ys) (sym (append-nil (hidden κ m s b)))
+      ap (λ (x : List ℕ). x ++ covered κ d 0 short (turned κ m s (message_of κ d m s b)) ys) (sym (append-nil (hidden κ m s b)))
   covered-append d first short s (b ∷ (x ∷ xs)) ys =
       let m = mark_of κ first short b in
-      ap (λ (r : List ℕ). hidden κ m s b ++ r) (covered-append d 0 short (turned κ m s (messageOf κ d m s b)) (x ∷ xs) ys)
+      ap (λ (r : List ℕ). hidden κ m s b ++ r) (covered-append d 0 short (turned κ m s (message_of κ d m s b)) (x ∷ xs) ys)
       ∙ sym (append_assoc (hidden κ m s b) _ _)
 
   -- what a loop over the blocks does in a turn: the block from i to e of l, full or short, under its mark k; r is the walk's next states
@@ -158,9 +158,9 @@ module _ (κ : Cipher) where
     abbrev block : List ℕ
     block = take (e - i) (drop i l)
 
-    module _ (k : ℕ) (ek : mark_of κ first short block ≡ k) (r : States) (er : r ≡ turned κ k s (messageOf κ d k s block)) where
-      next : r ≡ turned κ (mark_of κ first short block) s (messageOf κ d (mark_of κ first short block) s block)
-      next = er ∙ ap (λ (m : ℕ). turned κ m s (messageOf κ d m s block)) (sym ek)
+    module _ (k : ℕ) (ek : mark_of κ first short block ≡ k) (r : States) (er : r ≡ turned κ k s (message_of κ d k s block)) where
+      next : r ≡ turned κ (mark_of κ first short block) s (message_of κ d (mark_of κ first short block) s block)
+      next = er ∙ ap (λ (m : ℕ). turned κ m s (message_of κ d m s block)) (sym ek)
 
       pub walked-turn : walked κ d 0 short r (blocks κ.size (drop e l)) ≡ walked κ d first short s (blocks κ.size (drop i l))
       unfolding walked
@@ -205,7 +205,7 @@ module _ (κ : Cipher) where
           z = kept_block v m s.Z hm g.z;
         }
 
-    step-fine : (d : Bool) (m : ℕ) (s : States) (b : List ℕ) → m < 256 → AllBytes b → length b ≤ κ.size → Fine s → Fine (turned κ m s (messageOf κ d m s b))
+    step-fine : (d : Bool) (m : ℕ) (s : States) (b : List ℕ) → m < 256 → AllBytes b → length b ≤ κ.size → Fine s → Fine (turned κ m s (message_of κ d m s b))
     step-fine d m s b hm hb lb g =
         let c = chain_of κ.version s (m ∷ []) in
         subst (λ (v : List ℕ). Fine (turned κ m s v)) (message-chain d m s b [])
@@ -217,5 +217,5 @@ module _ (κ : Cipher) where
     walked-fine d first short s hf hs none g = g
     walked-fine d first short s hf hs (more {b = b} hb lb hbs) g =
         let m = mark_of κ first short b in
-        walked-fine d 0 short (turned κ m s (messageOf κ d m s b)) (omega arith) hs hbs
+        walked-fine d 0 short (turned κ m s (message_of κ d m s b)) (omega arith) hs hbs
         (step-fine d m s b (below 8 hf (short_lt κ.size short (length b) hs)) hb lb g)

@@ -34,36 +34,36 @@ later_keys (k ∷ ks) = ks
 
 module _ (κ : Cipher) where
   -- a nonce has 16 bytes if a block has 16, else 15
-  unfoldable pub nonceSize : ℕ
-  nonceSize = cond (eqb κ.size 16) 16 15
+  unfoldable pub nonce_size : ℕ
+  nonce_size = cond (eqb κ.size 16) 16 15
 
   -- the result of a call; the cipher is used nowhere else
   abbrev pub enciphered : CipherCall → List ℕ
   enciphered q = κ.E q.key q.block
 
   -- the start's call, under the key: the nonce if a block has 16 bytes, else eight zero bytes
-  abbrev pub startCall : List ℕ → List ℕ → CipherCall
-  startCall key nonce = record { key = key; block = cond (eqb κ.size 16) nonce (replicate 8 0) }
+  abbrev pub start_call : List ℕ → List ℕ → CipherCall
+  start_call key nonce = record { key = key; block = cond (eqb κ.size 16) nonce (replicate 8 0) }
 
   -- Y at the start: the key if a block has 16 bytes, else the result of the call
-  unfoldable pub startY : List ℕ → List ℕ → List ℕ
-  startY key nonce = cond (eqb κ.size 16) key (enciphered (startCall key nonce))
+  unfoldable pub start_y : List ℕ → List ℕ → List ℕ
+  start_y key nonce = cond (eqb κ.size 16) key (enciphered (start_call key nonce))
 
   -- Z at the start: the result of the call if a block has 16 bytes, else the key, XORed with the nonce in bytes 0 to 14
-  unfoldable pub startZ : List ℕ → List ℕ → List ℕ
-  startZ key nonce = cond (eqb κ.size 16) (enciphered (startCall key nonce)) (xors (take 15 key) nonce ++ drop 15 key)
+  unfoldable pub start_z : List ℕ → List ℕ → List ℕ
+  start_z key nonce = cond (eqb κ.size 16) (enciphered (start_call key nonce)) (xors (take 15 key) nonce ++ drop 15 key)
 
   -- the chain at the start: the block keys come from Z and the lengths of associated data and message
   unfoldable pub start : List ℕ → List ℕ → ℕ → ℕ → Chain
-  start key nonce a m = record { Y = startY key nonce; left = keys κ.version (startZ key nonce) (marks κ.version κ.size a m) }
+  start key nonce a m = record { Y = start_y key nonce; left = keys κ.version (start_z key nonce) (marks κ.version κ.size a m) }
 
   -- the next call: Y under the next block key
-  abbrev pub nextCall : Chain → CipherCall
-  nextCall c = record { key = first_key c.left; block = c.Y }
+  abbrev pub next_call : Chain → CipherCall
+  next_call c = record { key = first_key c.left; block = c.Y }
 
   -- X, its result
   abbrev pub image : Chain → List ℕ
-  image c = enciphered (nextCall c)
+  image c = enciphered (next_call c)
 
   -- one block: Y = X XOR padded block, and its key is used
   unfoldable pub absorbed : Chain → List ℕ → Chain
@@ -82,7 +82,7 @@ module _ (κ : Cipher) where
   trail opening c [] = record { made = []; out = []; end = c }
   trail opening c (b ∷ bs) =
       let r : Trail = trail opening (absorbed c (message opening c b)) bs in
-      record { made = nextCall c ∷ r.made; out = masked c b ++ r.out; end = r.end }
+      record { made = next_call c ∷ r.made; out = masked c b ++ r.out; end = r.end }
 
   -- the chain after them, and the output text
   abbrev pub after : Bool → Chain → List (List ℕ) → Chain
@@ -96,26 +96,26 @@ module _ (κ : Cipher) where
   absorb c bs = after false c bs
 
   -- the chain between associated data and text, for a text of l bytes
-  unfoldable pub afterData : List ℕ → List ℕ → List ℕ → ℕ → Chain
-  afterData key nonce ad l = absorb (start key nonce (length ad) l) (blocks κ.size ad)
+  unfoldable pub after_data : List ℕ → List ℕ → List ℕ → ℕ → Chain
+  after_data key nonce ad l = absorb (start key nonce (length ad) l) (blocks κ.size ad)
 
   -- the whole output text, and the tag: the result of the last call
-  unfoldable pub textOut : Bool → List ℕ → List ℕ → List ℕ → List ℕ → List ℕ
-  textOut opening key nonce ad text = crypted opening (afterData key nonce ad (length text)) (blocks κ.size text)
+  unfoldable pub text_out : Bool → List ℕ → List ℕ → List ℕ → List ℕ → List ℕ
+  text_out opening key nonce ad text = crypted opening (after_data key nonce ad (length text)) (blocks κ.size text)
 
-  unfoldable pub tagOut : Bool → List ℕ → List ℕ → List ℕ → List ℕ → List ℕ
-  tagOut opening key nonce ad text = image (after opening (afterData key nonce ad (length text)) (blocks κ.size text))
+  unfoldable pub tag_out : Bool → List ℕ → List ℕ → List ℕ → List ℕ → List ℕ
+  tag_out opening key nonce ad text = image (after opening (after_data key nonce ad (length text)) (blocks κ.size text))
 
   -- every call that they take, in order: the start's, those of the blocks of associated data and text, the tag's
   unfoldable pub calls : Bool → List ℕ → List ℕ → List ℕ → List ℕ → List CipherCall
   calls opening key nonce ad text =
       let r : Trail = trail false (start key nonce (length ad) (length text)) (blocks κ.size ad) in
       let t : Trail = trail opening r.end (blocks κ.size text) in
-      startCall key nonce ∷ (r.made ++ (t.made ++ (nextCall t.end ∷ [])))
+      start_call key nonce ∷ (r.made ++ (t.made ++ (next_call t.end ∷ [])))
 
   -- sealing: the ciphertext and the tag of a message
   abbrev pub ciphertext : List ℕ → List ℕ → List ℕ → List ℕ → List ℕ
-  ciphertext key nonce ad msg = textOut false key nonce ad msg
+  ciphertext key nonce ad msg = text_out false key nonce ad msg
 
   abbrev pub tag : List ℕ → List ℕ → List ℕ → List ℕ → List ℕ
-  tag key nonce ad msg = tagOut false key nonce ad msg
+  tag key nonce ad msg = tag_out false key nonce ad msg

@@ -6,7 +6,7 @@ use Rattle.block.specs.Xors.{xors}
 use Rattle.cipher.specs.Cipher.{Cipher, Lawful, Block}
 use Rattle.mode.specs.Blocks.{blocks}
 use Rattle.mode.specs.Words.{shuffle}
-use Rattle.mode.specs.Mode.{enciphered, startCall, nonceSize, tagOut, calls}
+use Rattle.mode.specs.Mode.{enciphered, start_call, nonce_size, tag_out, calls}
 
 -- the kernel of shuffle XOR identity has exactly two blocks, all zeros and all ones; n is 16 or 8 bytes
 abbrev pub TwoBlocks : Type 0
@@ -27,13 +27,13 @@ ComplementBytes =
 module _ (κ : Cipher) where
   -- the cipher's output at message block i, counted from 0, when ciphertext c with associated data ad is opened: in the list
   -- of its calls the start's comes first, then those of the associated data, then those of the message
-  unfoldable pub outputAt : List ℕ → List ℕ → List ℕ → List ℕ → ℕ → List ℕ
-  outputAt key nonce ad c i = enciphered κ (get_or (calls κ true key nonce ad c) (suc (length (blocks κ.size ad) + i)) (startCall κ key nonce))
+  unfoldable pub output_at : List ℕ → List ℕ → List ℕ → List ℕ → ℕ → List ℕ
+  output_at key nonce ad c i = enciphered κ (get_or (calls κ true key nonce ad c) (suc (length (blocks κ.size ad) + i)) (start_call κ key nonce))
 
   -- at some message block from number `first` on the outputs of two openings are complements
   abbrev pub ComplementFrom : ℕ → List ℕ → List ℕ → List ℕ → List ℕ → List ℕ → List ℕ → Type 0
   ComplementFrom first key nonce ad c ad' c' =
-      (i : ℕ) × (first ≤ i) × (i < length (blocks κ.size c)) × Complements κ.size (outputAt key nonce ad c i) (outputAt key nonce ad' c' i)
+      (i : ℕ) × (first ≤ i) × (i < length (blocks κ.size c)) × Complements κ.size (output_at key nonce ad c i) (output_at key nonce ad' c' i)
 
 -- two texts of one length: at least one byte is changed, and every changed byte is inside block j
 pub record ChangedIn (n j : ℕ) (x x' : List ℕ) : Type 0 where
@@ -55,7 +55,7 @@ FullFrom n first text = (i : ℕ) → first ≤ i → i < length (blocks n text)
 abbrev pub SlipsThrough : Type 0
 SlipsThrough =
     (κ : Cipher) → Lawful κ → (key nonce ad ad' c c' t : List ℕ) (first : ℕ)
-    → Block 16 key → AllBytes nonce → length nonce ≡ nonceSize κ → AllBytes ad → AllBytes ad' → AllBytes c → AllBytes c'
-    → tagOut κ true key nonce ad c ≡ t
+    → Block 16 key → AllBytes nonce → length nonce ≡ nonce_size κ → AllBytes ad → AllBytes ad' → AllBytes c → AllBytes c'
+    → tag_out κ true key nonce ad c ≡ t
     → Changed κ.size ad ad' c c' first → FullFrom κ.size first c
-    → (tagOut κ true key nonce ad' c' ≡ t) ↔ ComplementFrom κ first key nonce ad c ad' c'
+    → (tag_out κ true key nonce ad' c' ≡ t) ↔ ComplementFrom κ first key nonce ad c ad' c'

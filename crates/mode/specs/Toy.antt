@@ -1,8 +1,8 @@
 -- W13 by example: the identity is a lawful cipher, and over it undetected changes can be written down. It hides nothing and is not one of our suites.
 use Rattle.std.specs.Prelude.{◌≡◌, true, List, [], ◌∷◌, ◌++◌, ℕ, replicate}
 use Rattle.cipher.specs.Cipher.{Cipher, Lawful, one}
-use Rattle.mode.specs.Mode.{tagOut}
-use Rattle.mode.specs.Slips.{Complements, outputAt}
+use Rattle.mode.specs.Mode.{tag_out}
+use Rattle.mode.specs.Slips.{Complements, output_at}
 
 -- blocks of 8 bytes, version 1
 abbrev pub toy : Cipher
@@ -16,10 +16,10 @@ ones k = replicate k 0xff
 
 -- tag, and cipher output at message block i, of an opening under a key and a nonce of zeros
 abbrev pub toy_tag : List ℕ → List ℕ → List ℕ
-toy_tag ad c = tagOut toy true (zeros 16) (zeros 15) ad c
+toy_tag ad c = tag_out toy true (zeros 16) (zeros 15) ad c
 
 abbrev pub toy_output : List ℕ → List ℕ → ℕ → List ℕ
-toy_output ad c i = outputAt toy (zeros 16) (zeros 15) ad c i
+toy_output ad c i = output_at toy (zeros 16) (zeros 15) ad c i
 
 pub record Toy : Type 0 where
   pub lawful : Lawful toy

@@ -8,7 +8,7 @@ use Rattle.block.specs.Xors.{xors}
 use Rattle.cipher.specs.Cipher.{Cipher, one}
 use Rattle.mode.specs.Blocks.{blocks}
 use Rattle.mode.specs.Words.{shuffle, pad}
-use Rattle.mode.specs.Mode.{textOut, tagOut}
+use Rattle.mode.specs.Mode.{text_out, tag_out}
 
 -- doubling of a 64-bit number: shift left by one; if the dropped bit was 1, XOR 0x1b
 abbrev pub twice : ℕ → ℕ
@@ -37,58 +37,58 @@ module _ (n : ℕ) (E : List ℕ → List ℕ → List ℕ) where
   begin key nonce = cond (eqb n 16) (carried key (E key nonce)) (carried (E key (replicate 8 0)) (xors (take 15 key) nonce ++ drop 15 key))
 
   -- the marks before a block: `first` before the first, `short` before the last one if it is short
-  abbrev pub marksOf : ℕ → ℕ → List ℕ → ℕ
-  marksOf first short b = xor first (cond (ltb (length b) n) short 0)
+  abbrev pub marks_of : ℕ → ℕ → List ℕ → ℕ
+  marks_of first short b = xor first (cond (ltb (length b) n) short 0)
 
   -- Z and X = E(Z, Y) of a block
   abbrev pub block_z : ℕ → ℕ → Carried → List ℕ → List ℕ
-  block_z first short s b = next_z (marksOf first short b) s.Z
+  block_z first short s b = next_z (marks_of first short b) s.Z
 
-  abbrev pub blockX : ℕ → ℕ → Carried → List ℕ → List ℕ
-  blockX first short s b = E (block_z first short s b) s.Y
+  abbrev pub block_x : ℕ → ℕ → Carried → List ℕ → List ℕ
+  block_x first short s b = E (block_z first short s b) s.Y
 
   -- the blocks of the associated data: Y = X XOR padded I
-  unfoldable pub dataIn : ℕ → Carried → List (List ℕ) → Carried
-  dataIn first s [] = s
-  dataIn first s (I ∷ Is) = dataIn 0 (carried (xors (blockX first 0x10 s I) (pad n I)) (block_z first 0x10 s I)) Is
+  unfoldable pub data_in : ℕ → Carried → List (List ℕ) → Carried
+  data_in first s [] = s
+  data_in first s (I ∷ Is) = data_in 0 (carried (xors (block_x first 0x10 s I) (pad n I)) (block_z first 0x10 s I)) Is
 
   -- the output for a block of text: the block XOR as many first bytes of shuffle(X); the ciphertext when sealing, the message when opening
-  abbrev pub goesOut : ℕ → Carried → List ℕ → List ℕ
-  goesOut first s b = xors b (shuffle n (blockX first 0x40 s b))
+  abbrev pub goes_out : ℕ → Carried → List ℕ → List ℕ
+  goes_out first s b = xors b (shuffle n (block_x first 0x40 s b))
 
   -- Y = X XOR padded M; opening recovers M first
-  abbrev pub textStep : Bool → ℕ → Carried → List ℕ → Carried
-  textStep opening first s b = carried (xors (blockX first 0x40 s b) (pad n (cond opening (goesOut first s b) b))) (block_z first 0x40 s b)
+  abbrev pub text_step : Bool → ℕ → Carried → List ℕ → Carried
+  text_step opening first s b = carried (xors (block_x first 0x40 s b) (pad n (cond opening (goes_out first s b) b))) (block_z first 0x40 s b)
 
-  unfoldable pub textIn : Bool → ℕ → Carried → List (List ℕ) → Carried
-  textIn opening first s [] = s
-  textIn opening first s (b ∷ bs) = textIn opening 0 (textStep opening first s b) bs
+  unfoldable pub text_in : Bool → ℕ → Carried → List (List ℕ) → Carried
+  text_in opening first s [] = s
+  text_in opening first s (b ∷ bs) = text_in opening 0 (text_step opening first s b) bs
 
-  unfoldable pub allOut : Bool → ℕ → Carried → List (List ℕ) → List ℕ
-  allOut opening first s [] = []
-  allOut opening first s (b ∷ bs) = goesOut first s b ++ allOut opening 0 (textStep opening first s b) bs
+  unfoldable pub all_out : Bool → ℕ → Carried → List (List ℕ) → List ℕ
+  all_out opening first s [] = []
+  all_out opening first s (b ∷ bs) = goes_out first s b ++ all_out opening 0 (text_step opening first s b) bs
 
   -- 0x08 before the first block of the associated data, 0x20 before the first of the message
-  abbrev pub behindData : List ℕ → List ℕ → List ℕ → Carried
-  behindData key nonce ad = dataIn 0x08 (begin key nonce) (blocks n ad)
+  abbrev pub behind_data : List ℕ → List ℕ → List ℕ → Carried
+  behind_data key nonce ad = data_in 0x08 (begin key nonce) (blocks n ad)
 
   -- the whole output text
-  abbrev pub textWas : Bool → List ℕ → List ℕ → List ℕ → List ℕ → List ℕ
-  textWas opening key nonce ad text = allOut opening 0x20 (behindData key nonce ad) (blocks n text)
+  abbrev pub text_was : Bool → List ℕ → List ℕ → List ℕ → List ℕ → List ℕ
+  text_was opening key nonce ad text = all_out opening 0x20 (behind_data key nonce ad) (blocks n text)
 
   -- the tag: E(Z, Y) after the last mark, 0x80, and doubling
-  abbrev pub lastCall : Carried → List ℕ
-  lastCall s = E (next_z 0x80 s.Z) s.Y
+  abbrev pub last_call : Carried → List ℕ
+  last_call s = E (next_z 0x80 s.Z) s.Y
 
-  abbrev pub tagWas : Bool → List ℕ → List ℕ → List ℕ → List ℕ → List ℕ
-  tagWas opening key nonce ad text = lastCall (textIn opening 0x20 (behindData key nonce ad) (blocks n text))
+  abbrev pub tag_was : Bool → List ℕ → List ℕ → List ℕ → List ℕ → List ℕ
+  tag_was opening key nonce ad text = last_call (text_in opening 0x20 (behind_data key nonce ad) (blocks n text))
 
 -- the mode over a cipher κ gives these bytes, in both directions
 abbrev pub Keeps : Cipher → ℕ → (List ℕ → List ℕ → List ℕ) → Type 0
 Keeps κ n E =
     (opening : Bool) (key nonce ad text : List ℕ)
-    → (textOut κ opening key nonce ad text ≡ textWas n E opening key nonce ad text)
-    × (tagOut κ opening key nonce ad text ≡ tagWas n E opening key nonce ad text)
+    → (text_out κ opening key nonce ad text ≡ text_was n E opening key nonce ad text)
+    × (tag_out κ opening key nonce ad text ≡ tag_was n E opening key nonce ad text)
 
 -- in version 1, whatever the cipher
 abbrev pub KeptBytes : Type 0

@@ -7,7 +7,7 @@ use Rattle.cipher.specs.Cipher.{Cipher, Version, one, two}
 use Rattle.mode.specs.Blocks.{blocks}
 use Rattle.mode.specs.Words.{shuffle, pad}
 use Rattle.mode.specs.Keys.{short_mark, placed, marked, next_key, keys}
-use Rattle.mode.specs.Mode.{Chain, startY, startZ}
+use Rattle.mode.specs.Mode.{Chain, start_y, start_z}
 
 -- the two states
 pub record States : Type 0 where
@@ -57,22 +57,22 @@ module _ (κ : Cipher) where
   hidden m s b = xors b (shuffle κ.size (image_of m s))
 
   -- the message block, which is absorbed: when sealing the block itself, when opening the output
-  abbrev pub messageOf : Bool → ℕ → States → List ℕ → List ℕ
-  messageOf opening m s b = cond opening (hidden m s b) b
+  abbrev pub message_of : Bool → ℕ → States → List ℕ → List ℕ
+  message_of opening m s b = cond opening (hidden m s b) b
 
   -- the states after the blocks of a text, of which the first has the mark `first`
   unfoldable pub walked : Bool → ℕ → ℕ → States → List (List ℕ) → States
   walked opening first short s [] = s
   walked opening first short s (b ∷ bs) =
       let m : ℕ = mark_of first short b in
-      walked opening 0 short (turned m s (messageOf opening m s b)) bs
+      walked opening 0 short (turned m s (message_of opening m s b)) bs
 
   -- the output text for them
   unfoldable pub covered : Bool → ℕ → ℕ → States → List (List ℕ) → List ℕ
   covered opening first short s [] = []
   covered opening first short s (b ∷ bs) =
       let m : ℕ = mark_of first short b in
-      hidden m s b ++ covered opening 0 short (turned m s (messageOf opening m s b)) bs
+      hidden m s b ++ covered opening 0 short (turned m s (message_of opening m s b)) bs
 
   -- the tag: the last call, under the last mark
   unfoldable pub tagged : States → List ℕ
@@ -81,8 +81,8 @@ module _ (κ : Cipher) where
   module _ (key nonce : List ℕ) where
     -- the initial states for a key and a nonce
     abbrev pub origin : States
-    origin = record { Y = startY κ key nonce; Z = startZ κ key nonce }
+    origin = record { Y = start_y κ key nonce; Z = start_z κ key nonce }
 
     -- the states after associated data a: its blocks are absorbed as a message's are when sealing
-    abbrev pub dataDone : List ℕ → States
-    dataDone a = walked false 0x08 0x10 origin (blocks κ.size a)
+    abbrev pub data_done : List ℕ → States
+    data_done a = walked false 0x08 0x10 origin (blocks κ.size a)

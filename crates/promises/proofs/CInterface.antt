@@ -6,7 +6,7 @@ use native.Mathlib.Nat.{suc-ne-zero}
 use mathlib.Core.List.{List, []}
 use lib.ListN.{length, get_or, replicate}
 use Rattle.cipher.specs.Cipher.{cipher_of}
-use Rattle.session.specs.Value.{Value, Given, answered, gave, over, fresh, start_number, starting, data_number, dataIn, data_part, text_number, text_done, text_part}
+use Rattle.session.specs.Value.{Value, Given, answered, gave, over, fresh, start_number, starting, data_number, data_in, data_part, text_number, text_done, text_part}
 use Rattle.session.specs.Value.{end_number, end_done, ending}
 use Rattle.session.specs.Calls.{Shut}
 use Rattle.session.proofs.Parts.{done-number}
@@ -128,7 +128,7 @@ data_refused : (w p : List ℕ) → Nine w → ((data_part (of_words w) p).numbe
 unfolding data_part
 data_refused w p n h =
     let v = of_words w in
-    refused_words (data_number v.suite v.ad_total v.text_total (length p)) (gave 0 0 (dataIn (cipher_of v.suite) v p) [] []) w [] [] n refl h
+    refused_words (data_number v.suite v.ad_total v.text_total (length p)) (gave 0 0 (data_in (cipher_of v.suite) v p) [] []) w [] [] n refl h
 
 part-refused : (w p out : List ℕ) → Nine w → ((text_part (of_words w) p out).number ≡ 0 → ⊥)
     → in_words (text_part (of_words w) p out) ≡ after (text_part (of_words w) p out).number 0 w out []

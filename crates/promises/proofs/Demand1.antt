@@ -12,7 +12,7 @@ use borrow.Author.Tests.{eq-eqb}
 use Rattle.block.specs.Bytes.{same_bytes}
 use Rattle.block.proofs.Ladder.{rung}
 use Rattle.cipher.specs.Cipher.{is_suite, size_of, nonce_of, cipher_of, limit}
-use Rattle.mode.specs.Mode.{ciphertext, tag, textOut, tagOut}
+use Rattle.mode.specs.Mode.{ciphertext, tag, text_out, tag_out}
 use Rattle.status.specs.Verdicts.{takes, refusal}
 use Rattle.comet.specs.Answers.{Sealed, sealed_as, sealing, Opened, opened_as, opening, verifying}
 use Rattle.comet.proofs.Outcomes as comet
@@ -143,8 +143,8 @@ pub open_in_place : OpenInPlace
 unfolding opening Six
 open_in_place suite key nonce ad text tag out₀ e =
     let n : ℕ → ℕ = λ k. refusal true suite (length key) (length nonce) (length ad) (length text) k (length tag) in
-    let at : ℕ → List ℕ → Opened = λ k o. opened_as (n k) (same_bytes (tagOut (cipher_of suite) true key nonce ad text) tag)
-    (textOut (cipher_of suite) true key nonce ad text) o in
+    let at : ℕ → List ℕ → Opened = λ k o. opened_as (n k) (same_bytes (tag_out (cipher_of suite) true key nonce ad text) tag)
+    (text_out (cipher_of suite) true key nonce ad text) o in
     let r : Opened = at (length text) text in
     let most : n (length text) ≤ 7 = ⊎_elim (λ h. h) (λ h. absurd (true≢false h.2))
     (refusal-most true suite (length key) (length nonce) (length ad) (length text) (length text) (length tag)) in

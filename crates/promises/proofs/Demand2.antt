@@ -8,7 +8,7 @@ use lib.ListN.{length}
 use Rattle.block.specs.Bytes.{AllBytes}
 use Rattle.cipher.specs.Cipher.{Block, cipher_of, limit}
 use Rattle.cipher.proofs.Lawful.{lawful}
-use Rattle.mode.specs.Mode.{ciphertext, tag, textOut, tagOut}
+use Rattle.mode.specs.Mode.{ciphertext, tag, text_out, tag_out}
 use Rattle.mode.proofs.Demand2.{text-length, text-bytes, text-back, tag_back, tag-block}
 use Rattle.comet.specs.Answers.{Sealed, sealed_as, sealing, Opened}
 use Rattle.status.specs.Verdicts.{refusal}
@@ -27,8 +27,8 @@ pub returning : Returning
 returning suite key nonce ad c t out₀ m i lo lt hm ec et =
     let κ = cipher_of suite in
     let L = lawful suite in
-    let eg : tagOut κ true key nonce ad c ≡ t = ap (tagOut κ true key nonce ad) (sym ec) ∙ tag_back κ L key nonce ad false m hm ∙ et in
-    let em : textOut κ true key nonce ad c ≡ m = ap (textOut κ true key nonce ad) (sym ec) ∙ text-back κ L key nonce ad false m hm in
+    let eg : tag_out κ true key nonce ad c ≡ t = ap (tag_out κ true key nonce ad) (sym ec) ∙ tag_back κ L key nonce ad false m hm ∙ et in
+    let em : text_out κ true key nonce ad c ≡ m = ap (text_out κ true key nonce ad) (sym ec) ∙ text-back κ L key nonce ad false m hm in
     opens suite key nonce ad c t out₀ i lo lt eg ∙ message-path em
   where
     message-path : {x y : List ℕ} → x ≡ y → ◌≡◌ {A = Opened} (record { number = 0; out = x }) (record { number = 0; out = y })
@@ -38,7 +38,7 @@ pub accepting : Accepting
 accepting suite key nonce ad c t out₀ i lo lt =
     let κ = cipher_of suite in
     let L = lawful suite in
-    let m = textOut κ true key nonce ad c in (
+    let m = text_out κ true key nonce ad c in (
       λ e. (
         m,
         text-bytes κ L key nonce ad true c i.texts.text-bytes,

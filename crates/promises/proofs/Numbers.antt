@@ -12,7 +12,7 @@ use borrow.Author.Tests.{not-true}
 use Rattle.block.specs.Bytes.{same_bytes}
 use Rattle.cipher.specs.Cipher.{is_suite, retired, seals, cipher_of, size_of, nonce_of, limit}
 use Rattle.cipher.proofs.Suites.{tag_size_lem, only-four}
-use Rattle.mode.specs.Mode.{textOut, tagOut}
+use Rattle.mode.specs.Mode.{text_out, tag_out}
 use Rattle.status.specs.Verdicts.{takes, refusal}
 use Rattle.comet.specs.Answers.{sealed_as, sealing, opened_as, opening}
 use Rattle.session.specs.Value.{Value, Given, sound, answered, start_number, starting, data_number, data_part, text_number, text_part, end_number, ending}
@@ -93,7 +93,7 @@ rungs d suite key nonce ad text out tag = (
                 not (eqb (length tag) (size_of suite)),
                 λ _. tells_not (tells_tag_size _ suite),
                 (
-                  d && not (same_bytes (tagOut (cipher_of suite) true key nonce ad text) tag),
+                  d && not (same_bytes (tag_out (cipher_of suite) true key nonce ad text) tag),
                   λ _. tells_and (tells_true d) (tells_not (tells_same _ _)),
                   tt,
                 ),
@@ -133,15 +133,15 @@ open_numbers suite key nonce ad text tag out =
     (by (not (eqb (length tag) (size_of suite))) 6 _ _ (last right))))))))
   where
     right : Bool
-    right = same_bytes (tagOut (cipher_of suite) true key nonce ad text) tag
+    right = same_bytes (tag_out (cipher_of suite) true key nonce ad text) tag
 
     f : ℕ → ℕ
-    f n = (opened_as n right (textOut (cipher_of suite) true key nonce ad text) out).number
+    f n = (opened_as n right (text_out (cipher_of suite) true key nonce ad text) out).number
 
     by : (c : Bool) (k r m : ℕ) → f r ≡ m → f (cond c (suc k) r) ≡ cond c (suc k) m
     by = through f (λ k. refl)
 
-    last : (b : Bool) → (opened_as 0 b (textOut (cipher_of suite) true key nonce ad text) out).number ≡ cond (not b) 8 0
+    last : (b : Bool) → (opened_as 0 b (text_out (cipher_of suite) true key nonce ad text) out).number ≡ cond (not b) 8 0
     last true = refl
     last false = refl
 

@@ -11,8 +11,8 @@ use Rattle.block.specs.Bytes.{AllBytes}
 use Rattle.cipher.specs.Cipher.{Seals, cipher_of, size_of, limit}
 use Rattle.cipher.proofs.Suites.{seals-has}
 use Rattle.comet.specs.Answers.{opening}
-use Rattle.session.specs.Value.{Value, Given, sound, answered, gave, starting, data_number, dataIn, data_part, text_number, text_done, partOut, text_part, end_number}
-use Rattle.session.specs.Value.{endOut, end_done, ending}
+use Rattle.session.specs.Value.{Value, Given, sound, answered, gave, starting, data_number, data_in, data_part, text_number, text_done, part_out, text_part, end_number}
+use Rattle.session.specs.Value.{end_out, end_done, ending}
 use Rattle.session.specs.Calls.{SessionCall, AllInBytes, Run, run_of, Next}
 use Rattle.session.proofs.Parts.{done-number}
 use Rattle.session.proofs.Whatever.{starts, refused_shut, goes, finished, whatever, facts}
@@ -139,7 +139,7 @@ pub keeps : Keeps
 unfolding data_part text_part ending
 keeps v = (
   λ p h.
-      let k = kept (data_number v.suite v.ad_total v.text_total (length p)) (gave 0 0 (dataIn (cipher_of v.suite) v p) [] []) v [] [] refl h in
+      let k = kept (data_number v.suite v.ad_total v.text_total (length p)) (gave 0 0 (data_in (cipher_of v.suite) v p) [] []) v [] [] refl h in
       (k.0, k.1),
   λ p out h.
       let k = kept (text_number v.suite v.ad_total v.text_total (length p) (length out)) (text_done v p out) v out [] (done-number v p out) h in
@@ -165,7 +165,7 @@ past_count (suc k) done v out tag h = refl
 
 text_past : (v : Value) (p out : List ℕ) → drop (text_done v p out).count (text_done v p out).out ≡ drop (text_done v p out).count out
 text_past v [] out = refl
-text_past v (x ∷ p) out = drop-append_seam (partOut (cipher_of v.suite) v (x ∷ p)) (drop (length (partOut (cipher_of v.suite) v (x ∷ p))) out)
+text_past v (x ∷ p) out = drop-append_seam (part_out (cipher_of v.suite) v (x ∷ p)) (drop (length (part_out (cipher_of v.suite) v (x ∷ p))) out)
 
 pub untouched : Untouched
 unfolding text_part ending
@@ -173,7 +173,7 @@ untouched v = (
   λ p out. past_count (text_number v.suite v.ad_total v.text_total (length p) (length out)) (text_done v p out) v out [] (text_past v p out),
   λ out tag.
       past_count (end_number v.suite v.ad_total v.text_total (length out) (length tag)) (end_done v out) v out tag
-      (drop-append_seam (endOut (cipher_of v.suite) v) (drop (length (endOut (cipher_of v.suite) v)) out)),
+      (drop-append_seam (end_out (cipher_of v.suite) v) (drop (length (end_out (cipher_of v.suite) v)) out)),
 )
 
 pub sessions : Sessions

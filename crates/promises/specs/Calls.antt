@@ -3,7 +3,7 @@
 use Rattle.std.specs.Prelude.{◌≡◌, ◌⊎◌, Bool, true, false, ℕ, ◌+◌, ◌<◌, List, [], length}
 use Rattle.cipher.specs.Cipher.{Cipher, size_of, cipher_of}
 use Rattle.mode.specs.Blocks.{blocks}
-use Rattle.mode.specs.Mode.{textOut, tagOut, calls}
+use Rattle.mode.specs.Mode.{text_out, tag_out, calls}
 use Rattle.mode.specs.Calls.{Agree, other}
 use Rattle.status.specs.Verdicts.{refusal}
 use Rattle.comet.specs.Answers.{Sealed, Opened}
@@ -13,8 +13,8 @@ use Rattle.comet.specs.Counted.{Counting, calls_of, sealing_counted, opening_cou
 abbrev pub CallsDecide : Type 0
 CallsDecide =
     (κ : Cipher) (E' : List ℕ → List ℕ → List ℕ) (opening : Bool) (key nonce ad text : List ℕ) → Agree κ (other κ E') (calls κ opening key nonce ad text)
-    → (textOut κ opening key nonce ad text ≡ textOut (other κ E') opening key nonce ad text)
-    × (tagOut κ opening key nonce ad text ≡ tagOut (other κ E') opening key nonce ad text)
+    → (text_out κ opening key nonce ad text ≡ text_out (other κ E') opening key nonce ad text)
+    × (tag_out κ opening key nonce ad text ≡ tag_out (other κ E') opening key nonce ad text)
 
 -- the sealer reports its length on 0, and 0 on any other number
 abbrev pub SealReports : Type 0

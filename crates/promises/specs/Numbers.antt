@@ -3,7 +3,7 @@
 use Rattle.std.specs.Prelude.{◌≡◌, Bool, true, false, ◌⊎◌, ◌↔◌, ℕ, ◌+◌, ◌-◌, ◌*◌, ◌≤◌, ◌<◌, List, [], ◌∷◌, length}
 use Rattle.block.specs.Blocks.{filled}
 use Rattle.cipher.specs.Cipher.{facts_of, Seals, cipher_of, size_of, nonce_of, limit}
-use Rattle.mode.specs.Mode.{tagOut}
+use Rattle.mode.specs.Mode.{tag_out}
 use Rattle.comet.specs.Answers.{sealing, opening}
 use Rattle.session.specs.Value.{Value, starting, data_part, text_part, ending}
 use Rattle.shift_format.specs.Format.{edition_of, count_of, total_of, row_size_of, row_of, nonce_at, nonce_read_at, data_job, unit_of}
@@ -29,7 +29,7 @@ numbers opens suite key nonce ad text out tag =
     ∷ (5 when limit < length text)
     ∷ (6 when (length out ≡ length text → ⊥))
     ∷ (7 when (length tag ≡ tag_size suite → ⊥))
-    ∷ (8 when (opens ≡ true) × (tagOut (cipher_of suite) true key nonce ad text ≡ tag → ⊥))
+    ∷ (8 when (opens ≡ true) × (tag_out (cipher_of suite) true key nonce ad text ≡ tag → ⊥))
     ∷ []
 
 abbrev pub SealNumbers : Type 0

@@ -1,5 +1,5 @@
 -- The routines compute what the definitions say. Every other promise is about the definitions (`sealing`, `opening`,
--- `checkFile`, ..). Here, for each entry point and for every outcome that its contract allows: the status, with the final
+-- `check_file`, ..). Here, for each entry point and for every outcome that its contract allows: the status, with the final
 -- contents of each `&mut` (out' for out), is the definition's value on the bytes that it borrowed.
 use Rattle.std.specs.Prelude.{◌≡◌, ℕ, List, [], length}
 use contract.Lifetimes.{Lfts}

@@ -16,9 +16,9 @@ use Rattle.cipher.proofs.Suites.{size_most}
 use Rattle.mode.specs.Walk.{rest}
 use Rattle.mode.proofs.Chain.{some}
 use Rattle.mode.proofs.Cut.{rest-less}
-use Rattle.session.specs.Value.{Value, answered, gave, dataIn, data_number, data_part, text_number, text_done, text_part, end_number, end_done, ending, sound}
+use Rattle.session.specs.Value.{Value, answered, gave, data_in, data_number, data_part, text_number, text_done, text_part, end_number, end_done, ending, sound}
 use Rattle.session.specs.Calls.{Next}
-use Rattle.session.proofs.Joined.{heldSoFar, so_far}
+use Rattle.session.proofs.Joined.{held_so_far, so_far}
 use Rattle.session_ladder.proofs.Rungs.{text-is, end_is, data-begun, data-limit}
 use Rattle.session.proofs.Parts.{done-number}
 use Rattle.session.proofs.Count.{part_count, end-count}
@@ -46,12 +46,12 @@ module _ (suite : ℕ) (key nonce : List ℕ) (still : Seals suite) (a m : List 
 
   takes-data : (p : List ℕ) → m ≡ [] → length a + length p ≤ limit → (data_part at p).number ≡ 0
   unfolding data_part so_far
-  takes-data p e h = ap (λ (k : ℕ). (answered k (gave 0 0 (dataIn (cipher_of suite) at p) [] []) at [] []).number) (data_number_lem (length p) e h)
+  takes-data p e h = ap (λ (k : ℕ). (answered k (gave 0 0 (data_in (cipher_of suite) at p) [] []) at [] []).number) (data_number_lem (length p) e h)
 
   late-data : (p : List ℕ) → (m ≡ [] → ⊥) → (data_part at p).number ≡ 9
   unfolding data_part so_far
   late-data p h =
-      ap (λ (k : ℕ). (answered k (gave 0 0 (dataIn (cipher_of suite) at p) [] []) at [] []).number)
+      ap (λ (k : ℕ). (answered k (gave 0 0 (data_in (cipher_of suite) at p) [] []) at [] []).number)
       (data-begun suite (length a) (length m) (length p) goes_on (ne_eqb (length m) 0 (λ e. h (nil_of m e))))
 
   -- ---- message
@@ -71,7 +71,7 @@ module _ (suite : ℕ) (key nonce : List ℕ) (still : Seals suite) (a m : List 
       less : (l : List ℕ) → length (filled (rest n l)) ≡ 16
       less l = filled_long (rest n l) (omega (arith, rest-less n pos l, size_most suite))
 
-      two : (l : List ℕ) → length (filled (heldSoFar (cipher_of suite) key nonce a l)) ≡ 16
+      two : (l : List ℕ) → length (filled (held_so_far (cipher_of suite) key nonce a l)) ≡ 16
       two [] = less a
       two (x ∷ l) = less (x ∷ l)
 

@@ -12,7 +12,7 @@ use Rattle.cipher.specs.Cipher.{is_suite, seals, cipher_of, limit}
 use Rattle.cipher.proofs.Lawful.{lawful}
 use Rattle.cipher.proofs.Suites.{size_most}
 use Rattle.mode.proofs.Chain.{some}
-use Rattle.session.specs.Value.{Value, sound, answered, gave, start_number, fresh, over, starting, data_number, dataIn, data_part, text_number, text_done}
+use Rattle.session.specs.Value.{Value, sound, answered, gave, start_number, fresh, over, starting, data_number, data_in, data_part, text_number, text_done}
 use Rattle.session.specs.Value.{text_part, end_number, end_done, ending}
 use Rattle.session_ladder.proofs.Rungs.{data-closed, text-passed, text-is, end_is}
 use Rattle.session.proofs.Refuse.{answer-kept}
@@ -56,7 +56,7 @@ start_none suite key nonce = none (start_number suite (length key) (length nonce
 
 pub data_none : (v : Value) (p : List ℕ) → (data_part v p).count ≡ 0
 unfolding data_part
-data_none v p = none (data_number v.suite v.ad_total v.text_total (length p)) (dataIn (cipher_of v.suite) v p) v
+data_none v p = none (data_number v.suite v.ad_total v.text_total (length p)) (data_in (cipher_of v.suite) v p) v
 
 module _ (v : Value) (held : length v.held ≡ 16) where
   abbrev n : ℕ

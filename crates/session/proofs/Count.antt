@@ -16,7 +16,7 @@ use Rattle.mode.specs.Blocks.{blocks}
 use Rattle.mode.proofs.Blocks.{blocks-nil, blocks_more}
 use Rattle.mode.proofs.Chain.{some, length-masked}
 use Rattle.mode.specs.Walk.{States, chain_of, mark_of, whole, turned, hidden, covered}
-use Rattle.session.specs.Value.{Value, held_of, begun, firstMark, blocksOut, partOut, endOut}
+use Rattle.session.specs.Value.{Value, held_of, begun, first_mark, blocks_out, part_out, end_out}
 use Rattle.mode.proofs.Cut.{length_whole}
 use Rattle.mode.proofs.Walk.{hidden-chain}
 
@@ -55,17 +55,17 @@ module _ (v : Value) (held : length v.held ≡ 16) where
       let h : v.text_total % κ.size < κ.size = mod-lt v.text_total (some κ (lawful v.suite)) in
       length-take-le (v.text_total % κ.size) v.held (omega (arith, size_most v.suite, h))
 
-  pub part_count : (p : List ℕ) → length (partOut κ v p) ≡ (v.text_total % κ.size + length p) / κ.size * κ.size
-  unfolding partOut blocksOut
+  pub part_count : (p : List ℕ) → length (part_out κ v p) ≡ (v.text_total % κ.size + length p) / κ.size * κ.size
+  unfolding part_out blocks_out
   part_count p =
       let l : List ℕ = held_of κ v v.text_total ++ p in
-      covered-long κ (lawful v.suite) 0x40 (length (whole κ.size l)) (firstMark κ 0x20 v.text_total) (begun κ v) (whole κ.size l)
+      covered-long κ (lawful v.suite) 0x40 (length (whole κ.size l)) (first_mark κ 0x20 v.text_total) (begun κ v) (whole κ.size l)
       (le_refl (length (whole κ.size l)))
       ∙ length_whole κ.size (some κ (lawful v.suite)) l
       ∙ ap (λ (k : ℕ). k / κ.size * κ.size) (length-append (held_of κ v v.text_total) p ∙ ap (λ (k : ℕ). k + length p) held-long)
 
-  pub end-count : length (endOut κ v) ≡ v.text_total % κ.size
-  unfolding endOut blocksOut
+  pub end-count : length (end_out κ v) ≡ v.text_total % κ.size
+  unfolding end_out blocks_out
   end-count =
       let l : List ℕ = held_of κ v v.text_total in
-      covered-long κ (lawful v.suite) 0x40 (length l) (firstMark κ 0x20 v.text_total) (begun κ v) l (le_refl (length l)) ∙ held-long
+      covered-long κ (lawful v.suite) 0x40 (length l) (first_mark κ 0x20 v.text_total) (begun κ v) l (le_refl (length l)) ∙ held-long

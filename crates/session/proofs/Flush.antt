@@ -12,12 +12,12 @@ use Rattle.block.specs.Words.{xor}
 use Rattle.cipher.specs.Cipher.{Cipher}
 use Rattle.mode.specs.Blocks.{blocks}
 use Rattle.mode.specs.Walk.{States, turned, walked}
-use Rattle.session.specs.Value.{Value, states, held_of, firstMark, begun}
+use Rattle.session.specs.Value.{Value, states, held_of, first_mark, begun}
 use Rattle.block_walk.proofs.Front.{walk_none, walk-short}
 
 module _ (κ : Cipher) (v : Value) where
   abbrev flushed : States
-  flushed = walked κ false (firstMark κ 0x08 v.ad_total) 0x10 (states κ v) (blocks κ.size (held_of κ v v.ad_total))
+  flushed = walked κ false (first_mark κ 0x08 v.ad_total) 0x10 (states κ v) (blocks κ.size (held_of κ v v.ad_total))
 
   pub begun-on : (v.text_total ≡ 0 → ⊥) → begun κ v ≡ states κ v
   unfolding begun
@@ -32,11 +32,11 @@ module _ (κ : Cipher) (v : Value) where
     begun-none e z =
         let p : 0 < κ.size = omega arith in
         let z' : v.ad_total % κ.size ≡ 0 = subst (λ (k : ℕ). v.ad_total % k ≡ 0) en z in
-        begun_first e ∙ walk_none κ p false 0x10 (firstMark κ 0x08 v.ad_total) (states κ v) (held_of κ v v.ad_total)
+        begun_first e ∙ walk_none κ p false 0x10 (first_mark κ 0x08 v.ad_total) (states κ v) (held_of κ v v.ad_total)
         (ap (λ (k : ℕ). length (take k v.held)) z')
 
     -- the short block as the code lends it, under the mark m that the code found
-    pub begun-short : n ≤ 16 → length v.held ≡ 16 → v.text_total ≡ 0 → (v.ad_total % n ≡ 0 → ⊥) → (m : ℕ) → m ≡ firstMark κ 0x08 v.ad_total
+    pub begun-short : n ≤ 16 → length v.held ≡ 16 → v.text_total ≡ 0 → (v.ad_total % n ≡ 0 → ⊥) → (m : ℕ) → m ≡ first_mark κ 0x08 v.ad_total
         → turned κ (xor m 0x10) (states κ v) (take (v.ad_total % n - 0) (drop 0 v.held)) ≡ begun κ v
     begun-short most lh e h m em =
         let p : 0 < κ.size = omega arith in
@@ -47,5 +47,5 @@ module _ (κ : Cipher) (v : Value) where
         let h' : j ≡ 0 → ⊥ = λ q. h (ej ∙ q) in
         let pj : 0 < j = omega arith in
         ap₂ (λ (a : ℕ) (b : List ℕ). turned κ (xor a 0x10) (states κ v) b) em (ap (λ (k : ℕ). take k v.held) (sub-zero (v.ad_total % n) ∙ ej))
-        ∙ sym (walk-short κ p false 0x10 (firstMark κ 0x08 v.ad_total) (states κ v) (take j v.held) (omega arith) (omega arith))
+        ∙ sym (walk-short κ p false 0x10 (first_mark κ 0x08 v.ad_total) (states κ v) (take j v.held) (omega arith) (omega arith))
         ∙ sym (begun_first e)

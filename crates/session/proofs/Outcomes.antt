@@ -1,4 +1,4 @@
--- Every public function of `session` leaves one outcome: a session is told by its value in the definitions (`asValue`), whose
+-- Every public function of `session` leaves one outcome: a session is told by its value in the definitions (`as_value`), whose
 -- lists are the bytes of its numbers.
 use mathlib.Core.Path.{◌≡◌, refl, sym, ap, ◌∙◌}
 use mathlib.Core.List.{List}

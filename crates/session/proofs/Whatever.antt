@@ -16,18 +16,18 @@ use Rattle.cipher.specs.Cipher.{Block, is_suite, seals, Seals, cipher_of, nonce_
 use Rattle.mode.specs.Mode.{ciphertext, tag}
 use Rattle.session_blocks.specs.Written.{written}
 use Rattle.session.specs.Value.{Value, Given, over, answered, gave, start_number, starting, data_number, data_part, text_number, text_done, text_part}
-use Rattle.session.specs.Value.{end_number, end_done, ending, dataIn, partOut, endOut, fresh}
-use Rattle.session.proofs.Joined.{outSoFar, so_far}
+use Rattle.session.specs.Value.{end_number, end_done, ending, data_in, part_out, end_out, fresh}
+use Rattle.session.proofs.Joined.{out_so_far, so_far}
 use Rattle.session.specs.Calls.{SessionCall, associated, message, finish, InBytes, AllInBytes, Run, accepted, ended_by, step, run, run_of, joined, Starts}
 use Rattle.session.specs.Calls.{Shut, RefusedShut, Next, Goes, Whatever}
 use Rattle.session_ladder.proofs.Rungs.{data_passed, text-passed, start-passed, start_is}
 use Rattle.session.proofs.Accepts.{next_is}
-use Rattle.session.proofs.SoFar.{data-more, part_out, text-more, end-out, end-tag, fresh-is, none_out}
+use Rattle.session.proofs.SoFar.{data-more, part_out_lem, text-more, end-out, end-tag, fresh-is, none_out}
 
 -- what stands: a session that is over, or one at the value of what has come
 pub record Stands (suite : ℕ) (key nonce : List ℕ) (v : Value) (a m o : List ℕ) : Type 0 where
   pub at : v ≡ so_far suite key nonce a m
-  pub out : o ≡ outSoFar (cipher_of suite) key nonce a m
+  pub out : o ≡ out_so_far (cipher_of suite) key nonce a m
   pub data_bytes : AllBytes a
   pub text_bytes : AllBytes m
   pub data_small : length a ≤ limit
@@ -70,7 +70,7 @@ module _ (suite : ℕ) (key nonce : List ℕ) (hk : Block 16 key) (hv : AllBytes
       let p = data_passed suite (length a) (length m) l e in
       (nil_of m p.1, p.2)
 
-  data-zero : (a p o : List ℕ) → AllBytes p → length p ≤ limit - length a → S (value a []) a [] o → S (dataIn (cipher_of suite) (value a []) p) (a ++ p) [] o
+  data-zero : (a p o : List ℕ) → AllBytes p → length p ≤ limit - length a → S (value a []) a [] o → S (data_in (cipher_of suite) (value a []) p) (a ++ p) [] o
   data-zero a p o hp lp s =
       record {
         at = data-more suite key nonce hk hv lv a p s.data_bytes;
@@ -90,11 +90,11 @@ module _ (suite : ℕ) (key nonce : List ℕ) (hk : Block 16 key) (hv : AllBytes
   DataAfter g a m o p = S g.next (a ++ accepted g.number p) m o
 
   data-go : (k : ℕ) (a m o p : List ℕ) → AllBytes p → data_number suite (length a) (length m) (length p) ≡ k → S (value a m) a m o
-      → DataAfter (answered k (gave 0 0 (dataIn (cipher_of suite) (value a m) p) [] []) (value a m) [] []) a m o p
+      → DataAfter (answered k (gave 0 0 (data_in (cipher_of suite) (value a m) p) [] []) (value a m) [] []) a m o p
   data-go (suc k) a m o p hp e s = same (sym (append-nil a)) refl refl s
   data-go zero a m o p hp e s =
       let t = data-told a m (length p) e in
-      subst (λ (x : List ℕ). S (value a x) a x o → S (dataIn (cipher_of suite) (value a x) p) (a ++ p) x o) (sym t.0) (data-zero a p o hp t.1) s
+      subst (λ (x : List ℕ). S (value a x) a x o → S (data_in (cipher_of suite) (value a x) p) (a ++ p) x o) (sym t.0) (data-zero a p o hp t.1) s
 
   data-step : (a m o p : List ℕ) → AllBytes p → S (value a m) a m o → DataAfter (data_part (value a m) p) a m o p
   unfolding data_part so_far
@@ -110,17 +110,17 @@ module _ (suite : ℕ) (key nonce : List ℕ) (hk : Block 16 key) (hv : AllBytes
   front new out = take-append_seam new (drop (length new) out)
 
   -- with the value's own suite
-  abbrev newOf : List ℕ → List ℕ → List ℕ → List ℕ
-  newOf a m p = partOut (cipher_of suite) (value a m) p
+  abbrev new_of : List ℕ → List ℕ → List ℕ → List ℕ
+  new_of a m p = part_out (cipher_of suite) (value a m) p
 
   text-done : (a m o p out : List ℕ) → AllBytes p → length p ≤ limit - length m → S (value a m) a m o → TextAfter (text_done (value a m) p out) a m o p
   unfolding so_far
   text-done a m o [] out hp lp s = same refl (sym (append-nil m)) (sym (append-nil o)) s
   text-done a m o (x ∷ p) out hp lp s =
-      let new : List ℕ = newOf a m (x ∷ p) in
+      let new : List ℕ = new_of a m (x ∷ p) in
       record {
         at = text-more suite key nonce hk hv lv a m x p s.data_bytes s.text_bytes;
-        out = ap₂ (λ (i j : List ℕ). i ++ j) s.out (front new out) ∙ part_out suite key nonce hk hv lv a m (x ∷ p) s.data_bytes s.text_bytes;
+        out = ap₂ (λ (i j : List ℕ). i ++ j) s.out (front new out) ∙ part_out_lem suite key nonce hk hv lv a m (x ∷ p) s.data_bytes s.text_bytes;
         data_bytes = s.data_bytes;
         text_bytes = all_append m (x ∷ p) s.text_bytes hp;
         data_small = s.data_small;
@@ -204,7 +204,7 @@ module _ (suite : ℕ) (key nonce : List ℕ) (hk : Block 16 key) (hv : AllBytes
   unfolding so_far
   last-go (suc k) a m o out tag₀ s e = absurd (suc-ne-zero k e)
   last-go zero a m o out tag₀ s e = (
-    ap₂ (λ (i j : List ℕ). i ++ j) s.out (front (endOut (cipher_of suite) (value a m)) out)
+    ap₂ (λ (i j : List ℕ). i ++ j) s.out (front (end_out (cipher_of suite) (value a m)) out)
         ∙ end-out suite key nonce hk hv lv a m s.data_bytes s.text_bytes,
     end-tag suite key nonce hk hv lv a m s.data_bytes s.text_bytes,
   )

@@ -35,45 +35,45 @@ module _ (κ : Cipher) where
   held_of v t = take (t % κ.size) v.held
 
   -- the mark of the next block after t bytes: `m`, the first block's, if no block was absorbed yet (fewer than a block have come), else none
-  abbrev pub firstMark : ℕ → ℕ → ℕ
-  firstMark m t = cond (ltb t κ.size) m 0
+  abbrev pub first_mark : ℕ → ℕ → ℕ
+  first_mark m t = cond (ltb t κ.size) m 0
 
   -- the states after associated data p: the whole blocks of the buffered bytes and p are absorbed
-  unfoldable pub dataStates : Value → List ℕ → States
-  dataStates v p = walked κ false (firstMark 0x08 v.ad_total) 0x10 (states v) (blocks κ.size (whole κ.size (held_of v v.ad_total ++ p)))
+  unfoldable pub data_states : Value → List ℕ → States
+  data_states v p = walked κ false (first_mark 0x08 v.ad_total) 0x10 (states v) (blocks κ.size (whole κ.size (held_of v v.ad_total ++ p)))
 
   -- the session after associated data p
-  unfoldable pub dataIn : Value → List ℕ → Value
-  dataIn v p = value_of v.suite (dataStates v p) (filled (rest κ.size (held_of v v.ad_total ++ p))) (v.ad_total + length p) v.text_total
+  unfoldable pub data_in : Value → List ℕ → Value
+  data_in v p = value_of v.suite (data_states v p) (filled (rest κ.size (held_of v v.ad_total ++ p))) (v.ad_total + length p) v.text_total
 
   -- the states when the message begins or continues: if it begins, the associated data's last bytes are absorbed first, as a short block if there are any
   unfoldable pub begun : Value → States
   begun v =
-      cond (eqb v.text_total 0) (walked κ false (firstMark 0x08 v.ad_total) 0x10 (states v) (blocks κ.size (held_of v v.ad_total))) (states v)
+      cond (eqb v.text_total 0) (walked κ false (first_mark 0x08 v.ad_total) 0x10 (states v) (blocks κ.size (held_of v v.ad_total))) (states v)
 
   -- the states after message blocks are absorbed, and their ciphertext
-  unfoldable pub textStates : Value → List ℕ → States
-  textStates v l = walked κ false (firstMark 0x20 v.text_total) 0x40 (begun v) (blocks κ.size l)
+  unfoldable pub text_states : Value → List ℕ → States
+  text_states v l = walked κ false (first_mark 0x20 v.text_total) 0x40 (begun v) (blocks κ.size l)
 
-  unfoldable pub blocksOut : Value → List ℕ → List ℕ
-  blocksOut v l = covered κ false (firstMark 0x20 v.text_total) 0x40 (begun v) (blocks κ.size l)
+  unfoldable pub blocks_out : Value → List ℕ → List ℕ
+  blocks_out v l = covered κ false (first_mark 0x20 v.text_total) 0x40 (begun v) (blocks κ.size l)
 
   -- the session after message bytes p, at least one
-  unfoldable pub textIn : Value → List ℕ → Value
-  textIn v p =
-      value_of v.suite (textStates v (whole κ.size (held_of v v.text_total ++ p)))
+  unfoldable pub text_in : Value → List ℕ → Value
+  text_in v p =
+      value_of v.suite (text_states v (whole κ.size (held_of v v.text_total ++ p)))
       (filled (rest κ.size (held_of v v.text_total ++ p))) v.ad_total (v.text_total + length p)
 
   -- their output: the ciphertext of the blocks that they complete
-  unfoldable pub partOut : Value → List ℕ → List ℕ
-  partOut v p = blocksOut v (whole κ.size (held_of v v.text_total ++ p))
+  unfoldable pub part_out : Value → List ℕ → List ℕ
+  part_out v p = blocks_out v (whole κ.size (held_of v v.text_total ++ p))
 
   -- at the end: the rest of the ciphertext, and the tag
-  unfoldable pub endOut : Value → List ℕ
-  endOut v = blocksOut v (held_of v v.text_total)
+  unfoldable pub end_out : Value → List ℕ
+  end_out v = blocks_out v (held_of v v.text_total)
 
-  unfoldable pub endTag : Value → List ℕ
-  endTag v = tagged κ (textStates v (held_of v v.text_total))
+  unfoldable pub end_tag : Value → List ℕ
+  end_tag v = tagged κ (text_states v (held_of v v.text_total))
 
 -- the result of a call: the number, how many bytes it wrote at the output's start, the next session, and the buffers after it (none: the empty list)
 pub record Given : Type 0 where
@@ -103,13 +103,13 @@ starting suite key nonce = answered (start_number suite (length key) (length non
 -- ---- associated data
 
 unfoldable pub data_part : Value → List ℕ → Given
-data_part v p = answered (data_number v.suite v.ad_total v.text_total (length p)) (gave 0 0 (dataIn (cipher_of v.suite) v p) [] []) v [] []
+data_part v p = answered (data_number v.suite v.ad_total v.text_total (length p)) (gave 0 0 (data_in (cipher_of v.suite) v p) [] []) v [] []
 
 -- ---- message: an empty part changes nothing
 
 abbrev pub text_given : Value → List ℕ → List ℕ → Given
 text_given v p out =
-    gave 0 (length (partOut (cipher_of v.suite) v p)) (textIn (cipher_of v.suite) v p) (written (partOut (cipher_of v.suite) v p) out) []
+    gave 0 (length (part_out (cipher_of v.suite) v p)) (text_in (cipher_of v.suite) v p) (written (part_out (cipher_of v.suite) v p) out) []
 
 abbrev pub text_done : Value → List ℕ → List ℕ → Given
 text_done v [] out = gave 0 0 v out []
@@ -122,8 +122,8 @@ text_part v p out = answered (text_number v.suite v.ad_total v.text_total (lengt
 
 abbrev pub end_done : Value → List ℕ → Given
 end_done v out =
-    let new : List ℕ = endOut (cipher_of v.suite) v in
-    gave 0 (length new) over (written new out) (endTag (cipher_of v.suite) v)
+    let new : List ℕ = end_out (cipher_of v.suite) v in
+    gave 0 (length new) over (written new out) (end_tag (cipher_of v.suite) v)
 
 unfoldable pub ending : Value → List ℕ → List ℕ → Given
 ending v out tag = answered (end_number v.suite v.ad_total v.text_total (length out) (length tag)) (end_done v out) v out tag

@@ -2,9 +2,9 @@
 ghost use Rattle.std.specs.Prelude.{◌≡◌, false, [], ◌<◌, length, take};
 ghost use Rattle.block.specs.Blocks.{wide, filled};
 ghost use Rattle.cipher.specs.Cipher.{TablesFit, IsSuite, size_of, cipher_of};
-ghost use Rattle.mode.specs.Walk.{turned, messageOf};
+ghost use Rattle.mode.specs.Walk.{turned, message_of};
 ghost use Rattle.block_state.specs.Two.{two_of, Holds, one_more_of};
-ghost use Rattle.session.specs.Value.{value_of, over, gave, firstMark, begun, start_number, starting, data_number, data_part, text_number};
+ghost use Rattle.session.specs.Value.{value_of, over, gave, first_mark, begun, start_number, starting, data_number, data_part, text_number};
 ghost use Rattle.session.specs.Value.{text_part, end_number, ending};
 ghost use Rattle.session.specs.Structs.{as_value, gives};
 
@@ -96,8 +96,8 @@ pub(crate) fn started(tables: &[AesTables], suite: u8, key: &[u8], nonce: &[u8])
 }
 
 // The mark of the next whole block: `mark` if none was absorbed yet.
-fn first_mark(suite: u8, mark: u8, total: usize) -> u8
-    ensures { result ≡ firstMark (cipher_of suite) mark total }
+fn first_mark_lem(suite: u8, mark: u8, total: usize) -> u8
+    ensures { result ≡ first_mark (cipher_of suite) mark total }
 {
     let n = cipher::size_of(suite);
     if total < n { mark } else { 0 }
@@ -115,7 +115,7 @@ pub(crate) fn take_in(session: Session, part: &[u8]) -> Step
     let ad_total = session.ad_total;
     let text_total = session.text_total;
     let n = cipher::size_of(suite);
-    let mark = first_mark(suite, MARK_FIRST_DATA, ad_total);
+    let mark = first_mark_lem(suite, MARK_FIRST_DATA, ad_total);
     let held_len = ad_total % n;
     let two = State {
         y: y,
@@ -135,7 +135,7 @@ pub(crate) fn take_in(session: Session, part: &[u8]) -> Step
 fn absorb_last(suite: u8, state: State, mark: u8, bytes: &[u8]) -> State
     requires { IsSuite suite × (length bytes.now < size_of suite) }
     ensures { Holds suite result (turned (cipher_of suite) mark (two_of suite state)
-        (messageOf (cipher_of suite) false mark (two_of suite state) bytes.now)) (one_more_of state.calls) }
+        (message_of (cipher_of suite) false mark (two_of suite state) bytes.now)) (one_more_of state.calls) }
 {
     if cipher::needs_tables(suite) {
         let tables = cipher::tables(suite);
@@ -168,7 +168,7 @@ fn begin(session: Session) -> State
     if held_len == 0 {
         return two;
     }
-    let mark = first_mark(suite, MARK_FIRST_DATA, ad_total);
+    let mark = first_mark_lem(suite, MARK_FIRST_DATA, ad_total);
     absorb_last(suite, two, mark ^ MARK_SHORT_DATA, &held[0..held_len])
 }
 
@@ -202,7 +202,7 @@ pub(crate) fn seal_in(session: Session, part: &[u8], out: &mut [u8]) -> Step
     let held = session.held;
     let two = going(session);
     let n = cipher::size_of(suite);
-    let mark = first_mark(suite, MARK_FIRST_TEXT, text_total);
+    let mark = first_mark_lem(suite, MARK_FIRST_TEXT, text_total);
     let held_len = text_total % n;
     let sealed = session_blocks::crypt_part(suite, two, mark, held, held_len, part, out);
     let state = sealed.s;
@@ -234,7 +234,7 @@ pub(crate) fn close(tables: &[AesTables], session: Session, out: &mut [u8], tag:
     let held = session.held;
     let two = begin(session);
     let n = cipher::size_of(suite);
-    let mark = first_mark(suite, MARK_FIRST_TEXT, text_total);
+    let mark = first_mark_lem(suite, MARK_FIRST_TEXT, text_total);
     let held_len = text_total % n;
     let state = session_blocks::last_in(tables, suite, two, mark, held, held_len, out);
     let last = block_state::tag::tag_of(tables, suite, state);

@@ -7,7 +7,7 @@ use lib.ListN.{length, take}
 use Rattle.block.specs.Bytes.{AllBytes}
 use Rattle.cipher.specs.Cipher.{cipher_of, size_of, nonce_of}
 use Rattle.cipher.proofs.Lawful.{lawful}
-use Rattle.mode.specs.Mode.{textOut, tagOut}
+use Rattle.mode.specs.Mode.{text_out, tag_out}
 use Rattle.mode.proofs.Demand2.{text-length, text-back, tag_back, tag-block}
 use Rattle.shift_format.specs.Part.{stretch}
 use Rattle.shift_format.specs.Format.{count_of, row_size_of, nonce_at, row_of, data_of, text_of, tag_of}
@@ -23,17 +23,17 @@ use Rattle.shift_draft.proofs.Rewritten.{Plain, two_parts}
 -- two files with the same row, nonce and associated data make the same of a text
 module _ (f g ring : List ℕ) (i : ℕ) (d : Bool) (t : List ℕ) (rq : row_of g i ≡ row_of f i) (nq : nonce_at (row_size_of g) g i ≡ nonce_at (row_size_of f) f i)
     (dq : data_of g (row_of f i) ≡ data_of f (row_of f i)) (tq : text_of g (row_of f i) ≡ t) where
-  out-same : entry_out d g ring i ≡ textOut (cipher_of (row_of f i).suite) d (ring_key ring (row_of f i).key) (nonce_read f i) (data_of f (row_of f i)) t
+  out-same : entry_out d g ring i ≡ text_out (cipher_of (row_of f i).suite) d (ring_key ring (row_of f i).key) (nonce_read f i) (data_of f (row_of f i)) t
   unfolding entry_out
   out-same =
-      (λ j. textOut (cipher_of (rq j).suite) d (ring_key ring (rq j).key) (take (nonce_of (rq j).suite) (nq j)) (data_of g (rq j)) (text_of g (rq j)))
-      ∙ ap₂ (λ (a b : List ℕ). textOut (cipher_of (row_of f i).suite) d (ring_key ring (row_of f i).key) (nonce_read f i) a b) dq tq
+      (λ j. text_out (cipher_of (rq j).suite) d (ring_key ring (rq j).key) (take (nonce_of (rq j).suite) (nq j)) (data_of g (rq j)) (text_of g (rq j)))
+      ∙ ap₂ (λ (a b : List ℕ). text_out (cipher_of (row_of f i).suite) d (ring_key ring (row_of f i).key) (nonce_read f i) a b) dq tq
 
-  pub tag_same : entry_tag d g ring i ≡ tagOut (cipher_of (row_of f i).suite) d (ring_key ring (row_of f i).key) (nonce_read f i) (data_of f (row_of f i)) t
+  pub tag_same : entry_tag d g ring i ≡ tag_out (cipher_of (row_of f i).suite) d (ring_key ring (row_of f i).key) (nonce_read f i) (data_of f (row_of f i)) t
   unfolding entry_tag
   tag_same =
-      (λ j. tagOut (cipher_of (rq j).suite) d (ring_key ring (rq j).key) (take (nonce_of (rq j).suite) (nq j)) (data_of g (rq j)) (text_of g (rq j)))
-      ∙ ap₂ (λ (a b : List ℕ). tagOut (cipher_of (row_of f i).suite) d (ring_key ring (row_of f i).key) (nonce_read f i) a b) dq tq
+      (λ j. tag_out (cipher_of (rq j).suite) d (ring_key ring (rq j).key) (take (nonce_of (rq j).suite) (nq j)) (data_of g (rq j)) (text_of g (rq j)))
+      ∙ ap₂ (λ (a b : List ℕ). tag_out (cipher_of (row_of f i).suite) d (ring_key ring (row_of f i).key) (nonce_read f i) a b) dq tq
 
 -- a row of a file that passes is one that sealer and opener take
 pub entry_at : (e : ℕ) (f : List ℕ) → Plain e → (check_as e f).number ≡ 0 → (i : ℕ) → i < count_of f → EntryIn (row_size_of f) f i

@@ -2,7 +2,7 @@
 use Rattle.std.specs.Prelude.{ℕ, ◌+◌, Bool, true, false, List, ◌++◌, take, replicate}
 use Rattle.block.specs.Bytes.{bytes}
 use Rattle.cipher.specs.Cipher.{size_of, nonce_of, cipher_of}
-use Rattle.mode.specs.Mode.{textOut, tagOut}
+use Rattle.mode.specs.Mode.{text_out, tag_out}
 use Rattle.shift_format.specs.Format.{count_of, first_edition, row_size_of, nonce_at, row_of, data_of, text_of}
 use Rattle.shift_jobs.specs.Opening.{ring_key}
 use Rattle.shift_draft.specs.Put.{put, put_all}
@@ -26,12 +26,12 @@ piece_size f i = (row_of f i).text_len + size_of (row_of f i).suite
 abbrev pub text_as : Bool → List ℕ → List ℕ → ℕ → ℕ → List ℕ → List ℕ
 text_as opening f ring i suite text =
     let r = row_of f i in
-    textOut (cipher_of suite) opening (ring_key ring r.key) (take (nonce_of suite) (nonce_at (row_size_of f) f i)) (data_of f r) text
+    text_out (cipher_of suite) opening (ring_key ring r.key) (take (nonce_of suite) (nonce_at (row_size_of f) f i)) (data_of f r) text
 
 abbrev pub tag_as : Bool → List ℕ → List ℕ → ℕ → ℕ → List ℕ → List ℕ
 tag_as opening f ring i suite text =
     let r = row_of f i in
-    tagOut (cipher_of suite) opening (ring_key ring r.key) (take (nonce_of suite) (nonce_at (row_size_of f) f i)) (data_of f r) text
+    tag_out (cipher_of suite) opening (ring_key ring r.key) (take (nonce_of suite) (nonce_at (row_size_of f) f i)) (data_of f r) text
 
 -- ciphertext and tag of a message
 abbrev pub piece_as : List ℕ → List ℕ → ℕ → ℕ → List ℕ → List ℕ

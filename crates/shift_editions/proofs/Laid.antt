@@ -19,20 +19,20 @@ use Rattle.shift_editions.proofs.Segments.{skip, in_first, in_second, at_front}
 
 module _ (w v : ℕ) (f : List ℕ) (n : ℕ) (t : TableIn w f n) (broad : 32 ≤ v) where
   module _ (i : ℕ) (l : i < n) where
-    abbrev jobPart : List ℕ
-    jobPart = stretch f (row_start w i) 4
+    abbrev job_part : List ℕ
+    job_part = stretch f (row_start w i) 4
 
     abbrev zeros : List ℕ
     zeros = replicate (v - 32) 0
 
-    abbrev fieldPart : List ℕ
-    fieldPart = stretch f (rest_start w i) 4
+    abbrev field_part : List ℕ
+    field_part = stretch f (rest_start w i) 4
 
     abbrev offset : List ℕ
     offset = bytes 4 (carried w v n (row_at w f i).ad_at)
 
-    abbrev restPart : List ℕ
-    restPart = stretch f (rest_start w i + 8) 20
+    abbrev rest_part : List ℕ
+    rest_part = stretch f (rest_start w i + 8) 20
 
     zeros-long : length zeros ≡ v - 32
     zeros-long = length-replicate (v - 32) 0
@@ -40,14 +40,14 @@ module _ (w v : ℕ) (f : List ℕ) (n : ℕ) (t : TableIn w f n) (broad : 32 �
     offset-long : length offset ≡ 4
     offset-long = length-bytes 4 (carried w v n (row_at w f i).ad_at)
 
-    job-long : length jobPart ≡ 4
+    job-long : length job_part ≡ 4
     job-long = stretch-length f (row_start w i) 4 (omega (arith, (row_in w f n i t l).fits, t.broad))
 
-    fields-long : length fieldPart ≡ 4
+    fields-long : length field_part ≡ 4
     unfolding rest_start
     fields-long = stretch-length f (rest_start w i) 4 (omega (arith, (row_in w f n i t l).fits, t.broad))
 
-    rest-long : length restPart ≡ 20
+    rest-long : length rest_part ≡ 20
     unfolding rest_start
     rest-long = stretch-length f (rest_start w i + 8) 20 (omega (arith, (row_in w f n i t l).fits, t.broad))
 
@@ -57,10 +57,10 @@ module _ (w v : ℕ) (f : List ℕ) (n : ℕ) (t : TableIn w f n) (broad : 32 �
     row-long =
         omega (
           arith,
-          length-append jobPart (zeros ++ (fieldPart ++ (offset ++ restPart))),
-          length-append zeros (fieldPart ++ (offset ++ restPart)),
-          length-append fieldPart (offset ++ restPart),
-          length-append offset restPart,
+          length-append job_part (zeros ++ (field_part ++ (offset ++ rest_part))),
+          length-append zeros (field_part ++ (offset ++ rest_part)),
+          length-append field_part (offset ++ rest_part),
+          length-append offset rest_part,
           job-long,
           fields-long,
           rest-long,
@@ -68,34 +68,34 @@ module _ (w v : ℕ) (f : List ℕ) (n : ℕ) (t : TableIn w f n) (broad : 32 �
           zeros-long,
         )
 
-    pub row-job : stretch (moved_row w v f n i) 0 4 ≡ jobPart
+    pub row-job : stretch (moved_row w v f n i) 0 4 ≡ job_part
     unfolding moved_row
-    row-job = at_front jobPart (zeros ++ (fieldPart ++ (offset ++ restPart))) 4 job-long
+    row-job = at_front job_part (zeros ++ (field_part ++ (offset ++ rest_part))) 4 job-long
 
     pub row-station : stretch (moved_row w v f n i) (4 + 0) (v - 32) ≡ zeros
     unfolding moved_row
     row-station =
-        in_second jobPart (zeros ++ (fieldPart ++ (offset ++ restPart))) 4 0 (v - 32) job-long
-        ∙ at_front zeros (fieldPart ++ (offset ++ restPart)) (v - 32) zeros-long
+        in_second job_part (zeros ++ (field_part ++ (offset ++ rest_part))) 4 0 (v - 32) job-long
+        ∙ at_front zeros (field_part ++ (offset ++ rest_part)) (v - 32) zeros-long
 
-    past : (k m : ℕ) → stretch (moved_row w v f n i) (v - 28 + k) m ≡ stretch (fieldPart ++ (offset ++ restPart)) k m
+    past : (k m : ℕ) → stretch (moved_row w v f n i) (v - 28 + k) m ≡ stretch (field_part ++ (offset ++ rest_part)) k m
     unfolding moved_row
     past k m =
         let q : v - 28 + k ≡ 4 + (v - 32 + k) = omega arith in
         ap (λ (j : ℕ). stretch (moved_row w v f n i) j m) q
-        ∙ in_second jobPart (zeros ++ (fieldPart ++ (offset ++ restPart))) 4 (v - 32 + k) m job-long
-        ∙ in_second zeros (fieldPart ++ (offset ++ restPart)) (v - 32) k m zeros-long
+        ∙ in_second job_part (zeros ++ (field_part ++ (offset ++ rest_part))) 4 (v - 32 + k) m job-long
+        ∙ in_second zeros (field_part ++ (offset ++ rest_part)) (v - 32) k m zeros-long
 
-    pub row-fields : stretch (moved_row w v f n i) (v - 28 + 0) 4 ≡ fieldPart
-    row-fields = past 0 4 ∙ at_front fieldPart (offset ++ restPart) 4 fields-long
+    pub row-fields : stretch (moved_row w v f n i) (v - 28 + 0) 4 ≡ field_part
+    row-fields = past 0 4 ∙ at_front field_part (offset ++ rest_part) 4 fields-long
 
     pub row-offset : stretch (moved_row w v f n i) (v - 28 + 4) 4 ≡ offset
-    row-offset = past 4 4 ∙ in_second fieldPart (offset ++ restPart) 4 0 4 fields-long ∙ at_front offset restPart 4 offset-long
+    row-offset = past 4 4 ∙ in_second field_part (offset ++ rest_part) 4 0 4 fields-long ∙ at_front offset rest_part 4 offset-long
 
-    pub row-rest : stretch (moved_row w v f n i) (v - 28 + 8) 20 ≡ restPart
+    pub row-rest : stretch (moved_row w v f n i) (v - 28 + 8) 20 ≡ rest_part
     row-rest =
-        past 8 20 ∙ in_second fieldPart (offset ++ restPart) 4 4 20 fields-long
-        ∙ in_second offset restPart 4 0 20 offset-long ∙ take_all 20 restPart (omega (arith, rest-long))
+        past 8 20 ∙ in_second field_part (offset ++ rest_part) 4 4 20 fields-long
+        ∙ in_second offset rest_part 4 0 20 offset-long ∙ take_all 20 rest_part (omega (arith, rest-long))
 
   -- the rows
   pub rows_long : (k : ℕ) → k ≤ n → length (moved_rows w v f n k) ≡ v * k

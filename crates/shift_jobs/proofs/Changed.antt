@@ -13,7 +13,7 @@ use Rattle.block.proofs.SameBytes.{same_true}
 use Rattle.block.proofs.Lists.{all_nil, all_take, all_drop}
 use Rattle.cipher.specs.Cipher.{Block, cipher_of, size_of, nonce_of}
 use Rattle.cipher.proofs.Lawful.{lawful}
-use Rattle.mode.specs.Mode.{nonceSize, tagOut}
+use Rattle.mode.specs.Mode.{nonce_size, tag_out}
 use Rattle.mode.proofs.Start.{suite_nonce}
 use Rattle.mode.proofs.Demand2.{empty_tag}
 use Rattle.mode.proofs.Demand3.{same-before, same_behind, data-told}
@@ -37,7 +37,7 @@ unfolding nonce_at
 nonce_bytes f i h = all_take (nonce_of (row_of f i).suite) (nonce_at (row_size_of f) f i) (all_stretch f (nonce_start (row_size_of f) i) 16 h)
 
 -- and the nonce is as long as the mode wants it
-pub nonce_full : (f ring : List ℕ) (i : ℕ) → EntryIn (row_size_of f) f i → length ring ≡ 256 → length (nonce_read f i) ≡ nonceSize (cipher_of (row_of f i).suite)
+pub nonce_full : (f ring : List ℕ) (i : ℕ) → EntryIn (row_size_of f) f i → length ring ≡ 256 → length (nonce_read f i) ≡ nonce_size (cipher_of (row_of f i).suite)
 nonce_full f ring i h full = nonce-long f ring i h full ∙ sym (suite_nonce (row_of f i).suite)
 
 pub key_block : (f ring : List ℕ) (i : ℕ) → EntryIn (row_size_of f) f i → length ring ≡ 256 → AllBytes ring → Block 16 (ring_key ring (row_of f i).key)
@@ -68,11 +68,11 @@ module _ (f g ring : List ℕ) (i : ℕ) (h : EntryIn (row_size_of f) f i) (full
     (right : entry_right f ring i ≡ true) where
   -- the tag that the opener computes of associated data and text
   abbrev worked : List ℕ → List ℕ → List ℕ
-  worked ad text = tagOut (cipher_of (row_of f i).suite) true (ring_key ring (row_of f i).key) (nonce_read f i) ad text
+  worked ad text = tag_out (cipher_of (row_of f i).suite) true (ring_key ring (row_of f i).key) (nonce_read f i) ad text
 
   right-other : entry_right g ring i ≡ same_bytes (worked (data_of g (row_of f i)) (text_of g (row_of f i))) (tag_of f (row_of f i))
   right-other =
-      (λ t. same_bytes (tagOut (cipher_of (row t).suite) true (ring_key ring (row t).key) (take (nonce_of (row t).suite) (nonce t)) (data_of g (row t))
+      (λ t. same_bytes (tag_out (cipher_of (row t).suite) true (ring_key ring (row t).key) (take (nonce_of (row t).suite) (nonce t)) (data_of g (row t))
       (text_of g (row t))) (tag_of g (row t)))
       ∙ ap (same_bytes (worked (data_of g (row_of f i)) (text_of g (row_of f i)))) tag
 

@@ -10,7 +10,7 @@ use lib.ListN.{length, take, length-take}
 use Rattle.block.specs.Bytes.{same_bytes}
 use Rattle.cipher.specs.Cipher.{size_of, nonce_of, cipher_of, limit}
 use Rattle.cipher.proofs.Suites.{nonce_most}
-use Rattle.mode.specs.Mode.{textOut, tagOut}
+use Rattle.mode.specs.Mode.{text_out, tag_out}
 use Rattle.status.specs.Verdicts.{refusal}
 use Rattle.comet.specs.Answers.{Sealed, sealing, Opened, opened_as, opening, verifying}
 use Rattle.shift_format.specs.declared.row.Row.{Row}
@@ -51,12 +51,12 @@ lent_sealer f ring i suite r x key nonce ad text out tag e q ek en ea = e ∙ si
 abbrev pub entry_right : List ℕ → List ℕ → ℕ → Bool
 entry_right f ring i =
     let r = row_of f i in
-    same_bytes (tagOut (cipher_of r.suite) true (ring_key ring r.key) (nonce_read f i) (data_of f r) (text_of f r)) (tag_of f r)
+    same_bytes (tag_out (cipher_of r.suite) true (ring_key ring r.key) (nonce_read f i) (data_of f r) (text_of f r)) (tag_of f r)
 
 abbrev pub entry_text : List ℕ → List ℕ → ℕ → List ℕ
 entry_text f ring i =
     let r = row_of f i in
-    textOut (cipher_of r.suite) true (ring_key ring r.key) (nonce_read f i) (data_of f r) (text_of f r)
+    text_out (cipher_of r.suite) true (ring_key ring r.key) (nonce_read f i) (data_of f r) (text_of f r)
 
 module _ (f ring : List ℕ) (i : ℕ) (h : EntryIn (row_size_of f) f i) (g : length ring ≡ 256) where
   pub key-long : length (ring_key ring (row_of f i).key) ≡ 16

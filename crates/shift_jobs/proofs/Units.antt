@@ -38,8 +38,8 @@ use Rattle.shift_jobs.proofs.Jobs.{opens}
 
 module _ (f ring : List ℕ) (job i v : ℕ) (found : lookup_job f job ≡ answer 0 i) where
   -- the file with v for the unit of the entry that was found
-  abbrev pub otherUnit : List ℕ
-  otherUnit = set f ((row_of f i).ad_at + 4) v
+  abbrev pub other_unit : List ℕ
+  other_unit = set f ((row_of f i).ad_at + 4) v
 
   within : i < count_of f
   within = (holding f job i found).within
@@ -47,63 +47,63 @@ module _ (f ring : List ℕ) (job i v : ℕ) (found : lookup_job f job ≡ answe
   passed : Passes first_edition newest f
   passed = (holding f job i found).file
 
-  same-long : length otherUnit ≡ length f
+  same-long : length other_unit ≡ length f
   same-long = unit-long first_edition newest f passed i v within
 
-  same-table : AgreeTable otherUnit f same-long (row_size_of f) (count_of f)
-  same-table = body-table f otherUnit same-long first_edition newest passed i within (unit-outside first_edition newest f passed i v within)
+  same-table : AgreeTable other_unit f same-long (row_size_of f) (count_of f)
+  same-table = body-table f other_unit same-long first_edition newest passed i within (unit-outside first_edition newest f passed i v within)
 
-  same-row-size : row_size_of otherUnit ≡ row_size_of f
-  same-row-size = ap row_size (body-edition f otherUnit same-long first_edition newest passed i within (unit-outside first_edition newest f passed i v within))
+  same-row-size : row_size_of other_unit ≡ row_size_of f
+  same-row-size = ap row_size (body-edition f other_unit same-long first_edition newest passed i within (unit-outside first_edition newest f passed i v within))
 
-  row_is : row_of otherUnit i ≡ row_of f i
+  row_is : row_of other_unit i ≡ row_of f i
   row_is =
-      ap (λ (w : ℕ). row_at w otherUnit i) same-row-size ∙ row_same otherUnit f same-long (row_size_of f) (count_of f) (row_broad (edition_of f)) same-table i within
+      ap (λ (w : ℕ). row_at w other_unit i) same-row-size ∙ row_same other_unit f same-long (row_size_of f) (count_of f) (row_broad (edition_of f)) same-table i within
 
-  nonce-is : nonce_at (row_size_of otherUnit) otherUnit i ≡ nonce_at (row_size_of f) f i
+  nonce-is : nonce_at (row_size_of other_unit) other_unit i ≡ nonce_at (row_size_of f) f i
   nonce-is =
-      ap (λ (w : ℕ). nonce_at w otherUnit i) same-row-size ∙ nonce-same otherUnit f same-long (row_size_of f) (count_of f)
+      ap (λ (w : ℕ). nonce_at w other_unit i) same-row-size ∙ nonce-same other_unit f same-long (row_size_of f) (count_of f)
       (row_broad (edition_of f)) same-table i within
 
   -- the check passes where the new byte is a unit, and else refuses the row with 30
-  check-is : (b : Bool) → is_unit v ≡ b → check_file otherUnit ≡ cond (not b) (answer 30 i) (answer 0 0)
+  check-is : (b : Bool) → is_unit v ≡ b → check_file other_unit ≡ cond (not b) (answer 30 i) (answer 0 0)
   check-is b e = rw e at (unit-check first_edition newest f passed i v within)
 
-  lookup-is : (b : Bool) → is_unit v ≡ b → lookup_job otherUnit job ≡ cond b (answer 0 i) (answer 30 i)
+  lookup-is : (b : Bool) → is_unit v ≡ b → lookup_job other_unit job ≡ cond b (answer 0 i) (answer 30 i)
   unfolding lookup_job
   lookup-is true e =
-      ((finds otherUnit job (ap (λ (x : Answer). x.number) (check-is true e))).found i).1
+      ((finds other_unit job (ap (λ (x : Answer). x.number) (check-is true e))).found i).1
       (record {
-        within = rw (count_same otherUnit f same-long (row_size_of f) (count_of f) (row_broad (edition_of f)) same-table) within;
+        within = rw (count_same other_unit f same-long (row_size_of f) (count_of f) (row_broad (edition_of f)) same-table) within;
         right = ap (λ (r : Row). r.job) row_is ∙ (holding f job i found).right;
       })
   lookup-is false e = simp (check-is false e)
 
   -- the tag's bytes lie after the unit
-  tag_is : tag_of otherUnit (row_of f i) ≡ tag_of f (row_of f i)
+  tag_is : tag_of other_unit (row_of f i) ≡ tag_of f (row_of f i)
   tag_is =
       let r = row_of f i in
       let a = (passed.walk.rows i within).size.ad-low in
-      stretch-same otherUnit f same-long (r.ad_at + r.ad_len + r.text_len) (size_of r.suite)
+      stretch-same other_unit f same-long (r.ad_at + r.ad_len + r.text_len) (size_of r.suite)
       (λ k l m. get_or-set_other f (r.ad_at + 4) k v 0 (λ q. omega arith))
 
   module _ (hf : AllBytes f) (hr : AllBytes ring) (hv : v < 256) (other : unit_of f (row_of f i) ≡ v → ⊥) (g : length ring ≡ 256)
       (empty : (row_of f i).text_len ≡ 0) where
-    data-differs : data_of f (row_of f i) ≡ data_of otherUnit (row_of f i) → ⊥
+    data-differs : data_of f (row_of f i) ≡ data_of other_unit (row_of f i) → ⊥
     unfolding body_end
     data-differs q =
         let r = row_of f i in
         let s = passed.walk.rows i within in
         let l : 4 < r.ad_len = omega (arith, s.size.ad-low) in
-        other (sym (stretch_at f r.ad_at r.ad_len 4 l) ∙ ap (λ (x : List ℕ). get_or x 4 0) q ∙ stretch_at otherUnit r.ad_at r.ad_len 4 l
+        other (sym (stretch_at f r.ad_at r.ad_len 4 l) ∙ ap (λ (x : List ℕ). get_or x 4 0) q ∙ stretch_at other_unit r.ad_at r.ad_len 4 l
         ∙ get_or-set_same f (r.ad_at + 4) v 0 (omega (arith, s.place.ends)))
 
     -- the unit lies in the first block
-    other-wrong : entry_right f ring i ≡ true → entry_right otherUnit ring i ≡ false
+    other-wrong : entry_right f ring i ≡ true → entry_right other_unit ring i ≡ false
     other-wrong e =
         let r = row_of f i in
         let big : 8 ≤ size_of r.suite = ⊎_elim (λ q. omega arith) (λ q. omega arith) (sizes_two r.suite) in
-        data-wrong f otherUnit ring i (found_in f job i found) g hf (all_set f (r.ad_at + 4) v hf hv) hr same-long row_is nonce-is tag_is e 0 empty
+        data-wrong f other_unit ring i (found_in f job i found) g hf (all_set f (r.ad_at + 4) v hf hv) hr same-long row_is nonce-is tag_is e 0 empty
         data-differs
         (λ k o. get_or-set_other f (r.ad_at + 4) k v 0 (λ q. ⊎_elim (λ a. omega arith) (λ a. omega arith) o))
 

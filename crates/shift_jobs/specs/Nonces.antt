@@ -7,7 +7,7 @@ use Rattle.shift_format.specs.Format.{count_of, row_size_of, row_start, row_of, 
 use Rattle.shift_check.specs.Check.{check_between}
 use Rattle.shift_jobs.specs.Opening.{nonce_read}
 
--- rows i and j are opened under the same suite, key number and nonce: `nonceRead` is what the opener borrows
+-- rows i and j are opened under the same suite, key number and nonce: `nonce_read` is what the opener borrows
 pub record SameNonce (f : List ℕ) (i j : ℕ) : Type 0 where
   pub suite : (row_of f i).suite ≡ (row_of f j).suite
   pub key : (row_of f i).key ≡ (row_of f j).key

@@ -13,7 +13,7 @@ use borrow.Author.Tests.{eq-eqb, ne_eqb, eqb-true, eqb-false}
 use Rattle.block.specs.Bytes.{AllBytes}
 use Rattle.cipher.specs.Cipher.{retired_suite, cipher_of, size_of, nonce_of}
 use Rattle.cipher.proofs.Lawful.{lawful}
-use Rattle.mode.specs.Mode.{textOut, tagOut}
+use Rattle.mode.specs.Mode.{text_out, tag_out}
 use Rattle.mode.proofs.Demand2.{text-length, text-bytes, text-back, tag_back, tag-block}
 use Rattle.mode.proofs.Start.{suite_nonce}
 use Rattle.shift_format.specs.declared.row.Row.{Row}
@@ -262,9 +262,9 @@ module _ (f ring : List ℕ) (hf : AllBytes f) (hr : AllBytes ring) (c : Calm f)
         let key = ring_key ring r.key in
         let row = row-three in
         let nonce = resealed-nonce i l in
-        (λ t. textOut (cipher_of (row t).suite) true (ring_key ring (row t).key) (take (nonce_of (row t).suite) (nonce t)) (data_of F (row t))
+        (λ t. text_out (cipher_of (row t).suite) true (ring_key ring (row t).key) (take (nonce_of (row t).suite) (nonce t)) (data_of F (row t))
         (text_of F (row t)))
-        ∙ ap₂ (λ (a b : List ℕ). textOut (cipher_of successor) true key (nonce_again f i) a b) data-three parts-three.0
+        ∙ ap₂ (λ (a b : List ℕ). text_out (cipher_of successor) true key (nonce_again f i) a b) data-three parts-three.0
         ∙ text-back (cipher_of successor) (lawful successor) key (nonce_again f i) (data_of f r) false msg₄ (msg-all f ring hf hr full i (taken i l) four)
 
     pub right-again : RightTag F ring i
@@ -273,8 +273,8 @@ module _ (f ring : List ℕ) (hf : AllBytes f) (hr : AllBytes ring) (c : Calm f)
         let key = ring_key ring r.key in
         let row = row-three in
         let nonce = resealed-nonce i l in
-        (λ t. tagOut (cipher_of (row t).suite) true (ring_key ring (row t).key) (take (nonce_of (row t).suite) (nonce t)) (data_of F (row t)) (text_of F (row t)))
-        ∙ ap₂ (λ (a b : List ℕ). tagOut (cipher_of successor) true key (nonce_again f i) a b) data-three parts-three.0
+        (λ t. tag_out (cipher_of (row t).suite) true (ring_key ring (row t).key) (take (nonce_of (row t).suite) (nonce t)) (data_of F (row t)) (text_of F (row t)))
+        ∙ ap₂ (λ (a b : List ℕ). tag_out (cipher_of successor) true key (nonce_again f i) a b) data-three parts-three.0
         ∙ tag_back (cipher_of successor) (lawful successor) key (nonce_again f i) (data_of f r) false msg₄ (msg-all f ring hf hr full i (taken i l) four)
         ∙ sym (ap (tag_of F) row-three ∙ parts-three.1)
 

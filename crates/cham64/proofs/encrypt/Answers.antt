@@ -7,7 +7,7 @@ use native.Mathlib.Omega.{arith}
 use Rattle.cham64.specs.declared.Words.{Words}
 use Rattle.cham_spec.specs.Cham.{State, turned, rounds, cham}
 use Rattle.cham_spec.proofs.Rounds.{same-state, four, done}
-use Rattle.cham64.proofs.encrypt.Invariants.{stateAt}
+use Rattle.cham64.proofs.encrypt.Invariants.{state_at}
 use Rattle.cham64.proofs.encrypt.Goals as goal
 
 -- x is the state four rounds after s: rounds i to i + 3, with the round keys from index `at` on
@@ -19,15 +19,15 @@ Four keys at i s x =
     × (x.s3 ≡ turned 16 8 1 s.s3 x.s0 (get_or keys (at + 3) 0) (i + 3))
 
 -- an iteration's sixteen rounds. The lemma stands outside the loop's proof, so that `omega` reads its few facts and not all of the loop's
-sixteen : (keys : List ℕ) (s : State) (i : ℕ) (x0 x1 x2 x3 x4 : Words) → i % 16 ≡ 0 → rounds 16 keys s i ≡ stateAt x0
+sixteen : (keys : List ℕ) (s : State) (i : ℕ) (x0 x1 x2 x3 x4 : Words) → i % 16 ≡ 0 → rounds 16 keys s i ≡ state_at x0
     → Four keys 0 i x0 x1 → Four keys 4 (i + 4) x1 x2 → Four keys 8 (i + 8) x2 x3 → Four keys 12 (i + 12) x3 x4
-    → rounds 16 keys s (i + 16) ≡ stateAt x4
+    → rounds 16 keys s (i + 16) ≡ state_at x4
 sixteen keys s i x0 x1 x2 x3 x4 m z e0 e1 e2 e3 =
-    let z0 : rounds 16 keys s (i + 4) ≡ stateAt x1 =
+    let z0 : rounds 16 keys s (i + 4) ≡ state_at x1 =
     four 16 keys s i (i + 4) 0 _ _ _ _ _ _ _ _ (omega arith) (omega arith) (omega arith) (omega arith) z e0.0 e0.1 e0.2 e0.3 in
-    let z1 : rounds 16 keys s (i + 8) ≡ stateAt x2 =
+    let z1 : rounds 16 keys s (i + 8) ≡ state_at x2 =
     four 16 keys s (i + 4) (i + 8) 4 _ _ _ _ _ _ _ _ (omega arith) (omega arith) (omega arith) (omega arith) z0 e1.0 e1.1 e1.2 e1.3 in
-    let z2 : rounds 16 keys s (i + 12) ≡ stateAt x3 =
+    let z2 : rounds 16 keys s (i + 12) ≡ state_at x3 =
     four 16 keys s (i + 8) (i + 12) 8 _ _ _ _ _ _ _ _ (omega arith) (omega arith) (omega arith) (omega arith) z1 e2.0 e2.1 e2.2 e2.3 in
     four 16 keys s (i + 12) (i + 16) 12 _ _ _ _ _ _ _ _ (omega arith) (omega arith) (omega arith) (omega arith) z2 e3.0 e3.1 e3.2 e3.3
 

@@ -5,11 +5,11 @@ use Rattle.cham64.specs.declared.Words.{Words}
 use Rattle.cham_spec.specs.Cham.{State, state, rounds}
 use Rattle.cham64.proofs.encrypt.Given as goal
 
-abbrev pub stateAt : Words → State
-stateAt x = state x.s0 x.s1 x.s2 x.s3
+abbrev pub state_at : Words → State
+state_at x = state x.s0 x.s1 x.s2 x.s3
 
 abbrev pub invariant-loop-i : goal.invariant-loop-i
-invariant-loop-i l = (l.i ≤ 80) × (l.i % 16 ≡ 0) × (rounds 16 l.keys (stateAt l.initial.s) l.i ≡ stateAt l.s)
+invariant-loop-i l = (l.i ≤ 80) × (l.i % 16 ≡ 0) × (rounds 16 l.keys (state_at l.initial.s) l.i ≡ state_at l.s)
 
 abbrev pub decreases-loop-i : goal.decreases-loop-i
 decreases-loop-i l = 80 - l.i

@@ -15,7 +15,7 @@ use Rattle.block.proofs.Lists.{nil_of}
 use Rattle.cipher.specs.Cipher.{size_of, cipher_of}
 use Rattle.cipher.proofs.Lawful.{lawful}
 use Rattle.mode.specs.Blocks.{blocks}
-use Rattle.mode.specs.Walk.{States, walked, covered, tagged, dataDone}
+use Rattle.mode.specs.Walk.{States, walked, covered, tagged, data_done}
 use Rattle.mode.proofs.Chain.{some}
 use Rattle.mode.proofs.Walk.{text-walk, tag-walk}
 use Rattle.mode.proofs.Calls.{calls_count}
@@ -138,7 +138,7 @@ returns c =
     let read = read_is j in
     let done = done-is k in
     let pos = some κ (lawful suite) in
-    let e : two_of suite j.if1.state ≡ dataDone κ key nonce ad = read.0 ∙ ap (λ (s : States). walked κ false 0x08 0x10 s (blocks (size_of suite) ad))
+    let e : two_of suite j.if1.state ≡ data_done κ key nonce ad = read.0 ∙ ap (λ (s : States). walked κ false 0x08 0x10 s (blocks (size_of suite) ad))
     begun.ensures.two in (
       done.0 ∙ ap (λ (s : States). covered κ d 0x20 0x40 s (blocks (size_of suite) text)) e ∙ sym (text-walk κ pos key nonce ad text d),
       (

@@ -6,7 +6,7 @@ use mathlib.Core.Path.{◌≡◌, sym, ap, ◌∙◌}
 use Rattle.cipher.specs.Cipher.{size_of, cipher_of}
 use Rattle.cipher.proofs.Lawful.{lawful}
 use Rattle.mode.specs.Blocks.{blocks}
-use Rattle.mode.specs.Walk.{States, walked, tagged, dataDone}
+use Rattle.mode.specs.Walk.{States, walked, tagged, data_done}
 use Rattle.mode.proofs.Chain.{some}
 use Rattle.mode.proofs.Walk.{tag-walk}
 use Rattle.block_walk.proofs.Front.{walk_none}
@@ -49,7 +49,7 @@ returns c =
     (λ w. ap (two_of suite) w.2 ∙ w.1.ensures.0)
     (λ w. ap (two_of suite) w.1 ∙ sym (walk_none κ pos true 0x40 0x20 (two_of suite j.if1.state) text w.0.left))
     k.if2.branch in
-    let e : two_of suite j.if1.state ≡ dataDone κ key nonce ad = read ∙ ap (λ (s : States). walked κ false 0x08 0x10 s (blocks (size_of suite) ad))
+    let e : two_of suite j.if1.state ≡ data_done κ key nonce ad = read ∙ ap (λ (s : States). walked κ false 0x08 0x10 s (blocks (size_of suite) ad))
     begun.ensures.two in (
       c.before.tag-of.ensures.0
           ∙ ap (tagged κ) (done ∙ ap (λ (s : States). walked κ true 0x20 0x40 s (blocks (size_of suite) text)) e)

@@ -9,7 +9,7 @@ use Rattle.block.specs.Blocks.{wide}
 use Rattle.block.specs.Bytes.{same_bytes}
 use Rattle.cipher.specs.Cipher.{cipher_of}
 use Rattle.cipher.proofs.Suites.{full_two}
-use Rattle.mode.specs.Mode.{textOut, tagOut}
+use Rattle.mode.specs.Mode.{text_out, tag_out}
 use Rattle.comet.specs.Answers.{Opened, opened_as, opening}
 use Rattle.comet.specs.Counted.{calls_of}
 use Rattle.status.proofs.Refuse.{Passed, passed}
@@ -29,7 +29,7 @@ module _ (d : tie.After-same) where
   x = d.before.before.before.before.before.before.before.before.before.before.before
 
   -- what the comparison compared
-  same-is : d.same.result ≡ same_bytes (tagOut (cipher_of x.args.suite) true x.args.key.now x.args.nonce.now x.args.ad.now
+  same-is : d.same.result ≡ same_bytes (tag_out (cipher_of x.args.suite) true x.args.key.now x.args.nonce.now x.args.ad.now
       x.args.text.now) x.args.tag.now
   same-is =
       d.same.ensures
@@ -39,7 +39,7 @@ module _ (d : tie.After-same) where
 
   -- every length is right, and the comparison gave b
   done : (b : Bool) → d.same.result ≡ b
-      → opened_as 0 b (textOut (cipher_of x.args.suite) true x.args.key.now x.args.nonce.now x.args.ad.now x.args.text.now)
+      → opened_as 0 b (text_out (cipher_of x.args.suite) true x.args.key.now x.args.nonce.now x.args.ad.now x.args.text.now)
       x.args.text.now
       ≡ opening x.args.suite x.args.key.now x.args.nonce.now x.args.ad.now x.args.text.now x.args.tag.now
       x.args.text.now

@@ -11,7 +11,7 @@ use Rattle.block.specs.Blocks.{wide}
 use Rattle.block.specs.Bytes.{same_bytes}
 use Rattle.cipher.specs.Cipher.{cipher_of}
 use Rattle.cipher.proofs.Suites.{full_two}
-use Rattle.mode.specs.Mode.{textOut, tagOut}
+use Rattle.mode.specs.Mode.{text_out, tag_out}
 use Rattle.status.specs.Verdicts.{number_of, refusal}
 use Rattle.comet.specs.Answers.{Opened, opened_as, verifying}
 use Rattle.status.proofs.Refuse.{Passed, passed, done-zero, other-some}
@@ -39,13 +39,13 @@ module _ (d : tie.After-same) where
 
   -- the comparison gave b
   done : (b : Bool) → d.same.result ≡ b
-      → (opened_as 0 b (textOut (cipher_of (x m).args.suite) true (x m).args.key.now (x m).args.nonce.now (x m).args.ad.now (x m).args.text.now)
+      → (opened_as 0 b (text_out (cipher_of (x m).args.suite) true (x m).args.key.now (x m).args.nonce.now (x m).args.ad.now (x m).args.text.now)
       (x m).args.text.now).number
       ≡ verifying (x m).args.suite (x m).args.key.now (x m).args.nonce.now (x m).args.ad.now (x m).args.text.now (x m).args.tag.now
   unfolding verifying
   done b e =
       let a = (x m).args in
-      let same-is : d.same.result ≡ same_bytes (tagOut (cipher_of a.suite) true a.key.now a.nonce.now a.ad.now a.text.now)
+      let same-is : d.same.result ≡ same_bytes (tag_out (cipher_of a.suite) true a.key.now a.nonce.now a.ad.now a.text.now)
       a.tag.now =
       d.same.ensures
       ∙ ap (λ (l : List ℕ). same_bytes l a.tag.now) (ap (λ (n : ℕ). take n (wide d.before.tag-under.result)) (ok m).tag

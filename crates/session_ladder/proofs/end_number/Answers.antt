@@ -1,4 +1,4 @@
--- `session_ladder::end_number` meets its contract: each return is one line of the table of `endNumber`; the tests before it decide the lines above.
+-- `session_ladder::end_number` meets its contract: each return is one line of the table of `end_number`; the tests before it decide the lines above.
 use borrow.Author.Tests.{lt-ltb, le-ltb, eq-eqb, ne_eqb}
 use mathlib.Core.Path.{refl, sym, ◌∙◌}
 use mathlib.Core.Bool.{true, false}

@@ -1,4 +1,4 @@
--- `session_ladder::text_number` meets its contract: each return is one line of the table of `textNumber`; the room test adds
+-- `session_ladder::text_number` meets its contract: each return is one line of the table of `text_number`; the room test adds
 -- the block size less one to the part.
 use borrow.Author.Tests.{lt-ltb, le-ltb}
 use mathlib.Core.Path.{refl, sym, ◌∙◌}

@@ -11,7 +11,7 @@ use Rattle.block.specs.Blocks.{filled}
 use Rattle.cipher.specs.Cipher.{size_of, cipher_of}
 use Rattle.mode.specs.Blocks.{blocks}
 use Rattle.mode.specs.Walk.{States, whole, rest, walked}
-use Rattle.session.specs.Value.{Value, value_of, gave, states, data_number, dataStates, dataIn, data_part}
+use Rattle.session.specs.Value.{Value, value_of, gave, states, data_number, data_states, data_in, data_part}
 use Rattle.session.specs.Structs.{as_value}
 use Rattle.session_ladder.proofs.Rungs.{data_passed}
 use Rattle.session.proofs.Refuse.{answer-done}
@@ -29,7 +29,7 @@ overflow_add-ad_total c =
     omega (arith, p.0.data-most, p.2)
 
 pub returns : goal.returns
-unfolding dataIn dataStates data_part
+unfolding data_in data_states data_part
 returns c =
     let v = as_value c.args.session in
     let k = cipher_of c.args.session.suite in
@@ -41,4 +41,4 @@ returns c =
     let eh = c.absorb_part-absorbed.ensures.held ∙ ap (λ (j : ℕ). filled (rest n (x j))) c.size_of-n.ensures.is in
     ap (λ (w : Value). gave 0 0 w [] [])
     (c.packed-next.ensures ∙ ap₂ (λ (s : States) (h : List ℕ). value_of v.suite s h (v.ad_total + length p) v.text_total) es eh)
-    ∙ answer-done 0 (data_number v.suite v.ad_total v.text_total (length p)) (gave 0 0 (dataIn k v p) [] []) v [] [] refl (sym c.requires)
+    ∙ answer-done 0 (data_number v.suite v.ad_total v.text_total (length p)) (gave 0 0 (data_in k v p) [] []) v [] [] refl (sym c.requires)

@@ -5,8 +5,8 @@ use Rattle.snoekeldraf.specs.Located.{Located}
 use Rattle.snoekeldraf.proofs.file.shift_associated.Goals as goal
 
 -- an entry's associated data
-abbrev locatedOf : Entry → Located
-locatedOf x = record { number = x.number; at = x.ad_at; len = x.ad_len }
+abbrev located_of : Entry → Located
+located_of x = record { number = x.number; at = x.ad_at; len = x.ad_len }
 
 pub returns : goal.returns
-returns c = ap locatedOf c.entry-entry.ensures
+returns c = ap located_of c.entry-entry.ensures
