@@ -1,6 +1,6 @@
 //! When `./run` proves and when it does not, in a small tree with a stand-in for the prover and for a program, so that neither
-//! the kit nor a proof is needed. The stand-in `rt check` records each call in a file and builds what the test prescribes. In a
-//! tree that it cannot write it behaves as the kit's: the shell's error, then the verdicts of the last run, exit status 0.
+//! the kit nor a proof is needed. The stand-in `rt run` records each call in a file and builds what the test prescribes. In a
+//! folder that it cannot write it behaves as the kit's: the error of the system, exit status 1.
 
 mod folder;
 
@@ -11,35 +11,41 @@ use std::time::{Duration, Instant};
 
 const RT: &str = r#"#!/bin/bash
 here=${0%/rt}
-case $1 in doc) echo "$here/docs/START-HERE.md"; exit ;; esac
+case $1 in doc) echo "$here/START-HERE.md"; exit ;; esac
 if [ ! -w . ]; then
-    echo "$0: 389: cannot create $PWD/target/log/program_text.out: Permission denied" >&2
-    echo "rt: program_text proved (unchanged since it was last proved)"
-    echo "rt: ok, all proved"
-    exit
+    echo "PermissionError: [Errno 13] Permission denied: '$PWD/out/stamp'" >&2
+    exit 1
 fi
 echo "start $*" >>"$here/calls"
 [ ! -f "$here/slow" ] || sleep "$(cat "$here/slow")"
-if [ -f "$here/fails" ]; then cat "$here/fails"; echo end >>"$here/calls"; exit 1; fi
-echo "$PWD/crates/program_text/proofs/Proof.antt:48:5: note: large solution: it may be given by hand"
-echo "note: no function with a body is declared, so nothing was lowered"
-for kind in struct enum fn; do echo "$kind program_text::Line: proved"; done
-shift
-for crate in program_text "$@"; do echo "rt: $crate proved (1 s)"; done
-mkdir -p target/bin
-for program; do
-    printf '#!/bin/sh\necho "0 0"; echo "%s"\n' "$(cat crates/program_text/src/lib.rt)" >target/bin/$program
-    chmod +x target/bin/$program
-done
+if [ -f "$here/fails" ]; then cat "$here/fails" >&2; echo end >>"$here/calls"; exit 1; fi
+[ "$1" = run ] || { echo end >>"$here/calls"; exit; }
+program=${PWD##*/} text=$(cat ../program_text/src/lib.rt) crates=$program
+[ "$(cat ../program_text/out/stamp 2>/dev/null)" = "$text" ] || crates="program_text $program"
+for crate in $crates; do
+    echo "rt: chose --jobs 2 for $crate"
+    echo "src/lib.rt:48:5: note: large solution: it may be given by hand"
+    echo "note: no function with a body is declared, so nothing was lowered"
+    echo "  a line that goes on with the note"
+    for kind in struct enum fn; do echo "$kind $crate::Line: proved"; done
+    echo "crate $crate: modules loaded=0 checked=33"
+    echo "logic=proved functions=1 target=x86_64-unknown-linux-gnu"
+done >&2
+mkdir -p out ../program_text/out
+echo "$text" >../program_text/out/stamp
+printf '#!/bin/sh\necho "0 0"; echo "%s"\n' "$text" >out/$program
+chmod +x out/$program
+echo "rt: running out/$program; to give it other input, run that file yourself" >&2
+out/$program
+echo "$program FILE RING JOB" >&2
 echo end >>"$here/calls"
 "#;
 
 /// A tree with `./run`, the six programs, the crate `program_text` below them and `other` beside it.
 fn tree(name: &str) -> Folder {
     let folder = Folder::new(name);
-    let arch = Command::new("uname").arg("-m").output().unwrap().stdout;
-    let lib = format!("kit/on/{}/toolchain/lib", String::from_utf8(arch).unwrap().trim());
-    for path in ["tools/run", "library", "samples", "kit/docs", &lib] {
+    let lib = "kit/toolchain/lib";
+    for path in ["tools/run", "library", "samples", lib] {
         std::fs::create_dir_all(folder.0.join(path)).unwrap();
     }
     for path in ["run", "tools/run/words.sh", "tools/run/prove.sh", "tools/run/save.sh", "library/words.c"] {
@@ -80,7 +86,7 @@ fn job(folder: &Folder) -> (i32, String, String) {
 /// How many proofs the stand-in was called for.
 fn proofs(folder: &Folder) -> usize {
     let calls = std::fs::read_to_string(folder.0.join("kit/calls")).unwrap_or_default();
-    calls.lines().filter(|line| line.starts_with("start check")).count()
+    calls.lines().filter(|line| line.starts_with("start run")).count()
 }
 
 /// Replaces a file's bytes by others of the same length, and restores its old modification time.
@@ -107,7 +113,7 @@ fn a_changed_source_is_proved_again() {
     assert_eq!((job(&folder).1, proofs(&folder)), ("0 0\ntwo\n".into(), 5));
     folder.put("crates/program_text/src/lib.rt", b"two");
     folder.put("crates/other/src/lib.rt", b"changed");
-    std::fs::remove_dir_all(folder.0.join("target")).unwrap();
+    std::fs::remove_dir_all(folder.0.join("crates/job/out")).unwrap();
     let (status, printed, said) = job(&folder);
     assert_eq!((status, &printed[..], &said[..], proofs(&folder)), (0, "0 0\ntwo\n", "", 5));
 }
@@ -119,7 +125,7 @@ fn what_is_not_proved_does_not_run() {
     assert_eq!(job(&folder).0, 0);
     folder.put("crates/program_text/src/lib.rt", b"bad");
     let error = "crates/program_text/src/lib.rt:1:1: error: the ensures is not proved";
-    let lines = ["rt: cannot write: Permission denied", "rt: program_text NOT PROVED (exit 1, 1 s)"];
+    let lines = ["note: the ensures may be false", "rt: cannot write: Permission denied", "logic=not-proved"];
     folder.put("kit/fails", format!("{error}\n{}\n", lines.join("\n")).as_bytes());
     let (status, printed, said) = job(&folder);
     assert_eq!((status, &printed[..]), (3, ""));
@@ -178,16 +184,17 @@ fn do_not_overlap(folder: &Folder) {
     assert!(calls.lines().skip(1).step_by(2).all(|line| line == "end"), "two at the same time:\n{calls}");
 }
 
-/// `./run` waits for an `rt` that somebody else started in this tree, and stops its own proof if one starts meanwhile.
+/// `./run` waits for an `rt` that somebody else started in this tree, at its top or in a crate, and stops its own proof if one
+/// starts meanwhile.
 #[test]
 fn another_rt_goes_first() {
     let folder = tree("first");
     folder.put("kit/slow", b"2");
-    let start = |word: &str| {
+    let start = |word: &str, place: &str| {
         let mut rt = Command::new(folder.0.join("kit/rt"));
-        rt.arg(word).current_dir(&folder.0).stdout(Stdio::null()).spawn().unwrap()
+        rt.arg(word).current_dir(folder.0.join(place)).stdout(Stdio::null()).spawn().unwrap()
     };
-    let mut gate = start("ci");
+    let mut gate = start("ci", "");
     std::thread::sleep(Duration::from_millis(300));
     let began = Instant::now();
     let (status, _, said) = job(&folder);
@@ -205,7 +212,7 @@ fn another_rt_goes_first() {
         assert!(began.elapsed() < Duration::from_secs(60), "no proof was started");
         std::thread::sleep(Duration::from_millis(50));
     }
-    let mut gate = start("ci");
+    let mut gate = start("check", "crates/other");
     let (status, printed, said) = ended(run.wait_with_output().unwrap());
     assert!(gate.wait().unwrap().success());
     assert_eq!((status, &printed[..]), (0, "0 0\ntwo\n"), "{said}");
@@ -224,13 +231,13 @@ fn a_proof_says_how_far_it_is() {
     assert!(said.lines().all(|line| line.starts_with("run: ")), "{said}");
 }
 
-/// `./run build` proves all programs in one proof; no program needs another one on its first use.
+/// `./run build` proves each program once; no program needs another proof on its first use.
 #[test]
 fn build_proves_every_program_once() {
     let folder = tree("build");
     let (status, _, said) = ended(command(&folder, &["build"]).output().unwrap());
-    assert_eq!((status, proofs(&folder)), (0, 1), "{said}");
-    assert!(said.contains(": 7 of 7 crates"), "{said}");
+    assert_eq!((status, proofs(&folder)), (0, PROGRAMS.len()), "{said}");
+    assert!(said.contains("job: 2 of 7 crates") && said.contains("inspect: 7 of 7 crates"), "{said}");
     let out = folder.0.join("out");
     let out = out.to_str().unwrap();
     for call in [
@@ -244,5 +251,5 @@ fn build_proves_every_program_once() {
         let (status, printed, said) = ended(command(&folder, call).output().unwrap());
         assert_eq!((status, &printed[..], &said[..]), (0, "0 0\none\n", ""), "{call:?}");
     }
-    assert_eq!(proofs(&folder), 1);
+    assert_eq!(proofs(&folder), PROGRAMS.len());
 }

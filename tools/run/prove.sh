@@ -2,23 +2,20 @@
 #
 # A proved program is kept as .run/bin/NAME. Its stamp contains the kit, a quick fingerprint of every source that it depends
 # on (names, sizes, times, inodes) and a hash of their contents. If neither matches, ./run proves the program again before it
-# runs it. The gate (`rt ci`) removes target/ but not .run/. If another `rt` works in this repository, ./run waits for it, and
-# stops its own proof if one starts meanwhile.
+# runs it. The gate (`rt ci`) removes the programs of crates/NAME/out/ but not .run/. If another `rt` works in this repository,
+# ./run waits for it, and stops its own proof if one starts meanwhile.
 
-# Sets $kit, and $under: the command under which a program for x86-64 runs, which is the kit's loader with its C library and,
-# on another processor, the kit's emulator.
+# Sets $kit, and $under: the command under which a program runs, which is the kit's loader with its C library.
 use_kit() { # KIT
-    local tools=$1/on/$(uname -m)/toolchain
+    local tools=$1/toolchain
     kit=$1
     under=("$tools/lib/ld-linux-x86-64.so.2" --library-path "$tools/lib")
-    [ ! -x "$tools/bin/qemu-x86_64" ] || under=("$tools/bin/qemu-x86_64" "${under[@]}")
-    unset -v ${!QEMU_@}
 }
 
 find_kit() {
     local doc
     doc=$(rt doc 2>/dev/null) || { say "the Rattle kit is missing: there is no command rt"; exit 3; }
-    use_kit "${doc%/docs/*}"
+    use_kit "${doc%/*}"
 }
 
 # Prints the crates that programs depend on, including the programs themselves.
@@ -26,7 +23,7 @@ below() { # NAME ..
     local -A needs=() seen=()
     local line name todo=("$@")
     while IFS= read -r line; do
-        case $line in '#'* | '') ;; *) needs[${line%%:*}]=${line#*:} ;; esac
+        case $line in '#'* | '') ;; *) name=${line%%:*} needs[${name%% *}]=${line#*:} ;; esac
     done <"$root/crates.txt"
     while [ ${#todo[@]} != 0 ]; do
         name=${todo[0]}
@@ -38,14 +35,17 @@ below() { # NAME ..
     printf '%s\n' "${!seen[@]}"
 }
 
+# What `find` passes over in a crate: what rt keeps there.
+built=(-regex 'crates/[^/]*/out' -prune -o)
+
 # Prints a fingerprint of a program's sources and of the built program, without reading them.
 quick_print() { # NAME CRATES
-    (cd "$root" && find crates.txt ${2//$'\n'/ } .run/bin/"$1" "$kit/KIT-ID" -type f -printf '%p %s %T@ %C@ %i\n') | sha256sum
+    (cd "$root" && find crates.txt ${2//$'\n'/ } .run/bin/"$1" "$kit/KIT-ID" "${built[@]}" -type f -printf '%p %s %T@ %C@ %i\n') | sha256sum
 }
 
 # Prints a hash of the contents of a program's sources.
 whole_print() { # NAME CRATES
-    (cd "$root" && find crates.txt ${2//$'\n'/ } "$kit/KIT-ID" -type f -print0 | LC_ALL=C sort -z | xargs -0 sha256sum) | sha256sum
+    (cd "$root" && find crates.txt ${2//$'\n'/ } "$kit/KIT-ID" "${built[@]}" -type f -print0 | LC_ALL=C sort -z | xargs -0 sha256sum) | sha256sum
 }
 
 # Whether a program is built from exactly these sources. Sets $program to its path.
@@ -70,16 +70,18 @@ stamp() { # NAME CRATES WHOLE
 
 # Copies a proved program to .run/ and stamps it.
 keep() { # NAME CRATES WHOLE
-    cp -f "$root/target/bin/$1" "$root/.run/bin/$1.$$" && mv -f "$root/.run/bin/$1.$$" "$root/.run/bin/$1" && stamp "$@"
+    cp -f "$root/crates/$1/out/$1" "$root/.run/bin/$1.$$" && mv -f "$root/.run/bin/$1.$$" "$root/.run/bin/$1" && stamp "$@"
 }
 
-# Prints the ID of a process of another `rt` that works in this repository. It forks nothing, since it is called often.
+# Prints the ID of a process of another `rt` that works in this repository. It forks nothing, since it is called often, and
+# changes the folder: call it in a subshell.
 other_rt() { # OUR_SESSION
     local process words stat
     for process in /proc/[0-9]*; do
-        [ "$process/cwd" -ef "$root" ] || continue
         { mapfile -d '' words <"$process/cmdline"; } 2>/dev/null || continue
         case "${words[*]} " in *"/rt "*) ;; *) continue ;; esac
+        cd -P -- "$process/cwd" 2>/dev/null || continue
+        case $PWD in "$root" | "$root"/crates/*) ;; *) continue ;; esac
         { IFS= read -r stat <"$process/stat"; } 2>/dev/null || continue
         set -- "$1" ${stat##*) }
         [ "$5" = "$1" ] || { echo "${process#/proc/}"; return; }
@@ -95,14 +97,15 @@ wait_for_others() {
 }
 
 # Exits with the system's reason if the results of a proof could not be written.
-need_folders() {
-    local said
-    said=$(LC_ALL=C mkdir -p "$root/target" "$root/.run/bin" 2>&1 && LC_ALL=C touch "$root/target/.written" "$root/.run/.written" 2>&1) || {
+need_folders() { # CRATES
+    local said crate places=("$root/.run/bin")
+    for crate in $1; do places+=("$root/$crate/out"); done
+    said=$(LC_ALL=C mkdir -p "${places[@]}" 2>&1 && LC_ALL=C touch "${places[@]/%//.written}" 2>&1) || {
         said=${said%%$'\n'*}
         say "nothing is proved, since the results cannot be written: ${said#*: }"
         exit 3
     }
-    rm -f "$root/target/.written" "$root/.run/.written"
+    rm -f "${places[@]/%//.written}"
 }
 
 # The seconds that a proof takes on one processor, measured by the clock from nothing: for each crate, and for each million
@@ -111,7 +114,7 @@ SECONDS_A_CRATE=10
 SECONDS_A_MILLION=200
 
 size_of() { # CRATES
-    (cd "$root" && find ${1//$'\n'/ } \( -name '*.rt' -o -name '*.antt' \) -printf '%s\n' 2>/dev/null) | { local n sum=0; while read -r n; do sum=$((sum + n)); done; echo $sum; }
+    (cd "$root" && find ${1//$'\n'/ } "${built[@]}" \( -name '*.rt' -o -name '*.antt' \) -printf '%s\n' 2>/dev/null) | { local n sum=0; while read -r n; do sum=$((sum + n)); done; echo $sum; }
 }
 
 # Prints the time that a proof of so many crates and bytes takes, in words.
@@ -120,34 +123,62 @@ left() { # CRATES BYTES
     if [ $seconds -lt 90 ]; then echo "$seconds seconds"; else echo "$(((seconds + 30) / 60)) minutes"; fi
 }
 
-# Passes on rt's lines, except those on unchanged crates and the prover's own notes, and prints the progress.
+# Prints lines of rt; of a proved crate all but the prover's own notes.
+pass_on() { # LINES [PROVED]
+    local line
+    [ -n "$1" ] || return 0
+    while IFS= read -r line; do
+        case ${2-}$line in proved"note: "* | proved"help: "* | proved" "* | proved*": note: "* | proved) continue ;; esac
+        printf '%s\n' "$line" >&2
+    done <<<"${1%$'\n'}"
+}
+
+# Passes on rt's lines, except those on what is proved, and prints the progress. A crate that was proved before has no line;
+# with a crate all crates below it are done. What a program prints when it is built is left out.
 progress() { # CRATES
-    local line name done=0 all bytes
+    local line name='' crate runs=no held='' done=0 all bytes
+    local -A seen=()
     all=$(printf '%s\n' "$1" | grep -c .)
     bytes=$(size_of "$1")
     while IFS= read -r line; do
         case $line in
-        "rt: ok"* | "rt: "*" ran as "* | "rt: "*" ran, "* | "library "* | "crate "* | "logic"* | "linked "* | "axioms "* | '') continue ;;
-        "fn "*": proved" | "struct "*": proved" | "enum "*": proved" | "note: "* | *": note: "*) continue ;;
-        "rt: "*" proved ("*)
-            name=${line#rt: }
-            name=${name%% *}
-            done=$((done + 1))
-            bytes=$((bytes - $(size_of "crates/$name")))
-            case $line in *"(unchanged"*) ;; *) say "$name: $done of $all crates, about $(left $((all - done)) "$bytes") left" ;; esac ;;
-        *) printf '%s\n' "$line" >&2 ;;
+        "built "*) runs=no; continue ;;
+        "rt: running "*) runs=yes; continue ;;
+        "rt: chose "* | "rt: "*": begins with "* | "rt: nothing has changed since "* | "so far: "* | '') continue ;;
+        "statements "* | "library "* | "logic "* | "linked "* | "axioms "* | "only="*) continue ;;
+        "fn "*": proved" | "struct "*": proved" | "enum "*": proved") continue ;;
+        "crate "*) name=${line#crate }; name=${name%%:*}; continue ;;
+        "logic=proved "*) [ -n "$name" ] || continue ;;
+        *) [ $runs = yes ] || held+=$line$'\n'; continue ;;
         esac
+        pass_on "$held" proved
+        held=''
+        for crate in $(below "$name"); do
+            [ -z "${seen[$crate]-}" ] || continue
+            seen[$crate]=1
+            done=$((done + 1))
+            bytes=$((bytes - $(size_of "crates/$crate")))
+        done
+        say "$name: $done of $all crates, about $(left $((all - done)) "$bytes") left"
     done
+    pass_on "$held"
 }
 
-# Runs `rt check`. If another `rt` starts in this repository, stops it, waits, and runs it again.
+# Builds programs with `rt run`, one after the other, and thereby proves them and the crates below them. It runs them too:
+# without arguments they do nothing, and those that read their cases find none.
+BUILD='for name; do cd "../$name" && rt run 2>&1 </dev/null >/dev/null && echo "built $name" || exit; done'
+
+# Proves and builds programs. If another `rt` starts in this repository, stops it, waits, and does it again.
 check() { # CRATES NAME ..
-    local crates=$1 ours other
+    local crates=$1 ours other told
     shift
     while :; do
         wait_for_others
-        (cd "$root" && exec setsid rt check "$@") > >(progress "$crates") 2>&1 &
+        exec 8> >(progress "$crates")
+        told=$!
+        (cd "$root/crates/$1" && exec setsid bash -c "$BUILD" rt-run "$@") >&8 2>&1 8>&- &
         ours=$!
+        exec 8>&-
         trap 'kill -- -$ours 2>/dev/null; exit 130' INT TERM HUP
         while kill -0 $ours 2>/dev/null; do
             other=$(other_rt $ours)
@@ -157,6 +188,7 @@ check() { # CRATES NAME ..
         wait $ours
         set -- $? "$@"
         trap - INT TERM HUP
+        wait $told 2>/dev/null
         [ -n "$other" ] || return "$1"
         say "another rt began to work here (process $other): this proof is stopped and started again after it"
         shift
@@ -168,7 +200,8 @@ prove_all() { # CRATES NAME ..
     local crates=$1 before name
     shift
     find_kit
-    need_folders
+    wait_for_others
+    need_folders "$crates"
     estimate "$crates" >/dev/null
     exec 9<"$root/crates.txt"
     if command -v flock >/dev/null && ! flock -n 9; then
@@ -176,7 +209,7 @@ prove_all() { # CRATES NAME ..
         flock 9
     fi
     before=$(whole_print x "$crates")
-    check "$crates" "$@" || { say "$* is not proved; see: rt check $*"; exit 3; }
+    check "$crates" "$@" || { say "$* is not proved; see: rt check in ${*/#/crates/}"; exit 3; }
     [ "$(whole_print x "$crates")" = "$before" ] || { say "a source changed while it was being proved; call again"; exit 3; }
     for name; do
         keep "$name" "$(folders "$name")" "$(whole_print x "$(folders "$name")")" || { say "$name is proved, but cannot be copied to .run/"; exit 3; }
