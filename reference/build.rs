@@ -39,34 +39,36 @@ fn compile_plain(here: &Path, to: &Path) {
     println!("cargo:rustc-link-lib=static=plain");
 }
 
-/// The first of these folders that contains an archive.
-fn with_archive(folders: Vec<PathBuf>) -> Option<PathBuf> {
-    for folder in &folders {
-        println!("cargo:rerun-if-changed={}", folder.join(ARCHIVE).display());
+/// The first of these archives that is there.
+fn that_is_there(archives: Vec<PathBuf>) -> Option<PathBuf> {
+    for archive in &archives {
+        println!("cargo:rerun-if-changed={}", archive.display());
     }
-    folders.into_iter().find(|folder| folder.join(ARCHIVE).exists())
+    archives.into_iter().find(|archive| archive.exists())
 }
 
-/// The folders into which `./run library x86-64` and `rt staticlib snoekeldraf` write the archive for x86-64.
-fn folders_of_x86(built: &Path) -> Vec<PathBuf> {
-    vec![built.join("x86-64"), built.join("staticlib")]
+/// The archives for x86-64 that `./run library x86-64`, and `rt lib` in crates/snoekeldraf_c, write.
+fn archives_of_x86(here: &Path) -> Vec<PathBuf> {
+    let of_rt = here.join("../crates/snoekeldraf_c/out/libsnoekeldraf_c.a");
+    vec![here.join("../target/x86-64").join(ARCHIVE), of_rt]
 }
 
 /// Links the archive of this processor; false if there is none. SNOEKELDRAF_DIR overrides the folder of `./run library`.
-fn link_native(built: &Path, is_x86: bool) -> bool {
-    let named = env::var("SNOEKELDRAF_DIR").map(|folder| vec![PathBuf::from(folder)]);
+fn link_native(here: &Path, is_x86: bool) -> bool {
+    let named = env::var("SNOEKELDRAF_DIR").map(|folder| vec![Path::new(&folder).join(ARCHIVE)]);
     let arch = env::var("CARGO_CFG_TARGET_ARCH").unwrap();
-    let usual = if is_x86 { folders_of_x86(built) } else { vec![built.join(arch)] };
-    let Some(folder) = with_archive(named.unwrap_or(usual)) else { return false };
-    println!("cargo:rustc-link-search=native={}", folder.display());
-    println!("cargo:rustc-link-lib=static=snoekeldraf");
+    let usual = if is_x86 { archives_of_x86(here) } else { vec![here.join("../target").join(arch).join(ARCHIVE)] };
+    let Some(archive) = that_is_there(named.unwrap_or(usual)) else { return false };
+    let name = archive.file_stem().unwrap().to_str().unwrap();
+    println!("cargo:rustc-link-search=native={}", archive.parent().unwrap().display());
+    println!("cargo:rustc-link-lib=static={}", name.strip_prefix("lib").unwrap());
     println!("cargo:rustc-cfg=native");
     true
 }
 
 /// Builds the C program that calls the archive for x86-64; false if the archive, or a compiler for x86-64, is missing.
-fn compile_bridge(here: &Path, built: &Path, to: &Path, is_x86: bool) -> bool {
-    let Some(folder) = with_archive(folders_of_x86(built)) else { return false };
+fn compile_bridge(here: &Path, to: &Path, is_x86: bool) -> bool {
+    let Some(archive) = that_is_there(archives_of_x86(here)) else { return false };
     let compiler = if is_x86 { native_compiler() } else { CROSS_COMPILER.to_string() };
     if Command::new(&compiler).arg("--version").output().is_err() {
         println!("cargo:warning={compiler} is not there: the archive for x86-64 is not compared");
@@ -79,7 +81,7 @@ fn compile_bridge(here: &Path, built: &Path, to: &Path, is_x86: bool) -> bool {
         // so that the emulator needs no libraries for x86-64
         command.arg("-static");
     }
-    run(command.arg(here.join("bridge/bridge.c")).arg(folder.join(ARCHIVE)).arg("-o").arg(&program));
+    run(command.arg(here.join("bridge/bridge.c")).arg(archive).arg("-o").arg(&program));
     println!("cargo:rustc-env=BRIDGE={}", program.display());
     println!("cargo:rustc-cfg=bridged");
     true
@@ -100,8 +102,7 @@ fn main() {
     let here = PathBuf::from(env::var("CARGO_MANIFEST_DIR").unwrap());
     let to = PathBuf::from(env::var("OUT_DIR").unwrap());
     let is_x86 = env::var("CARGO_CFG_TARGET_ARCH").unwrap() == "x86_64";
-    let built = here.join("../target");
-    let [linked, bridged] = [link_native(&built, is_x86), compile_bridge(&here, &built, &to, is_x86)];
+    let [linked, bridged] = [link_native(&here, is_x86), compile_bridge(&here, &to, is_x86)];
     if !linked && !bridged {
         stop("no archive of the proved library is there: run `./run library` with this processor's name first".into());
     }

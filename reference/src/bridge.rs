@@ -1,7 +1,6 @@
 //! The proved library for x86-64, called through the C program bridge/bridge.c, which is linked with its archive.
 //!
-//! On another processor a cross compiler compiles that program for x86-64. It runs under the emulator of the kit that
-//! proves the library, or under a `qemu-x86_64` on the path.
+//! On another processor a cross compiler compiles that program for x86-64. It runs under a `qemu-x86_64` on the path.
 
 use crate::amendment::Amended;
 use crate::calls::Library;
@@ -10,31 +9,12 @@ use crate::difference::Compared;
 use crate::report::Report;
 use crate::session::{Session, Step};
 use crate::shift::{Answer, Places};
-use std::env;
 use std::io::{BufReader, BufWriter, Read, Write};
-use std::path::PathBuf;
 use std::process::{Child, ChildStdin, ChildStdout, Command, Stdio};
 use std::sync::Mutex;
 
 /// The program, as build.rs compiled it.
 const PROGRAM: &str = env!("BRIDGE");
-
-/// The kit's folder: the one that RATTLE_HOME names, or the parent of the folder that holds the command `rt`.
-fn kit() -> Option<PathBuf> {
-    let by_command = || {
-        let commands = env::split_paths(&env::var_os("PATH")?).map(|folder| folder.join("rt")).collect::<Vec<_>>();
-        let command = commands.into_iter().find(|path| path.is_file())?.canonicalize().ok()?;
-        Some(command.parent()?.parent()?.to_path_buf())
-    };
-    env::var_os("RATTLE_HOME").map(PathBuf::from).or_else(by_command)
-}
-
-/// The emulator beside the kit's compiler, or the one on the path.
-fn emulator() -> PathBuf {
-    let path = format!("on/{}/toolchain/bin/qemu-x86_64", env::consts::ARCH);
-    let of_kit = kit().map(|kit| kit.join(path)).filter(|path| path.is_file());
-    of_kit.unwrap_or(PathBuf::from("qemu-x86_64"))
-}
 
 struct Bridge {
     calls: BufWriter<ChildStdin>,
@@ -61,7 +41,7 @@ impl Bridge {
         let mut command = if cfg!(target_arch = "x86_64") {
             Command::new(PROGRAM)
         } else {
-            let mut command = Command::new(emulator());
+            let mut command = Command::new("qemu-x86_64");
             command.arg(PROGRAM);
             command
         };

@@ -51,7 +51,7 @@ class Wasm(Target):
     """WebAssembly is compiled and linked by the kit; node runs it."""
 
     def link(self, objects, to, defined):
-        tools = pathlib.Path(output("rt", "doc").strip().split("/docs/")[0]) / "on" / MACHINE / "toolchain" / "bin"
+        tools = pathlib.Path(output("rt", "doc").strip()).parent / "toolchain" / "bin"
         headers = output("gcc", "-print-file-name=include").strip()
         made = []
         for part in ("driver", "record", "session", "wasm") + (() if defined else ("file",)):
