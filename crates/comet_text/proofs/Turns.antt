@@ -13,7 +13,7 @@ use lib.Dec.{ltb}
 use Rattle.block.specs.Words.{xor, add}
 use Rattle.cipher.specs.Cipher.{Cipher}
 use Rattle.mode.specs.Blocks.{blocks}
-use Rattle.mode.specs.Walk.{States, whole, rest, turned, hidden, messageOf, walked, covered}
+use Rattle.mode.specs.Walk.{States, whole, rest, turned, hidden, message_of, walked, covered}
 use Rattle.mode.proofs.Cut.{rest-less, blocks-whole-rest}
 use Rattle.mode.proofs.Walk.{later, later_first, walked-append, covered-append}
 use Rattle.block_walk.specs.Progress.{wholes}
@@ -40,9 +40,9 @@ module _ (κ : Cipher) (pos : 0 < κ.size) (d : Bool) (first short : ℕ) (s : S
 
   -- a short block x is left
   module _ (x : List ℕ) (ex : x ≡ rest n l) (some : 0 < length (rest n l)) where
-    pub last-walk : (r : States) → r ≡ turned κ (xor k short) u (messageOf κ d (xor k short) u x) → r ≡ walked κ d first short s (blocks n l)
+    pub last-walk : (r : States) → r ≡ turned κ (xor k short) u (message_of κ d (xor k short) u x) → r ≡ walked κ d first short s (blocks n l)
     last-walk r er =
-        er ∙ ap (λ (b : List ℕ). turned κ (xor k short) u (messageOf κ d (xor k short) u b)) ex
+        er ∙ ap (λ (b : List ℕ). turned κ (xor k short) u (message_of κ d (xor k short) u b)) ex
         ∙ sym (walk-on ∙ walk-short κ pos d short k u (rest n l) some (rest-less n pos l))
 
     last-cover : (o : List ℕ) → o ≡ hidden κ (xor k short) u x → covered κ d first short s (wholes n l) ++ o ≡ covered κ d first short s (blocks n l)

@@ -1,5 +1,4 @@
 -- `comet_text::absorb_all` meets its contract: after the whole blocks the short one is absorbed, if there is one.
-use borrow.Author.Rules.{rules}
 use lib.ListN.{length}
 use mathlib.Core.Path.{◌≡◌, subst}
 use native.Mathlib.Omega.{arith}

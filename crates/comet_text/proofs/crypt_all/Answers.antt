@@ -1,7 +1,6 @@
 -- `comet_text::crypt_all`, by three cases: the text is shorter than a block, it has whole blocks and a short one, or whole
 -- blocks only. The walk over the whole blocks is the callee's; the laws `last-..` and `none-..` of `Turns` add the last block,
 -- or none.
-use borrow.Author.Rules.{rules}
 use lib.ListN.{length, take, drop}
 use mathlib.Core.List.{List}
 use mathlib.Core.Path.{◌≡◌, sym, ap, subst, ◌∙◌}
