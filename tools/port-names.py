@@ -33,6 +33,7 @@ def inner():
     files = [f for part in ("specs/**/*.antt", "proofs/**/*.antt", "src/**/*.rt") for f in glob.glob("crates/*/" + part, recursive=True)]
     files += glob.glob("crates/*/must-fail/*.edit")
     texts = {f: read(f) for f in files}
+    functions = {n for f, t in texts.items() if f.endswith(".rt") for n in re.findall(r"\bfn (\w+)", t)}
     mine = set()
     for f, text in texts.items():
         if f.endswith(".antt"):
@@ -41,7 +42,8 @@ def inner():
         new = in_snake_case(old)
         whole = lambda n: re.compile(rf"(?<![\w'-]){re.escape(n)}(?![\w'-])")
         if any(whole(old).search(t) and whole(new).search(t) for t in texts.values()):
-            texts = {f: whole(new).sub(new + "_lem", t) for f, t in texts.items()}
+            lemma = re.compile(rf"(?<![\w'.-]){re.escape(new)}(?![\w'.-])")
+            texts = {f: lemma.sub(new + "_lem", t) if f.endswith(".antt") and new not in functions else t for f, t in texts.items()}
         texts = {f: whole(old).sub(new, t) for f, t in texts.items()}
     for f, text in texts.items():
         if text != read(f):

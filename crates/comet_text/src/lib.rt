@@ -1,5 +1,6 @@
 // The functions that process all blocks of associated data or of a text: the whole blocks by `block_walk`, then the short one, if there is one.
 #![tactic(auto)]
+
 ghost use Rattle.std.specs.Prelude.{◌≡◌, ◌<◌, length};
 ghost use Rattle.cipher.specs.Cipher.{TablesFit, IsSuite, size_of, cipher_of};
 ghost use Rattle.mode.specs.Blocks.{blocks};

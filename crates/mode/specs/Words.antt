@@ -1,5 +1,5 @@
 -- The mode's work on bytes and words: doubling, shuffle, padding.
-use Rattle.std.specs.Prelude.{ℕ, suc, ◌+◌, ◌-◌, ◌*◌, ◌/◌, ◌%◌, ◌^◌, List, ◌∷◌, ◌++◌, length, replicate, ltb, leb, cond}
+use Rattle.std.specs.Prelude.{ℕ, suc, ◌-◌, ◌*◌, ◌/◌, ◌%◌, ◌^◌, List, ◌∷◌, ◌++◌, length, replicate, ltb, leb, cond}
 use Rattle.block.specs.Words.{xor, rotr}
 use Rattle.block.specs.Bytes.{bytes, word}
 

@@ -96,7 +96,7 @@ pub(crate) fn started(tables: &[AesTables], suite: u8, key: &[u8], nonce: &[u8])
 }
 
 // The mark of the next whole block: `mark` if none was absorbed yet.
-fn first_mark_lem(suite: u8, mark: u8, total: usize) -> u8
+fn first_mark(suite: u8, mark: u8, total: usize) -> u8
     ensures { result ≡ first_mark (cipher_of suite) mark total }
 {
     let n = cipher::size_of(suite);
@@ -115,7 +115,7 @@ pub(crate) fn take_in(session: Session, part: &[u8]) -> Step
     let ad_total = session.ad_total;
     let text_total = session.text_total;
     let n = cipher::size_of(suite);
-    let mark = first_mark_lem(suite, MARK_FIRST_DATA, ad_total);
+    let mark = first_mark(suite, MARK_FIRST_DATA, ad_total);
     let held_len = ad_total % n;
     let two = State {
         y: y,
@@ -168,7 +168,7 @@ fn begin(session: Session) -> State
     if held_len == 0 {
         return two;
     }
-    let mark = first_mark_lem(suite, MARK_FIRST_DATA, ad_total);
+    let mark = first_mark(suite, MARK_FIRST_DATA, ad_total);
     absorb_last(suite, two, mark ^ MARK_SHORT_DATA, &held[0..held_len])
 }
 
@@ -202,7 +202,7 @@ pub(crate) fn seal_in(session: Session, part: &[u8], out: &mut [u8]) -> Step
     let held = session.held;
     let two = going(session);
     let n = cipher::size_of(suite);
-    let mark = first_mark_lem(suite, MARK_FIRST_TEXT, text_total);
+    let mark = first_mark(suite, MARK_FIRST_TEXT, text_total);
     let held_len = text_total % n;
     let sealed = session_blocks::crypt_part(suite, two, mark, held, held_len, part, out);
     let state = sealed.s;
@@ -234,7 +234,7 @@ pub(crate) fn close(tables: &[AesTables], session: Session, out: &mut [u8], tag:
     let held = session.held;
     let two = begin(session);
     let n = cipher::size_of(suite);
-    let mark = first_mark_lem(suite, MARK_FIRST_TEXT, text_total);
+    let mark = first_mark(suite, MARK_FIRST_TEXT, text_total);
     let held_len = text_total % n;
     let state = session_blocks::last_in(tables, suite, two, mark, held, held_len, out);
     let last = block_state::tag::tag_of(tables, suite, state);

@@ -1,5 +1,6 @@
 // The report on a supplier's file (document 02, W14): the job of each entry, and whether its tag is right.
 #![tactic(auto)]
+
 pub mod answers;
 mod entries;
 

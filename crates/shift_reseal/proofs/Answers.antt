@@ -1,7 +1,7 @@
 -- The status of the reseal pass: which numbers there are, and when each is given. The first row that breaks a rule is found
 -- by the law `first-not` of `shift_draft`, for 29 (nonce seen before) and 8 (wrong tag of a suite 4 row). Then one status after
 -- another, by the ladder of the definition.
-use Prim.Native.Nat.{ℕ, ◌-◌, ◌<◌}
+use Prim.Native.Nat.{ℕ, ◌<◌}
 use native.Mathlib.Omega.{arith}
 use mathlib.Core.Path.{◌≡◌, refl, sym, ap, ◌∙◌}
 use mathlib.Core.Bool.{Bool, true, false, not, ◌&&◌, true≢false}

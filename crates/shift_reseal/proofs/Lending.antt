@@ -113,6 +113,15 @@ module _ (f ring : List ℕ) (i : ℕ) (r : Row) (q : r ≡ row_of f i) where
       let s : eqb (row_of f i).suite retired_suite ≡ false = rw q at (ne_eqb r.suite retired_suite n) in
       simp s
 
+-- a row that the table says is of another suite is left
+pub left_right : (f ring : List ℕ) (i : ℕ) → ((row_of f i).suite ≡ retired_suite → ⊥) → false ≡ wrong_again f ring i
+left_right f ring i = wrong-other f ring i (row_of f i) refl
+
+pub left_text : (f ring : List ℕ) (i : ℕ) (out : List ℕ) → ((row_of f i).suite ≡ retired_suite → ⊥) → out ≡ put out (piece_start f i) (again_piece f ring i)
+left_text f ring i out n = piece-other f ring i (row_of f i) refl n out
+
+pub ruleset left_row = (left_right, left_text)
+
 -- ---- the table as it would be
 
 -- the header is in front of it

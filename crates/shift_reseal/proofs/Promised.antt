@@ -1,7 +1,7 @@
 -- The theorems: each follows from what 0 says and from the file that it leaves.
 use Prim.Native.Nat.{ℕ, ◌<◌}
 use mathlib.Core.Path.{◌≡◌, sym, ap, ◌∙◌}
-use mathlib.Core.Bool.{Bool, true, false, true≢false}
+use mathlib.Core.Bool.{Bool, true, true≢false}
 use mathlib.Core.List.{List}
 use lib.ListN.{length}
 use Rattle.comet.specs.Answers.{Opened, opened_as}

@@ -1,6 +1,6 @@
 -- The resealed file is the file with the new suites, its suite 4 pieces put anew: it passes, no suite 4 row is left, and each
 -- resealed entry opens to the message that the old one opened to.
-use Prim.Native.Nat.{ℕ, ◌+◌, ◌-◌, ◌≤◌, ◌<◌}
+use Prim.Native.Nat.{ℕ, ◌+◌, ◌≤◌, ◌<◌}
 use native.Mathlib.Decide.{dec_lt}
 use native.Mathlib.Omega.{arith}
 use mathlib.Core.Path.{◌≡◌, refl, sym, ap, ap₂, ◌∙◌}

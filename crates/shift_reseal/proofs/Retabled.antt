@@ -5,7 +5,7 @@ use native.Mathlib.Omega.{arith}
 use mathlib.Core.Path.{◌≡◌, refl, sym, ap, ap₂, ◌∙◌}
 use mathlib.Core.Bool.{Bool, true, false, not, ◌&&◌, cond, true≢false}
 use mathlib.Core.List.{List, [], ◌∷◌}
-use mathlib.Core.Logic.{◌⊎◌, inl, inr, ⊎_elim}
+use mathlib.Core.Logic.{inl, inr, ⊎_elim}
 use lib.ListN.{length, get_or, take}
 use lib.Seq.{ext_get_or}
 use lib.Dec.{eqb, leb}
@@ -17,7 +17,7 @@ use Rattle.shift_format.specs.declared.row.Row.{Row}
 use Rattle.shift_format.specs.Format.{edition_of, count_of, total_of, first_edition, row_size, row_size_of, row_start, rest_start, row_at, nonce_start, nonce_at}
 use Rattle.shift_format.specs.Format.{nonce_read_at, row_of, body_end}
 use Rattle.status.specs.Answers.{answer}
-use Rattle.shift_check.specs.Check.{not_above, bad_suite, bad_length, body_start, misplaced, unread_set, clash, nonce_seen, bad_data, body_number, row_number, end_answer}
+use Rattle.shift_check.specs.Check.{not_above, bad_suite, bad_length, body_start, misplaced, unread_set, nonce_seen, bad_data, body_number, row_number, end_answer}
 use Rattle.shift_check.specs.Check.{rows_from, head_number, check_between, check_as}
 use Rattle.shift_format.specs.Inside.{TableIn}
 use Rattle.shift_format.proofs.Rows.{row_broad, row-late, row_below, row_in, nonce_length}

@@ -1,5 +1,6 @@
 // The reseal pass: entries of the retired suite 4 are sealed again as suite 3.
 #![tactic(auto)]
+
 mod rows;
 mod suites;
 

@@ -41,6 +41,7 @@ fn reseal_entry(file: &[u8], ring: &[u8], index: usize, row: Row, out: &mut [u8]
 }
 
 // Reseals a row of suite 4; any other row stays as it was copied. False if the tag is wrong.
+#[tactic(auto, using(crate::proofs::Lending::left_row))]
 fn reseal_row(file: &[u8], ring: &[u8], index: usize, out: &mut [u8]) -> bool
     requires { RowWritable file.now index ring.now out.old }
     ensures right { not result ≡ wrong_again file.now ring.now index }

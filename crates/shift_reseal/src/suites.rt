@@ -38,7 +38,7 @@ pub(crate) fn put_suites(file: &[u8], rows: usize, out: &mut [u8])
     }
 }
 
-// Two rows have the same new suite and the same key number.
+// Two rows have the same new suite and the same key number: new suites that differ, or the key numbers' own comparison.
 fn same_key(this: Row, earlier: Row) -> bool
     ensures { result ≡ (eqb (new_suite this.suite) (new_suite earlier.suite) && eqb this.key earlier.key) }
 {

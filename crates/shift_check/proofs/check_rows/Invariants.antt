@@ -8,7 +8,9 @@ use Rattle.shift_check.proofs.check_rows.Given as goal
 
 abbrev pub invariant-loop-i : goal.invariant-loop-i
 invariant-loop-i l =
-    (l.i ≤ l.rows) × ((rows_from l.size l.file l.rows 0 ≡ rows_from l.size l.file l.rows l.i) × (Spared l.size l.file l.i × (Left l.size l.file l.i l.seen × (l.start ≡ body_start l.size l.file l.rows l.i))))
+    (l.i ≤ l.rows)
+    × ((rows_from l.size l.file l.rows 0 ≡ rows_from l.size l.file l.rows l.i)
+    × (Spared l.size l.file l.i × (Left l.size l.file l.i l.seen × (l.start ≡ body_start l.size l.file l.rows l.i))))
 
 abbrev pub decreases-loop-i : goal.decreases-loop-i
 decreases-loop-i l = l.rows - l.i

@@ -1,10 +1,10 @@
--- `session::work::first_mark_lem` meets its contract: a total below one block means that no block was absorbed, which is when the definition gives the mark.
+-- `session::work::first_mark` meets its contract: a total below one block means that no block was absorbed, which is when the definition gives the mark.
 use borrow.Author.Tests.{lt-ltb, le-ltb}
 use mathlib.Core.Path.{sym, ap}
 use mathlib.Core.Bool.{Bool, cond}
 use native.Mathlib.Omega.{arith}
 use Rattle.cipher.specs.Cipher.{size_of}
-use Rattle.session.proofs.work.first_mark_lem.Goals as goal
+use Rattle.session.proofs.work.first_mark.Goals as goal
 
 pub returns-then-total-n : goal.returns-then-total-n
 returns-then-total-n c =

@@ -13,7 +13,10 @@ clashes-requires c = (
   c.requires.0,
   (
     c.requires.1.0,
-    (omega (arith, c.loop-j-test.true, c.requires.1.0), (c.requires.1.1.spare c.args.index (omega arith), c.requires.1.1.spare c.loop-j.j (omega (arith, c.loop-j-test.true)))),
+    (
+      omega (arith, c.loop-j-test.true, c.requires.1.0),
+      (c.requires.1.1.spare c.args.index (omega arith), c.requires.1.1.spare c.loop-j.j (omega (arith, c.loop-j-test.true))),
+    ),
   ),
 )
 
