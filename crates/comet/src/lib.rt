@@ -1,5 +1,6 @@
 // The sealer and the opener: COMET under every suite.
 #![tactic(auto)]
+
 ghost use Rattle.std.specs.Prelude.{◌≡◌, true, false, ◌≤◌, length, take};
 ghost use Rattle.block.specs.Blocks.{wide};
 ghost use Rattle.cipher.specs.Cipher.{needs_tables, TablesFit, IsSuite, size_of, nonce_of, cipher_of, limit};
