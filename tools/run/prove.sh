@@ -200,14 +200,14 @@ prove_all() { # CRATES NAME ..
     local crates=$1 before name
     shift
     find_kit
-    wait_for_others
-    need_folders "$crates"
     estimate "$crates" >/dev/null
     exec 9<"$root/crates.txt"
     if command -v flock >/dev/null && ! flock -n 9; then
         say "another ./run is proving; waiting for it"
         flock 9
     fi
+    wait_for_others
+    need_folders "$crates"
     before=$(whole_print x "$crates")
     check "$crates" "$@" || { say "$* is not proved; see: rt check in ${*/#/crates/}"; exit 3; }
     [ "$(whole_print x "$crates")" = "$before" ] || { say "a source changed while it was being proved; call again"; exit 3; }
