@@ -17,4 +17,4 @@ pass-counts-requires c = counting _ _ _ _ _ c.requires
 
 pub returns : goal.returns
 returns c =
-    (c.too_long-2.ensures ∙ counted _ _ _ _ _ _ _ _ _ c.pass-counts.ensures, c.pass-counts.ensures.first, c.pass-counts.ensures.second, c.pass-counts.ensures.differ)
+    let p = c.pass-counts.ensures in (c.too_long-2.ensures ∙ counted _ _ _ _ _ _ _ _ _ p, p.first, p.second, p.differ)

@@ -7,7 +7,9 @@ use Prim.Native.Nat.{◌-◌, ◌≤◌}
 use Rattle.shift_same.proofs.same_bytes.Given as goal
 
 abbrev pub invariant-loop-i : goal.invariant-loop-i
-invariant-loop-i l = (length l.first ≡ length l.second) × (l.i ≤ length l.first) × (same_bytes (drop l.i l.first) (drop l.i l.second) ≡ same_bytes l.first l.second)
+invariant-loop-i l =
+    (length l.first ≡ length l.second) × (l.i ≤ length l.first)
+    × (same_bytes (drop l.i l.first) (drop l.i l.second) ≡ same_bytes l.first l.second)
 
 abbrev pub decreases-loop-i : goal.decreases-loop-i
 decreases-loop-i l = length l.first - l.i

@@ -5,7 +5,8 @@ use Rattle.shift_compare.proofs.merge.pass.Given as goal
 
 abbrev pub invariant-loop-i : goal.invariant-loop-i
 invariant-loop-i l =
-    Going l.first l.second l.write l.initial.only_first l.initial.only_second l.initial.differ l.total l.i l.j l.in_first l.in_second l.in_both l.only_first l.only_second l.differ
+    Going l.first l.second l.write l.initial.only_first l.initial.only_second l.initial.differ l.total l.i l.j l.in_first l.in_second
+    l.in_both l.only_first l.only_second l.differ
 
 abbrev pub decreases-loop-i : goal.decreases-loop-i
 decreases-loop-i l = l.total - (l.i + l.j)

@@ -1,5 +1,5 @@
 -- A refused header stands; a number past the rows is 32; else the row lies in the file and is listed as it stands there.
-use Rattle.std.proofs.Common.{◌<◌, ◌≤◌, sym, ap, ◌∙◌, subst}
+use Rattle.std.proofs.Common.{◌<◌, ◌≤◌, sym, ap, ◌∙◌, subst, arith}
 use Rattle.shift_format.specs.Format.{first_edition, newest, count_of}
 use Rattle.shift_format.proofs.Rows.{row_in}
 use Rattle.status.specs.Answers.{checked_answer}
@@ -22,7 +22,7 @@ count-requires c =
 pub returns-then-count-at : goal.returns-then-count-at
 returns-then-count-at c =
     let z = passed_zero _ _ c.in-Passed.is c.check_head.ensures in
-    let l : count_of c.args.file.now ≤ c.args.index = rw c.count.ensures at c.if-count-at.true in
+    let l : count_of c.args.file.now ≤ c.args.index = omega (arith, c.count.ensures) in
     c.no_fields-then-count-at.ensures ∙ sym (row-past c.args.file.now c.args.index z l)
 
 pub listed_at-requires : goal.listed_at-requires
