@@ -223,10 +223,11 @@ folders() { # NAME ..
     for name in $(below "$@"); do printf 'crates/%s\n' "$name"; done | LC_ALL=C sort
 }
 
-# Prints how long a proof of these crates takes if none is proved yet. Sets $jobs.
+# Prints how long a proof of these crates takes if none is proved yet. Sets $jobs: rt proves one crate after the other, and
+# uses a second processor for each.
 estimate() { # CRATES
     jobs=$(nproc 2>/dev/null || echo 1)
-    [ "$jobs" -le 4 ] || jobs=4
+    [ "$jobs" -le 2 ] || jobs=2
     left "$(printf '%s\n' "$1" | grep -c .)" "$(size_of "$1")"
 }
 
