@@ -1,5 +1,5 @@
--- One outcome for a function over a struct that holds a reference. It has no `Kinds` and no `Reads`, so there is no `Outcome`
--- of it; the same is stated of its contract's clauses, over every model of the logic.
+-- One outcome for a function over a struct that holds a reference: what `Outcome` says of other functions, stated of its
+-- contract's clauses, over every model of the logic.
 use Rattle.std.specs.Prelude.{◌≡◌}
 use seplogic.Ra.Ura.{Ura}
 use base.Logic.{SProp, ent, sep}
