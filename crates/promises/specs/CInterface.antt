@@ -1,4 +1,5 @@
--- The functions that C links (crate `snoekeldraf`): each has no precondition and one outcome, which is the definition's value.
+-- The functions of crate `snoekeldraf`, which C calls by the exports of `snoekeldraf_c` under the same contracts: each has no precondition
+-- and one outcome, which is the definition's value.
 use Rattle.std.specs.Prelude.{◌≡◌, ℕ, ◌+◌, ◌≤◌, ◌<◌, List, [], ◌∷◌, length, get_or, replicate}
 use contract.Lifetimes.{Lfts}
 use Rattle.std.specs.Borrow.{Bor, MutBor}

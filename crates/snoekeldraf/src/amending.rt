@@ -38,7 +38,7 @@ pub fn shift_open_amended(
     file: &mut u32,
     row: &mut u32,
 ) -> u32
-    ensures { ◌≡◌ {A = AmendedOpening} (record { file = file.exit.now; answer = answer result row.new; out = out.new })
+    ensures { ◌≡◌ {A = AmendedOpening} (record { file = file.new; answer = answer result row.new; out = out.new })
         (amended_opening amendment.now day.now ring.now job out.old) }
 {
     let current = shift_amend::open_current(amendment, day, ring, job, out);

@@ -33,7 +33,7 @@ pub extern "C" fn shift_open_amended(
     file: &mut u32,
     row: &mut u32,
 ) -> u32
-    ensures { ◌≡◌ {A = AmendedOpening} (record { file = file.exit.now; answer = answer result row.new; out = out.new })
+    ensures { ◌≡◌ {A = AmendedOpening} (record { file = file.new; answer = answer result row.new; out = out.new })
         (amended_opening amendment.now day.now ring.now job out.old) }
 {
     snoekeldraf::amending::shift_open_amended(amendment, day, ring, job, out, file, row)
