@@ -2,7 +2,6 @@
 #![tactic(auto)]
 
 pub mod call;
-mod digits;
 pub mod fold;
 pub mod read;
 pub mod text;

@@ -3,7 +3,6 @@
 ghost use Rattle.std.specs.Prelude.{take, OnOk};
 ghost use Rattle.std.specs.Io.KnownBytes.{Appends};
 
-use std::io;
 use std::io::Write;
 
 // One byte.
@@ -37,7 +36,7 @@ pub fn put(out: &mut [u8], at: usize, bytes: &[u8]) -> usize {
 // A number in decimal.
 pub fn number(out: &mut [u8], at: usize, value: u64) -> usize {
     let mut digits = [0u8; 20];
-    let len = crate::digits::decimal(value, &mut digits);
+    let len = io::decimal(value, &mut digits);
     put(out, at, &digits[..len])
 }
 
@@ -50,7 +49,7 @@ pub fn and_number(out: &mut [u8], at: usize, value: u64) -> usize {
 // A number in hexadecimal, of at least so many digits.
 pub fn hex_number(out: &mut [u8], at: usize, value: u64, width: usize) -> usize {
     let mut digits = [0u8; 16];
-    let len = crate::digits::hex(value, width, &mut digits);
+    let len = io::hex(value, width, &mut digits);
     put(out, at, &digits[..len])
 }
 
@@ -108,7 +107,7 @@ pub fn answer(out: &mut [u8], at: usize, answer: u8, row: usize) -> usize {
 }
 
 // Writes the first bytes of a text to an output.
-pub fn write<W: Write>(output: &mut W, text: &[u8], len: usize) -> io::Result<()>
+pub fn write<W: Write>(output: &mut W, text: &[u8], len: usize) -> std::io::Result<()>
     ensures { OnOk result (Appends (W.contents output.old) (W.contents output.new) (take len text.now)) }
 {
     output.write_all(crate::read::front(text, len))
