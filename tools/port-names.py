@@ -5,8 +5,9 @@ camel case, and a dash only between two names (`length-wide`), an underscore oth
 usage: tools/port-names.py        at the top of the repository, once, right after port.py
 
 Renamed are the top-level names and record fields of specs/ and of the lemma files of proofs/, in every .antt file, in the
-clauses of .rt files and in must-fail edits. A name whose new spelling already stands in a file that uses it is left as it is,
-and printed. Functions of src/, generated names and strings keep theirs.
+clauses of .rt files and in must-fail edits. Where the new spelling already stands in a file that uses the name, a lemma ends in
+`_lem` and a definition in `_of`; if that stands there too, the name is left as it is, and printed. Functions of src/, generated
+names and strings keep theirs.
 """
 import glob
 import re
