@@ -2,6 +2,8 @@
 #![tactic(auto)]
 
 pub mod call;
+pub mod calls;
 pub mod fold;
+pub mod print;
 pub mod read;
 pub mod text;

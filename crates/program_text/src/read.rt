@@ -2,12 +2,13 @@
 ghost use Rattle.std.specs.Prelude.{◌≡◌, ◌<◌, ◌≤◌, IfOk, length, take, replicate};
 ghost use Rattle.std.specs.Io.KnownBytes.{IsAtEnd};
 
+use crate::calls::CallError;
 use shift_limits::{MAX_FILE, RING_LEN};
 use std::io;
 use std::io::Read;
 
 // The most bytes of a shift file, and of a ring, and one byte more: a file that is longer fills the whole buffer.
-const FILE_ROOM: usize = MAX_FILE + 1;
+pub const FILE_ROOM: usize = MAX_FILE + 1;
 
 pub const RING_ROOM: usize = RING_LEN + 1;
 
@@ -51,4 +52,34 @@ pub fn field<'a, R: Read>(input: &mut R, buf: &'a mut [u8], len: usize) -> io::R
         got = full(input, &mut buf[0..len])?;
     }
     Ok(front(&buf[..], got))
+}
+
+// The first len elements of buf; the call is bad if buf is shorter.
+pub fn front_mut<T>(buf: &mut [T], len: usize) -> Result<&mut [T], CallError>
+    ensures { IfOk result (λ front. length front.now ≡ len) }
+{
+    if buf.len() < len {
+        return Err(CallError::Bad);
+    }
+    Ok(&mut buf[..len])
+}
+
+// Reads len bytes of the input into buf and returns them; the call is bad if buf is too short or the input ends.
+pub fn part<'a, R: Read>(
+    input: &mut R,
+    buf: &'a mut [u8],
+    len: usize,
+) -> Result<&'a mut [u8], CallError>
+    ensures { IfOk result (λ part. length part.now ≡ len) }
+{
+    let part = front_mut(buf, len)?;
+    input.read_exact(part)?;
+    Ok(part)
+}
+
+// Zeros, with room for so many bytes.
+pub fn room<const N: usize>() -> [u8; N]
+    ensures { result ≡ replicate N 0 }
+{
+    [0u8; N]
 }
