@@ -4,22 +4,22 @@ use native.Mathlib.Omega.{arith}
 use mathlib.Core.Path.{◌≡◌, refl, sym, ap, ap₂, ◌∙◌}
 use mathlib.Core.Bool.{false, cond}
 use mathlib.Core.Logic.{◌⊎◌, ⊎_elim}
+use Rattle.std.specs.Prelude.{Ok, Err}
 use lib.Dec.{eqb}
 use borrow.Author.Tests.{ne_eqb, eqb-false}
 use Rattle.block.specs.Outcome.{OneOutcome}
-use Rattle.status.specs.declared.verdict.Verdict.{Verdict}
-use Rattle.status.specs.declared.verdict.Verdict.TheVariants as verdict
+use Rattle.status.specs.declared.verdict.RecordError.TheVariants as verdict
 use Rattle.status.specs.declared.checked.Answer.{Answer}
 use Rattle.status.specs.declared.checked.Fault.TheVariants.{Order, Suite, Length, Place, Unread, Nonce, Data}
 use Rattle.status.specs.declared.checked.Refusal.{Refusal}
 use Rattle.status.specs.declared.checked.Refusal.TheVariants.{Size, Edition, Count, Total, Table, InRow, End}
 use Rattle.status.specs.declared.checked.Checked.{Checked}
 use Rattle.status.specs.declared.checked.Checked.TheVariants as checked
-use Rattle.status.specs.Verdicts.{number_of}
+use Rattle.status.specs.Verdicts.{Verdict, number_of}
 use Rattle.status.specs.Answers.{answer, refusal_answer, checked_answer}
 use Rattle.status.proofs.Numbers.{refusal_range, refusal-some}
-use Rattle.status.proofs.verdict.Verdict.number.Kinds as number-kinds
-use Rattle.status.proofs.verdict.Verdict.number.Reads as number-reads
+use Rattle.status.proofs.verdict.number.Kinds as number-kinds
+use Rattle.status.proofs.verdict.number.Reads as number-reads
 use Rattle.status.proofs.verdict.under_key.Kinds as under-key-kinds
 use Rattle.status.proofs.verdict.under_key.Reads as under-key-reads
 use Rattle.status.proofs.verdict.refused.Kinds as refused-kinds
@@ -36,29 +36,29 @@ use Rattle.status.proofs.checked.say.Reads as say-reads
 -- ---- sealer and opener
 
 answer_of : ℕ → Verdict
-answer_of zero = verdict.Done
-answer_of (suc zero) = verdict.Suite
-answer_of (suc (suc zero)) = verdict.Key
-answer_of (suc (suc (suc zero))) = verdict.Nonce
-answer_of (suc (suc (suc (suc zero)))) = verdict.Data
-answer_of (suc (suc (suc (suc (suc zero))))) = verdict.Text
-answer_of (suc (suc (suc (suc (suc (suc zero)))))) = verdict.Room
-answer_of (suc (suc (suc (suc (suc (suc (suc zero))))))) = verdict.Tag
-answer_of (suc (suc (suc (suc (suc (suc (suc (suc zero)))))))) = verdict.Forged
-answer_of (suc (suc (suc (suc (suc (suc (suc (suc (suc n))))))))) = verdict.Retired
+answer_of zero = Ok tt
+answer_of (suc zero) = Err verdict.Suite
+answer_of (suc (suc zero)) = Err verdict.Key
+answer_of (suc (suc (suc zero))) = Err verdict.Nonce
+answer_of (suc (suc (suc (suc zero)))) = Err verdict.Data
+answer_of (suc (suc (suc (suc (suc zero))))) = Err verdict.Text
+answer_of (suc (suc (suc (suc (suc (suc zero)))))) = Err verdict.Room
+answer_of (suc (suc (suc (suc (suc (suc (suc zero))))))) = Err verdict.Tag
+answer_of (suc (suc (suc (suc (suc (suc (suc (suc zero)))))))) = Err verdict.Forged
+answer_of (suc (suc (suc (suc (suc (suc (suc (suc (suc n))))))))) = Err verdict.Retired
 
 answer_back : (a : Verdict) → answer_of (number_of a) ≡ a
 unfolding answer_of
-answer_back verdict.Done = refl
-answer_back verdict.Suite = refl
-answer_back verdict.Key = refl
-answer_back verdict.Nonce = refl
-answer_back verdict.Data = refl
-answer_back verdict.Text = refl
-answer_back verdict.Room = refl
-answer_back verdict.Tag = refl
-answer_back verdict.Forged = refl
-answer_back verdict.Retired = refl
+answer_back (Ok tt) = refl
+answer_back (Err verdict.Suite) = refl
+answer_back (Err verdict.Key) = refl
+answer_back (Err verdict.Nonce) = refl
+answer_back (Err verdict.Data) = refl
+answer_back (Err verdict.Text) = refl
+answer_back (Err verdict.Room) = refl
+answer_back (Err verdict.Tag) = refl
+answer_back (Err verdict.Forged) = refl
+answer_back (Err verdict.Retired) = refl
 
 pub number_tells : (a b : Verdict) → number_of a ≡ number_of b → a ≡ b
 number_tells a b e = sym (answer_back a) ∙ ap answer_of e ∙ answer_back b

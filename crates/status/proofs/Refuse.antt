@@ -5,17 +5,13 @@ use mathlib.Core.Logic.{◌⊎◌, inl, inr}
 use Prim.Native.Nat.{ℕ, ◌≤◌, ◌<◌}
 use native.Mathlib.Nat.{not-suc-le-zero, suc-ne-zero}
 use native.Mathlib.Omega.{arith}
-use mathlib.Core.List.{[], ◌∷◌}
 use lib.Dec.{ltb, eqb, lit<}
 use borrow.Author.Tests.{ltb-false, eqb-true, le-ltb, eq-eqb, not-false}
-use denote.Enum.Declared
-use types.Run.{OneOf, miss}
 use Rattle.block.proofs.Ladder.{not_taken, rung}
 use Rattle.cipher.specs.Cipher.{is_suite, IsSuite, size_of, nonce_of, limit}
-use Rattle.status.specs.Verdicts.{number_of, takes, under_key, refusal}
-use Rattle.status.specs.declared.verdict.Verdict.{Verdict}
-use Rattle.status.specs.declared.verdict.Verdict.TheVariants.{Done, Suite, Key, Nonce, Data, Text, Room, Tag, Forged, Retired}
-use Rattle.status.specs.contracts.verdict.Verdict.{the_type}
+use Rattle.status.specs.Verdicts.{error_number, takes, under_key, refusal}
+use Rattle.status.specs.declared.verdict.RecordError.{RecordError}
+use Rattle.status.specs.declared.verdict.RecordError.TheVariants.{Suite, Key, Nonce, Data, Text, Room, Tag, Forged, Retired}
 
 -- the suite and every length are right
 pub record Passed (s k v a t o g : ℕ) : Type 0 where
@@ -105,27 +101,14 @@ refusal-most d s k v a t o g =
     rungs true false eb ec r h = inr (refl, eb, ec)
     rungs true true eb ec r h = inl h
 
--- Done alone has number 0
-pub done-zero : (a : Verdict) → Declared.tag_of the_type a ≡ 0 → number_of a ≡ 0
-done-zero Done e = refl
-done-zero Suite e = absurd (suc-ne-zero _ e)
-done-zero Key e = absurd (suc-ne-zero _ e)
-done-zero Nonce e = absurd (suc-ne-zero _ e)
-done-zero Data e = absurd (suc-ne-zero _ e)
-done-zero Text e = absurd (suc-ne-zero _ e)
-done-zero Room e = absurd (suc-ne-zero _ e)
-done-zero Tag e = absurd (suc-ne-zero _ e)
-done-zero Forged e = absurd (suc-ne-zero _ e)
-done-zero Retired e = absurd (suc-ne-zero _ e)
-
-pub other-some : (a : Verdict) → OneOf (1 ∷ 2 ∷ 3 ∷ 4 ∷ 5 ∷ 6 ∷ 7 ∷ 8 ∷ 9 ∷ []) (Declared.tag_of the_type a) → 0 < number_of a
-other-some Done k = absurd (miss (1 ∷ 2 ∷ 3 ∷ 4 ∷ 5 ∷ 6 ∷ 7 ∷ 8 ∷ 9 ∷ []) 0 tt k)
-other-some Suite k = lit< tt
-other-some Key k = lit< tt
-other-some Nonce k = lit< tt
-other-some Data k = lit< tt
-other-some Text k = lit< tt
-other-some Room k = lit< tt
-other-some Tag k = lit< tt
-other-some Forged k = lit< tt
-other-some Retired k = lit< tt
+-- a refusal's number is none below 1 or above 10
+pub error-some : (e : RecordError) → 0 < error_number e
+error-some Suite = lit< tt
+error-some Key = lit< tt
+error-some Nonce = lit< tt
+error-some Data = lit< tt
+error-some Text = lit< tt
+error-some Room = lit< tt
+error-some Tag = lit< tt
+error-some Forged = lit< tt
+error-some Retired = lit< tt

@@ -1,21 +1,30 @@
 -- The numbers that sealer and opener give, and their order (document 01, "Numbers given by sealer and opener"; document 02, W7 for 10).
-use Rattle.std.specs.Prelude.{Bool, cond, not, ◌||◌, ℕ, ltb, eqb}
+use Rattle.std.specs.Prelude.{Bool, cond, not, ◌||◌, ℕ, ltb, eqb, ⊤, Ok, Err}
+use Rattle.std.specs.declared.result.Result.{Result}
 use Rattle.cipher.specs.Cipher.{is_suite, seals, size_of, nonce_of, limit}
-use Rattle.status.specs.declared.verdict.Verdict.{Verdict}
-use Rattle.status.specs.declared.verdict.Verdict.TheVariants.{Done, Suite, Key, Nonce, Data, Text, Room, Tag, Forged, Retired}
+use Rattle.status.specs.declared.verdict.RecordError.{RecordError}
+use Rattle.status.specs.declared.verdict.RecordError.TheVariants.{Suite, Key, Nonce, Data, Text, Room, Tag, Forged, Retired}
+
+-- the status of a call: done, or why it was refused
+abbrev pub Verdict : Type 0
+Verdict = Result ⊤ RecordError
+
+-- the number of each refusal
+abbrev pub error_number : RecordError → ℕ
+error_number Suite = 1
+error_number Key = 2
+error_number Nonce = 3
+error_number Data = 4
+error_number Text = 5
+error_number Room = 6
+error_number Tag = 7
+error_number Forged = 8
+error_number Retired = 10
 
 -- the number of each answer
 abbrev pub number_of : Verdict → ℕ
-number_of Done = 0
-number_of Suite = 1
-number_of Key = 2
-number_of Nonce = 3
-number_of Data = 4
-number_of Text = 5
-number_of Room = 6
-number_of Tag = 7
-number_of Forged = 8
-number_of Retired = 10
+number_of (Ok x) = 0
+number_of (Err e) = error_number e
 
 -- opening accepts every suite that exists; sealing accepts one that seals
 abbrev pub takes : Bool → ℕ → Bool

@@ -4,10 +4,9 @@ ghost use Rattle.status.specs.Verdicts.{number_of, takes, under_key, texts_numbe
 
 use cipher::LIMIT;
 
-// The status of a call: Done, or why it was refused.
-#[derive(Clone, Copy)]
-pub enum Verdict {
-    Done,
+// Why a call is refused.
+#[derive(Clone, Copy, PartialEq, Eq, Debug)]
+pub enum RecordError {
     Suite,
     Key,
     Nonce,
@@ -19,23 +18,24 @@ pub enum Verdict {
     Retired,
 }
 
-impl Verdict {
-    // The answer's number in documents 01 and 02.
-    pub fn number(self) -> u8
-        ensures { result ≡ number_of self }
-    {
-        match self {
-            Verdict::Done => 0,
-            Verdict::Suite => 1,
-            Verdict::Key => 2,
-            Verdict::Nonce => 3,
-            Verdict::Data => 4,
-            Verdict::Text => 5,
-            Verdict::Room => 6,
-            Verdict::Tag => 7,
-            Verdict::Forged => 8,
-            Verdict::Retired => 10,
-        }
+// The status of a call.
+pub type Verdict = Result<(), RecordError>;
+
+// The status's number in documents 01 and 02.
+pub fn number(verdict: Verdict) -> u8
+    ensures { result ≡ number_of verdict }
+{
+    match verdict {
+        Ok(()) => 0,
+        Err(RecordError::Suite) => 1,
+        Err(RecordError::Key) => 2,
+        Err(RecordError::Nonce) => 3,
+        Err(RecordError::Data) => 4,
+        Err(RecordError::Text) => 5,
+        Err(RecordError::Room) => 6,
+        Err(RecordError::Tag) => 7,
+        Err(RecordError::Forged) => 8,
+        Err(RecordError::Retired) => 10,
     }
 }
 
@@ -54,19 +54,19 @@ fn texts_refused(suite: u8, ad: usize, text: usize, out: usize, tag: usize) -> V
     ensures { number_of result ≡ texts_number suite ad text out tag }
 {
     if LIMIT < ad {
-        return Verdict::Data;
+        return Err(RecordError::Data);
     }
     if LIMIT < text {
-        return Verdict::Text;
+        return Err(RecordError::Text);
     }
     if out != text {
-        return Verdict::Room;
+        return Err(RecordError::Room);
     }
     let size = cipher::size_of(suite);
     if tag != size {
-        return Verdict::Tag;
+        return Err(RecordError::Tag);
     }
-    Verdict::Done
+    Ok(())
 }
 
 // Numbers 1, 10, 2 and 3 in the order of the table, from the suite and the lengths of key and nonce: the first half of the
@@ -77,19 +77,19 @@ pub fn under_key(opening: bool, suite: u8, key: usize, nonce: usize) -> Verdict
     let had = cipher::is_suite(suite);
     let taken = takes(opening, suite);
     if !had {
-        return Verdict::Suite;
+        return Err(RecordError::Suite);
     }
     if !taken {
-        return Verdict::Retired;
+        return Err(RecordError::Retired);
     }
     if key != cipher::KEY_LEN {
-        return Verdict::Key;
+        return Err(RecordError::Key);
     }
     let size = cipher::nonce_size(suite);
     if nonce != size {
-        return Verdict::Nonce;
+        return Err(RecordError::Nonce);
     }
-    Verdict::Done
+    Ok(())
 }
 
 // Numbers 1, 10 and 2 to 7 in the order of the table, from the suite and the lengths of key, nonce, associated data, text, output and tag.
@@ -105,9 +105,6 @@ pub fn refused(
 ) -> Verdict
     ensures { number_of result ≡ refusal opening suite key nonce ad text out tag }
 {
-    let upper = under_key(opening, suite, key, nonce);
-    let Verdict::Done = upper else {
-        return upper;
-    };
+    under_key(opening, suite, key, nonce)?;
     texts_refused(suite, ad, text, out, tag)
 }
