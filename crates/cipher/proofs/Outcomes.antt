@@ -25,12 +25,14 @@ use Rattle.cipher.proofs.needs_tables.Kinds as needs-tables-kinds
 use Rattle.cipher.proofs.needs_tables.Reads as needs-tables-reads
 use Rattle.cipher.proofs.tables.Kinds as tables-kinds
 use Rattle.cipher.proofs.tables.Reads as tables-reads
-use Rattle.cipher.proofs.encipher16.Kinds as encipher16-kinds
-use Rattle.cipher.proofs.encipher16.Reads as encipher16-reads
+use Rattle.cipher.proofs.Engine.encipher16.Kinds as encipher16-kinds
+use Rattle.cipher.proofs.Engine.encipher16.Reads as encipher16-reads
 use Rattle.cipher.proofs.encipher8.Kinds as encipher8-kinds
 use Rattle.cipher.proofs.encipher8.Reads as encipher8-reads
-use Rattle.cipher.proofs.encipher.Kinds as encipher-kinds
-use Rattle.cipher.proofs.encipher.Reads as encipher-reads
+use Rattle.cipher.proofs.Engine.encipher.Kinds as encipher-kinds
+use Rattle.cipher.proofs.Engine.encipher.Reads as encipher-reads
+use Rattle.cipher.proofs.Engine.size.Kinds as size-kinds
+use Rattle.cipher.proofs.Engine.size.Reads as size-reads
 
 -- what is full is one element, the tables
 same_tables : (s t : List (List (List ℕ))) → Full s → Full t → s ≡ t
@@ -70,6 +72,9 @@ encipher8 κs a h x y = (bytes_inj 8 (omega arith) (omega arith) (x.ensures ∙ 
 pub encipher : OneOutcome encipher-kinds.ps encipher-kinds.r encipher-reads.Pre encipher-reads.Post
 encipher κs a h x y = (
   wide_told x.result y.result (omega arith) (omega arith) (omega arith) (omega arith)
-      (parts_told (size_of a.1.0) _ _ (x.ensures.0 ∙ sym y.ensures.0) (x.ensures.1 ∙ sym y.ensures.1)),
+      (parts_told (size_of a.0.now.suite) _ _ (x.ensures.0 ∙ sym y.ensures.0) (x.ensures.1 ∙ sym y.ensures.1)),
   refl,
 )
+
+pub size : OneOutcome size-kinds.ps size-kinds.r size-reads.Pre size-reads.Post
+size κs a h x y = (x.ensures.0 ∙ sym y.ensures.0, refl)

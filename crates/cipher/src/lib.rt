@@ -118,17 +118,6 @@ fn by_cham64(key0: u64, key1: u64, block: u64) -> u64
     block::number8(cham64::encrypt(key_bytes, block_bytes))
 }
 
-// The encryption of a block of 16 bytes.
-pub fn encipher16(tables: &[AesTables], suite: u8, key: Block, block: Block) -> Block
-    requires { TablesFit suite tables.now × IsSuite suite × (size_of suite ≡ 16) }
-    ensures { wide result ≡ (cipher_of suite).E (wide key) (wide block) }
-{
-    if needs_tables(suite) {
-        return by_aes(tables, key, block);
-    }
-    by_cham128(key, block)
-}
-
 // The encryption of a block of 8 bytes, as a number: numbers pass in registers. The key is given by its two halves.
 pub fn encipher8(suite: u8, key0: u64, key1: u64, block: u64) -> u64
     requires { IsSuite suite × (size_of suite ≡ 8) }
@@ -140,24 +129,53 @@ pub fn encipher8(suite: u8, key0: u64, key1: u64, block: u64) -> u64
     by_speck(key0, key1, block)
 }
 
-// The encryption of the block's first bytes, as many as the suite's block has, and zeros after it. It calls the engine of suite 4
-// directly: an engine with two callers is not inlined, so `encipher8` saves no registers for it on the path to Speck.
-pub fn encipher(tables: &[AesTables], suite: u8, key: Block, block: Block) -> Block
-    requires { TablesFit suite tables.now × IsSuite suite }
-    ensures image { take (size_of suite) (wide result) ≡ (cipher_of suite).E (wide key) (take (size_of suite) (wide block)) }
-    ensures rest { drop (size_of suite) (wide result) ≡ replicate (16 - size_of suite) 0 }
-{
-    if size_of(suite) == 16 {
-        return encipher16(tables, suite, key, block);
+// A suite that exists, with the tables that its cipher reads: built once a call, of what the entry point has checked.
+#[derive(Clone, Copy)]
+pub struct Engine<'a> {
+    pub suite: u8,
+    pub tables: &'a [AesTables],
+    pub ghost known: { IsSuite suite },
+    pub ghost fitted: { TablesFit suite tables.now },
+}
+
+impl Engine<'_> {
+    // The block size of its suite.
+    pub fn size(&self) -> usize
+        ensures is { result ≡ size_of self.now.suite }
+        ensures bounds { (0 < result) × (result ≤ 16) }
+    {
+        size_of(self.suite)
     }
-    if suite != RETIRED {
-        return Block {
-            a: encipher8(suite, key.a, key.b, block.a),
+
+    // The encryption of a block of 16 bytes.
+    pub fn encipher16(&self, key: Block, block: Block) -> Block
+        requires { size_of self.now.suite ≡ 16 }
+        ensures { wide result ≡ (cipher_of self.now.suite).E (wide key) (wide block) }
+    {
+        if needs_tables(self.suite) {
+            return by_aes(self.tables, key, block);
+        }
+        by_cham128(key, block)
+    }
+
+    // The encryption of the block's first bytes, as many as the suite's block has, and zeros after it. It calls the engine of suite 4
+    // directly: an engine with two callers is not inlined, so `encipher8` saves no registers for it on the path to Speck.
+    pub fn encipher(&self, key: Block, block: Block) -> Block
+        ensures image { take (size_of self.now.suite) (wide result) ≡ (cipher_of self.now.suite).E (wide key) (take (size_of self.now.suite) (wide block)) }
+        ensures rest { drop (size_of self.now.suite) (wide result) ≡ replicate (16 - size_of self.now.suite) 0 }
+    {
+        if self.size() == 16 {
+            return self.encipher16(key, block);
+        }
+        if self.suite != RETIRED {
+            return Block {
+                a: encipher8(self.suite, key.a, key.b, block.a),
+                b: 0,
+            };
+        }
+        Block {
+            a: by_cham64(key.a, key.b, block.a),
             b: 0,
-        };
-    }
-    Block {
-        a: by_cham64(key.a, key.b, block.a),
-        b: 0,
+        }
     }
 }

@@ -1,4 +1,4 @@
--- `cipher::encipher` meets its contract: the image fills the front of the block, and zeros the rest.
+-- `cipher::Engine::encipher` meets its contract: the image fills the front of the block, and zeros the rest.
 use mathlib.Core.Path.{◌≡◌, sym, ap, ◌∙◌}
 use mathlib.Core.List.{List, ◌++◌}
 use Prim.Native.Nat.{ℕ, ◌-◌}
@@ -11,7 +11,7 @@ use Rattle.block.proofs.Blocks.{length-wide, first_eight}
 use Rattle.cipher.specs.Cipher.{size_of, engine_of}
 use Rattle.cipher.proofs.Suites.{size_other, Engine, engine_4}
 use Rattle.cipher.proofs.Paths.{whole, half}
-use Rattle.cipher.proofs.encipher.Goals as goal
+use Rattle.cipher.proofs.Engine.encipher.Goals as goal
 
 -- a number whose bytes are the image fills the front
 narrow : (suite r : ℕ) (key block : Block) → size_of suite ≡ 8 → bytes 8 r ≡ engine_of suite (wide key) (bytes 8 block.a)
@@ -23,29 +23,26 @@ narrow suite r key block n q =
     n
     (ap (λ (l : List ℕ). l ++ replicate 8 0) (q ∙ ap (engine_of suite (wide key)) (sym (first_eight block.a block.b))))
 
-pub encipher16-requires : goal.encipher16-requires
-encipher16-requires c = (c.requires.0, c.requires.1, sym c.size_of.ensures.is ∙ c.if-size_of-eq16.true)
-
-pub returns-then-size_of-eq16 : goal.returns-then-size_of-eq16
-returns-then-size_of-eq16 c =
+pub returns-then-size-eq16 : goal.returns-then-size-eq16
+returns-then-size-eq16 c =
     let r = c.encipher16.result in
-    let p = whole c.args.suite (wide c.args.key) (wide c.args.block) (wide r) (length-wide r.a r.b)
-    (sym c.size_of.ensures.is ∙ c.if-size_of-eq16.true) (length-wide c.args.block.a c.args.block.b) c.encipher16.ensures in
+    let p = whole c.args.self.now.suite (wide c.args.key) (wide c.args.block) (wide r) (length-wide r.a r.b)
+    (sym c.size.ensures.is ∙ c.if-size-eq16.true) (length-wide c.args.block.a c.args.block.b) c.encipher16.ensures in
     record { image = p.0; rest = p.1 }
 
 pub encipher8-requires : goal.encipher8-requires
-encipher8-requires c = (c.requires.1, size_other c.args.suite (λ e. c.if-size_of-eq16.false (c.size_of.ensures.is ∙ e)))
+encipher8-requires c = (c.args.self.now.known, size_other c.args.self.now.suite (λ e. c.if-size-eq16.false (c.size.ensures.is ∙ e)))
 
-pub returns-then-suite-ne-RETIRED : goal.returns-then-suite-ne-RETIRED
-returns-then-suite-ne-RETIRED c =
-    let p = narrow c.args.suite c.encipher8.result c.args.key c.args.block
-    (size_other c.args.suite (λ e. c.if-size_of-eq16.false (c.size_of.ensures.is ∙ e))) c.encipher8.ensures in
+pub returns-then-self-ne-RETIRED : goal.returns-then-self-ne-RETIRED
+returns-then-self-ne-RETIRED c =
+    let p = narrow c.args.self.now.suite c.encipher8.result c.args.key c.args.block
+    (size_other c.args.self.now.suite (λ e. c.if-size-eq16.false (c.size.ensures.is ∙ e))) c.encipher8.ensures in
     record { image = p.0; rest = p.1 }
 
 pub returns : goal.returns
 returns c =
-    let p = narrow c.args.suite c.by_cham64.result c.args.key c.args.block
-    (size_other c.args.suite (λ e. c.if-size_of-eq16.false (c.size_of.ensures.is ∙ e)))
+    let p = narrow c.args.self.now.suite c.by_cham64.result c.args.key c.args.block
+    (size_other c.args.self.now.suite (λ e. c.if-size-eq16.false (c.size.ensures.is ∙ e)))
     (c.by_cham64.ensures
-    ∙ sym (ap (λ (e : Engine). e (wide c.args.key) (bytes 8 c.args.block.a)) (engine_4 c.args.suite (omega (arith, c.if-suite-ne-RETIRED.false))))) in
+    ∙ sym (ap (λ (e : Engine). e (wide c.args.key) (bytes 8 c.args.block.a)) (engine_4 c.args.self.now.suite (omega (arith, c.if-self-ne-RETIRED.false))))) in
     record { image = p.0; rest = p.1 }
