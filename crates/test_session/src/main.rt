@@ -8,8 +8,10 @@
 
 use block::Block;
 use cipher::LIMIT;
-use program_text::call::{Call, HEAD_LEN};
-use program_text::text::{and_shown, answer, end};
+use program_text::calls;
+use program_text::calls::{Call, CallError};
+use program_text::print::{Page, Shown};
+use program_text::read::{front_mut, part};
 use session::Session;
 use std::io;
 use std::io::{Read, Write};
@@ -21,13 +23,6 @@ const TEXT_ROOM: usize = LIMIT + 1;
 const OUT_ROOM: usize = LIMIT + 64;
 
 const KEY_ROOM: usize = 40;
-
-// The current session, and whether the input goes on.
-#[derive(Clone, Copy)]
-struct After {
-    next: Session,
-    good: bool,
-}
 
 // Before the first call.
 fn over() -> Session {
@@ -42,203 +37,108 @@ fn over() -> Session {
     }
 }
 
-fn bad() -> After {
-    let next = over();
-    After {
-        next: next,
-        good: false,
-    }
-}
-
-// Ends the line of a call, and writes it.
-fn done<W: Write>(output: &mut W, next: Session, line: &mut [u8], at: usize) -> io::Result<After> {
-    let len = end(line, at);
-    let good = program_text::call::done(output, line, len)?;
-    Ok(After {
-        next: next,
-        good: good,
-    })
-}
-
-fn start<R: Read, W: Write>(
+fn start<R: Read>(
     input: &mut R,
-    output: &mut W,
+    state: &mut Session,
     call: Call,
-    line: &mut [u8],
-) -> io::Result<After> {
+    line: &mut Page,
+) -> Result<(), CallError> {
+    let [key_len, nonce_len, ..] = call.numbers;
     let mut key_buf = [0u8; KEY_ROOM];
     let mut nonce_buf = [0u8; KEY_ROOM];
-    let key = program_text::read::field(input, &mut key_buf, call.first)?;
-    let nonce = program_text::read::field(input, &mut nonce_buf, call.second)?;
-    if key.len() != call.first || nonce.len() != call.second {
-        return Ok(bad());
-    }
+    let key = part(input, &mut key_buf, key_len)?;
+    let nonce = part(input, &mut nonce_buf, nonce_len)?;
     let step = Session::start(call.suite, key, nonce);
-    let at = answer(line, 0, step.number, step.count);
-    let next = step.next;
-    done(output, next, line, at)
+    *state = step.next;
+    writeln!(line, "{} {}", step.number, step.count)?;
+    Ok(())
 }
 
-fn associated<R: Read, W: Write>(
+fn associated<R: Read>(
     input: &mut R,
-    output: &mut W,
-    state: Session,
+    state: &mut Session,
     call: Call,
-    line: &mut [u8],
-) -> io::Result<After> {
+    line: &mut Page,
+) -> Result<(), CallError> {
+    let [ad_len, ..] = call.numbers;
     let mut ad_buf = [0u8; TEXT_ROOM];
-    let ad = program_text::read::field(input, &mut ad_buf, call.first)?;
-    if ad.len() != call.first {
-        return Ok(bad());
-    }
+    let ad = part(input, &mut ad_buf, ad_len)?;
     let step = state.associated(ad);
-    let at = answer(line, 0, step.number, step.count);
-    let next = step.next;
-    done(output, next, line, at)
+    *state = step.next;
+    writeln!(line, "{} {}", step.number, step.count)?;
+    Ok(())
 }
 
-// A part of the message, read, with its output.
-fn sealed<W: Write>(
-    output: &mut W,
-    state: Session,
-    msg: &[u8],
-    out: &mut [u8],
-    line: &mut [u8],
-) -> io::Result<After> {
-    let step = state.message(msg, out);
-    let at = answer(line, 0, step.number, step.count);
-    let at = and_shown(line, at, out);
-    let next = step.next;
-    done(output, next, line, at)
-}
-
-fn message<R: Read, W: Write>(
+fn message<R: Read>(
     input: &mut R,
-    output: &mut W,
-    state: Session,
+    state: &mut Session,
     call: Call,
-    line: &mut [u8],
-) -> io::Result<After> {
-    let mut text_buf = [0u8; TEXT_ROOM];
-    let mut out = [0xa5u8; OUT_ROOM];
-    let out_len = call.second;
-    let msg = program_text::read::field(input, &mut text_buf, call.first)?;
-    if msg.len() != call.first {
-        return Ok(bad());
-    }
-    if OUT_ROOM < out_len {
-        return Ok(bad());
-    }
-    sealed(output, state, msg, &mut out[0..out_len], line)
+    line: &mut Page,
+) -> Result<(), CallError> {
+    let [msg_len, out_len, ..] = call.numbers;
+    let mut msg_buf = [0u8; TEXT_ROOM];
+    let mut out_buf = [0xa5u8; OUT_ROOM];
+    let msg = part(input, &mut msg_buf, msg_len)?;
+    let out = front_mut(&mut out_buf, out_len)?;
+    let step = state.message(msg, out);
+    *state = step.next;
+    writeln!(line, "{} {} {}", step.number, step.count, Shown(out))?;
+    Ok(())
 }
 
-// The end, with its output and tag.
-fn ended<W: Write>(
-    output: &mut W,
-    state: Session,
-    out: &mut [u8],
-    tag: &mut [u8],
-    line: &mut [u8],
-) -> io::Result<After> {
+fn finish(state: &mut Session, call: Call, line: &mut Page) -> Result<(), CallError> {
+    let [_, out_len, tag_len, ..] = call.numbers;
+    let mut out_buf = [0xa5u8; KEY_ROOM];
+    let mut tag_buf = [0xa5u8; KEY_ROOM];
+    let out = front_mut(&mut out_buf, out_len)?;
+    let tag = front_mut(&mut tag_buf, tag_len)?;
     let step = state.finish(out, tag);
-    let at = answer(line, 0, step.number, step.count);
-    let at = and_shown(line, at, out);
-    let at = and_shown(line, at, tag);
-    let next = step.next;
-    done(output, next, line, at)
-}
-
-fn finish<W: Write>(
-    output: &mut W,
-    state: Session,
-    call: Call,
-    line: &mut [u8],
-) -> io::Result<After> {
-    let mut out = [0xa5u8; KEY_ROOM];
-    let mut tag = [0xa5u8; KEY_ROOM];
-    let out_len = call.second;
-    let tag_len = call.third;
-    if KEY_ROOM < out_len {
-        return Ok(bad());
-    }
-    if KEY_ROOM < tag_len {
-        return Ok(bad());
-    }
-    ended(
-        output,
-        state,
-        &mut out[0..out_len],
-        &mut tag[0..tag_len],
+    *state = step.next;
+    writeln!(
         line,
-    )
+        "{} {} {} {}",
+        step.number,
+        step.count,
+        Shown(out),
+        Shown(tag)
+    )?;
+    Ok(())
 }
 
 // A session value that no run gives, as a caller can build it.
-fn forge(state: Session, call: Call) -> After {
-    let y = state.y;
-    let z = state.z;
-    let held = state.held;
-    let next = Session {
+fn forge(state: &mut Session, call: Call) {
+    let [_, ad_total, text_total, ..] = call.numbers;
+    *state = Session {
         suite: call.suite,
-        y: y,
-        z: z,
-        held: held,
-        ad_total: call.second,
-        text_total: call.third,
+        ad_total,
+        text_total,
+        ..*state
     };
-    After {
-        next: next,
-        good: true,
-    }
 }
 
-fn put<R: Read, W: Write>(
+// The op is its number in the input, which is looked at here alone.
+fn run<R: Read>(
     input: &mut R,
-    output: &mut W,
-    state: Session,
+    state: &mut Session,
     call: Call,
-    line: &mut [u8],
-) -> io::Result<After> {
-    let op = call.op;
-    match op {
-        0 => start(input, output, call, line),
-        1 => associated(input, output, state, call, line),
-        2 => message(input, output, state, call, line),
-        3 => finish(output, state, call, line),
-        4 => Ok(forge(state, call)),
-        _ => Ok(bad()),
-    }
-}
-
-// Reads a call and runs it on the session; `good` is false at the end of the input.
-fn turn<R: Read, W: Write>(input: &mut R, output: &mut W, state: Session) -> io::Result<After> {
-    let mut head = [0u8; HEAD_LEN];
-    let mut line = [0u8; 512];
-    if !program_text::call::next(input, output, &mut head)? {
-        return Ok(bad());
-    }
-    put(
-        input,
-        output,
-        state,
-        program_text::call::call_of(&head),
-        &mut line,
-    )
-}
-
-// The end of an input is not provable, so the loop counts down from a number that no input reaches.
-fn main(rt: HostRuntime) -> io::Result<()> {
-    let mut input = rt.stdin();
-    let mut output = rt.stdout();
-    let mut state = over();
-    let mut left = u64::MAX;
-    while left > 0 {
-        let after = turn(&mut input, &mut output, state)?;
-        if !after.good {
-            return Ok(());
+    line: &mut Page,
+) -> Result<(), CallError> {
+    match call.op {
+        0 => start(input, state, call, line),
+        1 => associated(input, state, call, line),
+        2 => message(input, state, call, line),
+        3 => finish(state, call, line),
+        4 => {
+            forge(state, call);
+            Ok(())
         }
-        state = after.next;
-        left -= 1;
+        _ => Err(CallError::Bad),
     }
-    Ok(())
+}
+
+fn main(rt: HostRuntime) -> io::Result<()> {
+    let mut state = over();
+    calls::each(&mut rt.stdin(), &mut rt.stdout(), |input, call, line| {
+        run(input, &mut state, call, line)
+    })
 }
