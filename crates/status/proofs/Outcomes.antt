@@ -4,17 +4,19 @@ use native.Mathlib.Omega.{arith}
 use mathlib.Core.Path.{◌≡◌, refl, sym, ap, ap₂, ◌∙◌}
 use mathlib.Core.Bool.{false, cond}
 use mathlib.Core.Logic.{◌⊎◌, ⊎_elim}
-use Rattle.std.specs.Prelude.{Ok, Err}
+use Rattle.std.specs.Prelude.{Result, Ok, Err}
 use lib.Dec.{eqb}
 use borrow.Author.Tests.{ne_eqb, eqb-false}
-use Rattle.block.specs.Outcome.{OneOutcome}
+use denote.RattleType.{RattleType}
+use denote.Param.Laws.{Laws}
+use mir.Syntax.{Dict}
+use Rattle.status.specs.declared.checked.Refuses.{Ghosts as Refuses}
+use Rattle.block.specs.Outcome.{Outcome, OneOutcome}
 use Rattle.status.specs.declared.verdict.RecordError.TheVariants as verdict
 use Rattle.status.specs.declared.checked.Answer.{Answer}
 use Rattle.status.specs.declared.checked.Fault.TheVariants.{Order, Suite, Length, Place, Unread, Nonce, Data}
 use Rattle.status.specs.declared.checked.Refusal.{Refusal}
 use Rattle.status.specs.declared.checked.Refusal.TheVariants.{Size, Edition, Count, Total, Table, InRow, End}
-use Rattle.status.specs.declared.checked.Checked.{Checked}
-use Rattle.status.specs.declared.checked.Checked.TheVariants as checked
 use Rattle.status.specs.Verdicts.{Verdict, number_of}
 use Rattle.status.specs.Answers.{answer, refusal_answer, checked_answer}
 use Rattle.status.proofs.Numbers.{refusal_range, refusal-some}
@@ -24,12 +26,12 @@ use Rattle.status.proofs.verdict.under_key.Kinds as under-key-kinds
 use Rattle.status.proofs.verdict.under_key.Reads as under-key-reads
 use Rattle.status.proofs.verdict.refused.Kinds as refused-kinds
 use Rattle.status.proofs.verdict.refused.Reads as refused-reads
-use Rattle.status.proofs.checked.Fault.number.Kinds as fault-kinds
-use Rattle.status.proofs.checked.Fault.number.Reads as fault-reads
-use Rattle.status.proofs.checked.Refusal.answer.Kinds as refusal-kinds
-use Rattle.status.proofs.checked.Refusal.answer.Reads as refusal-reads
-use Rattle.status.proofs.checked.Checked.answer.Kinds as checked-kinds
-use Rattle.status.proofs.checked.Checked.answer.Reads as checked-reads
+use Rattle.status.proofs.checked.U8FromFault.from.Kinds as fault-kinds
+use Rattle.status.proofs.checked.U8FromFault.from.Reads as fault-reads
+use Rattle.status.proofs.checked.RefusalRefuses.answer.Kinds as refusal-kinds
+use Rattle.status.proofs.checked.RefusalRefuses.answer.Reads as refusal-reads
+use Rattle.status.proofs.checked.answered.Kinds as answered-kinds
+use Rattle.status.proofs.checked.answered.Reads as answered-reads
 use Rattle.status.proofs.checked.say.Kinds as say-kinds
 use Rattle.status.proofs.checked.say.Reads as say-reads
 
@@ -112,14 +114,14 @@ unlike x m h k =
     ne_eqb (refusal_answer x).number m
     (λ q. ⊎_elim (λ r. ⊎_elim (λ l. omega arith) (λ l. omega arith) h) (λ r. eqb-false m 34 k (sym q ∙ r)) (refusal_range x))
 
-abbrev checked_of : Answer → Checked
-checked_of x = cond (eqb x.number 0) checked.Passed (checked.Refused (refusal_of x))
+abbrev checked_of : Answer → Result Unit Refusal
+checked_of x = cond (eqb x.number 0) (Ok tt) (Err (refusal_of x))
 
-checked_back : (x : Checked) → checked_of (checked_answer x) ≡ x
-checked_back checked.Passed = refl
-checked_back (checked.Refused x) = simp (ne_eqb _ _ (refusal-some x)) (ap checked.Refused (refusal_back x))
+checked_back : (x : Result Unit Refusal) → checked_of (checked_answer x) ≡ x
+checked_back (Ok x) = refl
+checked_back (Err x) = simp (ne_eqb _ _ (refusal-some x)) (ap Err (refusal_back x))
 
-pub checked_one : {x y : Checked} → checked_answer x ≡ checked_answer y → x ≡ y
+pub checked_one : {x y : Result Unit Refusal} → checked_answer x ≡ checked_answer y → x ≡ y
 checked_one {x} {y} q = sym (checked_back x) ∙ ap checked_of q ∙ checked_back y
 
 -- an answer is its number and its row
@@ -133,10 +135,12 @@ pub fault_number : OneOutcome fault-kinds.ps fault-kinds.r fault-reads.Pre fault
 fault_number κs a h x y = (x.ensures ∙ sym y.ensures, refl)
 
 pub refusal-answer : OneOutcome refusal-kinds.ps refusal-kinds.r refusal-reads.Pre refusal-reads.Post
-refusal-answer κs a h x y = (answer-one x.ensures y.ensures, refl)
+refusal-answer κs a h x y = (x.ensures ∙ sym y.ensures, refl)
 
-pub checked_answer_lem : OneOutcome checked-kinds.ps checked-kinds.r checked-reads.Pre checked-reads.Post
-checked_answer_lem κs a h x y = (answer-one x.ensures y.ensures, refl)
+-- at each type of error; its argument comes by value, so the result is all of the outcome
+pub answered : (E : RattleType) (is : Laws E) (refuses : Refuses E.Denot) (of : Dict)
+    → (κs : _) (a : _) (x y : Outcome (answered-kinds.ps E is) (answered-kinds.r E is) (answered-reads.Post E is refuses of) κs a) → x.result ≡ y.result
+answered E is refuses of κs a x y = x.ensures ∙ sym y.ensures
 
 pub say : OneOutcome say-kinds.ps say-kinds.r say-reads.Pre say-reads.Post
 say κs a h x y =

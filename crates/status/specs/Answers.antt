@@ -1,18 +1,19 @@
 -- Document 01's number and row for each case of the check's answers: 25 to 30 and 34 carry the row, every other number 0.
-use Rattle.std.specs.Prelude.{ℕ, ◌≤◌, ◌≡◌, ◌⊎◌}
+use Rattle.std.specs.Prelude.{ℕ, ◌≤◌, ◌≡◌, ◌⊎◌, Result, Ok, Err}
 use Rattle.status.specs.declared.checked.Answer.{Answer}
 use Rattle.status.specs.declared.checked.Fault.{Fault}
 use Rattle.status.specs.declared.checked.Fault.TheVariants.{Order, Suite, Length, Place, Unread, Nonce, Data}
-use Rattle.status.specs.declared.checked.RowCheck.{RowCheck}
-use Rattle.status.specs.declared.checked.RowCheck.TheVariants.{Sound, Bad}
 use Rattle.status.specs.declared.checked.Refusal.{Refusal}
 use Rattle.status.specs.declared.checked.Refusal.TheVariants.{Size, Edition, Count, Total, Table, InRow, End}
-use Rattle.status.specs.declared.checked.Checked.{Checked}
-use Rattle.status.specs.declared.checked.Checked.TheVariants.{Passed, Refused}
 
 -- a number and the row that it carries
 abbrev pub answer : ℕ → ℕ → Answer
 answer m i = record { number = m; row = i }
+
+-- an outcome: its error's answer, else number 0 and row 0
+abbrev pub outcome_answer : {E : Type 0} → (E → Answer) → Result Unit E → Answer
+outcome_answer answer_of (Ok x) = answer 0 0
+outcome_answer answer_of (Err e) = answer_of e
 
 -- from low to high, or 34
 abbrev pub Ranged : ℕ → ℕ → ℕ → Type 0
@@ -29,9 +30,9 @@ fault_number Nonce = 29
 fault_number Data = 30
 
 -- the check of one row
-abbrev pub row_number_of : RowCheck → ℕ
-row_number_of Sound = 0
-row_number_of (Bad x) = fault_number x
+abbrev pub row_number_of : Result Unit Fault → ℕ
+row_number_of (Ok x) = 0
+row_number_of (Err x) = fault_number x
 
 -- why a file is refused
 abbrev pub refusal_answer : Refusal → Answer
@@ -44,6 +45,5 @@ refusal_answer (InRow x i) = answer (fault_number x) i
 refusal_answer End = answer 31 0
 
 -- the full check
-abbrev pub checked_answer : Checked → Answer
-checked_answer Passed = answer 0 0
-checked_answer (Refused x) = refusal_answer x
+abbrev pub checked_answer : Result Unit Refusal → Answer
+checked_answer = outcome_answer refusal_answer

@@ -1,16 +1,17 @@
 // The answers of the check, and their numbers in document 01.
 ghost use Rattle.std.specs.Prelude.{◌≡◌, ◌≤◌};
-ghost use Rattle.status.specs.Answers.{answer, fault_number, refusal_answer, checked_answer};
+ghost use Rattle.status.specs.declared.checked.Answer.{Answer};
+ghost use Rattle.status.specs.Answers.{answer, fault_number, refusal_answer, outcome_answer};
 
 // A number of document 01 and the row that it carries.
-#[derive(Clone, Copy)]
+#[derive(Clone, Copy, PartialEq, Eq, Debug)]
 pub struct Answer {
     pub number: u8,
     pub row: usize,
 }
 
 // What is wrong with a row.
-#[derive(Clone, Copy)]
+#[derive(Clone, Copy, PartialEq, Eq, Debug)]
 pub enum Fault {
     Order,
     Suite,
@@ -21,11 +22,11 @@ pub enum Fault {
     Data,
 }
 
-impl Fault {
-    pub fn number(self) -> u8
-        ensures { result ≡ fault_number self }
-    {
-        match self {
+impl From<Fault> for u8 {
+    ghost from_gives = { λ fault number. number ≡ fault_number fault };
+
+    fn from(fault: Fault) -> u8 {
+        match fault {
             Fault::Order => 25,
             Fault::Suite => 26,
             Fault::Length => 27,
@@ -38,14 +39,10 @@ impl Fault {
 }
 
 // What the check of one row finds.
-#[derive(Clone, Copy)]
-pub enum RowCheck {
-    Sound,
-    Bad(Fault),
-}
+pub type RowCheck = Result<(), Fault>;
 
 // Why a file is refused.
-#[derive(Clone, Copy)]
+#[derive(Clone, Copy, PartialEq, Eq, Debug)]
 pub enum Refusal {
     Size,
     Edition,
@@ -56,10 +53,22 @@ pub enum Refusal {
     End,
 }
 
-impl Refusal {
-    pub fn answer(self) -> Answer
-        ensures { (result.number ≡ (refusal_answer self).number) × (result.row ≡ (refusal_answer self).row) }
-    {
+// What the full check finds.
+pub type Checked = Result<(), Refusal>;
+
+// An error whose answer stands in document 01.
+pub trait Refuses {
+    ghost answer_of: { Self → Answer };
+
+    // The error's number, and the row that it carries.
+    fn answer(self) -> Answer
+        ensures { result ≡ answer_of self };
+}
+
+impl Refuses for Refusal {
+    ghost answer_of = { refusal_answer };
+
+    fn answer(self) -> Answer {
         match self {
             Refusal::Size => Answer { number: 20, row: 0 },
             Refusal::Edition => Answer { number: 21, row: 0 },
@@ -67,7 +76,7 @@ impl Refusal {
             Refusal::Total => Answer { number: 23, row: 0 },
             Refusal::Table => Answer { number: 24, row: 0 },
             Refusal::InRow(fault, row) => Answer {
-                number: fault.number(),
+                number: fault.into(),
                 row: row,
             },
             Refusal::End => Answer { number: 31, row: 0 },
@@ -75,21 +84,13 @@ impl Refusal {
     }
 }
 
-// What the full check finds.
-#[derive(Clone, Copy)]
-pub enum Checked {
-    Passed,
-    Refused(Refusal),
-}
-
-impl Checked {
-    pub fn answer(self) -> Answer
-        ensures { (result.number ≡ (checked_answer self).number) × (result.row ≡ (checked_answer self).row) }
-    {
-        match self {
-            Checked::Passed => Answer { number: 0, row: 0 },
-            Checked::Refused(refusal) => refusal.answer(),
-        }
+// The answer of an outcome: its error's, or number 0 and row 0.
+pub fn answered<E: Refuses>(outcome: Result<(), E>) -> Answer
+    ensures { result ≡ outcome_answer E.answer_of outcome }
+{
+    match outcome {
+        Ok(()) => Answer { number: 0, row: 0 },
+        Err(error) => error.answer(),
     }
 }
 
