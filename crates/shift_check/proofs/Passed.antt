@@ -8,11 +8,10 @@ use mathlib.Core.Logic.{⊎_elim}
 use lib.ListN.{length}
 use lib.Dec.{eqb}
 use borrow.Author.Tests.{eqb-true, eqb-false, not-true, not-false, ne_eqb}
+use Rattle.std.specs.Prelude.{Result, Ok, Err}
 use Rattle.status.specs.declared.checked.Answer.{Answer}
 use Rattle.status.specs.declared.checked.Fault.{Fault}
 use Rattle.status.specs.declared.checked.Refusal.{Refusal}
-use Rattle.status.specs.declared.checked.Checked.{Checked}
-use Rattle.status.specs.declared.checked.Checked.TheVariants.{Passed, Refused}
 use Rattle.shift_format.specs.Format.{edition_of, count_of, row_size_of}
 use Rattle.status.specs.Answers.{answer, fault_number, refusal_answer, checked_answer}
 use Rattle.shift_format.specs.Inside.{EntryIn}
@@ -47,11 +46,11 @@ module _ (w : ℕ) (f : List ℕ) (n i : ℕ) where
 -- ---- a file that passes
 
 -- the check before passed: its number is 0
-pub passed_zero : (x : Checked) (a : Answer) → x ≡ Passed → checked_answer x ≡ a → a.number ≡ 0
+pub passed_zero : (x : Result Unit Refusal) (a : Answer) {u : Unit} → x ≡ Ok u → checked_answer x ≡ a → a.number ≡ 0
 passed_zero x a told q = ap number_of (sym q ∙ ap checked_answer told)
 
 -- it refused: that stands
-pub refused_stands : (x : Checked) (y : Refusal) (a next : Answer) → x ≡ Refused y → checked_answer x ≡ a → and_then a next ≡ refusal_answer y
+pub refused_stands : (x : Result Unit Refusal) (y : Refusal) (a next : Answer) → x ≡ Err y → checked_answer x ≡ a → and_then a next ≡ refusal_answer y
 refused_stands x y a next told q =
     let p : a ≡ refusal_answer y = sym q ∙ ap checked_answer told in
     simp (p, ne_eqb _ _ (refusal-some y))

@@ -14,47 +14,35 @@ use shift_limits::{MAX_AD, MAX_KEY, MIN_AD};
 use status::checked::{Fault, RowCheck};
 
 // 25: the job number is not above the row before's.
+#[tactic(auto, unfolding(crate::specs::Check::not_above))]
 fn not_above(size: usize, file: &[u8], rows: usize, index: usize) -> bool
     requires { TableIn size file.now rows × (index < rows) }
     ensures { result ≡ not_above size file.now index }
 {
-    if index == 0 {
-        return false;
-    }
-    let row = row_at(size, file, index);
-    let before = row_at(size, file, index - 1);
-    row.job <= before.job
+    index != 0 && row_at(size, file, index).job <= row_at(size, file, index - 1).job
 }
 
 // The value is outside low to high.
 pub(crate) fn outside(low: u16, high: u16, value: u16) -> bool
     ensures { result ≡ outside low high value }
 {
-    if value < low {
-        return true;
-    }
-    high < value
+    !(low..=high).contains(&value)
 }
 
 // 26: no such suite, or no such key.
+#[tactic(auto, unfolding(crate::specs::Check::bad_suite))]
 fn bad_suite(row: Row) -> bool
     ensures { result ≡ bad_suite row }
 {
-    if !cipher::is_suite(row.suite) {
-        return true;
-    }
-    MAX_KEY < row.key
+    !cipher::is_suite(row.suite) || MAX_KEY < row.key
 }
 
 // 27: associated data or message of a length that is not allowed.
+#[tactic(auto, unfolding(crate::specs::Check::bad_length))]
 fn bad_length(row: Row) -> bool
     ensures { result ≡ bad_length row }
 {
-    if outside(MIN_AD, MAX_AD, row.ad_len) {
-        return true;
-    }
-    let len = row.text_len as usize;
-    LIMIT < len
+    outside(MIN_AD, MAX_AD, row.ad_len) || LIMIT < row.text_len as usize
 }
 
 // The offset at which the body of a row has to start. For an index equal to the number of rows: the offset at which the last body ends.
@@ -69,16 +57,13 @@ pub(crate) fn body_start(size: usize, file: &[u8], rows: usize, index: usize) ->
 }
 
 // 28: the body does not start where it has to, or ends past the file.
+#[tactic(auto, unfolding(crate::specs::Check::misplaced))]
 fn misplaced(size: usize, file: &[u8], rows: usize, index: usize, start: usize) -> bool
     requires { TableIn size file.now rows × ((index < rows) × (start ≡ body_start size file.now rows index)) }
     ensures { result ≡ misplaced size file.now rows index }
 {
     let row = row_at(size, file, index);
-    let at = row.ad_at as usize;
-    if at != start {
-        return true;
-    }
-    file.len() < body_end(row)
+    row.ad_at as usize != start || file.len() < body_end(row)
 }
 
 // 34: a nonce byte that the suite does not read is not 0.
@@ -95,10 +80,7 @@ fn unread_set(size: usize, file: &[u8], index: usize, row: Row) -> bool
 fn same_key(this: Row, earlier: Row) -> bool
     ensures { result ≡ (eqb this.suite earlier.suite && eqb this.key earlier.key) }
 {
-    if this.suite != earlier.suite {
-        return false;
-    }
-    this.key == earlier.key
+    this.suite == earlier.suite && this.key == earlier.key
 }
 
 // Two rows clash. The bytes that a suite does not read are zero (34), so comparing all sixteen bytes compares those that it reads.
@@ -109,10 +91,7 @@ fn clashes(size: usize, file: &[u8], rows: usize, index: usize, other: usize) ->
 {
     let this = nonce_block(size, file, index);
     let earlier = nonce_block(size, file, other);
-    if block::same(this, earlier) {
-        return same_key(row_at(size, file, index), row_at(size, file, other));
-    }
-    false
+    block::same(this, earlier) && same_key(row_at(size, file, index), row_at(size, file, other))
 }
 
 // 29: the row clashes with an earlier one.
@@ -120,12 +99,10 @@ fn nonce_seen(size: usize, file: &[u8], rows: usize, index: usize) -> bool
     requires { TableIn size file.now rows × ((index < rows) × Spared size file.now (index + 1)) }
     ensures { result ≡ nonce_seen size file.now index }
 {
-    let mut j: usize = 0;
-    while j < index {
+    for j in 0..index {
         if clashes(size, file, rows, index, j) {
             return true;
         }
-        j += 1;
     }
     false
 }
@@ -135,27 +112,18 @@ fn seen_before(size: usize, file: &[u8], rows: usize, index: usize, marked: bool
     requires { TableIn size file.now rows × ((index < rows) × (Spared size file.now (index + 1) × Sieved size file.now index marked)) }
     ensures { result ≡ nonce_seen size file.now index }
 {
-    if marked {
-        return nonce_seen(size, file, rows, index);
-    }
-    false
+    marked && nonce_seen(size, file, rows, index)
 }
 
 // 30: the associated data has another job number, or no unit.
+#[tactic(auto, unfolding(crate::specs::Check::bad_data))]
 fn bad_data(file: &[u8], row: Row) -> bool
     requires { row.ad_at + 5 ≤ length file.now }
     ensures { result ≡ bad_data file.now row }
 {
     let at = row.ad_at as usize;
-    let job = row.job;
-    if get32(file, at) != job {
-        return true;
-    }
     let unit = file[at + 4];
-    if unit == 1 {
-        return false;
-    }
-    unit != 2
+    get32(file, at) != row.job || (unit != 1 && unit != 2)
 }
 
 // 28, 34, 29 and 30, of a row.
@@ -174,18 +142,18 @@ fn check_body(
     ensures { row_number_of result ≡ body_number size file.now rows index }
 {
     if misplaced(size, file, rows, index, start) {
-        return RowCheck::Bad(Fault::Place);
+        return Err(Fault::Place);
     }
     if unread_set(size, file, index, row) {
-        return RowCheck::Bad(Fault::Unread);
+        return Err(Fault::Unread);
     }
     if seen_before(size, file, rows, index, marked) {
-        return RowCheck::Bad(Fault::Nonce);
+        return Err(Fault::Nonce);
     }
     if bad_data(file, row) {
-        return RowCheck::Bad(Fault::Data);
+        return Err(Fault::Data);
     }
-    RowCheck::Sound
+    Ok(())
 }
 
 // 25 to 28, 34, 29 and 30, of a row.
@@ -203,13 +171,13 @@ pub(crate) fn check_row(
 {
     let row = row_at(size, file, index);
     if not_above(size, file, rows, index) {
-        return RowCheck::Bad(Fault::Order);
+        return Err(Fault::Order);
     }
     if bad_suite(row) {
-        return RowCheck::Bad(Fault::Suite);
+        return Err(Fault::Suite);
     }
     if bad_length(row) {
-        return RowCheck::Bad(Fault::Length);
+        return Err(Fault::Length);
     }
     check_body(size, file, rows, index, row, marked, start)
 }

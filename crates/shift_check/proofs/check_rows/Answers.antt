@@ -15,56 +15,50 @@ use Rattle.shift_check.proofs.Sieve.{Left, left_none, left_more, sieved}
 use Rattle.shift_check.proofs.check_rows.Goals as goal
 
 pub loop-i-init : goal.loop-i-init
-loop-i-init c = (omega arith, (refl, (spared_none _ _, (left_none _ _, c.body_start-start.ensures))))
+loop-i-init c = record { rest = refl; spared = spared_none _ _; left = left_none _ _; starts = c.body_start-start.ensures }
 
 pub mark-hash-requires : goal.mark-hash-requires
-mark-hash-requires c = row_in _ _ _ _ c.requires c.loop-i-test.true
+mark-hash-requires c = row_in _ _ _ _ c.requires (omega arith)
 
 pub check_row-requires : goal.check_row-requires
 check_row-requires c =
-    let h = c.loop-i.invariant.1.1 in
+    let h = c.loop-i.invariant in
     let q = c.has-marked.ensures ∙ ap (has c.loop-i.seen) c.mark-hash.ensures in (
       c.requires,
       (
-        c.loop-i-test.true,
+        omega arith,
         (
-          h.0,
+          h.spared,
           (
             subst (Sieved c.args.size c.args.file.now c.loop-i.i) (sym q)
-                (sieved c.args.size c.args.file.now c.loop-i.i c.loop-i.seen h.1.0 h.0),
-            h.1.1,
+                (sieved c.args.size c.args.file.now c.loop-i.i c.loop-i.seen h.left h.spared),
+            h.starts,
           ),
         ),
       ),
     )
 
-pub returns-in-Bad : goal.returns-in-Bad
-returns-in-Bad c =
-    rows-bad c.args.size c.args.file.now c.args.rows _ c.in-Bad.fault c.loop-i-test.true
-    (ap row_number_of (sym c.in-Bad.is) ∙ c.check_row.ensures)
-    ∙ sym c.loop-i.invariant.1.0
+pub returns-in-Err : goal.returns-in-Err
+returns-in-Err c =
+    rows-bad c.args.size c.args.file.now c.args.rows c.loop-i.i c.in-Err.fault (omega arith)
+    (ap row_number_of (sym c.in-Err.is) ∙ c.check_row.ensures)
+    ∙ sym c.loop-i.invariant.rest
 
 pub body_start-start-requires-in-loop-i : goal.body_start-start-requires-in-loop-i
-body_start-start-requires-in-loop-i c =
-    (c.requires, omega (arith, c.loop-i-test.true))
+body_start-start-requires-in-loop-i c = (c.requires, omega arith)
 
 pub loop-i-preserved : goal.loop-i-preserved
 loop-i-preserved c =
-    let z = ap row_number_of (sym c.in-Sound.is) ∙ c.check_row.ensures in
-    let h = c.loop-i.invariant.1 in
-    let q = c.put.ensures ∙ ap (with c.loop-i.seen) c.mark-hash.ensures in (
-      omega arith,
-      (
-        h.0 ∙ rows-sound c.args.size c.args.file.now c.args.rows _ c.loop-i-test.true z,
-        (
-          spared_more c.args.size c.args.file.now _ h.1.0 (sound c.args.size c.args.file.now c.args.rows _ (sym z)).spare,
-          (
-            subst (Left c.args.size c.args.file.now (c.loop-i.i + 1)) (sym q) (left_more c.args.size c.args.file.now c.loop-i.i c.loop-i.seen h.1.1.0),
-            c.body_start-start-in-loop-i.ensures,
-          ),
-        ),
-      ),
-    )
+    let z = ap row_number_of (sym c.in-Ok.is) ∙ c.check_row.ensures in
+    let h = c.loop-i.invariant in
+    let q = c.put.ensures ∙ ap (with c.loop-i.seen) c.mark-hash.ensures in
+    record {
+      rest = h.rest ∙ rows-sound c.args.size c.args.file.now c.args.rows c.loop-i.i (omega arith) z;
+      spared = spared_more c.args.size c.args.file.now _ h.spared (sound c.args.size c.args.file.now c.args.rows _ (sym z)).spare;
+      left = subst (Left c.args.size c.args.file.now (c.loop-i.i + 1)) (sym q)
+          (left_more c.args.size c.args.file.now c.loop-i.i c.loop-i.seen h.left);
+      starts = c.body_start-start-in-loop-i.ensures;
+    }
 
 -- at the end start is where the last body ends
 ended : (w : ℕ) (f : List ℕ) (n i start : ℕ) → start ≡ body_start w f n i → i ≤ n → n ≤ i → start ≡ body_start w f n n
@@ -73,11 +67,11 @@ ended w f n i start e l m = let q : i ≡ n = omega arith in rw q at e
 pub returns-then-start-file : goal.returns-then-start-file
 unfolding end_answer
 returns-then-start-file c =
-    let e = ended c.args.size c.args.file.now c.args.rows c.loop-i.i c.loop-i.start c.loop-i.invariant.1.1.1.1 c.loop-i.invariant.0 c.loop-i-test.false in
-    rw (c.loop-i.invariant.1.0, rows_end c.args.size c.args.file.now c.args.rows _ c.loop-i-test.false) (simp (← e, ne_eqb _ _ c.if-start-file.true))
+    let e = ended c.args.size c.args.file.now c.args.rows c.loop-i.i c.loop-i.start c.loop-i.invariant.starts (omega arith) (omega arith) in
+    rw (c.loop-i.invariant.rest, rows_end c.args.size c.args.file.now c.args.rows c.loop-i.i (omega arith)) (simp (← e, ne_eqb _ _ c.if-start-file.true))
 
 pub returns : goal.returns
 unfolding end_answer
 returns c =
-    let e = ended c.args.size c.args.file.now c.args.rows c.loop-i.i c.loop-i.start c.loop-i.invariant.1.1.1.1 c.loop-i.invariant.0 c.loop-i-test.false in
-    rw (c.loop-i.invariant.1.0, rows_end c.args.size c.args.file.now c.args.rows _ c.loop-i-test.false) (simp (← e, eq-eqb _ _ c.if-start-file.false))
+    let e = ended c.args.size c.args.file.now c.args.rows c.loop-i.i c.loop-i.start c.loop-i.invariant.starts (omega arith) (omega arith) in
+    rw (c.loop-i.invariant.rest, rows_end c.args.size c.args.file.now c.args.rows c.loop-i.i (omega arith)) (simp (← e, eq-eqb _ _ c.if-start-file.false))

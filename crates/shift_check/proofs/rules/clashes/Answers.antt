@@ -25,8 +25,9 @@ returns-then-same c =
     ∙ clash-keys c.args.size c.args.file.now c.args.index c.args.other (row_in _ _ _ _ c.requires.0 c.requires.1.0)
     (row_in _ _ _ _ c.requires.0 c.requires.1.1.0) c.requires.1.1.1.0 c.requires.1.1.1.1 _ _ c.row_at.ensures c.row_at-then-same.ensures e
 
-pub returns : goal.returns
-returns c =
+pub returns-else-same : goal.returns-else-same
+returns-else-same c =
     let e = sym (ap₂ same_bytes c.nonce_block-this.ensures c.nonce_block-earlier.ensures) ∙ sym c.same.ensures ∙ c.if-same.false in
-    clash-none c.args.size c.args.file.now c.args.index c.args.other (row_in _ _ _ _ c.requires.0 c.requires.1.0) (row_in _ _ _ _ c.requires.0 c.requires.1.1.0)
+    c.if-same.false
+    ∙ clash-none c.args.size c.args.file.now c.args.index c.args.other (row_in _ _ _ _ c.requires.0 c.requires.1.0) (row_in _ _ _ _ c.requires.0 c.requires.1.1.0)
     c.requires.1.1.1.0 c.requires.1.1.1.1 e

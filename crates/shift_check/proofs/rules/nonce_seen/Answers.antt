@@ -14,19 +14,19 @@ clashes-requires c = (
   (
     c.requires.1.0,
     (
-      omega (arith, c.loop-j-test.true, c.requires.1.0),
-      (c.requires.1.1.spare c.args.index (omega arith), c.requires.1.1.spare c.loop-j.j (omega (arith, c.loop-j-test.true))),
+      omega arith,
+      (c.requires.1.1.spare c.args.index (omega arith), c.requires.1.1.spare c.loop-j.j (omega arith)),
     ),
   ),
 )
 
 pub returns-then-clashes : goal.returns-then-clashes
 unfolding nonce_seen
-returns-then-clashes c = sym (yet-hit c.loop-j.invariant c.loop-j-test.true (cc))
+returns-then-clashes c = sym (yet-hit c.loop-j.invariant (omega arith) (cc))
 
 pub loop-j-preserved : goal.loop-j-preserved
-loop-j-preserved c = yet-more c.loop-j.invariant c.loop-j-test.true (cc)
+loop-j-preserved c = yet-more c.loop-j.invariant (omega arith) (cc)
 
 pub returns : goal.returns
 unfolding nonce_seen
-returns c = sym (yet-end c.loop-j.invariant c.loop-j-test.false)
+returns c = sym (yet-end c.loop-j.invariant (omega arith))

@@ -1,11 +1,7 @@
 -- Whether an earlier row clashes with row i: the loop has come to row j, and no row below j clashes (`NoneYet`).
-use Prim.Native.Nat.{◌-◌}
 use Rattle.shift_check.specs.Check.{clash}
 use Rattle.shift_check.proofs.Searches.{NoneYet}
 use Rattle.shift_check.proofs.rules.nonce_seen.Given as goal
 
 abbrev pub invariant-loop-j : goal.invariant-loop-j
 invariant-loop-j l = NoneYet (clash l.size l.file l.index) l.index l.j
-
-abbrev pub decreases-loop-j : goal.decreases-loop-j
-decreases-loop-j l = l.index - l.j

@@ -1,13 +1,10 @@
 -- Without a mark there is no clash; with one, every earlier row is compared.
-use mathlib.Core.Path.{sym}
+use mathlib.Core.Path.{sym, ◌∙◌}
 use native.Mathlib.Omega.{arith}
 use Rattle.shift_check.proofs.rules.seen_before.Goals as goal
 
 pub nonce_seen-requires : goal.nonce_seen-requires
 nonce_seen-requires c = (c.requires.0, (c.requires.1.0, c.requires.1.1.0))
 
-pub returns-then-marked : goal.returns-then-marked
-returns-then-marked c = c.nonce_seen.ensures
-
-pub returns : goal.returns
-returns c = sym (c.requires.1.1.1.clear c.if-marked.false (c.requires.1.1.0.spare c.args.index (omega arith)))
+pub returns-else-marked : goal.returns-else-marked
+returns-else-marked c = c.if-marked.false ∙ sym (c.requires.1.1.1.clear c.if-marked.false (c.requires.1.1.0.spare c.args.index (omega arith)))
