@@ -3,6 +3,7 @@ pub mod Rotate
 pub mod Add
 pub mod Lists
 pub mod Bytes
+pub mod LeBytes
 pub mod Xors
 pub mod Fill
 pub mod Table

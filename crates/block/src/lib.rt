@@ -30,27 +30,11 @@ pub fn same(left: Block, right: Block) -> bool
     ((left.a ^ right.a) | (left.b ^ right.b)) == 0
 }
 
-// Eight bytes as a number.
-fn le64(
-    byte0: u8,
-    byte1: u8,
-    byte2: u8,
-    byte3: u8,
-    byte4: u8,
-    byte5: u8,
-    byte6: u8,
-    byte7: u8,
-) -> u64
-    ensures { result ≡ value (byte0 ∷ byte1 ∷ byte2 ∷ byte3 ∷ byte4 ∷ byte5 ∷ byte6 ∷ byte7 ∷ []) }
+// The number of these bytes.
+pub fn number8(eight: [u8; 8]) -> u64
+    ensures { bytes 8 result ≡ eight }
 {
-    byte0 as u64
-        + ((byte1 as u64) << 8)
-        + ((byte2 as u64) << 16)
-        + ((byte3 as u64) << 24)
-        + ((byte4 as u64) << 32)
-        + ((byte5 as u64) << 40)
-        + ((byte6 as u64) << 48)
-        + ((byte7 as u64) << 56)
+    u64::from_le_bytes(eight)
 }
 
 // The number in eight bytes.
@@ -58,32 +42,14 @@ fn load8(eight: &[u8]) -> u64
     requires { length eight.now ≡ 8 }
     ensures { bytes 8 result ≡ eight.now }
 {
-    le64(
-        eight[0], eight[1], eight[2], eight[3], eight[4], eight[5], eight[6], eight[7],
-    )
+    number8(eight.try_into().unwrap())
 }
 
 // The eight bytes of a number.
 pub fn bytes8(number: u64) -> [u8; 8]
     ensures { result ≡ bytes 8 number }
 {
-    let x1 = number >> 8;
-    let x2 = x1 >> 8;
-    let x3 = x2 >> 8;
-    let x4 = x3 >> 8;
-    let x5 = x4 >> 8;
-    let x6 = x5 >> 8;
-    let x7 = x6 >> 8;
-    [
-        (number % 256) as u8,
-        (x1 % 256) as u8,
-        (x2 % 256) as u8,
-        (x3 % 256) as u8,
-        (x4 % 256) as u8,
-        (x5 % 256) as u8,
-        (x6 % 256) as u8,
-        (x7 % 256) as u8,
-    ]
+    number.to_le_bytes()
 }
 
 // The number, into eight bytes.
@@ -91,15 +57,7 @@ fn put8(number: u64, out: &mut [u8])
     requires { length out.old ≡ 8 }
     ensures { out.new ≡ bytes 8 number }
 {
-    let spread = bytes8(number);
-    out[0] = spread[0];
-    out[1] = spread[1];
-    out[2] = spread[2];
-    out[3] = spread[3];
-    out[4] = spread[4];
-    out[5] = spread[5];
-    out[6] = spread[6];
-    out[7] = spread[7];
+    out.copy_from_slice(&bytes8(number));
 }
 
 // The block of sixteen bytes, read by whole words.
@@ -150,14 +108,7 @@ pub fn bytes_of(block: Block) -> [u8; 16]
 pub fn block_of(sixteen: [u8; 16]) -> Block
     ensures { wide result ≡ sixteen }
 {
-    whole(&sixteen[0..16])
-}
-
-// The number of these bytes.
-pub fn number8(eight: [u8; 8]) -> u64
-    ensures { bytes 8 result ≡ eight }
-{
-    load8(&eight[0..8])
+    self::sixteen(&sixteen)
 }
 
 // The block of fifteen bytes, padded with a zero. The last eight are read as one number and shifted by one byte, which drops the byte that the first read covers.

@@ -12,10 +12,8 @@ pub fn copy(from: &[u8], to: &mut [u8])
     requires { length to.old ≡ length from.now }
     ensures { to.new ≡ from.now }
 {
-    let mut i: usize = 0;
-    while i < from.len() {
-        to[i] = from[i];
-        i += 1;
+    for (i, byte) in from.iter().enumerate() {
+        to[i] = *byte;
     }
 }
 
@@ -23,25 +21,14 @@ pub fn copy(from: &[u8], to: &mut [u8])
 pub fn all_zero(bytes: &[u8]) -> bool
     ensures { result ≡ same_bytes bytes.now (replicate (length bytes.now) 0) }
 {
-    let mut i: usize = 0;
-    while i < bytes.len() {
-        if bytes[i] != 0 {
-            return false;
-        }
-        i += 1;
-    }
-    true
+    bytes.iter().all(|byte| *byte == 0)
 }
 
 // Sets every byte to 0.
 pub fn wipe(out: &mut [u8])
     ensures { out.new ≡ replicate (length out.old) 0 }
 {
-    let mut k: usize = 0;
-    while k < out.len() {
-        out[k] = 0;
-        k += 1;
-    }
+    out.fill(0);
 }
 
 // At most sixteen bytes, padded with zeros, as an array.
@@ -50,11 +37,7 @@ pub fn filled_bytes(front: &[u8]) -> [u8; 16]
     ensures { result ≡ filled front.now }
 {
     let mut sixteen = [0u8; 16];
-    let mut i: usize = 0;
-    while i < front.len() {
-        sixteen[i] = front[i];
-        i += 1;
-    }
+    sixteen[..front.len()].copy_from_slice(front);
     sixteen
 }
 
@@ -80,11 +63,7 @@ fn put_bytes(sixteen: [u8; 16], out: &mut [u8])
     requires { length out.old ≤ 16 }
     ensures { out.new ≡ take (length out.old) sixteen }
 {
-    let mut i: usize = 0;
-    while i < out.len() {
-        out[i] = sixteen[i];
-        i += 1;
-    }
+    out.copy_from_slice(&sixteen[..out.len()]);
 }
 
 // Writes the first bytes of a block, as many as the output has.

@@ -1,12 +1,7 @@
--- `block::number8` meets its contract: eight bytes are read back from their number.
-use borrow.Author.Rules.{rules}
-use mathlib.Core.Path.{◌≡◌, ◌∙◌}
-use native.Mathlib.Omega.{arith}
-use lib.ListN.{length}
-use lib.Seq.{take_all}
+-- `block::number8` meets its contract: the library reads a number from its bytes.
+use Rattle.std.proofs.Common.{rules}
+use Rattle.block.proofs.LeBytes.{read_back}
 use Rattle.block.proofs.number8.Goals as goal
 
 pub returns : goal.returns
-returns c =
-    let ls : length c.args.eight ≡ 8 = search rules in
-    c.load8.ensures ∙ take_all 8 c.args.eight (omega arith)
+returns c = read_back c.args.eight _ (search rules) (search rules) c.from_le_bytes.ensures

@@ -1,42 +1,28 @@
--- `byte_runs::all_zero`, by induction on the loop: the bytes before i are zero, so the answer for the whole slice is the
--- answer for what is left of it.
-use borrow.Author.Tests.{eq-eqb, ne_eqb}
-use lib.Dec.{eqb}
-use lib.ListN.{length, get_or, drop, replicate, get_or-replicate, length-replicate, drop_of_length-le}
-use lib.Seq.{drop-cons}
-use mathlib.Core.Bool.{Bool, true, false, ◌&&◌}
-use mathlib.Core.List.{List}
-use mathlib.Core.Path.{◌≡◌, refl, sym, ap, ap₂, ◌∙◌}
-use native.Mathlib.Numerals.{add-one}
-use native.Mathlib.Omega.{arith}
-use Prim.Native.Nat.{ℕ, ◌+◌, ◌<◌}
+-- `byte_runs::all_zero` meets its contract: bytes that are all 0 are a run of zeros, and a byte that is not shows a difference.
+use Rattle.std.proofs.Common.{◌≡◌, ◌≢◌, refl, sym, ap, ap₂, ◌∙◌, arith, rules, ℕ, suc, ◌<◌, List, [], ◌∷◌, length, replicate, get_or, Bool, true, false}
+use Rattle.std.proofs.lemmas.List.{get_or-replicate}
+use Rattle.std.proofs.lemmas.Iterator.{cases_from_all, YieldsList-from_slice}
+use Rattle.std.specs.Bool.{MatchBool}
+use Rattle.std.specs.List.{AllWithin, HoldsAt}
+use borrow.Author.Tests.{tests}
 use Rattle.block.specs.Bytes.{same_bytes}
+use Rattle.block.proofs.SameBytes.{same_refl, same_true}
+use Rattle.block.proofs.Tests.{is_false}
 use Rattle.byte_runs.proofs.all_zero.Goals as goal
 
--- one byte more
-zero_turn : (b : List ℕ) (i : ℕ) → i < length b → (t : Bool) → eqb (get_or b i 0) 0 ≡ t
-    → same_bytes (drop i b) (drop i (replicate (length b) 0)) ≡ t && same_bytes (drop (i + 1) b) (drop (i + 1) (replicate (length b) 0))
-zero_turn b i h t e =
-    let z : List ℕ = replicate (length b) 0 in
-    let l : length z ≡ length b = length-replicate (length b) 0 in
-    rw add-one (ap₂ same_bytes (drop-cons b i 0 h) (drop-cons z i 0 (omega arith)))
-    ∙ ap (λ (u : Bool). u && same_bytes (drop (i + 1) b) (drop (i + 1) z)) (ap (λ (x : ℕ). eqb (get_or b i 0) x) (get_or-replicate (length b) i 0 0 h) ∙ e)
+zeros : (l : List ℕ) → ((i : ℕ) → i < length l → get_or l i 0 ≡ 0) → l ≡ replicate (length l) 0
+zeros [] h = refl
+zeros (x ∷ l) h =
+    ap₂ (λ (a : ℕ) (s : List ℕ). a ∷ s) (h 0 (omega arith)) (zeros l (λ i k. h (suc i) (omega arith)))
 
-pub loop-i-init : goal.loop-i-init
-loop-i-init c = (omega arith, refl)
-
-pub returns-then-bytes-i-ne0 : goal.returns-then-bytes-i-ne0
-returns-then-bytes-i-ne0 c =
-    let b = c.args.bytes.now in
-    sym (sym c.loop-i.invariant.1 ∙ zero_turn b c.loop-i.i c.loop-i-test.true false (ne_eqb _ _ c.if-bytes-i-ne0.true))
-
-pub loop-i-preserved : goal.loop-i-preserved
-loop-i-preserved c =
-    let b = c.args.bytes.now in
-    (omega arith, sym (zero_turn b c.loop-i.i c.loop-i-test.true true (eq-eqb _ _ c.if-bytes-i-ne0.false)) ∙ c.loop-i.invariant.1)
+told : (l : List ℕ) (r : Bool)
+    → MatchBool r (AllWithin (λ x. x ≡ 0) l 0 (length l)) ((k : ℕ) × (k < length l) × HoldsAt (λ x. x ≢ 0) l k)
+    → r ≡ same_bytes l (replicate (length l) 0)
+told l true h = sym (ap (same_bytes l) (sym (zeros l (λ i k. h i 0 (omega arith) k))) ∙ same_refl l)
+told l false h =
+    sym (is_false _ (λ e. h.2 0 (ap (λ (s : List ℕ). get_or s h.0 0) (same_true _ _ e) ∙ get_or-replicate (length l) h.0 0 0 h.1)))
 
 pub returns : goal.returns
 returns c =
-    let b = c.args.bytes.now in
-    let l : length (replicate {A = ℕ} (length b) 0) ≡ length b = length-replicate (length b) 0 in
-    sym (ap₂ same_bytes (drop_of_length-le b {i = c.loop-i.i} (omega arith)) (drop_of_length-le (replicate (length b) 0) {i = c.loop-i.i} (omega arith))) ∙ c.loop-i.invariant.1
+    told c.args.bytes.now c.all.result
+    (cases_from_all _ _ _ (λ x. x ≡ 0) (λ x. x ≢ 0) c.all.ensures.ran (YieldsList-from_slice c.args.bytes.now cc) (λ x q k. search (rules, tests)) (λ x q k. search (rules, tests)))
