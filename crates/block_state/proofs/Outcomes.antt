@@ -51,7 +51,7 @@ start κs a h x y = (held_told _ x.result y.result _ _ (omega arith) (omega arit
 pub image : OneOutcome image-kinds.ps image-kinds.r image-reads.Pre image-reads.Post
 image κs a h x y = (
   wide_told x.result y.result (omega arith) (omega arith) (omega arith) (omega arith)
-      (parts_told (size_of a.1.0) (wide x.result) (wide y.result) (x.ensures.0 ∙ sym y.ensures.0) (x.ensures.1 ∙ sym y.ensures.1)),
+      (parts_told (size_of a.0.now.suite) (wide x.result) (wide y.result) (x.ensures.0 ∙ sym y.ensures.0) (x.ensures.1 ∙ sym y.ensures.1)),
   refl,
 )
 
@@ -74,7 +74,7 @@ pub tag_of_lem : OneOutcome tag-of-kinds.ps tag-of-kinds.r tag-of-reads.Pre tag-
 tag_of_lem κs a h x y = (
   last_path
       (wide_told x.result.tag y.result.tag (omega arith) (omega arith) (omega arith) (omega arith)
-      (parts_told (size_of a.1.0) (wide x.result.tag) (wide y.result.tag) (x.ensures.0 ∙ sym y.ensures.0)
+      (parts_told (size_of a.0.now.suite) (wide x.result.tag) (wide y.result.tag) (x.ensures.0 ∙ sym y.ensures.0)
       (x.ensures.1.0 ∙ sym y.ensures.1.0)))
       (x.ensures.1.1 ∙ sym y.ensures.1.1),
   refl,

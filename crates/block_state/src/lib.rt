@@ -7,12 +7,13 @@ pub mod tag;
 ghost use Rattle.std.specs.Prelude.{◌≡◌, length, take};
 ghost use Rattle.block.specs.Xors.{xors};
 ghost use Rattle.block.specs.Blocks.{wide};
-ghost use Rattle.cipher.specs.Cipher.{TablesFit, IsSuite, size_of, nonce_of, cipher_of};
+ghost use Rattle.cipher.specs.Cipher.{size_of, nonce_of, cipher_of};
 ghost use Rattle.mode.specs.Walk.{origin};
 ghost use Rattle.block_state.specs.Two.{two_of, Clean, Holds, one_more_of, imaged};
 
 use block::Block;
-use cipher::AesTables;
+use block_key::Keyed;
+use cipher::Engine;
 
 // Y in the first bytes of y, as many as the suite's block has, Z, and the number of cipher calls so far. The count wraps
 // modulo 2^64, so that it adds no precondition for callers who do not read it.
@@ -24,41 +25,41 @@ pub struct State {
 }
 
 // The initial state for a key and a nonce, by one cipher call.
-pub fn start(tables: &[AesTables], suite: u8, key: &[u8], nonce: &[u8]) -> State
-    requires { TablesFit suite tables.now × IsSuite suite × (length key.now ≡ 16) × (length nonce.now ≡ nonce_of suite) }
-    ensures { Holds suite result (origin (cipher_of suite) key.now nonce.now) 1 }
+pub fn start(engine: &Engine, key: &[u8], nonce: &[u8]) -> State
+    requires { (length key.now ≡ 16) × (length nonce.now ≡ nonce_of engine.now.suite) }
+    ensures { Holds engine.now.suite result (origin (cipher_of engine.now.suite) key.now nonce.now) 1 }
 {
     let key_block = block::sixteen(key);
-    if cipher::size_of(suite) == 16 {
+    if engine.size() == 16 {
         let nonce_block = block::sixteen(nonce);
         // Constructed where it is borrowed: a borrowed value is spilled to the stack where it is defined, and an 8-byte block needs no spill.
         let key = Block {
             a: key_block.a,
             b: key_block.b,
         };
-        let z = cipher::encipher16(tables, suite, key, nonce_block);
+        let z = engine.encipher16(key, nonce_block);
         return State {
             y: key_block,
-            z: z,
+            z,
             calls: 1,
         };
     }
     let nonce_block = block::fifteen(nonce);
     let zero = Block { a: 0, b: 0 };
-    let y = cipher::encipher(tables, suite, key_block, zero);
+    let y = engine.encipher(key_block, zero);
     let z = block::xor(key_block, nonce_block);
     State {
-        y: y,
-        z: z,
+        y,
+        z,
         calls: 1,
     }
 }
 
 // The encryption of a block, chosen by its size n: a loop over blocks then tests only that number.
-pub fn image(tables: &[AesTables], suite: u8, n: usize, key: Block, block: Block) -> Block
-    requires { TablesFit suite tables.now × IsSuite suite × (n ≡ size_of suite) }
-    ensures image { take (size_of suite) (wide result) ≡ (cipher_of suite).E (wide key) (take (size_of suite) (wide block)) }
-    ensures rest { Clean suite result }
+pub fn image(engine: &Engine, n: usize, key: Block, block: Block) -> Block
+    requires { n ≡ size_of engine.now.suite }
+    ensures image { take (size_of engine.now.suite) (wide result) ≡ (cipher_of engine.now.suite).E (wide key) (take (size_of engine.now.suite) (wide block)) }
+    ensures rest { Clean engine.now.suite result }
 {
     if n == 16 {
         // As in `start`.
@@ -67,29 +68,24 @@ pub fn image(tables: &[AesTables], suite: u8, n: usize, key: Block, block: Block
             a: block.a,
             b: block.b,
         };
-        return cipher::encipher16(tables, suite, key_copy, block_copy);
+        return engine.encipher16(key_copy, block_copy);
     }
     Block {
-        a: cipher::encipher8(suite, key.a, key.b, block.a),
+        a: cipher::encipher8(engine.suite, key.a, key.b, block.a),
         b: 0,
     }
 }
 
 // The key of a block of n bytes with a mark; X, the encryption of Y under it, by one call; and the Z that is kept after the block.
-pub fn turn(tables: &[AesTables], suite: u8, state: State, mark: u8, n: usize) -> State
-    requires { TablesFit suite tables.now × IsSuite suite × (n ≡ size_of suite) }
-    ensures { Holds suite result (imaged suite mark (two_of suite state)) (one_more_of state.calls) }
+pub fn turn(engine: &Engine, state: State, mark: u8, n: usize) -> State
+    requires { n ≡ size_of engine.now.suite }
+    ensures { Holds engine.now.suite result (imaged engine.now.suite mark (two_of engine.now.suite state)) (one_more_of state.calls) }
 {
-    let y = state.y;
-    let z0 = state.z;
-    let keyed = block_key::block_key(suite, z0, mark);
-    let key = keyed.key;
-    let z = keyed.z;
-    let x = image(tables, suite, n, key, y);
+    let Keyed { key, z } = block_key::block_key(engine.suite, state.z, mark);
     State {
-        y: x,
-        z: z,
-        calls: std::num::wrapping_add_u64(state.calls, 1),
+        y: image(engine, n, key, state.y),
+        z,
+        calls: state.calls.wrapping_add(1),
     }
 }
 
@@ -98,12 +94,8 @@ pub fn mix(state: State, input: Block) -> State
     ensures y { wide result.y ≡ xors (wide state.y) (wide input) }
     ensures rest { (wide result.z ≡ wide state.z) × (result.calls ≡ state.calls) }
 {
-    let y = state.y;
-    let z = state.z;
-    let mixed = block::xor(y, input);
     State {
-        y: mixed,
-        z: z,
-        calls: state.calls,
+        y: block::xor(state.y, input),
+        ..state
     }
 }

@@ -2,14 +2,14 @@
 ghost use Rattle.std.specs.Prelude.{◌≡◌, ◌-◌, ◌⊎◌, length, take, drop, replicate};
 ghost use Rattle.block.specs.Blocks.{wide};
 ghost use Rattle.block.specs.Bytes.{same_bytes};
-ghost use Rattle.cipher.specs.Cipher.{TablesFit, IsSuite, size_of, cipher_of};
+ghost use Rattle.cipher.specs.Cipher.{size_of, cipher_of};
 ghost use Rattle.mode.specs.Walk.{tagged};
 ghost use Rattle.block_state.specs.Two.{two_of, Clean, one_more_of};
 
 use crate::State;
 use crate::marks::MARK_TAG;
 use block::Block;
-use cipher::AesTables;
+use cipher::Engine;
 
 // The tag, and how many cipher calls were made: its own is the last.
 #[derive(Clone, Copy)]
@@ -19,19 +19,14 @@ pub struct TagAndCalls {
 }
 
 // The tag of a state: the last call, under the last mark.
-pub fn tag_of(tables: &[AesTables], suite: u8, state: State) -> TagAndCalls
-    requires { TablesFit suite tables.now × IsSuite suite }
-    ensures tag { take (size_of suite) (wide result.tag) ≡ tagged (cipher_of suite) (two_of suite state) }
-    ensures rest { Clean suite result.tag × (result.calls ≡ one_more_of state.calls) }
+pub fn tag_of(engine: &Engine, state: State) -> TagAndCalls
+    ensures tag { take (size_of engine.now.suite) (wide result.tag) ≡ tagged (cipher_of engine.now.suite) (two_of engine.now.suite state) }
+    ensures rest { Clean engine.now.suite result.tag × (result.calls ≡ one_more_of state.calls) }
 {
-    let y = state.y;
-    let z = state.z;
-    let key = block_key::next_key(suite, z, MARK_TAG);
-    let n = cipher::size_of(suite);
-    let tag = crate::image(tables, suite, n, key, y);
+    let key = block_key::next_key(engine.suite, state.z, MARK_TAG);
     TagAndCalls {
-        tag: tag,
-        calls: std::num::wrapping_add_u64(state.calls, 1),
+        tag: crate::image(engine, engine.size(), key, state.y),
+        calls: state.calls.wrapping_add(1),
     }
 }
 

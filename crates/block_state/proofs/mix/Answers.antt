@@ -3,4 +3,4 @@ use Rattle.std.proofs.Common.{refl}
 use Rattle.block_state.proofs.mix.Goals as goal
 
 pub returns : goal.returns
-returns c = record { y = c.xor-mixed.ensures; rest = (refl, refl) }
+returns c = record { y = c.xor.ensures; rest = (refl, refl) }
