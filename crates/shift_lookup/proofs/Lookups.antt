@@ -2,11 +2,9 @@
 use Prim.Native.Nat.{ℕ, ◌-◌, ◌<◌}
 use native.Mathlib.Omega.{arith}
 use mathlib.Core.Path.{◌≡◌, sym, ap, ◌∙◌}
-use mathlib.Core.List.{List, [], ◌∷◌}
+use mathlib.Core.List.{List}
 use mathlib.Core.Logic.{⊎_elim}
 use borrow.Author.Tests.{eqb-true}
-use types.Run.{OneOf, miss}
-use denote.Enum.Declared.{tag_of}
 use Rattle.status.specs.declared.checked.Answer.{Answer}
 use Rattle.shift_format.specs.Format.{count_of, first_edition, newest, row_size_of, row_at, row_of}
 use Rattle.status.specs.Answers.{answer}
@@ -15,11 +13,10 @@ use Rattle.shift_format.specs.Inside.{EntryIn}
 use Rattle.shift_check.proofs.Searches.{first_says}
 use Rattle.status.proofs.Numbers.{refusal-some}
 use Rattle.shift_check.proofs.Passed.{Passes, passes, both_zero, entry_in}
-use Rattle.shift_lookup.specs.declared.answers.Found.{Found}
-use Rattle.shift_lookup.specs.declared.answers.Found.TheVariants as found
-use Rattle.shift_lookup.specs.Answers.{found_answer}
+use Rattle.shift_lookup.specs.declared.answers.LookupError.{LookupError}
+use Rattle.shift_lookup.specs.declared.answers.LookupError.TheVariants.{Missing, Refused}
+use Rattle.shift_lookup.specs.Answers.{lookup_error_answer}
 use Rattle.shift_lookup.specs.Lookup.{find_from, lookup_job}
-use Rattle.shift_lookup.specs.contracts.answers.Found.{the_type}
 
 -- row i of a file that passes has the job
 pub record Holding (f : List ℕ) (job i : ℕ) : Type 0 where
@@ -47,7 +44,6 @@ pub found_in : (f : List ℕ) (job i : ℕ) → lookup_job f job ≡ answer 0 i 
 found_in f job i q = let h = holding f job i q in entry_in first_edition newest f h.file i h.within
 
 -- only a found row has number 0
-pub not_at : (x : Found) → OneOf (1 ∷ 2 ∷ []) (tag_of the_type x) → (found_answer x).number ≡ 0 → ⊥
-not_at (found.At i) k q = miss (1 ∷ 2 ∷ []) 0 tt k
-not_at found.Missing k q = omega arith
-not_at (found.Refused x) k q = refusal-some x q
+pub error_some : (e : LookupError) → (lookup_error_answer e).number ≡ 0 → ⊥
+error_some Missing q = omega arith
+error_some (Refused x) q = refusal-some x q

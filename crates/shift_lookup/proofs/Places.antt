@@ -11,10 +11,11 @@ use Rattle.status.specs.declared.checked.Answer.{Answer}
 use Rattle.shift_format.specs.declared.row.Row.{Row}
 use Rattle.shift_format.specs.Format.{row_of, body_end}
 use Rattle.status.specs.Answers.{answer}
-use Rattle.shift_lookup.specs.declared.answers.Entry.{Entry}
+use Rattle.shift_lookup.specs.declared.answers.LookupError.{LookupError}
+use Rattle.shift_lookup.specs.Answers.{lookup_error_answer}
 use Rattle.shift_lookup.specs.Lookup.{lookup_job}
-use Rattle.shift_lookup.specs.Entry.{data_start, data_length, text_start, text_length, entry_at, Lies, EntriesLie}
-use Rattle.shift_lookup.proofs.Lookups.{holding, found_in}
+use Rattle.shift_lookup.specs.Entry.{Entry, data_start, data_length, text_start, text_length, entry_at, Lies, EntriesLie}
+use Rattle.shift_lookup.proofs.Lookups.{holding, found_in, error_some}
 
 -- an entry's six values
 abbrev placed : Answer → ℕ → ℕ → ℕ → ℕ → Entry
@@ -26,9 +27,9 @@ module _ (f : List ℕ) (x : Answer) where
   unfolding data_start data_length text_start text_length
   places-found i q = simp q
 
-  pub places-none : (a : Answer) → (a.number ≡ x.number) × (a.row ≡ x.row) → (x.number ≡ 0 → ⊥) → placed a 0 0 0 0 ≡ entry_at f x
+  pub places-none : (e : LookupError) → x ≡ lookup_error_answer e → placed (lookup_error_answer e) 0 0 0 0 ≡ entry_at f x
   unfolding data_start data_length text_start text_length
-  places-none a q n = simp (q.0, q.1, ne_eqb _ _ n)
+  places-none e q = simp (q, ne_eqb _ _ (error_some e))
 
 -- a found row's text starts at a place of 32 bits
 pub text_low : (f : List ℕ) (job i : ℕ) → lookup_job f job ≡ answer 0 i → (row_of f i).ad_at + (row_of f i).ad_len ≤ 1048576

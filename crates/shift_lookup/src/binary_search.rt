@@ -4,17 +4,18 @@ ghost use Rattle.shift_format.specs.Inside.{TableIn};
 ghost use Rattle.shift_lookup.specs.Answers.{found_answer};
 ghost use Rattle.shift_lookup.specs.Halving.{jobs_of, halving};
 
-use crate::answers::Found;
+use crate::answers::{Found, LookupError};
 use shift_format::row::row_at;
 
-// What the search finds, and how many rows it looked at.
+// What the search finds, and how many rows it looked at; that is told also if no row has the job.
 #[derive(Clone, Copy)]
 pub struct Searched {
     pub found: Found,
     pub looked: usize,
 }
 
-// Binary search over the rows, until one has the job or none is left.
+// Binary search over the rows, until one has the job or none is left. The library's search by key doesn't say how many rows it
+// looked at, nor does document 02 leave the choice of the middle row open, so the loop stands here.
 pub fn halve(size: usize, file: &[u8], rows: usize, job: u32) -> Searched
     requires { TableIn size file.now rows }
     ensures { (found_answer result.found ≡ (halving (jobs_of size file.now) job 0 rows).says)
@@ -31,7 +32,7 @@ pub fn halve(size: usize, file: &[u8], rows: usize, job: u32) -> Searched
         let looks = looked + 1;
         if seen == job {
             return Searched {
-                found: Found::At(middle),
+                found: Ok(middle),
                 looked: looks,
             };
         }
@@ -44,7 +45,7 @@ pub fn halve(size: usize, file: &[u8], rows: usize, job: u32) -> Searched
         }
     }
     Searched {
-        found: Found::Missing,
+        found: Err(LookupError::Missing),
         looked: looked,
     }
 }

@@ -9,30 +9,24 @@ ghost use Rattle.std.specs.Prelude.{◌≡◌};
 ghost use Rattle.shift_format.specs.Part.{PartOf};
 ghost use Rattle.shift_lookup.specs.Answers.{found_answer};
 ghost use Rattle.shift_lookup.specs.Lookup.{lookup_job};
-ghost use Rattle.shift_lookup.specs.Entry.{data_start, data_length, entry_of};
+ghost use Rattle.shift_lookup.specs.Entry.{data_start, data_length, entry_answer, entry_of};
 
-use answers::{Entry, Found};
+use answers::{Entry, Found, LookupError};
 use shift_check::check;
 use shift_format::row::{count, row_size_of, stretch};
-use status::checked::Checked;
 
 // The full check, then the row that has the job, or 32. The check has shown that the job numbers rise, so a binary search
 // finds it.
 pub fn lookup(file: &[u8], job: u32) -> Found
     ensures { found_answer result ≡ lookup_job file.now job }
 {
-    match check(file) {
-        Checked::Refused(refusal) => {
-            return Found::Refused(refusal);
-        }
-        Checked::Passed => {}
-    }
+    check(file)?;
     binary_search::halve(row_size_of(file), file, count(file), job).found
 }
 
-// The lookup, and offsets and lengths of the job's associated data and its text; 0 if the lookup refuses.
-pub fn entry(file: &[u8], job: u32) -> Entry
-    ensures { result ≡ entry_of file.now job }
+// The lookup, and offsets and lengths of the job's associated data and its text.
+pub fn entry(file: &[u8], job: u32) -> Result<Entry, LookupError>
+    ensures { entry_answer result ≡ entry_of file.now job }
 {
     found::entry_found(file, lookup(file, job))
 }
@@ -42,6 +36,8 @@ pub fn associated(file: &[u8], job: u32) -> &[u8]
     ensures { PartOf file.entry result (data_start file.now (lookup_job file.now job))
         (data_length file.now (lookup_job file.now job)) }
 {
-    let located = entry(file, job);
-    stretch(file, located.ad_at as usize, located.ad_len as usize)
+    match entry(file, job) {
+        Ok(located) => stretch(file, located.ad_at as usize, located.ad_len as usize),
+        Err(_) => stretch(file, 0, 0),
+    }
 }

@@ -9,25 +9,25 @@ use Rattle.shift_lookup.specs.Halving.{Walk}
 use Rattle.shift_search.proofs.Promised.{goes, stops}
 use Rattle.shift_search.proofs.search.Goals as goal
 
-pub returns-in-Refused : goal.returns-in-Refused
-returns-in-Refused c =
-    let s = stops c.args.file.now c.args.job c.in-Refused.refusal (sym c.check_head.ensures ∙ ap checked_answer c.in-Refused.is) in
-    (sym (ap (λ (x : Walk). x.says) s), sym (ap (λ (x : Walk). length x.rows) s))
-
 pub row_size_of-requires : goal.row_size_of-requires
 row_size_of-requires c =
-    (headed first_edition newest c.args.file.now (passed_zero _ _ c.in-Passed.is c.check_head.ensures)).long
+    (headed first_edition newest c.args.file.now (passed_zero _ _ c.in-Ok.is c.check_head.ensures)).long
 
 pub count-requires : goal.count-requires
 count-requires c =
-    (headed first_edition newest c.args.file.now (passed_zero _ _ c.in-Passed.is c.check_head.ensures)).long
+    (headed first_edition newest c.args.file.now (passed_zero _ _ c.in-Ok.is c.check_head.ensures)).long
 
 pub halve-requires : goal.halve-requires
 halve-requires c =
     rw (c.count.ensures, c.row_size_of.ensures) (headed first_edition newest c.args.file.now
-    (passed_zero _ _ c.in-Passed.is c.check_head.ensures)).table
+    (passed_zero _ _ c.in-Ok.is c.check_head.ensures)).table
 
-pub returns : goal.returns
-returns c =
-    let g = goes c.args.file.now c.args.job (passed_zero _ _ c.in-Passed.is c.check_head.ensures) in
+pub returns-in-Ok : goal.returns-in-Ok
+returns-in-Ok c =
+    let g = goes c.args.file.now c.args.job (passed_zero _ _ c.in-Ok.is c.check_head.ensures) in
     rw (g, ← c.count.ensures, ← c.row_size_of.ensures) c.halve.ensures
+
+pub returns-in-Err : goal.returns-in-Err
+returns-in-Err c =
+    let s = stops c.args.file.now c.args.job c.in-Err.refusal (sym c.check_head.ensures ∙ ap checked_answer c.in-Err.is) in
+    (sym (ap (λ (x : Walk). x.says) s), sym (ap (λ (x : Walk). length x.rows) s))
