@@ -1,3 +1,4 @@
 pub mod Left
 pub mod Outcomes
 pub mod Counts
+mod Tags

@@ -3,7 +3,7 @@ use mathlib.Core.Path.{◌≡◌, refl, sym, ap, ap₂, ◌∙◌}
 use mathlib.Core.List.{List}
 use Prim.Native.Nat.{ℕ}
 use Rattle.block.specs.Outcome.{OneOutcome}
-use Rattle.status.specs.declared.verdict.Verdict.{Verdict}
+use Rattle.status.specs.Verdicts.{Verdict}
 use Rattle.status.proofs.Outcomes.{number_tells}
 use Rattle.comet.specs.declared.Counted.{Counted}
 use Rattle.comet.specs.Answers.{Sealed, Opened}

@@ -1,73 +1,55 @@
 // The sealer and the opener: COMET under every suite.
 #![tactic(auto)]
 
-ghost use Rattle.std.specs.Prelude.{◌≡◌, true, false, ◌≤◌, length, take};
-ghost use Rattle.block.specs.Blocks.{wide};
-ghost use Rattle.cipher.specs.Cipher.{needs_tables, TablesFit, IsSuite, size_of, nonce_of, cipher_of, limit};
-ghost use Rattle.mode.specs.Mode.{text_out, tag_out, calls};
-ghost use Rattle.block_state.specs.Two.{Clean};
-ghost use Rattle.status.specs.Verdicts.{number_of, refusal};
+mod header;
+
+ghost use Rattle.std.specs.Prelude.{◌≡◌, true, false, ◌≤◌, length};
+ghost use Rattle.block.specs.Words.{add};
+ghost use Rattle.cipher.specs.Cipher.{needs_tables, TablesFit, size_of, cipher_of, limit};
+ghost use Rattle.mode.specs.Blocks.{blocks};
+ghost use Rattle.mode.specs.Walk.{data_done};
+ghost use Rattle.block_state.specs.Two.{two_of};
+ghost use Rattle.status.specs.Verdicts.{error_number, number_of, refusal};
 ghost use Rattle.comet.specs.Answers.{Sealed, sealing, Opened, opening, verifying};
+ghost use Rattle.comet.specs.Core.{IsTag, Crypts};
 ghost use Rattle.comet.specs.Counted.{Counting, sealing_counted, opening_counted};
 
 use block::Block;
+use block_state::State;
 use block_state::marks::{MARK_FIRST_DATA, MARK_FIRST_TEXT, MARK_SHORT_DATA, MARK_SHORT_TEXT};
 use block_state::tag::TagAndCalls;
 use cipher::AesTables;
-use status::verdict::{Verdict, refused};
+use header::{Header, accepted};
+use status::verdict::{RecordError, Verdict};
 
-// The status of a call, and how many cipher calls it took.
-#[derive(Clone, Copy)]
+// The status of a call, and how many cipher calls it took: a wrong tag takes them too, so the count stands beside the status.
+#[derive(Clone, Copy, PartialEq, Eq, Debug)]
 pub struct Counted {
     pub verdict: Verdict,
     pub calls: u64,
 }
 
-// `Done`, or why the sealer or the opener refuses a call with these buffers; text, out and tag are lengths.
-fn refused_for(
-    opening: bool,
-    suite: u8,
-    key: &[u8],
-    nonce: &[u8],
-    ad: &[u8],
-    text: usize,
-    out: usize,
-    tag: usize,
-) -> Verdict
-    ensures { number_of result ≡ refusal opening suite (length key.now) (length nonce.now) (length ad.now) text out tag }
-{
-    refused(
-        opening,
-        suite,
-        key.len(),
-        nonce.len(),
-        ad.len(),
-        text,
-        out,
-        tag,
-    )
+impl From<RecordError> for Counted {
+    ghost from_gives = { λ e c. (number_of c.verdict ≡ error_number e) × (c.calls ≡ 0) };
+
+    // A refusal before any work: no cipher call.
+    fn from(error: RecordError) -> Counted {
+        Counted {
+            verdict: Err(error),
+            calls: 0,
+        }
+    }
 }
 
-// Seals or opens text in place under these tables; returns the tag and the count of cipher calls. Every length is right. Empty
-// inputs are skipped, so that the states stay in registers.
-fn crypt_core(
-    tables: &[AesTables],
-    opening: bool,
-    suite: u8,
-    key: &[u8],
-    nonce: &[u8],
-    ad: &[u8],
-    text: &mut [u8],
-) -> TagAndCalls
-    requires { TablesFit suite tables.now × IsSuite suite × (length key.now ≡ 16) × (length nonce.now ≡ nonce_of suite) × (length ad.now ≤ limit)
-        × (length text.old ≤ limit) }
-    ensures text { text.new ≡ text_out (cipher_of suite) opening key.now nonce.now ad.now text.old }
-    ensures tag { take (size_of suite) (wide result.tag) ≡ tag_out (cipher_of suite) opening key.now nonce.now ad.now
-        text.old }
-    ensures rest { Clean suite result.tag
-        × (result.calls ≡ length (calls (cipher_of suite) opening key.now nonce.now ad.now text.old)) }
+// The states after the start and the associated data. Here and below, empty inputs are skipped, so that the states stay in registers.
+fn data_core(tables: &[AesTables], header: Header) -> State
+    requires { TablesFit header.suite tables.now }
+    ensures two { two_of header.entry.suite result ≡ data_done (cipher_of header.entry.suite) header.entry.key.now header.entry.nonce.now header.entry.ad.now }
+    ensures calls { result.calls ≡ add 64 1 (length (blocks (size_of header.entry.suite) header.entry.ad.now)) }
 {
-    let mut state = block_state::start(tables, suite, key, nonce);
+    let suite = header.suite;
+    let mut state = block_state::start(tables, suite, header.key, header.nonce);
+    let ad = header.ad;
     if ad.len() != 0 {
         state = comet_text::absorb_all(
             tables,
@@ -79,98 +61,65 @@ fn crypt_core(
             ad,
         );
     }
+    state
+}
+
+// Seals or opens text in place under these tables; returns the tag and the count of cipher calls.
+fn crypt_core(tables: &[AesTables], header: Header, opening: bool, text: &mut [u8]) -> TagAndCalls
+    requires { TablesFit header.suite tables.now × (length text.old ≤ limit) }
+    ensures { Crypts opening header.entry text.old text.new result }
+{
+    let mut state = data_core(tables, header);
     if 0 < text.len() {
-        state = comet_text::crypt_all(tables, opening, suite, state, text);
+        state = comet_text::crypt_all(tables, opening, header.suite, state, text);
     }
-    block_state::tag::tag_of(tables, suite, state)
+    block_state::tag::tag_of(tables, header.suite, state)
 }
 
 // `crypt_core` under the tables of AES, for suites 1 and 5. This function and the next are two, so that the 4 KiB of the tables are
 // in this one's stack frame alone: the build of the archives inlines neither (tools/library).
-fn crypt_with_tables(
-    opening: bool,
-    suite: u8,
-    key: &[u8],
-    nonce: &[u8],
-    ad: &[u8],
-    text: &mut [u8],
-) -> TagAndCalls
-    requires { (needs_tables suite ≡ true) × IsSuite suite × (length key.now ≡ 16) × (length nonce.now ≡ nonce_of suite)
-        × (length ad.now ≤ limit) × (length text.old ≤ limit) }
-    ensures text { text.new ≡ text_out (cipher_of suite) opening key.now nonce.now ad.now text.old }
-    ensures tag { take (size_of suite) (wide result.tag) ≡ tag_out (cipher_of suite) opening key.now nonce.now ad.now
-        text.old }
-    ensures rest { Clean suite result.tag
-        × (result.calls ≡ length (calls (cipher_of suite) opening key.now nonce.now ad.now text.old)) }
+fn crypt_with_tables(header: Header, opening: bool, text: &mut [u8]) -> TagAndCalls
+    requires { (needs_tables header.suite ≡ true) × (length text.old ≤ limit) }
+    ensures { Crypts opening header.entry text.old text.new result }
 {
-    let tables = cipher::tables(suite);
-    crypt_core(&tables, opening, suite, key, nonce, ad, text)
+    let tables = cipher::tables(header.suite);
+    crypt_core(&tables, header, opening, text)
 }
 
 // `crypt_core` without tables, for the other suites.
-fn crypt_without_tables(
-    opening: bool,
-    suite: u8,
-    key: &[u8],
-    nonce: &[u8],
-    ad: &[u8],
-    text: &mut [u8],
-) -> TagAndCalls
-    requires { (needs_tables suite ≡ false) × IsSuite suite × (length key.now ≡ 16) × (length nonce.now ≡ nonce_of suite)
-        × (length ad.now ≤ limit) × (length text.old ≤ limit) }
-    ensures text { text.new ≡ text_out (cipher_of suite) opening key.now nonce.now ad.now text.old }
-    ensures tag { take (size_of suite) (wide result.tag) ≡ tag_out (cipher_of suite) opening key.now nonce.now ad.now
-        text.old }
-    ensures rest { Clean suite result.tag
-        × (result.calls ≡ length (calls (cipher_of suite) opening key.now nonce.now ad.now text.old)) }
+fn crypt_without_tables(header: Header, opening: bool, text: &mut [u8]) -> TagAndCalls
+    requires { (needs_tables header.suite ≡ false) × (length text.old ≤ limit) }
+    ensures { Crypts opening header.entry text.old text.new result }
 {
-    crypt_core(&[], opening, suite, key, nonce, ad, text)
+    crypt_core(&[], header, opening, text)
 }
 
 // `crypt_core` under the tables that the suite needs, or none.
-fn crypt(
-    opening: bool,
-    suite: u8,
-    key: &[u8],
-    nonce: &[u8],
-    ad: &[u8],
-    text: &mut [u8],
-) -> TagAndCalls
-    requires { IsSuite suite × (length key.now ≡ 16) × (length nonce.now ≡ nonce_of suite) × (length ad.now ≤ limit) × (length text.old ≤ limit) }
-    ensures text { text.new ≡ text_out (cipher_of suite) opening key.now nonce.now ad.now text.old }
-    ensures tag { take (size_of suite) (wide result.tag) ≡ tag_out (cipher_of suite) opening key.now nonce.now ad.now
-        text.old }
-    ensures rest { Clean suite result.tag
-        × (result.calls ≡ length (calls (cipher_of suite) opening key.now nonce.now ad.now text.old)) }
+fn crypt(header: Header, opening: bool, text: &mut [u8]) -> TagAndCalls
+    requires { length text.old ≤ limit }
+    ensures { Crypts opening header.entry text.old text.new result }
 {
-    if cipher::needs_tables(suite) {
-        return crypt_with_tables(opening, suite, key, nonce, ad, text);
+    if cipher::needs_tables(header.suite) {
+        return crypt_with_tables(header, opening, text);
     }
-    crypt_without_tables(opening, suite, key, nonce, ad, text)
+    crypt_without_tables(header, opening, text)
 }
 
-// Seals text in place and writes its tag: what sealing into another buffer and in place share. Every length is right.
-fn seal_checked(
-    suite: u8,
-    key: &[u8],
-    nonce: &[u8],
-    ad: &[u8],
-    text: &mut [u8],
-    tag: &mut [u8],
-) -> Counted
-    requires { refusal false suite (length key.now) (length nonce.now) (length ad.now) (length text.old) (length text.old) (length tag.old)
-        ≡ 0 }
+// Seals text in place and writes its tag: what sealing into another buffer and in place share.
+fn seal_accepted(header: Header, text: &mut [u8], tag: &mut [u8]) -> Counted
+    requires { refusal false header.suite (length header.key.now) (length header.nonce.now) (length header.ad.now)
+        (length text.old) (length text.old) (length tag.old) ≡ 0 }
     ensures { ◌≡◌ {A = Counting Sealed} (record {
       leaves = record { number = number_of result.verdict; out = text.new; tag = tag.new };
       calls = result.calls;
     })
-        (sealing_counted suite key.now nonce.now ad.now text.old text.old tag.old) }
+        (sealing_counted header.entry.suite header.entry.key.now header.entry.nonce.now header.entry.ad.now text.old text.old tag.old) }
 {
-    let done = crypt(false, suite, key, nonce, ad, text);
+    let done = crypt(header, false, text);
     let computed = done.tag;
     block::put_whole(computed, tag);
     Counted {
-        verdict: Verdict::Done,
+        verdict: Ok(()),
         calls: done.calls,
     }
 }
@@ -191,7 +140,7 @@ pub fn seal_counted(
     })
         (sealing_counted suite key.now nonce.now ad.now msg.now out.old tag.old) }
 {
-    let verdict = refused_for(
+    match accepted(
         false,
         suite,
         key,
@@ -200,15 +149,13 @@ pub fn seal_counted(
         msg.len(),
         out.len(),
         tag.len(),
-    );
-    let Verdict::Done = verdict else {
-        return Counted {
-            verdict: verdict,
-            calls: 0,
-        };
-    };
-    byte_runs::copy(msg, out);
-    seal_checked(suite, key, nonce, ad, out, tag)
+    ) {
+        Err(error) => Counted::from(error),
+        Ok(header) => {
+            byte_runs::copy(msg, out);
+            seal_accepted(header, out, tag)
+        }
+    }
 }
 
 // Seals msg into out, and its tag into tag: `seal_counted` without its count.
@@ -239,7 +186,7 @@ pub fn seal_in_place(
     ensures { ◌≡◌ {A = Sealed} (record { number = number_of result; out = text.new; tag = tag.new })
         (sealing suite key.now nonce.now ad.now text.old text.old tag.old) }
 {
-    let verdict = refused_for(
+    let header = accepted(
         false,
         suite,
         key,
@@ -248,38 +195,29 @@ pub fn seal_in_place(
         text.len(),
         text.len(),
         tag.len(),
-    );
-    let Verdict::Done = verdict else {
-        return verdict;
-    };
-    seal_checked(suite, key, nonce, ad, text, tag).verdict
+    )?;
+    seal_accepted(header, text, tag).verdict
 }
 
-// Opens text in place, or overwrites it with zeros if its tag is wrong: what opening into another buffer and in place share. Every length is right.
-fn unseal_checked(
-    suite: u8,
-    key: &[u8],
-    nonce: &[u8],
-    ad: &[u8],
-    text: &mut [u8],
-    tag: &[u8],
-) -> Counted
-    requires { refusal true suite (length key.now) (length nonce.now) (length ad.now) (length text.old) (length text.old) (length tag.now) ≡ 0 }
+// Opens text in place, or overwrites it with zeros if its tag is wrong: what opening into another buffer and in place share.
+fn unseal_accepted(header: Header, text: &mut [u8], tag: &[u8]) -> Counted
+    requires { refusal true header.suite (length header.key.now) (length header.nonce.now) (length header.ad.now)
+        (length text.old) (length text.old) (length tag.now) ≡ 0 }
     ensures { ◌≡◌ {A = Counting Opened} (record { leaves = record { number = number_of result.verdict; out = text.new }; calls = result.calls })
-        (opening_counted suite key.now nonce.now ad.now text.old tag.now text.old) }
+        (opening_counted header.entry.suite header.entry.key.now header.entry.nonce.now header.entry.ad.now text.old tag.now text.old) }
 {
-    let done = crypt(true, suite, key, nonce, ad, text);
+    let done = crypt(header, true, text);
     let computed = done.tag;
     let right = block_state::tag::same(computed, tag);
     if !right {
         byte_runs::wipe(text);
         return Counted {
-            verdict: Verdict::Forged,
+            verdict: Err(RecordError::Forged),
             calls: done.calls,
         };
     }
     Counted {
-        verdict: Verdict::Done,
+        verdict: Ok(()),
         calls: done.calls,
     }
 }
@@ -297,7 +235,7 @@ pub fn unseal_counted(
     ensures { ◌≡◌ {A = Counting Opened} (record { leaves = record { number = number_of result.verdict; out = out.new }; calls = result.calls })
         (opening_counted suite key.now nonce.now ad.now text.now tag.now out.old) }
 {
-    let verdict = refused_for(
+    match accepted(
         true,
         suite,
         key,
@@ -306,15 +244,13 @@ pub fn unseal_counted(
         text.len(),
         out.len(),
         tag.len(),
-    );
-    let Verdict::Done = verdict else {
-        return Counted {
-            verdict: verdict,
-            calls: 0,
-        };
-    };
-    byte_runs::copy(text, out);
-    unseal_checked(suite, key, nonce, ad, out, tag)
+    ) {
+        Err(error) => Counted::from(error),
+        Ok(header) => {
+            byte_runs::copy(text, out);
+            unseal_accepted(header, out, tag)
+        }
+    }
 }
 
 // Opens text into out, if its tag is right; else every byte of out is 0: `unseal_counted` without its count.
@@ -345,7 +281,7 @@ pub fn unseal_in_place(
     ensures { ◌≡◌ {A = Opened} (record { number = number_of result; out = text.new })
         (opening suite key.now nonce.now ad.now text.old tag.now text.old) }
 {
-    let verdict = refused_for(
+    let header = accepted(
         true,
         suite,
         key,
@@ -354,93 +290,63 @@ pub fn unseal_in_place(
         text.len(),
         text.len(),
         tag.len(),
-    );
-    let Verdict::Done = verdict else {
-        return verdict;
-    };
-    unseal_checked(suite, key, nonce, ad, text, tag).verdict
+    )?;
+    unseal_accepted(header, text, tag).verdict
 }
 
-// The tag of the message that text opens to, under these tables: no text is written. Every length is right.
-fn tag_core(
-    tables: &[AesTables],
-    suite: u8,
-    key: &[u8],
-    nonce: &[u8],
-    ad: &[u8],
-    text: &[u8],
-) -> Block
-    requires { TablesFit suite tables.now × IsSuite suite × (length key.now ≡ 16) × (length nonce.now ≡ nonce_of suite) }
-    ensures tag { take (size_of suite) (wide result) ≡ tag_out (cipher_of suite) true key.now nonce.now ad.now
-        text.now }
-    ensures rest { Clean suite result }
+// The tag of the message that text opens to, under these tables: no text is written.
+fn tag_core(tables: &[AesTables], header: Header, text: &[u8]) -> Block
+    requires { TablesFit header.suite tables.now }
+    ensures { IsTag true header.entry text.now result }
 {
-    let mut state = block_state::start(tables, suite, key, nonce);
-    if ad.len() != 0 {
-        state = comet_text::absorb_all(
-            tables,
-            false,
-            suite,
-            state,
-            MARK_FIRST_DATA,
-            MARK_SHORT_DATA,
-            ad,
-        );
-    }
+    let mut state = data_core(tables, header);
     if text.len() != 0 {
         state = comet_text::absorb_all(
             tables,
             true,
-            suite,
+            header.suite,
             state,
             MARK_FIRST_TEXT,
             MARK_SHORT_TEXT,
             text,
         );
     }
-    let last = block_state::tag::tag_of(tables, suite, state);
+    let last = block_state::tag::tag_of(tables, header.suite, state);
     last.tag
 }
 
 // `tag_core` under the tables of AES; a function of its own, as `crypt_with_tables` is.
-fn tag_with_tables(suite: u8, key: &[u8], nonce: &[u8], ad: &[u8], text: &[u8]) -> Block
-    requires { (needs_tables suite ≡ true) × IsSuite suite × (length key.now ≡ 16) × (length nonce.now ≡ nonce_of suite) }
-    ensures tag { take (size_of suite) (wide result) ≡ tag_out (cipher_of suite) true key.now nonce.now ad.now
-        text.now }
-    ensures rest { Clean suite result }
+fn tag_with_tables(header: Header, text: &[u8]) -> Block
+    requires { needs_tables header.suite ≡ true }
+    ensures { IsTag true header.entry text.now result }
 {
-    let tables = cipher::tables(suite);
-    tag_core(&tables, suite, key, nonce, ad, text)
+    let tables = cipher::tables(header.suite);
+    tag_core(&tables, header, text)
 }
 
 // `tag_core` without tables.
-fn tag_without_tables(suite: u8, key: &[u8], nonce: &[u8], ad: &[u8], text: &[u8]) -> Block
-    requires { (needs_tables suite ≡ false) × IsSuite suite × (length key.now ≡ 16) × (length nonce.now ≡ nonce_of suite) }
-    ensures tag { take (size_of suite) (wide result) ≡ tag_out (cipher_of suite) true key.now nonce.now ad.now
-        text.now }
-    ensures rest { Clean suite result }
+fn tag_without_tables(header: Header, text: &[u8]) -> Block
+    requires { needs_tables header.suite ≡ false }
+    ensures { IsTag true header.entry text.now result }
 {
-    tag_core(&[], suite, key, nonce, ad, text)
+    tag_core(&[], header, text)
 }
 
 // `tag_core` under the tables that the suite needs, or none.
-fn tag_under(suite: u8, key: &[u8], nonce: &[u8], ad: &[u8], text: &[u8]) -> Block
-    requires { IsSuite suite × (length key.now ≡ 16) × (length nonce.now ≡ nonce_of suite) }
-    ensures tag { take (size_of suite) (wide result) ≡ tag_out (cipher_of suite) true key.now nonce.now ad.now
-        text.now }
-    ensures rest { Clean suite result }
+fn tag_under(header: Header, text: &[u8]) -> Block
+    ensures { IsTag true header.entry text.now result }
 {
-    if cipher::needs_tables(suite) {
-        return tag_with_tables(suite, key, nonce, ad, text);
+    if cipher::needs_tables(header.suite) {
+        return tag_with_tables(header, text);
     }
-    tag_without_tables(suite, key, nonce, ad, text)
+    tag_without_tables(header, text)
 }
 
 // Whether a record is genuine: the opener's status, without writing a text anywhere.
 pub fn verify(suite: u8, key: &[u8], nonce: &[u8], ad: &[u8], text: &[u8], tag: &[u8]) -> Verdict
     ensures { number_of result ≡ verifying suite key.now nonce.now ad.now text.now tag.now }
 {
-    let verdict = refused_for(
+    let header = accepted(
         true,
         suite,
         key,
@@ -449,14 +355,11 @@ pub fn verify(suite: u8, key: &[u8], nonce: &[u8], ad: &[u8], text: &[u8], tag: 
         text.len(),
         text.len(),
         tag.len(),
-    );
-    let Verdict::Done = verdict else {
-        return verdict;
-    };
-    let computed = tag_under(suite, key, nonce, ad, text);
+    )?;
+    let computed = tag_under(header, text);
     let genuine = block_state::tag::same(computed, tag);
     if !genuine {
-        return Verdict::Forged;
+        return Err(RecordError::Forged);
     }
-    Verdict::Done
+    Ok(())
 }

@@ -22,8 +22,7 @@ pub fn comet_seal_counted(
 {
     let sealed = comet::seal_counted(suite, key, nonce, ad, msg, out, tag);
     *calls = sealed.calls;
-    let verdict = sealed.verdict;
-    verdict.number() as u32
+    status::verdict::number(sealed.verdict) as u32
 }
 
 // As comet_open, and calls is how many cipher calls it took.
@@ -42,6 +41,5 @@ pub fn comet_open_counted(
 {
     let opened = comet::unseal_counted(suite, key, nonce, ad, text, tag, out);
     *calls = opened.calls;
-    let verdict = opened.verdict;
-    verdict.number() as u32
+    status::verdict::number(opened.verdict) as u32
 }

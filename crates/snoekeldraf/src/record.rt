@@ -16,7 +16,7 @@ pub fn comet_seal(
         (sealing suite key.now nonce.now ad.now msg.now out.old tag.old) }
 {
     let verdict = comet::seal(suite, key, nonce, ad, msg, out, tag);
-    verdict.number() as u32
+    status::verdict::number(verdict) as u32
 }
 
 // Opens text into out if its tag is right; else every byte of out is 0.
@@ -33,7 +33,7 @@ pub fn comet_open(
         (opening suite key.now nonce.now ad.now text.now tag.now out.old) }
 {
     let verdict = comet::unseal(suite, key, nonce, ad, text, tag, out);
-    verdict.number() as u32
+    status::verdict::number(verdict) as u32
 }
 
 // Seals text in place and writes its tag to tag.
@@ -49,7 +49,7 @@ pub fn comet_seal_in_place(
         (sealing suite key.now nonce.now ad.now text.old text.old tag.old) }
 {
     let verdict = comet::seal_in_place(suite, key, nonce, ad, text, tag);
-    verdict.number() as u32
+    status::verdict::number(verdict) as u32
 }
 
 // Opens text in place if its tag is right; else every byte of it is 0.
@@ -65,7 +65,7 @@ pub fn comet_open_in_place(
         (opening suite key.now nonce.now ad.now text.old tag.now text.old) }
 {
     let verdict = comet::unseal_in_place(suite, key, nonce, ad, text, tag);
-    verdict.number() as u32
+    status::verdict::number(verdict) as u32
 }
 
 // Whether a record is genuine: the opener's status, without writing a text anywhere.
@@ -73,5 +73,5 @@ pub fn comet_verify(suite: u8, key: &[u8], nonce: &[u8], ad: &[u8], text: &[u8],
     ensures { result ≡ verifying suite key.now nonce.now ad.now text.now tag.now }
 {
     let verdict = comet::verify(suite, key, nonce, ad, text, tag);
-    verdict.number() as u32
+    status::verdict::number(verdict) as u32
 }

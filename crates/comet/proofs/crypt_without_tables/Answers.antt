@@ -3,5 +3,4 @@ use Rattle.cipher.proofs.Suites.{none_ready}
 use Rattle.comet.proofs.crypt_without_tables.Goals as goal
 
 pub crypt_core-requires : goal.crypt_core-requires
-crypt_core-requires c =
-    (none_ready c.args.suite c.requires.0, c.requires.1, c.requires.2, c.requires.3, c.requires.4, c.requires.5)
+crypt_core-requires c = (none_ready c.args.header.suite c.requires.0, c.requires.1)

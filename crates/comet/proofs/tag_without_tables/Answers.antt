@@ -3,5 +3,4 @@ use Rattle.cipher.proofs.Suites.{none_ready}
 use Rattle.comet.proofs.tag_without_tables.Goals as goal
 
 pub tag_core-requires : goal.tag_core-requires
-tag_core-requires c =
-    (none_ready c.args.suite c.requires.0, c.requires.1, c.requires.2, c.requires.3)
+tag_core-requires c = none_ready c.args.header.suite c.requires

@@ -1,84 +1,48 @@
 -- `comet::verify`: if the lengths are refused, the status is that of the opener with an output as long as the text. Otherwise
 -- the status follows from the tag comparison alone, as the opener's does.
-use borrow.Author.Rules.{rules}
-use lib.ListN.{length, take, drop, replicate}
+use Rattle.std.proofs.lemmas.Result.{err_from_is_err_and}
 use mathlib.Core.Bool.{Bool, true, false}
-use mathlib.Core.List.{List}
 use mathlib.Core.Path.{◌≡◌, refl, sym, ap, ◌∙◌}
-use Prim.Native.Nat.{ℕ, ◌-◌}
-use Rattle.block.specs.Blocks.{wide}
 use Rattle.block.specs.Bytes.{same_bytes}
 use Rattle.cipher.specs.Cipher.{size_of, cipher_of}
 use Rattle.cipher.proofs.Suites.{full_two}
 use Rattle.mode.specs.Mode.{text_out, tag_out}
-use Rattle.status.specs.Verdicts.{number_of, refusal}
 use Rattle.comet.specs.Answers.{Opened, opened_as, verifying}
-use Rattle.status.proofs.Refuse.{Passed, passed, done-zero, other-some}
+use Rattle.status.proofs.Refuse.{passed, error-some}
 use Rattle.comet.proofs.Left.{opening-kept, opening-done}
-use Rattle.comet.proofs.verify.Goals.{In-Done, After-same-genuine}
+use Rattle.comet.proofs.Tags.{compared, nothing_after}
+use Rattle.comet.proofs.verify.Goals.{After-same-genuine}
 use Rattle.comet.proofs.verify.Goals as goal
 
-module _ (m : In-Done) where
-  -- nothing was refused
-  zero : refusal true m.args.suite (length m.args.key.now) (length m.args.nonce.now) (length m.args.ad.now)
-      (length m.args.text.now) (length m.args.text.now) (length m.args.tag.now) ≡ 0
-  zero = sym m.refused_for-verdict.ensures ∙ done-zero m.refused_for-verdict.result (search rules)
-
-  -- every length is right
-  ok : Passed m.args.suite (length m.args.key.now) (length m.args.nonce.now) (length m.args.ad.now)
-      (length m.args.text.now) (length m.args.text.now) (length m.args.tag.now)
-  ok = passed _ _ _ _ _ _ _ _ zero
-
-module _ (d : After-same-genuine) where
-  -- nothing was refused, and the comparison gave b
-  done : refusal true d.args.suite (length d.args.key.now) (length d.args.nonce.now) (length d.args.ad.now)
-      (length d.args.text.now) (length d.args.text.now) (length d.args.tag.now) ≡ 0
-      → length d.args.tag.now ≡ size_of d.args.suite → (b : Bool) → d.same-genuine.result ≡ b
-      → (opened_as 0 b (text_out (cipher_of d.args.suite) true d.args.key.now d.args.nonce.now d.args.ad.now d.args.text.now)
-      d.args.text.now).number
-      ≡ verifying d.args.suite d.args.key.now d.args.nonce.now d.args.ad.now d.args.text.now d.args.tag.now
-  unfolding verifying
-  done z long b e =
-      let a = d.args in
-      let same-is : d.same-genuine.result ≡ same_bytes (tag_out (cipher_of a.suite) true a.key.now a.nonce.now a.ad.now a.text.now)
-      a.tag.now =
-      d.same-genuine.ensures
-      ∙ ap (λ (l : List ℕ). same_bytes l a.tag.now) (ap (λ (n : ℕ). take n (wide d.tag_under-computed.result)) long
-      ∙ d.tag_under-computed.ensures.tag) in
-      ap (λ (w : Opened). w.number)
-      (opening-done a.suite a.key.now a.nonce.now a.ad.now a.text.now a.tag.now a.text.now 0 (sym z) refl b
-      (sym e ∙ same-is))
-
-pub returns-in_default : goal.returns-in_default
+-- the comparison gave b
+done : (d : After-same-genuine) → (b : Bool) → d.same-genuine.result ≡ b
+    → (opened_as 0 b (text_out (cipher_of d.args.suite) true d.args.key.now d.args.nonce.now d.args.ad.now d.args.text.now) d.args.text.now).number
+    ≡ verifying d.args.suite d.args.key.now d.args.nonce.now d.args.ad.now d.args.text.now d.args.tag.now
 unfolding verifying
-returns-in_default c =
-    let x = c.args in
-    let a = c.refused_for-verdict.result in
+done d b e =
+    let x = d.args in
+    let h = d.in_ok-header.ensures in
+    let right = sym e ∙ d.same-genuine.ensures ∙ compared d.tag_under-computed.ensures x.tag.now ((passed _ _ _ _ _ _ _ _ h.0).tag ∙ sym (ap size_of h.1))
+    ∙ (λ i. same_bytes (tag_out (cipher_of (h.1 i)) true (h.2 i) (h.3 i) (h.4 i) x.text.now) x.tag.now) in
     ap (λ (w : Opened). w.number)
-    (opening-kept x.suite x.key.now x.nonce.now x.ad.now x.text.now x.tag.now x.text.now (number_of a)
-    c.refused_for-verdict.ensures (other-some a (search rules)))
+    (opening-done x.suite x.key.now x.nonce.now x.ad.now x.text.now x.tag.now x.text.now 0 (sym h.0) refl b right)
 
-pub tag_under-computed-requires : goal.tag_under-computed-requires
-tag_under-computed-requires c =
-    let p = ok (goal.at.tag_under-computed-requires c).In-Done in
-    (p.suite, p.key, p.nonce)
+pub returns-in_err-header : goal.returns-in_err-header
+unfolding verifying
+returns-in_err-header c =
+    let x = c.args in
+    let p = err_from_is_err_and c.from_residual.result c.from_residual.ensures.1 in
+    rw (p.1, p.2) (ap (λ (w : Opened). w.number)
+    (opening-kept x.suite x.key.now x.nonce.now x.ad.now x.text.now x.tag.now x.text.now _ c.in_err-header.ensures (error-some _)))
 
 pub same-genuine-requires : goal.same-genuine-requires
 same-genuine-requires c =
-    let e = (ok (goal.at.same-genuine-requires c).In-Done).tag in
-    let t = c.tag_under-computed in (
-      full_two _ c.args.suite e,
-      ap (λ (n : ℕ). drop n (wide t.result)) e ∙ t.ensures.rest ∙ sym (ap (λ (n : ℕ). replicate (16 - n) 0) e),
-    )
+    let h = c.in_ok-header.ensures in
+    let e = (passed _ _ _ _ _ _ _ _ h.0).tag ∙ sym (ap size_of h.1) in
+    (full_two _ _ e, nothing_after c.tag_under-computed.ensures c.args.tag.now e)
 
 pub returns-then-not-genuine : goal.returns-then-not-genuine
-returns-then-not-genuine c =
-    let m = (goal.at.returns-then-not-genuine c).In-Done in
-    let d = (goal.at.returns-then-not-genuine c).After-same-genuine in
-    done d (zero m) (ok m).tag false c.if-not-genuine.true
+returns-then-not-genuine c = done (goal.at.returns-then-not-genuine c).After-same-genuine false c.if-not-genuine.true
 
 pub returns : goal.returns
-returns c =
-    let m = (goal.at.returns c).In-Done in
-    let d = (goal.at.returns c).After-same-genuine in
-    done d (zero m) (ok m).tag true c.if-not-genuine.false
+returns c = done (goal.at.returns c).After-same-genuine true c.if-not-genuine.false
