@@ -1,88 +1,68 @@
 // One block of associated data or text, full or short, by one cipher call; a full one is read and written by whole words. The
 // output overwrites the block of text.
-ghost use Rattle.std.specs.Prelude.{◌≡◌, true, false, ◌<◌, length};
-ghost use Rattle.cipher.specs.Cipher.{TablesFit, IsSuite, size_of, cipher_of};
+ghost use Rattle.std.specs.Prelude.{◌≡◌, ◌<◌, length};
+ghost use Rattle.cipher.specs.Cipher.{size_of, cipher_of};
 ghost use Rattle.mode.specs.Walk.{turned, hidden, message_of};
 ghost use Rattle.block_state.specs.Two.{two_of, Holds, one_more_of};
 
 use block_state::State;
-use cipher::AesTables;
+use cipher::Engine;
 
-// Absorbs a full block of associated data under its mark.
-pub fn absorb_full(tables: &[AesTables], suite: u8, state: State, mark: u8, block: &[u8]) -> State
-    requires { TablesFit suite tables.now × IsSuite suite × (length block.now ≡ size_of suite) }
-    ensures { Holds suite result (turned (cipher_of suite) mark (two_of suite state) (message_of (cipher_of suite) false mark (two_of suite state) block.now)) (one_more_of state.calls) }
-{
-    let enciphered = block_state::turn(tables, suite, state, mark, block.len());
-    let data = block::whole(block);
-    block_state::mix(enciphered, data)
-}
-
-// Absorbs the message block of a full block of ciphertext, without writing it anywhere.
-pub fn verify_full(tables: &[AesTables], suite: u8, state: State, mark: u8, block: &[u8]) -> State
-    requires { TablesFit suite tables.now × IsSuite suite × (length block.now ≡ size_of suite) }
-    ensures { Holds suite result (turned (cipher_of suite) mark (two_of suite state)
-        (message_of (cipher_of suite) true mark (two_of suite state) block.now)) (one_more_of state.calls) }
-{
-    let enciphered = block_state::turn(tables, suite, state, mark, block.len());
-    let x = enciphered.y;
-    let ciphertext = block::whole(block);
-    let mask = crate::shuffle::shuffled(suite, x, block.len());
-    let message = block::xor(ciphertext, mask);
-    block_state::mix(enciphered, message)
-}
-
-// Seals a full block in place: absorbs the message block and overwrites it with the ciphertext.
-pub fn seal_full(tables: &[AesTables], suite: u8, state: State, mark: u8, block: &mut [u8]) -> State
-    requires { TablesFit suite tables.now × IsSuite suite × (length block.old ≡ size_of suite) }
-    ensures text { block.new ≡ hidden (cipher_of suite) mark (two_of suite state) block.old }
-    ensures state { Holds suite result (turned (cipher_of suite) mark (two_of suite state)
-        (message_of (cipher_of suite) false mark (two_of suite state) block.old)) (one_more_of state.calls) }
-{
-    let enciphered = block_state::turn(tables, suite, state, mark, block.len());
-    let x = enciphered.y;
-    let message = block::whole(block);
-    let mask = crate::shuffle::shuffled(suite, x, block.len());
-    let ciphertext = block::xor(message, mask);
-    block::put_whole(ciphertext, block);
-    block_state::mix(enciphered, message)
-}
-
-// Opens a full block in place: overwrites the ciphertext with the message block and absorbs that.
-pub fn open_full(tables: &[AesTables], suite: u8, state: State, mark: u8, block: &mut [u8]) -> State
-    requires { TablesFit suite tables.now × IsSuite suite × (length block.old ≡ size_of suite) }
-    ensures text { block.new ≡ hidden (cipher_of suite) mark (two_of suite state) block.old }
-    ensures state { Holds suite result (turned (cipher_of suite) mark (two_of suite state)
-        (message_of (cipher_of suite) true mark (two_of suite state) block.old)) (one_more_of state.calls) }
-{
-    let enciphered = block_state::turn(tables, suite, state, mark, block.len());
-    let x = enciphered.y;
-    let ciphertext = block::whole(block);
-    let mask = crate::shuffle::shuffled(suite, x, block.len());
-    let opened = block::xor(ciphertext, mask);
-    block::put_whole(opened, block);
-    block_state::mix(enciphered, opened)
-}
-
-// Absorbs a short block of associated data, or the message block of a short block of ciphertext, without writing it anywhere.
-pub fn absorb_short(
-    tables: &[AesTables],
-    opening: bool,
-    suite: u8,
+// Absorbs a full block under its mark and writes nothing: associated data as it is or, in opening, the message of ciphertext.
+pub fn absorb_full<const OPENING: bool>(
+    engine: &Engine,
     state: State,
     mark: u8,
     block: &[u8],
 ) -> State
-    requires { TablesFit suite tables.now × IsSuite suite × (length block.now < size_of suite) }
-    ensures { Holds suite result (turned (cipher_of suite) mark (two_of suite state)
-        (message_of (cipher_of suite) opening mark (two_of suite state) block.now)) (one_more_of state.calls) }
+    requires { length block.now ≡ size_of engine.now.suite }
+    ensures { Holds engine.now.suite result (turned (cipher_of engine.now.suite) mark (two_of engine.now.suite state)
+        (message_of (cipher_of engine.now.suite) OPENING mark (two_of engine.now.suite state) block.now)) (one_more_of state.calls) }
 {
-    let n = cipher::size_of(suite);
-    let enciphered = block_state::turn(tables, suite, state, mark, n);
+    let enciphered = block_state::turn(engine, state, mark, block.len());
+    let given = block::whole(block);
+    if OPENING {
+        let mask = crate::shuffle::shuffled(engine.suite, enciphered.y, block.len());
+        let message = block::xor(given, mask);
+        return block_state::mix(enciphered, message);
+    }
+    block_state::mix(enciphered, given)
+}
+
+// Seals or opens a full block in place: overwrites the text with the output and absorbs the message block.
+pub fn crypt_full<const OPENING: bool>(
+    engine: &Engine,
+    state: State,
+    mark: u8,
+    block: &mut [u8],
+) -> State
+    requires { length block.old ≡ size_of engine.now.suite }
+    ensures text { block.new ≡ hidden (cipher_of engine.now.suite) mark (two_of engine.now.suite state) block.old }
+    ensures state { Holds engine.now.suite result (turned (cipher_of engine.now.suite) mark (two_of engine.now.suite state)
+        (message_of (cipher_of engine.now.suite) OPENING mark (two_of engine.now.suite state) block.old)) (one_more_of state.calls) }
+{
+    let enciphered = block_state::turn(engine, state, mark, block.len());
+    let given = block::whole(block);
+    let mask = crate::shuffle::shuffled(engine.suite, enciphered.y, block.len());
+    let output = block::xor(given, mask);
+    block::put_whole(output, block);
+    if OPENING {
+        return block_state::mix(enciphered, output);
+    }
+    block_state::mix(enciphered, given)
+}
+
+// Absorbs a short block of associated data, or the message block of a short block of ciphertext, without writing it anywhere.
+pub fn absorb_short(engine: &Engine, opening: bool, state: State, mark: u8, block: &[u8]) -> State
+    requires { length block.now < size_of engine.now.suite }
+    ensures { Holds engine.now.suite result (turned (cipher_of engine.now.suite) mark (two_of engine.now.suite state)
+        (message_of (cipher_of engine.now.suite) opening mark (two_of engine.now.suite state) block.now)) (one_more_of state.calls) }
+{
+    let n = engine.size();
+    let enciphered = block_state::turn(engine, state, mark, n);
     let given = byte_runs::filled(block);
     if opening {
-        let x = enciphered.y;
-        let mask = crate::shuffle::shuffled(suite, x, n);
+        let mask = crate::shuffle::shuffled(engine.suite, enciphered.y, n);
         let message = block::xor(given, mask);
         return block_state::mix(enciphered, crate::pad::padded(message, block.len()));
     }
@@ -91,24 +71,22 @@ pub fn absorb_short(
 
 // Seals or opens a short block in place: absorbs the message block and overwrites the text with the output.
 pub fn crypt_short(
-    tables: &[AesTables],
+    engine: &Engine,
     opening: bool,
-    suite: u8,
     state: State,
     mark: u8,
     block: &mut [u8],
 ) -> State
-    requires { TablesFit suite tables.now × IsSuite suite × (length block.old < size_of suite) }
-    ensures text { block.new ≡ hidden (cipher_of suite) mark (two_of suite state) block.old }
-    ensures state { Holds suite result (turned (cipher_of suite) mark (two_of suite state)
-        (message_of (cipher_of suite) opening mark (two_of suite state) block.old)) (one_more_of state.calls) }
+    requires { length block.old < size_of engine.now.suite }
+    ensures text { block.new ≡ hidden (cipher_of engine.now.suite) mark (two_of engine.now.suite state) block.old }
+    ensures state { Holds engine.now.suite result (turned (cipher_of engine.now.suite) mark (two_of engine.now.suite state)
+        (message_of (cipher_of engine.now.suite) opening mark (two_of engine.now.suite state) block.old)) (one_more_of state.calls) }
 {
     let len = block.len();
-    let n = cipher::size_of(suite);
-    let enciphered = block_state::turn(tables, suite, state, mark, n);
-    let x = enciphered.y;
+    let n = engine.size();
+    let enciphered = block_state::turn(engine, state, mark, n);
     let given = byte_runs::filled(block);
-    let mask = crate::shuffle::shuffled(suite, x, n);
+    let mask = crate::shuffle::shuffled(engine.suite, enciphered.y, n);
     let output = block::xor(given, mask);
     byte_runs::put(output, block);
     if opening {

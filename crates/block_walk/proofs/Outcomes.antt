@@ -32,5 +32,5 @@ absorb κs a h x y = (passed_told _ _ _ _ _ x.result y.result (omega arith) (ome
 pub crypt : OneOutcome crypt-kinds.ps crypt-kinds.r crypt-reads.Pre crypt-reads.Post
 crypt κs a h x y = (
   passed_told _ _ _ _ _ x.result y.result (omega (arith, x.ok)) (omega (arith, y.ok)) x.ensures.1 y.ensures.1,
-  ap (λ (l : List ℕ). (tt, (tt, (tt, (tt, (tt, (l, tt))))))) (x.ensures.0 0 ∙ sym (y.ensures.0 0)),
+  ap (λ (l : List ℕ). (tt, (tt, (tt, (tt, (l, tt)))))) (x.ensures.0 0 ∙ sym (y.ensures.0 0)),
 )

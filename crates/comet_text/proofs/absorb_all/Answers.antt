@@ -18,33 +18,33 @@ use Rattle.comet_text.proofs.absorb_all.Goals as goal
 
 pub absorb_short-requires : goal.absorb_short-requires
 absorb_short-requires c =
-    (c.requires.0, c.requires.1, left-short (size_of c.args.suite) (some (cipher_of c.args.suite) (lawful c.args.suite)) c.args.bytes.now c.absorb-whole.result.at c.absorb-whole.ensures.gone)
+    left-short (size_of c.args.engine.now.suite) (some (cipher_of c.args.engine.now.suite) (lawful c.args.engine.now.suite)) c.args.bytes.now c.absorb-mark.result.at c.absorb-mark.ensures.gone
 
 pub returns-then-at-bytes : goal.returns-then-at-bytes
 unfolding xor
 returns-then-at-bytes c =
-    let n = size_of c.args.suite in
+    let n = size_of c.args.engine.now.suite in
     let b = c.args.bytes.now in
-    let i = c.absorb-whole.result.at in
-    let pos = some (cipher_of c.args.suite) (lawful c.args.suite) in
-    let more : 0 < length (rest n b) = omega (arith, left-long n pos b i c.absorb-whole.ensures.gone, c.if-at-bytes.true) in record {
-      state = last-walk (cipher_of c.args.suite) pos c.args.opening c.args.first c.args.short (two_of c.args.suite c.args.start) b (two_of c.args.suite c.absorb-whole.result.s) c.absorb-whole.result.mark
-          (c.absorb-whole.ensures.two c.args.short) c.absorb-whole.ensures.next
-          _ (left n pos b i c.absorb-whole.ensures.gone) more _ c.absorb_short.ensures.two;
-      calls = subst (λ (k : ℕ). Counted c.args.suite k c.args.start c.absorb_short.result) (last_more n pos b more)
-          (counted_then c.args.suite (length (wholes n b)) 1 c.args.start c.absorb-whole.result.s c.absorb_short.result (counted_passed c.args.suite _ _ c.args.start b c.absorb-whole.result c.absorb-whole.ensures)
-          (counted-one c.args.suite c.absorb-whole.result.s c.absorb_short.result c.absorb_short.ensures.clean c.absorb_short.ensures.made));
+    let i = c.absorb-mark.result.at in
+    let pos = some (cipher_of c.args.engine.now.suite) (lawful c.args.engine.now.suite) in
+    let more : 0 < length (rest n b) = omega (arith, left-long n pos b i c.absorb-mark.ensures.gone, c.if-at-bytes.true) in record {
+      state = last-walk (cipher_of c.args.engine.now.suite) pos c.args.opening c.args.first c.args.short (two_of c.args.engine.now.suite c.args.start) b (two_of c.args.engine.now.suite c.absorb-mark.result.s) c.absorb-mark.result.mark
+          (c.absorb-mark.ensures.two c.args.short) c.absorb-mark.ensures.next
+          _ (left n pos b i c.absorb-mark.ensures.gone) more _ c.absorb_short.ensures.two;
+      calls = subst (λ (k : ℕ). Counted c.args.engine.now.suite k c.args.start c.absorb_short.result) (last_more n pos b more)
+          (counted_then c.args.engine.now.suite (length (wholes n b)) 1 c.args.start c.absorb-mark.result.s c.absorb_short.result (counted_passed c.args.engine.now.suite _ _ c.args.start b c.absorb-mark.result c.absorb-mark.ensures)
+          (counted-one c.args.engine.now.suite c.absorb-mark.result.s c.absorb_short.result c.absorb_short.ensures.clean c.absorb_short.ensures.made));
     }
 
 pub returns : goal.returns
 returns c =
-    let n = size_of c.args.suite in
+    let n = size_of c.args.engine.now.suite in
     let b = c.args.bytes.now in
-    let i = c.absorb-whole.result.at in
-    let pos = some (cipher_of c.args.suite) (lawful c.args.suite) in
-    let none : length (rest n b) ≡ 0 = omega (arith, left-long n pos b i c.absorb-whole.ensures.gone, c.if-at-bytes.false) in record {
-      state = none_walk (cipher_of c.args.suite) pos c.args.opening c.args.first c.args.short (two_of c.args.suite c.args.start) b (two_of c.args.suite c.absorb-whole.result.s) c.absorb-whole.result.mark
-          (c.absorb-whole.ensures.two c.args.short) c.absorb-whole.ensures.next none;
-      calls = subst (λ (k : ℕ). Counted c.args.suite k c.args.start c.absorb-whole.result.s) (none_more n pos b none)
-          (counted_passed c.args.suite _ _ c.args.start b c.absorb-whole.result c.absorb-whole.ensures);
+    let i = c.absorb-mark.result.at in
+    let pos = some (cipher_of c.args.engine.now.suite) (lawful c.args.engine.now.suite) in
+    let none : length (rest n b) ≡ 0 = omega (arith, left-long n pos b i c.absorb-mark.ensures.gone, c.if-at-bytes.false) in record {
+      state = none_walk (cipher_of c.args.engine.now.suite) pos c.args.opening c.args.first c.args.short (two_of c.args.engine.now.suite c.args.start) b (two_of c.args.engine.now.suite c.absorb-mark.result.s) c.absorb-mark.result.mark
+          (c.absorb-mark.ensures.two c.args.short) c.absorb-mark.ensures.next none;
+      calls = subst (λ (k : ℕ). Counted c.args.engine.now.suite k c.args.start c.absorb-mark.result.s) (none_more n pos b none)
+          (counted_passed c.args.engine.now.suite _ _ c.args.start b c.absorb-mark.result c.absorb-mark.ensures);
     }

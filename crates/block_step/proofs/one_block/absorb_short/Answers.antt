@@ -13,11 +13,11 @@ returns-then-opening c =
     let x = c.shuffled-mask in
     let w = c.xor-message in
     let q = c.padded in
-    let out = goes-out a.suite a.mark a.state t.result t.ensures b p.result x.result w.result p.ensures (x.ensures.is, x.ensures.clean) w.ensures
-    (le_of_lt c.requires.2) in
+    let out = goes-out a.engine.now.suite a.mark a.state t.result t.ensures b p.result x.result w.result p.ensures (x.ensures.is, x.ensures.clean) w.ensures
+    (le_of_lt c.requires) in
     rw c.if-opening.true
-    (put_in a.suite a.mark a.state t.result t.ensures _ q.result c.mix.result
-    (cut_goes a.suite _ (length b) w.result q.result out c.requires.2 q.ensures) c.mix.ensures.y c.mix.ensures.rest)
+    (put_in a.engine.now.suite a.mark a.state t.result t.ensures _ q.result c.mix.result
+    (cut_goes a.engine.now.suite _ (length b) w.result q.result out c.requires q.ensures) c.mix.ensures.y c.mix.ensures.rest)
 
 pub returns : goal.returns
 returns c =
@@ -27,6 +27,6 @@ returns c =
     let p = c.filled-given in
     let q = c.padded-2 in
     rw c.if-opening.false
-    (put_in a.suite a.mark a.state t.result t.ensures b q.result c.mix-2.result
-    (cut_goes a.suite b (length b) p.result q.result (cut_in b p.result p.ensures) c.requires.2 q.ensures) c.mix-2.ensures.y
+    (put_in a.engine.now.suite a.mark a.state t.result t.ensures b q.result c.mix-2.result
+    (cut_goes a.engine.now.suite b (length b) p.result q.result (cut_in b p.result p.ensures) c.requires q.ensures) c.mix-2.ensures.y
     c.mix-2.ensures.rest)

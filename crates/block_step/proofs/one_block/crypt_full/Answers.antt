@@ -1,28 +1,49 @@
--- `block_step::one_block::seal_full`: the law `full-turn` for sealing. The output is the XOR with the shuffle of X, and the
--- message block that came in is absorbed.
-use mathlib.Core.Bool.{false}
-use mathlib.Core.Path.{◌∙◌}
+-- `block_step::one_block::crypt_full`: the law `full-turn`, by cases on the direction. The output is the XOR with the shuffle of
+-- X, and the message block is absorbed: in opening the output, in sealing what came in.
+use mathlib.Core.Bool.{Bool, true, false, not}
+use mathlib.Core.Path.{sym, ap, subst, ◌∙◌}
+use borrow.Author.Tests.{ne_eqb}
+use Rattle.cipher.specs.Cipher.{cipher_of}
+use Rattle.mode.specs.Walk.{turned, message_of}
+use Rattle.block_state.specs.Two.{two_of, Holds, one_more_of}
 use Rattle.cipher.proofs.Suites.{full_two}
 use Rattle.block_step.proofs.Turns.{full-turn}
-use Rattle.block_step.proofs.one_block.seal_full.Goals as goal
+use Rattle.block_step.proofs.one_block.crypt_full.Goals as goal
 
-pub whole-message-requires : goal.whole-message-requires
-whole-message-requires c =
-    full_two _ c.args.suite c.requires.2
+pub whole-given-requires : goal.whole-given-requires
+whole-given-requires g c = full_two _ c.args.engine.now.suite c.requires
 
 pub put_whole-requires : goal.put_whole-requires
-put_whole-requires c =
-    full_two _ c.args.suite c.requires.2
+put_whole-requires g c = full_two _ c.args.engine.now.suite c.requires
 
-pub returns : goal.returns
-returns c =
+pub returns-then-this-ne0 : goal.returns-then-this-ne0
+returns-then-this-ne0 g c =
     let a = c.args in
     let t = c.turn-enciphered in
-    let p = c.whole-message in
+    let p = c.whole-given in
     let x = c.shuffled-mask in
-    let w = c.xor-ciphertext in
+    let w = c.xor-output in
     let full =
-    full-turn a.suite a.mark a.state t.result t.ensures a.block.now p.result x.result w.result p.ensures (x.ensures.is, x.ensures.clean)
+    full-turn a.engine.now.suite a.mark a.state t.result t.ensures a.block.now p.result x.result w.result p.ensures (x.ensures.is, x.ensures.clean)
     w.ensures
-    false c.mix.result c.requires.2 c.mix.ensures.y c.mix.ensures.rest in
-    record { text = c.put_whole.ensures ∙ full.0; state = full.1 }
+    true c.mix.result c.requires c.mix.ensures.y c.mix.ensures.rest in
+    record {
+      text = c.put_whole.ensures ∙ full.0;
+      state =
+          subst (λ (d : Bool). Holds a.engine.now.suite c.mix.result (turned (cipher_of a.engine.now.suite) a.mark (two_of a.engine.now.suite a.state)
+          (message_of (cipher_of a.engine.now.suite) d a.mark (two_of a.engine.now.suite a.state) a.block.now)) (one_more_of a.state.calls))
+          (sym (ap not (ne_eqb g.row.OPENING 0 c.if-this-ne0.true))) full.1;
+    }
+
+pub returns : goal.returns
+returns g c =
+    let a = c.args in
+    let t = c.turn-enciphered in
+    let p = c.whole-given in
+    let x = c.shuffled-mask in
+    let w = c.xor-output in
+    let full =
+    full-turn a.engine.now.suite a.mark a.state t.result t.ensures a.block.now p.result x.result w.result p.ensures (x.ensures.is, x.ensures.clean)
+    w.ensures
+    false c.mix-2.result c.requires c.mix-2.ensures.y c.mix-2.ensures.rest in
+    record { text = c.put_whole.ensures ∙ full.0; state = rw c.if-this-ne0.false full.1 }

@@ -18,15 +18,15 @@ module _ (d : After-put) where
   B = d.args.block.now
 
   -- the first bytes of `output` overwrite the block
-  out-is : take (length B) (wide d.xor-output.result) ≡ hidden (cipher_of d.args.suite) d.args.mark
-      (two_of d.args.suite d.args.state) B
+  out-is : take (length B) (wide d.xor-output.result) ≡ hidden (cipher_of d.args.engine.now.suite) d.args.mark
+      (two_of d.args.engine.now.suite d.args.state) B
   out-is =
       let t = d.turn-enciphered in
       let p = d.filled-given in
       let x = d.shuffled-mask in
       let w = d.xor-output in
-      goes-out d.args.suite d.args.mark d.args.state t.result t.ensures B p.result x.result w.result p.ensures (x.ensures.is, x.ensures.clean) w.ensures
-      (le_of_lt d.requires.2)
+      goes-out d.args.engine.now.suite d.args.mark d.args.state t.result t.ensures B p.result x.result w.result p.ensures (x.ensures.is, x.ensures.clean) w.ensures
+      (le_of_lt d.requires)
 
 pub returns-then-opening : goal.returns-then-opening
 returns-then-opening c =
@@ -39,8 +39,8 @@ returns-then-opening c =
       text = c.put.ensures ∙ out-is d;
       state =
           rw c.if-opening.true
-          (put_in a.suite a.mark a.state t.result t.ensures _ q.result c.mix.result
-          (cut_goes a.suite _ (length (B d)) w.result q.result (out-is d) c.requires.2 q.ensures) c.mix.ensures.y c.mix.ensures.rest);
+          (put_in a.engine.now.suite a.mark a.state t.result t.ensures _ q.result c.mix.result
+          (cut_goes a.engine.now.suite _ (length (B d)) w.result q.result (out-is d) c.requires q.ensures) c.mix.ensures.y c.mix.ensures.rest);
     }
 
 pub returns : goal.returns
@@ -54,7 +54,7 @@ returns c =
       text = c.put.ensures ∙ out-is d;
       state =
           rw c.if-opening.false
-          (put_in a.suite a.mark a.state t.result t.ensures _ q.result c.mix-2.result
-          (cut_goes a.suite (B d) (length (B d)) p.result q.result (cut_in (B d) p.result p.ensures) c.requires.2 q.ensures)
+          (put_in a.engine.now.suite a.mark a.state t.result t.ensures _ q.result c.mix-2.result
+          (cut_goes a.engine.now.suite (B d) (length (B d)) p.result q.result (cut_in (B d) p.result p.ensures) c.requires q.ensures)
           c.mix-2.ensures.y c.mix-2.ensures.rest);
     }
