@@ -10,15 +10,14 @@ use borrow.Fn.Kinds.{Dens}
 use Rattle.std.specs.Prelude.{Result, Ok, Err}
 use Rattle.block.specs.Outcome.{Outcome, OneOutcome}
 use Rattle.status.specs.declared.checked.Answer.{Answer}
-use Rattle.status.specs.declared.checked.Refusal.{Refusal}
 use Rattle.status.specs.Answers.{answer}
-use Rattle.status.proofs.Numbers.{refusal-some}
+use Rattle.shift_lookup.proofs.Lookups.{error_some}
 use Rattle.status.proofs.Outcomes.{refusal_of, refusal_back, unlike}
 use Rattle.shift_format.proofs.Outcomes.{part-one}
 use Rattle.shift_lookup.specs.declared.answers.Entry.{Entry as Place}
 use Rattle.shift_lookup.specs.declared.answers.LookupError.{LookupError}
 use Rattle.shift_lookup.specs.declared.answers.LookupError.TheVariants.{Missing, Refused}
-use Rattle.shift_lookup.specs.Answers.{found_answer}
+use Rattle.shift_lookup.specs.Answers.{lookup_error_answer, found_answer}
 use Rattle.shift_lookup.specs.Entry.{Entry, entry_answer}
 use Rattle.shift_lookup.proofs.lookup.Kinds as lookup-kinds
 use Rattle.shift_lookup.proofs.lookup.Reads as lookup-reads
@@ -37,17 +36,19 @@ use Rattle.shift_lookup.proofs.answers.LookupErrorRefuses.answer.Reads as error-
 use Rattle.shift_lookup.proofs.answers.answer_of.Kinds as found-kinds
 use Rattle.shift_lookup.proofs.answers.answer_of.Reads as found-reads
 
-abbrev error_of : Answer → LookupError
+abbrev pub error_of : Answer → LookupError
 error_of x = cond (eqb x.number 32) Missing (Refused (refusal_of x))
+
+pub error_back : (e : LookupError) → error_of (lookup_error_answer e) ≡ e
+error_back Missing = refl
+error_back (Refused x) = simp (unlike x 32 (inr (lit< tt)) refl) (ap Refused (refusal_back x))
 
 abbrev found_of : Answer → Result ℕ LookupError
 found_of x = cond (eqb x.number 0) (Ok x.row) (Err (error_of x))
 
 found_back : (x : Result ℕ LookupError) → found_of (found_answer x) ≡ x
 found_back (Ok i) = refl
-found_back (Err Missing) = refl
-found_back (Err (Refused x)) =
-    simp (ne_eqb _ _ (refusal-some x), unlike x 32 (inr (lit< tt)) refl) (ap (λ (r : Refusal). Err (Refused r)) (refusal_back x))
+found_back (Err e) = simp (ne_eqb _ _ (error_some e)) (ap Err (error_back e))
 
 pub found-one : {x y : Result ℕ LookupError} → found_answer x ≡ found_answer y → x ≡ y
 found-one {x} {y} q = sym (found_back x) ∙ ap found_of q ∙ found_back y
@@ -59,9 +60,7 @@ entry_of x =
 
 entry_back : (x : Result Place LookupError) → entry_of (entry_answer x) ≡ x
 entry_back (Ok x) = refl
-entry_back (Err Missing) = refl
-entry_back (Err (Refused x)) =
-    simp (ne_eqb _ _ (refusal-some x), unlike x 32 (inr (lit< tt)) refl) (ap (λ (r : Refusal). Err (Refused r)) (refusal_back x))
+entry_back (Err e) = simp (ne_eqb _ _ (error_some e)) (ap Err (error_back e))
 
 pub entry-one : {x y : Result Place LookupError} → entry_answer x ≡ entry_answer y → x ≡ y
 entry-one {x} {y} q = sym (entry_back x) ∙ ap entry_of q ∙ entry_back y

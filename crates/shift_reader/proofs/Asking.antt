@@ -1,5 +1,6 @@
 -- Repeated calls of a reader: each gives the row at its index until there is none, and then the reader stays where it is.
 use Rattle.std.proofs.Common.{◌≡◌, ℕ, zero, suc, ◌+◌, ◌<◌, ◌≤◌, Bool, true, false, cond, eqb, ◌⊎◌, List, ◌∷◌, replicate, sym, refl, ap, ◌∙◌, ap₂, inl, inr, ⊎_elim, not-suc-le-zero, add-one, arith, Bor, le-ltb, lt-ltb, eq-eqb, ne_eqb, eqb-true}
+use Rattle.std.specs.Prelude.{Option, Some, None}
 use mathlib.Core.Bool.{and-false}
 use Rattle.status.specs.declared.checked.Answer.{Answer}
 use Rattle.status.specs.declared.checked.Refusal.{Refusal}
@@ -12,8 +13,7 @@ use Rattle.shift_format.proofs.Rows.{row_in}
 use Rattle.shift_check.proofs.Sound.{headed}
 use Rattle.shift_check.proofs.Passed.{passes}
 use Rattle.shift_reader.specs.declared.cursor.Cursor.{Cursor}
-use Rattle.shift_reader.specs.declared.cursor.NextRow.{NextRow}
-use Rattle.shift_reader.specs.declared.cursor.NextRow.TheVariants.{Row, Ended}
+use Rattle.shift_reader.specs.declared.cursor.Listed.{Listed}
 use Rattle.shift_reader.specs.declared.cursor.Stepped.{Stepped}
 use Rattle.shift_reader.specs.declared.Asked.{Asked}
 use Rattle.shift_reader.specs.declared.Reader.{Reader}
@@ -63,15 +63,15 @@ laid_in f i l = lies (eqb (head_number first_edition newest f) 0) refl l
 abbrev pub moved : Cursor → Cursor
 moved c = record { at = c.at + 1; end = c.end }
 
-pub going : (c : Cursor) (f : List ℕ) → c.end ≡ rows_laid f → c.at < rows_laid f → ask_of c f ≡ record { next = moved c; entry = Row (listed_of f c.at) }
+pub going : (c : Cursor) (f : List ℕ) → c.end ≡ rows_laid f → c.at < rows_laid f → ask_of c f ≡ record { next = moved c; entry = Some (listed_of f c.at) }
 unfolding ask_of
 going c f q l = simp (eq-eqb c.end (rows_laid f) q, lt-ltb c.at (rows_laid f) l)
 
-past : (c : Cursor) (f : List ℕ) → rows_laid f ≤ c.at → ask_of c f ≡ record { next = c; entry = Ended }
+past : (c : Cursor) (f : List ℕ) → rows_laid f ≤ c.at → ask_of c f ≡ record { next = c; entry = None }
 unfolding ask_of
 past c f h = simp (le-ltb c.at (rows_laid f) h, and-false)
 
-other : (c : Cursor) (f : List ℕ) → (c.end ≡ rows_laid f → ⊥) → ask_of c f ≡ record { next = c; entry = Ended }
+other : (c : Cursor) (f : List ℕ) → (c.end ≡ rows_laid f → ⊥) → ask_of c f ≡ record { next = c; entry = None }
 unfolding ask_of
 other c f h = simp (ne_eqb c.end (rows_laid f) h)
 
@@ -82,12 +82,12 @@ abbrev pub made : Bor (List ℕ) → Stepped → Asked
 made s t = record { reader = record { src = s; place = t.next }; entry = t.entry }
 
 -- a reader that gives nothing stays where it is
-stuck : (r : Reader) → ask_of r.place r.src.now ≡ record { next = r.place; entry = Ended } → (m : ℕ) → asks m r ≡ replicate m Ended
+stuck : (r : Reader) → ask_of r.place r.src.now ≡ record { next = r.place; entry = None } → (m : ℕ) → asks m r ≡ replicate m None
 unfolding asks
 stuck r e zero = refl
 stuck r e (suc m) =
-    let q : next_of r ≡ record { reader = r; entry = Ended } = ap (made r.src) e in
-    ap₂ (λ (a : NextRow) (t : List NextRow). a ∷ t) (ap (λ (x : Asked). x.entry) q) (ap (λ (x : Asked). asks m x.reader) q ∙ stuck r e m)
+    let q : next_of r ≡ record { reader = r; entry = None } = ap (made r.src) e in
+    ap₂ (λ (a : Option Listed) (t : List (Option Listed)). a ∷ t) (ap (λ (x : Asked). x.entry) q) (ap (λ (x : Asked). asks m x.reader) q ∙ stuck r e m)
 
 -- k rows are left, and m calls follow them
 pub others_rows : OthersRows
@@ -96,9 +96,9 @@ others_rows r zero m e q = let c : 0 + m ≡ m = omega arith in rw c (stuck r (p
 others_rows r (suc k) m e q =
     let c : suc k + m ≡ suc (k + m) = omega arith in
     let l : r.place.at < rows_laid r.src.now = omega arith in
-    let g : next_of r ≡ record { reader = record { src = r.src; place = moved r.place }; entry = Row (listed_of r.src.now r.place.at) } =
+    let g : next_of r ≡ record { reader = record { src = r.src; place = moved r.place }; entry = Some (listed_of r.src.now r.place.at) } =
     ap (made r.src) (going r.place r.src.now e l) in
-    rw c (ap₂ (λ (a : NextRow) (t : List NextRow). a ∷ t) (ap (λ (x : Asked). x.entry) g)
+    rw c (ap₂ (λ (a : Option Listed) (t : List (Option Listed)). a ∷ t) (ap (λ (x : Asked). x.entry) g)
     (ap (λ (x : Asked). asks (k + m) x.reader) g ∙ rw add-one (others_rows
     (record { src = r.src; place = record { at = suc r.place.at; end = r.place.end } }) k m e (omega arith))))
 

@@ -1,6 +1,7 @@
 -- The table by row number. Each answer is a case of its definition; on a file that passes the check, an induction over the
 -- rows shows that the answers are the reader's list.
 use Rattle.std.proofs.Common.{◌≡◌, ℕ, zero, suc, ◌+◌, ◌^◌, ◌<◌, ◌≤◌, Bool, true, false, ltb, List, ◌∷◌, map, replicate, sym, refl, ap, ◌∙◌, ap₂, inl, mod-eq_of_lt, add-one, arith, ltb-false, ltb-true, le-ltb, lt-ltb, ne_eqb}
+use Rattle.std.specs.Prelude.{Some, None}
 use Rattle.status.specs.declared.checked.Answer.{Answer}
 use Rattle.status.specs.declared.checked.Refusal.{Refusal}
 use Rattle.status.specs.Answers.{answer, refusal_answer}
@@ -13,12 +14,10 @@ use Rattle.shift_check.proofs.Passed.{passes, both_zero, entry_in}
 use Rattle.shift_lookup.proofs.Lookups.{holding}
 use Rattle.shift_lookup.proofs.Places.{places-found}
 use Rattle.shift_lookup.specs.Lookup.{lookup_job}
-use Rattle.shift_reader.specs.declared.cursor.NextRow.TheVariants.{Row, Ended}
 use Rattle.shift_reader.specs.declared.Reader.{Reader}
 use Rattle.shift_reader.specs.declared.Asked.{Asked}
-use Rattle.shift_reader.specs.declared.contents.RowFields.{RowFields}
 use Rattle.shift_reader.specs.Reading.{rows_laid, listed_of, reader_of, next_of, asks}
-use Rattle.shift_reader.specs.Contents.{head_status, no_header, header_of, header_answer, no_fields, fields_of, row_answer, row_answers, as_fields, entry_from}
+use Rattle.shift_reader.specs.Contents.{RowFields, head_status, no_header, header_of, header_answer, no_fields, fields_of, row_answer, row_answers, as_fields, entry_from}
 use Rattle.shift_reader.specs.Contents.{HeaderGiven, RowsAsRead, RowGiven, RowAsEntry}
 use Rattle.shift_reader.proofs.Asking.{laid_all, both_all, moved, going, made, others_ended}
 
@@ -36,9 +35,10 @@ module _ (f : List ℕ) where
   unfolding header_answer
   header-stops n = simp (ne_eqb (head_status f) 0 n)
 
-  -- a refusal of the header is its status
-  pub refused-head : (x : Refusal) → answer (head_status f) 0 ≡ refusal_answer x → (head_status f ≡ (refusal_answer x).number) × (head_status f ≡ 0 → ⊥)
-  refused-head x q = (ap number_of q, λ z. refusal-some x (ap number_of (sym q) ∙ z))
+  -- a refusal of the header is its status, and carries no row
+  pub refused-head : (x : Refusal) → answer (head_status f) 0 ≡ refusal_answer x
+      → (head_status f ≡ (refusal_answer x).number) × (head_status f ≡ 0 → ⊥) × ((refusal_answer x).row ≡ 0)
+  refused-head x q = (ap number_of q, λ z. refusal-some x (ap number_of (sym q) ∙ z), sym (ap (λ (a : Answer). a.row) q))
 
 module _ (f : List ℕ) (i : ℕ) where
   pub row_goes : head_status f ≡ 0 → i < count_of f → row_answer f i ≡ fields_of (listed_of f i)
@@ -64,7 +64,7 @@ module _ (f : List ℕ) (i : ℕ) where
 -- ---- row after row
 
 -- past the rows every answer is 32
-past_rows : (f : List ℕ) (k i : ℕ) → head_status f ≡ 0 → count_of f ≤ i → row_answers f i k ≡ map as_fields (replicate k Ended)
+past_rows : (f : List ℕ) (k i : ℕ) → head_status f ≡ 0 → count_of f ≤ i → row_answers f i k ≡ map as_fields (replicate k None)
 unfolding row_answers
 past_rows f zero i z h = refl
 past_rows f (suc k) i z h = ap₂ (λ (a : RowFields) (t : List RowFields). a ∷ t) (row-past f i z h) (past_rows f k (suc i) z (omega (arith, h)))
@@ -82,7 +82,7 @@ unfolding row_answers asks
 one_on r k z e true t next =
     let f = r.src.now in
     let l : r.place.at < rows_laid f = ltb-true _ _ t in
-    let g : next_of r ≡ record { reader = record { src = r.src; place = moved r.place }; entry = Row (listed_of f r.place.at) } = ap (made r.src)
+    let g : next_of r ≡ record { reader = record { src = r.src; place = moved r.place }; entry = Some (listed_of f r.place.at) } = ap (made r.src)
     (going r.place f e l) in
     ap₂ (λ (a : RowFields) (t : List RowFields). a ∷ t)
     (row_goes f r.place.at z (omega (arith, l, laid_all f z)) ∙ sym (ap (λ (x : Asked). as_fields x.entry) g))

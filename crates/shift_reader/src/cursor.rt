@@ -7,7 +7,6 @@ ghost use Rattle.shift_reader.specs.Reading.{rows_laid, listed_of, start_of, ask
 use shift_check::{check, check_head};
 use shift_format::row::{FIRST_EDITION, NEWEST, Row, count, nonce_start, row_size_of, station_of};
 use shift_lookup::found::row_of;
-use status::checked::Checked;
 
 // The row that is next, and how many rows there are.
 #[derive(Clone, Copy)]
@@ -26,18 +25,11 @@ pub struct Listed {
     pub nonce: usize,
 }
 
-// The result of a call: a row, or the end of the rows.
-#[derive(Clone, Copy)]
-pub enum NextRow {
-    Row(Listed),
-    Ended,
-}
-
-// The result of a call, and the cursor after it.
+// The result of a call, a row or the end of the rows, and the cursor after it.
 #[derive(Clone, Copy)]
 pub struct Stepped {
     pub next: Cursor,
-    pub entry: NextRow,
+    pub entry: Option<Listed>,
 }
 
 // A cursor at row 0. The file is checked here, once; one that does not pass has no rows.
@@ -45,14 +37,11 @@ pub fn start(file: &[u8]) -> Cursor
     ensures { result ≡ start_of file.now }
 {
     match check(file) {
-        Checked::Refused(_) => {
-            return Cursor { at: 0, end: 0 };
-        }
-        Checked::Passed => {}
-    }
-    Cursor {
-        at: 0,
-        end: count(file),
+        Ok(()) => Cursor {
+            at: 0,
+            end: count(file),
+        },
+        Err(_) => Cursor { at: 0, end: 0 },
     }
 }
 
@@ -61,12 +50,9 @@ fn laid(file: &[u8]) -> usize
     ensures { result ≡ rows_laid file.now }
 {
     match check_head(FIRST_EDITION, NEWEST, file) {
-        Checked::Refused(_) => {
-            return 0;
-        }
-        Checked::Passed => {}
+        Ok(()) => count(file),
+        Err(_) => 0,
     }
-    count(file)
 }
 
 // A row, as it is listed.
@@ -84,30 +70,23 @@ pub(crate) fn listed_at(file: &[u8], index: usize) -> Listed
 
 // The next row, and the cursor after it. A cursor may come with any file, so 20 to 24 are checked again, which shows
 // that the row lies in the file; the full check is not run again.
+#[tactic(auto, unfolding(crate::specs::Reading::ask_of))]
 pub fn ask(cursor: Cursor, file: &[u8]) -> Stepped
     ensures { result ≡ ask_of cursor file.now }
 {
-    let at = cursor.at;
-    let end = cursor.end;
     let n = laid(file);
-    if end != n {
+    if cursor.end != n || n <= cursor.at {
         return Stepped {
             next: cursor,
-            entry: NextRow::Ended,
+            entry: None,
         };
     }
-    if n <= at {
-        return Stepped {
-            next: cursor,
-            entry: NextRow::Ended,
-        };
-    }
-    let row = listed_at(file, at);
+    let row = listed_at(file, cursor.at);
     Stepped {
         next: Cursor {
-            at: at + 1,
-            end: end,
+            at: cursor.at + 1,
+            end: cursor.end,
         },
-        entry: NextRow::Row(row),
+        entry: Some(row),
     }
 }

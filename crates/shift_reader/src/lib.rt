@@ -7,7 +7,7 @@ pub mod cursor;
 ghost use Rattle.std.specs.Prelude.{◌≡◌};
 ghost use Rattle.shift_reader.specs.Reading.{ask_of, reader_of, next_of};
 
-use cursor::{Cursor, NextRow, Stepped, ask, start};
+use cursor::{Cursor, Listed, Stepped, ask, start};
 
 // The reader: the file, and its position in it.
 #[derive(Clone, Copy)]
@@ -20,7 +20,7 @@ pub struct Reader<'a> {
 #[derive(Clone, Copy)]
 pub struct Asked<'a> {
     pub reader: Reader<'a>,
-    pub entry: NextRow,
+    pub entry: Option<Listed>,
 }
 
 // The reader of a file, at its first entry.
@@ -34,7 +34,8 @@ pub fn read<'a>(src: &'a [u8]) -> Reader<'a>
 }
 
 impl<'a> Reader<'a> {
-    // The next entry, and the reader past it.
+    // The next entry, and the reader past it. By value, and no `Iterator`: document 02 (W14) has a cursor that is passed and
+    // returned by value, and `RowsThenEnded` and `OthersRows` speak of its calls (`asks`).
     pub fn next(self) -> Asked<'a>
         ensures { result ≡ next_of self.entry }
     {

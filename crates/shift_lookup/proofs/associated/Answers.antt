@@ -1,8 +1,7 @@
 -- The entry tells place and length, and they lie in the file; a refusal's are 0.
 use Prim.Native.Nat.{ℕ}
-use mathlib.Core.Path.{◌≡◌, sym, ap, ◌∙◌}
-use Rattle.shift_lookup.specs.Entry.{Entry, data_start, data_length, entry_answer}
-use Rattle.shift_lookup.specs.Lookup.{lookup_job}
+use mathlib.Core.Path.{sym, ap, ◌∙◌}
+use Rattle.shift_lookup.specs.Entry.{Entry, entry_answer}
 use Rattle.shift_lookup.proofs.Places.{data_in}
 use Rattle.shift_lookup.proofs.associated.Goals as goal
 

@@ -7,12 +7,12 @@ use Rattle.shift_check.proofs.Passed.{passed_zero}
 use Rattle.shift_reader.proofs.Asking.{laid_none, laid_all}
 use Rattle.shift_reader.proofs.cursor.laid.Goals as goal
 
-pub returns-in-Refused : goal.returns-in-Refused
-returns-in-Refused c = sym (laid_none _ c.in-Refused.field-0 (sym c.check_head.ensures ∙ ap checked_answer c.in-Refused.is))
-
 pub count-requires : goal.count-requires
 count-requires c =
-    (headed first_edition newest c.args.file.now (passed_zero _ _ c.in-Passed.is c.check_head.ensures)).long
+    (headed first_edition newest c.args.file.now (passed_zero _ _ c.in-Ok.is c.check_head.ensures)).long
 
-pub returns : goal.returns
-returns c = c.count.ensures ∙ sym (laid_all _ (passed_zero _ _ c.in-Passed.is c.check_head.ensures))
+pub returns-in-Ok : goal.returns-in-Ok
+returns-in-Ok c = c.count.ensures ∙ sym (laid_all _ (passed_zero _ _ c.in-Ok.is c.check_head.ensures))
+
+pub returns-in-Err : goal.returns-in-Err
+returns-in-Err c = sym (laid_none _ c.in-Err.field-0 (sym c.check_head.ensures ∙ ap checked_answer c.in-Err.is))

@@ -6,12 +6,12 @@ use Rattle.shift_check.proofs.Passed.{passed_zero, passes}
 use Rattle.shift_reader.proofs.Asking.{rows_none, rows_all}
 use Rattle.shift_reader.proofs.cursor.start.Goals as goal
 
-pub returns-in-Refused : goal.returns-in-Refused
-returns-in-Refused c = rw (rows_none _ c.in-Refused.field-0 (sym c.check.ensures ∙ ap checked_answer c.in-Refused.is))
-
 pub count-requires : goal.count-requires
 count-requires c =
-    (passes first_edition newest c.args.file.now (passed_zero _ _ c.in-Passed.is c.check.ensures)).head.long
+    (passes first_edition newest c.args.file.now (passed_zero _ _ c.in-Ok.is c.check.ensures)).head.long
 
-pub returns : goal.returns
-returns c = rw (c.count.ensures, rows_all _ (passed_zero _ _ c.in-Passed.is c.check.ensures))
+pub returns-in-Ok : goal.returns-in-Ok
+returns-in-Ok c = rw (c.count.ensures, rows_all _ (passed_zero _ _ c.in-Ok.is c.check.ensures))
+
+pub returns-in-Err : goal.returns-in-Err
+returns-in-Err c = rw (rows_none _ c.in-Err.field-0 (sym c.check.ensures ∙ ap checked_answer c.in-Err.is))
