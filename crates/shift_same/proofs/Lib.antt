@@ -1,2 +1,2 @@
-pub mod Strings
+pub mod Chain
 pub mod Outcomes

@@ -8,33 +8,13 @@ ghost use Rattle.shift_format.specs.Format.{row_size_of, body_end};
 ghost use Rattle.shift_format.specs.Inside.{EntryIn};
 ghost use Rattle.shift_same.specs.Same.{same_fields, same_entry};
 
-use block::same;
-use byte_runs::filled;
 use shift_format::row::{Row, body_end, nonce_at, row_at, row_size_of, station_of, stretch};
 
-// Whether the bytes from offset `start` to `end`, at most sixteen, are equal.
-fn same_part(first: &[u8], second: &[u8], start: usize, end: usize) -> bool
-    requires { (length first.now ≡ length second.now) × (start ≤ end) × (end ≤ length first.now) × (end - start ≤ 16) }
-    ensures { result ≡ same_bytes (stretch first.now start (end - start)) (stretch second.now start (end - start)) }
-{
-    same(filled(&first[start..end]), filled(&second[start..end]))
-}
-
-// Whether all bytes are equal: sixteen at a time, then the rest.
+// Whether all bytes are equal.
 fn same_bytes(first: &[u8], second: &[u8]) -> bool
     ensures { result ≡ same_bytes first.now second.now }
 {
-    if first.len() != second.len() {
-        return false;
-    }
-    let mut i: usize = 0;
-    while 16 <= first.len() - i {
-        if !same_part(first, second, i, i + 16) {
-            return false;
-        }
-        i += 16;
-    }
-    same_part(first, second, i, first.len())
+    first == second
 }
 
 // A row's body, as a part of the file.
@@ -47,16 +27,11 @@ fn body_of(file: &[u8], row: Row) -> &[u8]
 }
 
 // Suite, key number and associated data length of two rows are equal.
+#[tactic(auto, unfolding(crate::specs::Same::same_fields))]
 fn same_fields(first: Row, second: Row) -> bool
     ensures { result ≡ same_fields first second }
 {
-    if first.suite != second.suite {
-        return false;
-    }
-    if first.key != second.key {
-        return false;
-    }
-    first.ad_len == second.ad_len
+    (first.suite, first.key, first.ad_len) == (second.suite, second.key, second.ad_len)
 }
 
 // Row i of the first file and row j of the second are the same entry.
@@ -68,17 +43,11 @@ pub fn same_entry(first: &[u8], second: &[u8], i: usize, j: usize) -> bool
     let second_size = row_size_of(second);
     let first_row = row_at(first_size, first, i);
     let second_row = row_at(second_size, second, j);
-    if !same_fields(first_row, second_row) {
-        return false;
-    }
-    if station_of(first, i) != station_of(second, j) {
-        return false;
-    }
-    if !same_bytes(
-        nonce_at(first_size, first, i),
-        nonce_at(second_size, second, j),
-    ) {
-        return false;
-    }
-    same_bytes(body_of(first, first_row), body_of(second, second_row))
+    same_fields(first_row, second_row)
+        && station_of(first, i) == station_of(second, j)
+        && same_bytes(
+            nonce_at(first_size, first, i),
+            nonce_at(second_size, second, j),
+        )
+        && same_bytes(body_of(first, first_row), body_of(second, second_row))
 }
