@@ -6,7 +6,7 @@ use Rattle.block.specs.Outcome.{OneOutcome}
 use Rattle.comet.specs.Answers.{Sealed, Opened}
 use Rattle.comet.specs.Counted.{Counting}
 use Rattle.status.specs.declared.checked.Answer.{Answer}
-use Rattle.shift_lookup.specs.declared.answers.Entry.{Entry}
+use Rattle.shift_lookup.specs.Entry.{Entry}
 use Rattle.shift_jobs.specs.declared.answers.Genuine.{Genuine}
 use Rattle.shift_jobs.specs.Opening.{JobOpened}
 use Rattle.snoekeldraf.specs.Located.{Located}
@@ -75,7 +75,7 @@ use Rattle.snoekeldraf.proofs.compare.shift_compare.Reads as compare-reads
 use Rattle.shift_report.specs.Reporting.{Report}
 use Rattle.snoekeldraf.proofs.reporting.shift_report.Kinds as report-kinds
 use Rattle.snoekeldraf.proofs.reporting.shift_report.Reads as report-reads
-use Rattle.shift_reader.specs.declared.contents.HeaderFields.{HeaderFields}
+use Rattle.shift_reader.specs.Contents.{HeaderFields}
 use Rattle.snoekeldraf.specs.Fields.{InFields}
 use Rattle.snoekeldraf.proofs.contents.shift_rows.Kinds as rows_kinds
 use Rattle.snoekeldraf.proofs.contents.shift_rows.Reads as rows-reads

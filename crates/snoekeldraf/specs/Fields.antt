@@ -1,6 +1,6 @@
 -- What `shift_row` leaves: the fields of a row as nine words of 32 bits, in the order of C's `shift_fields`.
 use Rattle.std.specs.Prelude.{ℕ, List, [], ◌∷◌}
-use Rattle.shift_reader.specs.declared.contents.RowFields.{RowFields}
+use Rattle.shift_reader.specs.Contents.{RowFields}
 
 -- the status, and the nine words
 pub record InFields : Type 0 where

@@ -3,6 +3,7 @@ ghost use Rattle.std.specs.Prelude.{◌≡◌, length};
 ghost use Rattle.status.specs.Answers.{answer};
 ghost use Rattle.shift_search.specs.Searching.{searching};
 
+use shift_lookup::answers::answer_of;
 use status::checked::say;
 
 // Numbers 20 to 24, then the row that the binary search finds, or 32; and how many rows were looked at.
@@ -12,6 +13,5 @@ pub fn shift_search(file: &[u8], job: u32, row: &mut u32, looked: &mut u32) -> u
 {
     let search = shift_search::search(file, job);
     *looked = search.looked as u32;
-    let found = search.found;
-    say(found.answer(), row)
+    say(answer_of(search.found), row)
 }

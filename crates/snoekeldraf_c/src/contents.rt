@@ -1,7 +1,6 @@
 // The table of contents, by row number.
 ghost use Rattle.std.specs.Prelude.{◌≡◌};
-ghost use Rattle.shift_reader.specs.declared.contents.HeaderFields.{HeaderFields};
-ghost use Rattle.shift_reader.specs.Contents.{header_answer, row_answer};
+ghost use Rattle.shift_reader.specs.Contents.{HeaderFields, header_answer, row_answer};
 ghost use Rattle.snoekeldraf.specs.Fields.{InFields, in_fields};
 
 // 20 to 24 alone, then the file's edition and row count; both are 0 after every status but 0.

@@ -1,11 +1,10 @@
 -- The lookup answers with a row of the file, which fits, so what it says passes whole.
 use mathlib.Core.Path.{◌∙◌}
-use Rattle.status.proofs.Outcomes.{same_answer}
 use Rattle.snoekeldraf.proofs.Rows.{lookup-row}
 use Rattle.snoekeldraf.proofs.file.shift_lookup.Goals as goal
 
 pub say-requires : goal.say-requires
-say-requires c = rw (c.answer.ensures.1, c.lookup.ensures) (lookup-row _ _)
+say-requires c = rw (c.answer_of.ensures, c.lookup.ensures) (lookup-row _ _)
 
 pub returns : goal.returns
-returns c = c.say.ensures ∙ same_answer c.answer.ensures ∙ c.lookup.ensures
+returns c = c.say.ensures ∙ c.answer_of.ensures ∙ c.lookup.ensures

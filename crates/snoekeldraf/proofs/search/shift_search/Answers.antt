@@ -3,7 +3,6 @@ use Prim.Native.Nat.{◌≤◌}
 use native.Mathlib.Omega.{arith}
 use mathlib.Core.Path.{◌∙◌}
 use Rattle.shift_search.proofs.Promised.{ten_looks, says-low}
-use Rattle.status.proofs.Outcomes.{same_answer}
 use Rattle.snoekeldraf.proofs.search.shift_search.Goals as goal
 
 pub overflow_cast-looked : goal.overflow_cast-looked
@@ -12,10 +11,7 @@ overflow_cast-looked c =
     omega arith
 
 pub say-requires : goal.say-requires
-say-requires c = rw (c.answer.ensures.1, c.search-search.ensures.0) (says-low _ _)
+say-requires c = rw (c.answer_of.ensures, c.search-search.ensures.0) (says-low _ _)
 
 pub returns : goal.returns
-returns c = (
-  c.say.ensures ∙ same_answer c.answer.ensures ∙ c.search-search.ensures.0,
-  c.search-search.ensures.1,
-)
+returns c = (c.say.ensures ∙ c.answer_of.ensures ∙ c.search-search.ensures.0, c.search-search.ensures.1)
