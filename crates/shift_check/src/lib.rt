@@ -3,19 +3,20 @@
 
 mod marks;
 mod rules;
+mod table;
 
 ghost use Rattle.std.specs.Prelude.{◌≡◌};
 ghost use Rattle.status.specs.Answers.{answer, checked_answer};
 ghost use Rattle.shift_check.specs.Check.{head_number, rows_from, check_between, check_as, check_file};
-ghost use Rattle.shift_format.specs.Inside.{TableIn};
 
 use marks::{has, mark, put};
-use rules::{body_start, check_row, outside};
+use rules::{check_row, outside};
 use shift_format::row::{
     FIRST_EDITION, NEWEST, count, get16, get32, row_size, row_size_of, row_start,
 };
 use shift_limits::{HEADER_LEN, MAX_FILE, MAX_ROWS};
 use status::checked::{Checked, Refusal};
+use table::Table;
 
 // The first of 20 to 24 that applies; editions from low to high are accepted.
 pub fn check_head(low: u16, high: u16, file: &[u8]) -> Checked
@@ -45,23 +46,22 @@ pub fn check_head(low: u16, high: u16, file: &[u8]) -> Checked
 }
 
 // The rows, each with 25 to 30 and 34, and then 31. The loop carries the offset at which the next body has to start, and the Bloom filter of the rows so far.
-fn check_rows(size: usize, file: &[u8], rows: usize) -> Checked
-    requires { TableIn size file.now rows }
-    ensures { checked_answer result ≡ rows_from size file.now rows 0 }
+fn check_rows(table: &Table) -> Checked
+    ensures { checked_answer result ≡ rows_from table.now.size table.now.file.now table.now.rows 0 }
 {
-    let mut start = body_start(size, file, rows, 0);
+    let mut start = table.body_start(0);
     let mut seen = [0u64; 128];
-    for i in 0..rows {
-        let hash = mark(size, file, i);
+    for i in 0..table.rows {
+        let hash = mark(table, i);
         let marked = has(&seen, hash);
-        match check_row(size, file, rows, i, marked, start) {
+        match check_row(table, i, marked, start) {
             Err(fault) => return Err(Refusal::InRow(fault, i)),
             Ok(()) => {}
         }
         put(&mut seen, hash);
-        start = body_start(size, file, rows, i + 1);
+        start = table.body_start(i + 1);
     }
-    if start != file.len() {
+    if start != table.file.len() {
         return Err(Refusal::End);
     }
     Ok(())
@@ -72,7 +72,12 @@ pub fn check_between(low: u16, high: u16, file: &[u8]) -> Checked
     ensures { checked_answer result ≡ check_between low high file.now }
 {
     check_head(low, high, file)?;
-    check_rows(row_size_of(file), file, count(file))
+    let table = Table {
+        file,
+        size: row_size_of(file),
+        rows: count(file),
+    };
+    check_rows(&table)
 }
 
 // The full check of a file of an edition.

@@ -1,9 +1,8 @@
 // A Bloom filter before 29: each row sets two bits of one of 128 words. A row whose bits are not both set clashes with no earlier row.
 ghost use Rattle.std.specs.Prelude.{◌≡◌, ◌<◌};
-ghost use Rattle.shift_format.specs.Inside.{RowIn};
 ghost use Rattle.shift_check.specs.Marks.{folded, mixed, mark_of, word_of, bits_of, has, with};
 
-use shift_format::row::{nonce_block, row_at};
+use crate::table::Table;
 
 // The XOR of a nonce's two words. The second is rotated, so that counters in both words do not cancel.
 fn fold(low: u64, high: u64) -> u64
@@ -25,12 +24,12 @@ fn mix(suite: u8, key: u8, nonce: u64) -> u64
 }
 
 // The hash of a row.
-pub(crate) fn mark(size: usize, file: &[u8], index: usize) -> u64
-    requires { RowIn size file.now index }
-    ensures { result ≡ mark_of size file.now index }
+pub(crate) fn mark(table: &Table, index: usize) -> u64
+    requires { index < table.now.rows }
+    ensures { result ≡ mark_of table.now.size table.now.file.now index }
 {
-    let row = row_at(size, file, index);
-    let nonce = nonce_block(size, file, index);
+    let row = table.row(index);
+    let nonce = table.nonce(index);
     mix(row.suite, row.key, fold(nonce.a, nonce.b))
 }
 

@@ -4,22 +4,22 @@ ghost use Rattle.shift_format.specs.Format.{row_at};
 ghost use Rattle.status.specs.Answers.{row_number_of};
 ghost use Rattle.shift_check.specs.Check.{not_above, outside, bad_suite, bad_length, body_start, misplaced, unread_set, clash, nonce_seen};
 ghost use Rattle.shift_check.specs.Check.{bad_data, body_number, row_number};
-ghost use Rattle.shift_format.specs.Inside.{RowIn, TableIn};
 ghost use Rattle.shift_check.specs.Spared.{Spared};
 ghost use Rattle.shift_check.specs.Marks.{Sieved};
 
+use crate::table::Table;
 use cipher::LIMIT;
-use shift_format::row::{Row, body_end, get32, nonce_block, read_block, row_at, row_start};
+use shift_format::row::{Row, body_end, get32};
 use shift_limits::{MAX_AD, MAX_KEY, MIN_AD};
 use status::checked::{Fault, RowCheck};
 
 // 25: the job number is not above the row before's.
 #[tactic(auto, unfolding(crate::specs::Check::not_above))]
-fn not_above(size: usize, file: &[u8], rows: usize, index: usize) -> bool
-    requires { TableIn size file.now rows × (index < rows) }
-    ensures { result ≡ not_above size file.now index }
+fn not_above(table: &Table, index: usize) -> bool
+    requires { index < table.now.rows }
+    ensures { result ≡ not_above table.now.size table.now.file.now index }
 {
-    index != 0 && row_at(size, file, index).job <= row_at(size, file, index - 1).job
+    index != 0 && table.row(index).job <= table.row(index - 1).job
 }
 
 // The value is outside low to high.
@@ -45,34 +45,23 @@ fn bad_length(row: Row) -> bool
     outside(MIN_AD, MAX_AD, row.ad_len) || LIMIT < row.text_len as usize
 }
 
-// The offset at which the body of a row has to start. For an index equal to the number of rows: the offset at which the last body ends.
-pub(crate) fn body_start(size: usize, file: &[u8], rows: usize, index: usize) -> usize
-    requires { TableIn size file.now rows × (index ≤ rows) }
-    ensures { result ≡ body_start size file.now rows index }
-{
-    if index == 0 {
-        return row_start(size, rows);
-    }
-    body_end(row_at(size, file, index - 1))
-}
-
 // 28: the body does not start where it has to, or ends past the file.
 #[tactic(auto, unfolding(crate::specs::Check::misplaced))]
-fn misplaced(size: usize, file: &[u8], rows: usize, index: usize, start: usize) -> bool
-    requires { TableIn size file.now rows × ((index < rows) × (start ≡ body_start size file.now rows index)) }
-    ensures { result ≡ misplaced size file.now rows index }
+fn misplaced(table: &Table, index: usize, start: usize) -> bool
+    requires { (index < table.now.rows) × (start ≡ body_start table.now.size table.now.file.now table.now.rows index) }
+    ensures { result ≡ misplaced table.now.size table.now.file.now table.now.rows index }
 {
-    let row = row_at(size, file, index);
-    row.ad_at as usize != start || file.len() < body_end(row)
+    let row = table.row(index);
+    row.ad_at as usize != start || table.file.len() < body_end(row)
 }
 
 // 34: a nonce byte that the suite does not read is not 0.
-fn unread_set(size: usize, file: &[u8], index: usize, row: Row) -> bool
-    requires { RowIn size file.now index × (row ≡ row_at size file.now index) }
-    ensures { result ≡ unread_set size file.now index }
+fn unread_set(table: &Table, index: usize, row: Row) -> bool
+    requires { (index < table.now.rows) × (row ≡ row_at table.now.size table.now.file.now index) }
+    ensures { result ≡ unread_set table.now.size table.now.file.now index }
 {
-    let stored = nonce_block(size, file, index);
-    let read = read_block(size, file, index, row.suite);
+    let stored = table.nonce(index);
+    let read = table.read(index, row.suite);
     !block::same(stored, read)
 }
 
@@ -84,23 +73,23 @@ fn same_key(this: Row, earlier: Row) -> bool
 }
 
 // Two rows clash. The bytes that a suite does not read are zero (34), so comparing all sixteen bytes compares those that it reads.
-fn clashes(size: usize, file: &[u8], rows: usize, index: usize, other: usize) -> bool
-    requires { TableIn size file.now rows
-        × ((index < rows) × ((other < rows) × ((unread_set size file.now index ≡ false) × (unread_set size file.now other ≡ false)))) }
-    ensures { result ≡ clash size file.now index other }
+fn clashes(table: &Table, index: usize, other: usize) -> bool
+    requires { (index < table.now.rows) × ((other < table.now.rows)
+        × ((unread_set table.now.size table.now.file.now index ≡ false) × (unread_set table.now.size table.now.file.now other ≡ false))) }
+    ensures { result ≡ clash table.now.size table.now.file.now index other }
 {
-    let this = nonce_block(size, file, index);
-    let earlier = nonce_block(size, file, other);
-    block::same(this, earlier) && same_key(row_at(size, file, index), row_at(size, file, other))
+    let this = table.nonce(index);
+    let earlier = table.nonce(other);
+    block::same(this, earlier) && same_key(table.row(index), table.row(other))
 }
 
 // 29: the row clashes with an earlier one.
-fn nonce_seen(size: usize, file: &[u8], rows: usize, index: usize) -> bool
-    requires { TableIn size file.now rows × ((index < rows) × Spared size file.now (index + 1)) }
-    ensures { result ≡ nonce_seen size file.now index }
+fn nonce_seen(table: &Table, index: usize) -> bool
+    requires { (index < table.now.rows) × Spared table.now.size table.now.file.now (index + 1) }
+    ensures { result ≡ nonce_seen table.now.size table.now.file.now index }
 {
     for j in 0..index {
-        if clashes(size, file, rows, index, j) {
+        if clashes(table, index, j) {
             return true;
         }
     }
@@ -108,11 +97,11 @@ fn nonce_seen(size: usize, file: &[u8], rows: usize, index: usize) -> bool
 }
 
 // 29, with the Bloom filter checked first: a row whose bits are not both set clashes with no earlier row.
-fn seen_before(size: usize, file: &[u8], rows: usize, index: usize, marked: bool) -> bool
-    requires { TableIn size file.now rows × ((index < rows) × (Spared size file.now (index + 1) × Sieved size file.now index marked)) }
-    ensures { result ≡ nonce_seen size file.now index }
+fn seen_before(table: &Table, index: usize, marked: bool) -> bool
+    requires { (index < table.now.rows) × (Spared table.now.size table.now.file.now (index + 1) × Sieved table.now.size table.now.file.now index marked) }
+    ensures { result ≡ nonce_seen table.now.size table.now.file.now index }
 {
-    marked && nonce_seen(size, file, rows, index)
+    marked && nonce_seen(table, index)
 }
 
 // 30: the associated data has another job number, or no unit.
@@ -127,50 +116,35 @@ fn bad_data(file: &[u8], row: Row) -> bool
 }
 
 // 28, 34, 29 and 30, of a row.
-fn check_body(
-    size: usize,
-    file: &[u8],
-    rows: usize,
-    index: usize,
-    row: Row,
-    marked: bool,
-    start: usize,
-) -> RowCheck
-    requires { TableIn size file.now rows
-        × ((index < rows) × ((row ≡ row_at size file.now index) × ((bad_length row ≡ false)
-        × (Spared size file.now index × (Sieved size file.now index marked × (start ≡ body_start size file.now rows index)))))) }
-    ensures { row_number_of result ≡ body_number size file.now rows index }
+fn check_body(table: &Table, index: usize, row: Row, marked: bool, start: usize) -> RowCheck
+    requires { (index < table.now.rows) × ((row ≡ row_at table.now.size table.now.file.now index) × ((bad_length row ≡ false)
+        × (Spared table.now.size table.now.file.now index × (Sieved table.now.size table.now.file.now index marked
+        × (start ≡ body_start table.now.size table.now.file.now table.now.rows index))))) }
+    ensures { row_number_of result ≡ body_number table.now.size table.now.file.now table.now.rows index }
 {
-    if misplaced(size, file, rows, index, start) {
+    if misplaced(table, index, start) {
         return Err(Fault::Place);
     }
-    if unread_set(size, file, index, row) {
+    if unread_set(table, index, row) {
         return Err(Fault::Unread);
     }
-    if seen_before(size, file, rows, index, marked) {
+    if seen_before(table, index, marked) {
         return Err(Fault::Nonce);
     }
-    if bad_data(file, row) {
+    if bad_data(table.file, row) {
         return Err(Fault::Data);
     }
     Ok(())
 }
 
 // 25 to 28, 34, 29 and 30, of a row.
-pub(crate) fn check_row(
-    size: usize,
-    file: &[u8],
-    rows: usize,
-    index: usize,
-    marked: bool,
-    start: usize,
-) -> RowCheck
-    requires { TableIn size file.now rows
-        × ((index < rows) × (Spared size file.now index × (Sieved size file.now index marked × (start ≡ body_start size file.now rows index)))) }
-    ensures { row_number_of result ≡ row_number size file.now rows index }
+pub(crate) fn check_row(table: &Table, index: usize, marked: bool, start: usize) -> RowCheck
+    requires { (index < table.now.rows) × (Spared table.now.size table.now.file.now index × (Sieved table.now.size table.now.file.now index marked
+        × (start ≡ body_start table.now.size table.now.file.now table.now.rows index))) }
+    ensures { row_number_of result ≡ row_number table.now.size table.now.file.now table.now.rows index }
 {
-    let row = row_at(size, file, index);
-    if not_above(size, file, rows, index) {
+    let row = table.row(index);
+    if not_above(table, index) {
         return Err(Fault::Order);
     }
     if bad_suite(row) {
@@ -179,5 +153,5 @@ pub(crate) fn check_row(
     if bad_length(row) {
         return Err(Fault::Length);
     }
-    check_body(size, file, rows, index, row, marked, start)
+    check_body(table, index, row, marked, start)
 }

@@ -22,10 +22,10 @@ count-requires c =
     let k = headed c.args.low c.args.high c.args.file.now (passed_zero _ _ c.in_ok-check_head.was c.check_head.ensures) in
     omega arith
 
-pub check_rows-requires : goal.check_rows-requires
-check_rows-requires c =
+pub invariant_of-table : goal.invariant_of-table
+invariant_of-table c =
     let k = headed c.args.low c.args.high c.args.file.now (passed_zero _ _ c.in_ok-check_head.was c.check_head.ensures) in
-    rw (c.count.ensures, c.row_size_of.ensures) k.table
+    record { lies = rw (c.count.ensures, c.row_size_of.ensures) k.table }
 
 pub returns : goal.returns
 unfolding check_between

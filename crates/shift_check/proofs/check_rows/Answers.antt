@@ -7,7 +7,6 @@ use borrow.Author.Tests.{eq-eqb, ne_eqb}
 use Rattle.status.specs.Answers.{row_number_of}
 use Rattle.shift_check.specs.Check.{body_start, end_answer}
 use Rattle.shift_check.specs.Marks.{has, with, Sieved}
-use Rattle.shift_format.proofs.Rows.{row_in}
 use Rattle.shift_check.proofs.Sound.{sound}
 use Rattle.shift_check.proofs.Passed.{rows-bad, rows-sound, rows_end}
 use Rattle.shift_check.proofs.Nonces.{spared_none, spared_more}
@@ -17,35 +16,26 @@ use Rattle.shift_check.proofs.check_rows.Goals as goal
 pub loop-i-init : goal.loop-i-init
 loop-i-init c = record { rest = refl; spared = spared_none _ _; left = left_none _ _; starts = c.body_start-start.ensures }
 
-pub mark-hash-requires : goal.mark-hash-requires
-mark-hash-requires c = row_in _ _ _ _ c.requires (omega arith)
-
 pub check_row-requires : goal.check_row-requires
 check_row-requires c =
     let h = c.loop-i.invariant in
     let q = c.has-marked.ensures ∙ ap (has c.loop-i.seen) c.mark-hash.ensures in (
-      c.requires,
+      omega arith,
       (
-        omega arith,
+        h.spared,
         (
-          h.spared,
-          (
-            subst (Sieved c.args.size c.args.file.now c.loop-i.i) (sym q)
-                (sieved c.args.size c.args.file.now c.loop-i.i c.loop-i.seen h.left h.spared),
-            h.starts,
-          ),
+          subst (Sieved c.args.table.now.size c.args.table.now.file.now c.loop-i.i) (sym q)
+              (sieved c.args.table.now.size c.args.table.now.file.now c.loop-i.i c.loop-i.seen h.left h.spared),
+          h.starts,
         ),
       ),
     )
 
 pub returns-in-Err : goal.returns-in-Err
 returns-in-Err c =
-    rows-bad c.args.size c.args.file.now c.args.rows c.loop-i.i c.in-Err.fault (omega arith)
+    rows-bad c.args.table.now.size c.args.table.now.file.now c.args.table.now.rows c.loop-i.i c.in-Err.fault (omega arith)
     (ap row_number_of (sym c.in-Err.is) ∙ c.check_row.ensures)
     ∙ sym c.loop-i.invariant.rest
-
-pub body_start-start-requires-in-loop-i : goal.body_start-start-requires-in-loop-i
-body_start-start-requires-in-loop-i c = (c.requires, omega arith)
 
 pub loop-i-preserved : goal.loop-i-preserved
 loop-i-preserved c =
@@ -53,10 +43,10 @@ loop-i-preserved c =
     let h = c.loop-i.invariant in
     let q = c.put.ensures ∙ ap (with c.loop-i.seen) c.mark-hash.ensures in
     record {
-      rest = h.rest ∙ rows-sound c.args.size c.args.file.now c.args.rows c.loop-i.i (omega arith) z;
-      spared = spared_more c.args.size c.args.file.now _ h.spared (sound c.args.size c.args.file.now c.args.rows _ (sym z)).spare;
-      left = subst (Left c.args.size c.args.file.now (c.loop-i.i + 1)) (sym q)
-          (left_more c.args.size c.args.file.now c.loop-i.i c.loop-i.seen h.left);
+      rest = h.rest ∙ rows-sound c.args.table.now.size c.args.table.now.file.now c.args.table.now.rows c.loop-i.i (omega arith) z;
+      spared = spared_more c.args.table.now.size c.args.table.now.file.now _ h.spared (sound c.args.table.now.size c.args.table.now.file.now c.args.table.now.rows _ (sym z)).spare;
+      left = subst (Left c.args.table.now.size c.args.table.now.file.now (c.loop-i.i + 1)) (sym q)
+          (left_more c.args.table.now.size c.args.table.now.file.now c.loop-i.i c.loop-i.seen h.left);
       starts = c.body_start-start-in-loop-i.ensures;
     }
 
@@ -64,14 +54,14 @@ loop-i-preserved c =
 ended : (w : ℕ) (f : List ℕ) (n i start : ℕ) → start ≡ body_start w f n i → i ≤ n → n ≤ i → start ≡ body_start w f n n
 ended w f n i start e l m = let q : i ≡ n = omega arith in rw q at e
 
-pub returns-then-start-file : goal.returns-then-start-file
+pub returns-then-start-table : goal.returns-then-start-table
 unfolding end_answer
-returns-then-start-file c =
-    let e = ended c.args.size c.args.file.now c.args.rows c.loop-i.i c.loop-i.start c.loop-i.invariant.starts (omega arith) (omega arith) in
-    rw (c.loop-i.invariant.rest, rows_end c.args.size c.args.file.now c.args.rows c.loop-i.i (omega arith)) (simp (← e, ne_eqb _ _ c.if-start-file.true))
+returns-then-start-table c =
+    let e = ended c.args.table.now.size c.args.table.now.file.now c.args.table.now.rows c.loop-i.i c.loop-i.start c.loop-i.invariant.starts (omega arith) (omega arith) in
+    rw (c.loop-i.invariant.rest, rows_end c.args.table.now.size c.args.table.now.file.now c.args.table.now.rows c.loop-i.i (omega arith)) (simp (← e, ne_eqb _ _ c.if-start-table.true))
 
 pub returns : goal.returns
 unfolding end_answer
 returns c =
-    let e = ended c.args.size c.args.file.now c.args.rows c.loop-i.i c.loop-i.start c.loop-i.invariant.starts (omega arith) (omega arith) in
-    rw (c.loop-i.invariant.rest, rows_end c.args.size c.args.file.now c.args.rows c.loop-i.i (omega arith)) (simp (← e, eq-eqb _ _ c.if-start-file.false))
+    let e = ended c.args.table.now.size c.args.table.now.file.now c.args.table.now.rows c.loop-i.i c.loop-i.start c.loop-i.invariant.starts (omega arith) (omega arith) in
+    rw (c.loop-i.invariant.rest, rows_end c.args.table.now.size c.args.table.now.file.now c.args.table.now.rows c.loop-i.i (omega arith)) (simp (← e, eq-eqb _ _ c.if-start-table.false))

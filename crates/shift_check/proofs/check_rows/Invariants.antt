@@ -7,8 +7,8 @@ use Rattle.shift_check.proofs.check_rows.Given as goal
 
 abbrev pub invariant-loop-i : goal.invariant-loop-i
 invariant-loop-i l = record {
-  rest : rows_from l.size l.file l.rows 0 ≡ rows_from l.size l.file l.rows l.i;
-  spared : Spared l.size l.file l.i;
-  left : Left l.size l.file l.i l.seen;
-  starts : l.start ≡ body_start l.size l.file l.rows l.i;
+  rest : rows_from l.table.size l.table.file.now l.table.rows 0 ≡ rows_from l.table.size l.table.file.now l.table.rows l.i;
+  spared : Spared l.table.size l.table.file.now l.i;
+  left : Left l.table.size l.table.file.now l.i l.seen;
+  starts : l.start ≡ body_start l.table.size l.table.file.now l.table.rows l.i;
 }

@@ -11,5 +11,5 @@ pub returns : goal.returns
 unfolding mark_of
 returns c =
     c.mix.ensures
-    ∙ ap₂ (λ (r : Row) (x : ℕ). mixed r.suite r.key x) c.row_at-row.ensures
-    (c.fold.ensures ∙ block_word c.nonce_block-nonce.result _ (omega arith) (omega arith) c.nonce_block-nonce.ensures)
+    ∙ ap₂ (λ (r : Row) (x : ℕ). mixed r.suite r.key x) c.row-row.ensures
+    (c.fold.ensures ∙ block_word c.nonce-nonce.result _ (omega arith) (omega arith) c.nonce-nonce.ensures)

@@ -12,11 +12,8 @@ pub clashes-requires : goal.clashes-requires
 clashes-requires c = (
   c.requires.0,
   (
-    c.requires.1.0,
-    (
-      omega arith,
-      (c.requires.1.1.spare c.args.index (omega arith), c.requires.1.1.spare c.loop-j.j (omega arith)),
-    ),
+    omega arith,
+    (c.requires.1.spare c.args.index (omega arith), c.requires.1.spare c.loop-j.j (omega arith)),
   ),
 )
 

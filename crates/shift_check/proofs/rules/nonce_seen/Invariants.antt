@@ -4,4 +4,4 @@ use Rattle.shift_check.proofs.Searches.{NoneYet}
 use Rattle.shift_check.proofs.rules.nonce_seen.Given as goal
 
 abbrev pub invariant-loop-j : goal.invariant-loop-j
-invariant-loop-j l = NoneYet (clash l.size l.file l.index) l.index l.j
+invariant-loop-j l = NoneYet (clash l.table.size l.table.file.now l.index) l.index l.j
