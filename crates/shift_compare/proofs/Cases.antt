@@ -12,7 +12,7 @@ use Rattle.status.specs.declared.checked.Refusal.{Refusal}
 use Rattle.status.specs.Answers.{answer, refusal_answer}
 use Rattle.shift_check.specs.Check.{check_file}
 use Rattle.status.proofs.Numbers.{refusal-some}
-use Rattle.shift_compare.specs.declared.merge.Counts.{Counts}
+use Rattle.shift_compare.specs.declared.Counts.{Counts}
 use Rattle.shift_compare.specs.Comparing.{only_first, only_second, differing, refused_in, Comparison, stopped, too_long_of, listed, comparison}
 use Rattle.shift_compare.specs.Inside.{Sound, Passable, Passed, longer}
 use Rattle.shift_compare.proofs.Passing.{only-most, differ-most}

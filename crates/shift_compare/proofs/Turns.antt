@@ -4,7 +4,7 @@ use native.Mathlib.Omega.{arith}
 use native.Mathlib.Nat.{eq-or-lt_of_le}
 use native.Mathlib.Decide.{dec_lt}
 use mathlib.Core.Path.{◌≡◌, refl, sym, ap, ◌∙◌}
-use mathlib.Core.Bool.{true, false, not, ◌&&◌}
+use mathlib.Core.Bool.{Bool, true, false, not, ◌&&◌}
 use mathlib.Core.List.{List}
 use mathlib.Core.Logic.{⊎_elim}
 use borrow.Author.Tests.{eq-eqb, ne_eqb}
@@ -15,7 +15,8 @@ use Rattle.shift_check.proofs.Passed.{passes}
 use Rattle.shift_check.proofs.Rising.{rising}
 use Rattle.shift_same.specs.Same.{same_entry}
 use Rattle.shift_compare.specs.Comparing.{job_at, has, has_job, differs}
-use Rattle.shift_compare.specs.Inside.{At, first_turn, second_turn, Turned, only_from, differ_from}
+use Rattle.shift_compare.specs.declared.merge.Place.TheVariants.{First, Second, Differ}
+use Rattle.shift_compare.specs.Inside.{At, goes, both_place, first_turn, second_turn, Turned, only_from, differ_from}
 use Rattle.shift_compare.proofs.Keeping.{kept_step}
 
 -- 25 says that the jobs rise
@@ -93,8 +94,20 @@ second_case f g i j h m ahead =
     }
 
 -- the next jobs are equal
+both-first : (b : Bool) → goes (both_place b) First ≡ false
+both-first true = refl
+both-first false = refl
+
+both-second : (b : Bool) → goes (both_place b) Second ≡ false
+both-second true = refl
+both-second false = refl
+
+both-differ : (b : Bool) → goes (both_place b) Differ ≡ not b
+both-differ true = refl
+both-differ false = refl
+
 pub both_case : (f g : List ℕ) (i j : ℕ) → At f g i j → i < count_of f → j < count_of g → job_at f i ≡ job_at g j
-    → Turned f g i j (record { job = job_at f i; first = false; second = false; differ = not (same_entry f g i j); i = i + 1; j = j + 1 })
+    → Turned f g i j (record { job = job_at f i; list = both_place (same_entry f g i j); i = i + 1; j = j + 1 })
 unfolding only_from differ_from
 both_case f g i j h m n q =
     let a = h.sound.first in
@@ -111,7 +124,7 @@ both_case f g i j h m n q =
         past-g = λ k l z. omega (arith, level g b k j (omega arith) n, jobs_rise f a i (i + 1) (omega arith) z);
       };
       more = omega arith;
-      first = kept_step (λ k. not (has_job g (job_at f k))) (job_at f) i (count_of f) m ∙ simp (has-row g b (job_at f i) j n q);
-      second = kept_step (λ k. not (has_job f (job_at g k))) (job_at g) j (count_of g) n ∙ simp (has-row f a (job_at g j) i m (sym q));
-      differ = kept_step (differs f g) (job_at f) i (count_of f) m ∙ simp only;
+      first = kept_step (λ k. not (has_job g (job_at f k))) (job_at f) i (count_of f) m ∙ simp (has-row g b (job_at f i) j n q, both-first (same_entry f g i j));
+      second = kept_step (λ k. not (has_job f (job_at g k))) (job_at g) j (count_of g) n ∙ simp (has-row f a (job_at g j) i m (sym q), both-second (same_entry f g i j));
+      differ = kept_step (differs f g) (job_at f) i (count_of f) m ∙ simp (only, both-differ (same_entry f g i j));
     }

@@ -1,5 +1,5 @@
 -- The comparison of two shift files (document 02, W8; W10: stations): the jobs only in the first, only in the second, and in both but different.
-use Rattle.std.specs.Prelude.{ℕ, Bool, not, ◌&&◌, ◌||◌, cond, List, length, ltb, eqb}
+use Rattle.std.specs.Prelude.{ℕ, Bool, not, ◌&&◌, ◌||◌, cond, List, length, ltb, eqb, Result, Ok, Err}
 use Rattle.status.specs.declared.checked.Answer.{Answer}
 use Rattle.shift_check.specs.Search.{any_below}
 use Rattle.shift_format.specs.Format.{count_of, row_of}
@@ -7,8 +7,9 @@ use Rattle.status.specs.Answers.{answer, refusal_answer}
 use Rattle.shift_check.specs.Check.{check_file, refused}
 use Rattle.shift_same.specs.Same.{same_entry}
 use Rattle.shift_compare.specs.declared.Finding.{Finding}
-use Rattle.shift_compare.specs.declared.Compared.{Compared}
-use Rattle.shift_compare.specs.declared.Compared.TheVariants.{Done, First, Second, Room}
+use Rattle.shift_compare.specs.declared.Counts.{Counts}
+use Rattle.shift_compare.specs.declared.CompareError.{CompareError}
+use Rattle.shift_compare.specs.declared.CompareError.TheVariants.{First, Second, Room}
 use Rattle.shift_compare.specs.Kept.{kept, on_list}
 
 -- ---- the three lists
@@ -52,11 +53,11 @@ abbrev pub refused_in : ℕ → Answer → Finding
 refused_in k x = record { number = x.number; file = k; row = x.row; first = 0; second = 0; differ = 0 }
 
 -- number, file, row and counts of every case
-abbrev pub finding_of : Compared → Finding
-finding_of (Done a b c) = record { number = 0; file = 0; row = 0; first = a; second = b; differ = c }
-finding_of (First x) = refused_in 1 (refusal_answer x)
-finding_of (Second x) = refused_in 2 (refusal_answer x)
-finding_of Room = refused_in 0 (answer 36 0)
+abbrev pub finding_of : Result Counts CompareError → Finding
+finding_of (Ok n) = record { number = 0; file = 0; row = 0; first = n.first; second = n.second; differ = n.differ }
+finding_of (Err (First x)) = refused_in 1 (refusal_answer x)
+finding_of (Err (Second x)) = refused_in 2 (refusal_answer x)
+finding_of (Err Room) = refused_in 0 (answer 36 0)
 
 -- the result, and the three lists after the call
 pub record Comparison : Type 0 where

@@ -4,16 +4,15 @@
 mod merge;
 
 ghost use Rattle.std.specs.Prelude.{◌≡◌};
-ghost use Rattle.status.specs.Answers.{refusal_answer};
 ghost use Rattle.shift_compare.specs.Comparing.{refused_in, finding_of, too_long_of, Comparison, comparison};
 ghost use Rattle.shift_compare.specs.Inside.{Sound, longer};
 
-use merge::{Counts, most, pass};
+use merge::{most, pass};
 use shift_check::check;
-use status::checked::{Checked, Refusal};
+use status::checked::{Answer, Refusal, Refuses};
 
-// The result of a comparison: a status, the file and row that it concerns, and the length of each list.
-#[derive(Clone, Copy)]
+// What C sees of a comparison: a status, the file and row that it concerns, and the length of each list.
+#[derive(Clone, Copy, PartialEq, Eq, Debug)]
 pub struct Finding {
     pub number: u8,
     pub file: u8,
@@ -23,20 +22,29 @@ pub struct Finding {
     pub differ: usize,
 }
 
-// The lists' lengths, or why there is none: the first file is refused, or the second, or a list is longer than its buffer.
-#[derive(Clone, Copy)]
-pub enum Compared {
-    Done(usize, usize, usize),
+// How long the three lists are.
+#[derive(Clone, Copy, PartialEq, Eq, Debug)]
+pub struct Counts {
+    pub first: usize,
+    pub second: usize,
+    pub differ: usize,
+}
+
+// Why there are no lists: the first file is refused, or the second, or a list is longer than its buffer.
+#[derive(Clone, Copy, PartialEq, Eq, Debug)]
+pub enum CompareError {
     First(Refusal),
     Second(Refusal),
     Room,
 }
 
-// A refusal of the first file (1) or of the second (2).
-fn refused_in(file: u8, refusal: Refusal) -> Finding
-    ensures { result ≡ refused_in file (refusal_answer refusal) }
+// The lists' lengths, or why there are none.
+pub type Compared = Result<Counts, CompareError>;
+
+// An answer that concerns the first file (1), the second (2) or neither (0).
+fn refused_in(file: u8, answer: Answer) -> Finding
+    ensures { result ≡ refused_in file answer }
 {
-    let answer = refusal.answer();
     Finding {
         number: answer.number,
         file: file,
@@ -47,30 +55,22 @@ fn refused_in(file: u8, refusal: Refusal) -> Finding
     }
 }
 
-impl Compared {
-    pub fn finding(self) -> Finding
-        ensures { result ≡ finding_of self }
-    {
-        match self {
-            Compared::Done(first, second, differ) => Finding {
-                number: 0,
-                file: 0,
-                row: 0,
-                first: first,
-                second: second,
-                differ: differ,
-            },
-            Compared::First(refusal) => refused_in(1, refusal),
-            Compared::Second(refusal) => refused_in(2, refusal),
-            Compared::Room => Finding {
-                number: 36,
-                file: 0,
-                row: 0,
-                first: 0,
-                second: 0,
-                differ: 0,
-            },
-        }
+// What C sees of it: an error has no lists.
+pub fn said(compared: Compared) -> Finding
+    ensures { result ≡ finding_of compared }
+{
+    match compared {
+        Ok(counts) => Finding {
+            number: 0,
+            file: 0,
+            row: 0,
+            first: counts.first,
+            second: counts.second,
+            differ: counts.differ,
+        },
+        Err(CompareError::First(refusal)) => refused_in(1, refusal.answer()),
+        Err(CompareError::Second(refusal)) => refused_in(2, refusal.answer()),
+        Err(CompareError::Room) => refused_in(0, Answer { number: 36, row: 0 }),
     }
 }
 
@@ -108,11 +108,11 @@ fn no_room(
     ) {
         return false;
     }
-    let counts = pass(first, second, false, only_first, only_second, differ);
+    let counts = pass::<false>(first, second, only_first, only_second, differ);
     too_long(counts, only_first.len(), only_second.len(), differ.len())
 }
 
-// The three lists of two files that pass, or 36, which is known before any of them is written.
+// The three lists of two files that pass, each lent by C, or 36, which is known before any of them is written.
 fn lists(
     first: &[u8],
     second: &[u8],
@@ -130,10 +130,10 @@ fn lists(
         (comparison first.now second.now only_first.old only_second.old differ.old) }
 {
     if no_room(first, second, only_first, only_second, differ) {
-        return Compared::Room;
+        return Err(CompareError::Room);
     }
-    let counts = pass(first, second, true, only_first, only_second, differ);
-    Compared::Done(counts.first, counts.second, counts.differ)
+    let counts = pass::<true>(first, second, only_first, only_second, differ);
+    Ok(counts)
 }
 
 // Compares two files: the first's refusal, the second's, 36 if a list is longer than its buffer, else the three lists.
@@ -153,16 +153,12 @@ pub fn compare(
         (comparison first.now second.now only_first.old only_second.old differ.old) }
 {
     match check(first) {
-        Checked::Refused(refusal) => {
-            return Compared::First(refusal);
-        }
-        Checked::Passed => {}
+        Err(refusal) => return Err(CompareError::First(refusal)),
+        Ok(()) => {}
     }
     match check(second) {
-        Checked::Refused(refusal) => {
-            return Compared::Second(refusal);
-        }
-        Checked::Passed => {}
+        Err(refusal) => return Err(CompareError::Second(refusal)),
+        Ok(()) => {}
     }
     lists(first, second, only_first, only_second, differ)
 }

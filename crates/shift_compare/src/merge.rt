@@ -3,28 +3,36 @@ ghost use Rattle.std.specs.Prelude.{◌≡◌, true, cond, ◌&&◌, ◌+◌, �
 ghost use Rattle.shift_format.specs.Format.{count_of};
 ghost use Rattle.shift_check.specs.Check.{check_file};
 ghost use Rattle.shift_compare.specs.Comparing.{job_at};
-ghost use Rattle.shift_compare.specs.Inside.{Sound, At, first_turn, second_turn, Turned, Passable, Passed};
+ghost use Rattle.shift_compare.specs.Inside.{Sound, At, goes, both_place, first_turn, second_turn, Turned, Passable, Passed};
 
+use crate::Counts;
 use shift_format::row::{count, row_at, row_size_of};
 use shift_same::same_entry;
 
-// One iteration: which job is appended to which list, and the two indices after it.
-#[derive(Clone, Copy)]
+// Which list a job goes on.
+#[derive(Clone, Copy, PartialEq, Eq, Debug)]
+enum Place {
+    First,
+    Second,
+    Differ,
+}
+
+// One iteration: the list that its job is appended to, if any, and the two indices after it.
+#[derive(Clone, Copy, PartialEq, Eq, Debug)]
 struct Turn {
     job: u32,
-    first: bool,
-    second: bool,
-    differ: bool,
+    list: Option<Place>,
     i: usize,
     j: usize,
 }
 
-// How long the three lists are.
-#[derive(Clone, Copy)]
-pub(crate) struct Counts {
-    pub(crate) first: usize,
-    pub(crate) second: usize,
-    pub(crate) differ: usize,
+impl Turn {
+    // Whether its job is appended to this list.
+    fn goes_on(self, place: Place) -> bool
+        ensures { result ≡ goes self.list place }
+    {
+        self.list == Some(place)
+    }
 }
 
 // How many rows a file that passes has.
@@ -64,9 +72,7 @@ fn first_turn(job: u32, i: usize, j: usize) -> Turn
 {
     Turn {
         job: job,
-        first: true,
-        second: false,
-        differ: false,
+        list: Some(Place::First),
         i: i + 1,
         j: j,
     }
@@ -79,12 +85,17 @@ fn second_turn(job: u32, i: usize, j: usize) -> Turn
 {
     Turn {
         job: job,
-        first: false,
-        second: true,
-        differ: false,
+        list: Some(Place::Second),
         i: i,
         j: j + 1,
     }
+}
+
+// Where a job goes that both files have: equal entries are on no list.
+fn place_of(same: bool) -> Option<Place>
+    ensures { result ≡ both_place same }
+{
+    if same { None } else { Some(Place::Differ) }
 }
 
 // The next iteration, if both files have a row left.
@@ -103,9 +114,7 @@ fn both_turn(first: &[u8], second: &[u8], i: usize, j: usize) -> Turn
     let same = same_entry(first, second, i, j);
     Turn {
         job: first_job,
-        first: false,
-        second: false,
-        differ: !same,
+        list: place_of(same),
         i: i + 1,
         j: j + 1,
     }
@@ -125,32 +134,30 @@ fn take_turn(first: &[u8], second: &[u8], i: usize, j: usize) -> Turn
     both_turn(first, second, i, j)
 }
 
-// The length of a list of `at` jobs after this iteration: one more if `yes`; the job is then written, if `write`.
-fn put(out: &mut [u32], at: usize, yes: bool, write: bool, job: u32) -> usize
-    requires { (yes ≡ true → write ≡ true → at < length out.old) × (yes ≡ true → at < 512) }
-    ensures { (result ≡ cond yes (at + 1) at) × (out.new ≡ cond (yes && write) (set out.old at job) out.old) }
+// The length of a list of `at` jobs after this iteration: one more if `yes`; the job is then written, if `WRITE`.
+fn put<const WRITE: bool>(out: &mut [u32], at: usize, yes: bool, job: u32) -> usize
+    requires { (yes ≡ true → WRITE ≡ true → at < length out.old) × (yes ≡ true → at < 512) }
+    ensures { (result ≡ cond yes (at + 1) at) × (out.new ≡ cond (yes && WRITE) (set out.old at job) out.old) }
 {
-    if yes {
-        if write {
-            out[at] = job;
-            return at + 1;
-        }
-        return at + 1;
+    if !yes {
+        return at;
     }
-    at
+    if WRITE {
+        out[at] = job;
+    }
+    at + 1
 }
 
-// The pass over both tables: counts the three lists, and writes them if `write`.
-pub(crate) fn pass(
+// The pass over both tables: counts the three lists, and writes them if `WRITE`.
+pub(crate) fn pass<const WRITE: bool>(
     first: &[u8],
     second: &[u8],
-    write: bool,
     only_first: &mut [u32],
     only_second: &mut [u32],
     differ: &mut [u32],
 ) -> Counts
-    requires { Passable first.now second.now write only_first.old only_second.old differ.old }
-    ensures { Passed first.now second.now write only_first.old only_second.old differ.old result
+    requires { Passable first.now second.now WRITE only_first.old only_second.old differ.old }
+    ensures { Passed first.now second.now WRITE only_first.old only_second.old differ.old result
         only_first.new only_second.new differ.new }
 {
     let total = rows(first) + rows(second);
@@ -161,9 +168,14 @@ pub(crate) fn pass(
     let mut in_both: usize = 0;
     while i + j < total {
         let turn = take_turn(first, second, i, j);
-        in_first = put(only_first, in_first, turn.first, write, turn.job);
-        in_second = put(only_second, in_second, turn.second, write, turn.job);
-        in_both = put(differ, in_both, turn.differ, write, turn.job);
+        in_first = put::<WRITE>(only_first, in_first, turn.goes_on(Place::First), turn.job);
+        in_second = put::<WRITE>(
+            only_second,
+            in_second,
+            turn.goes_on(Place::Second),
+            turn.job,
+        );
+        in_both = put::<WRITE>(differ, in_both, turn.goes_on(Place::Differ), turn.job);
         i = turn.i;
         j = turn.j;
     }

@@ -5,18 +5,18 @@ use Rattle.shift_check.proofs.Passed.{passed_zero}
 use Rattle.shift_compare.proofs.Cases.{first-refused, second-refused}
 use Rattle.shift_compare.proofs.compare.Goals as goal
 
-pub returns-in-Refused : goal.returns-in-Refused
-returns-in-Refused c =
-    sym (first-refused _ _ _ _ _ c.in-Refused.refusal (sym c.check.ensures ∙ ap checked_answer c.in-Refused.is))
+pub returns-in-Err : goal.returns-in-Err
+returns-in-Err c =
+    sym (first-refused _ _ _ _ _ c.in-Err.refusal (sym c.check.ensures ∙ ap checked_answer c.in-Err.is))
 
-pub returns-in-Refused-check : goal.returns-in-Refused-check
-returns-in-Refused-check c =
-    sym (second-refused _ _ _ _ _ c.in-Refused-check.refusal (passed_zero _ _ c.in-Passed.is c.check.ensures)
-    (sym c.check-2.ensures ∙ ap checked_answer c.in-Refused-check.is))
+pub returns-in-Err-check : goal.returns-in-Err-check
+returns-in-Err-check c =
+    sym (second-refused _ _ _ _ _ c.in-Err-check.refusal (passed_zero _ _ c.in-Ok.is c.check.ensures)
+    (sym c.check-2.ensures ∙ ap checked_answer c.in-Err-check.is))
 
 pub lists-requires : goal.lists-requires
 lists-requires c =
     record {
-      first = passed_zero _ _ c.in-Passed.is c.check.ensures;
-      second = passed_zero _ _ c.in-Passed-check.is c.check-2.ensures;
+      first = passed_zero _ _ c.in-Ok.is c.check.ensures;
+      second = passed_zero _ _ c.in-Ok-check.is c.check-2.ensures;
     }

@@ -43,4 +43,4 @@ pub returns : goal.returns
 returns c =
     let up = simp (c.job_of-first_job.ensures, c.job_of-second_job.ensures) at c.if-first_job-second_job.false in
     let down = simp (c.job_of-first_job.ensures, c.job_of-second_job.ensures) at c.if-second_job-first_job.false in
-    rw (c.job_of-first_job.ensures, c.same_entry-same.ensures) (both_case _ _ _ _ c.requires.0 c.requires.1 c.requires.2 (omega arith))
+    rw (c.job_of-first_job.ensures, c.place_of.ensures, c.same_entry-same.ensures) (both_case _ _ _ _ c.requires.0 c.requires.1 c.requires.2 (omega arith))
