@@ -1,5 +1,6 @@
 pub mod Entries
 pub mod Jobs
+pub mod Refused
 pub mod Tested
 pub mod Changed
 pub mod Units

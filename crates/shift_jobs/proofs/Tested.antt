@@ -1,32 +1,39 @@
 -- A job's tag is tested as opening the job tests it, into any output of the message's length; so the associated data is returned exactly where the job opens.
-use Prim.Native.Nat.{ℕ}
+use Prim.Native.Nat.{ℕ, ◌<◌}
 use native.Mathlib.Omega.{arith}
 use mathlib.Core.Path.{◌≡◌, refl, sym, ap, ◌∙◌}
 use mathlib.Core.Bool.{Bool, true, false, not, cond, false≢true}
 use mathlib.Core.List.{List, []}
 use lib.ListN.{length}
 use lib.Dec.{eqb}
-use borrow.Author.Tests.{eqb-true, eq-eqb, ne_eqb}
+use borrow.Author.Tests.{eqb-true, eq-eqb}
 use Rattle.comet.specs.Answers.{Opened, opened_as}
 use Rattle.status.specs.declared.checked.Answer.{Answer}
 use Rattle.status.specs.Answers.{answer}
 use Rattle.shift_format.specs.declared.row.Row.{Row}
 use Rattle.shift_format.specs.Format.{row_size_of, row_of, text_of}
 use Rattle.shift_format.specs.Inside.{EntryIn}
-use Rattle.shift_jobs.specs.declared.answers.Genuine.{Genuine}
 use Rattle.shift_lookup.specs.Lookup.{lookup_job}
 use Rattle.shift_lookup.specs.Entry.{data_start, data_length, text_length}
 use Rattle.shift_jobs.specs.Opening.{left, entry_opening, entry_verifying, row_opening, job_opening}
-use Rattle.shift_jobs.specs.Genuine.{withheld, row_verifying, job_verifying, VerifiesAsOpening, VerifiedPlaces}
+use Rattle.shift_jobs.specs.Genuine.{Genuine, withheld, row_verifying, job_verifying, VerifiesAsOpening, VerifiedPlaces}
 use Rattle.shift_lookup.proofs.Lookups.{found_in}
-use Rattle.shift_jobs.proofs.Entries.{entry_right, entry_text, test_number, text-long, entry-opened}
+use Rattle.shift_jobs.proofs.Entries.{entry_right, entry_text, test_number, text-long, entry-opened, row-eight}
 
 -- ---- the code's two answers
 
-module _ (f ring : List ℕ) (i : ℕ) (g : length ring ≡ 256) where
-  pub tested-wrong : (k : ℕ) → k ≡ entry_verifying f ring i → (k ≡ 0 → ⊥) → withheld k 0 ≡ row_verifying f ring i
+module _ (f ring : List ℕ) (i : ℕ) (h : EntryIn (row_size_of f) f i) (g : length ring ≡ 256) where
+  -- a number above 0 is 8
+  eight : 0 < entry_verifying f ring i → entry_verifying f ring i ≡ 8
+  eight l =
+      let t = text_of f (row_of f i) in
+      let x = entry_opening f ring i t in
+      let e = test_number f ring i in
+      e ∙ row-eight f ring i h g x.number x.out t (text-long f ring i h g) refl (omega (arith, e, l))
+
+  pub tested-wrong : (k : ℕ) → k ≡ entry_verifying f ring i → 0 < k → withheld 8 0 ≡ row_verifying f ring i
   unfolding row_verifying
-  tested-wrong k e n = simp (eq-eqb _ _ g, ← e, ne_eqb _ _ n)
+  tested-wrong k e l = simp (eq-eqb _ _ g, eight (omega (arith, e, l)))
 
   pub tested-right : (r : Row) → entry_verifying f ring i ≡ 0 → r ≡ row_of f i
       → ◌≡◌ {A = Genuine} (record { number = 0; row = 0; ad_at = r.ad_at; ad_len = r.ad_len }) (row_verifying f ring i)

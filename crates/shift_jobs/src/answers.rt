@@ -1,13 +1,14 @@
-// The statuses of opening and verifying a job, and their numbers in document 01.
+// The outcomes of opening and verifying a job, and their numbers in document 01.
 ghost use Rattle.std.specs.Prelude.{◌≡◌};
-ghost use Rattle.shift_jobs.specs.Answers.{opened_answer};
+ghost use Rattle.shift_lookup.specs.Answers.{lookup_error_answer};
+ghost use Rattle.shift_jobs.specs.Answers.{job_error_answer};
 
-use status::checked::{Answer, Refusal};
+use shift_lookup::answers::LookupError;
+use status::checked::{Answer, Refusal, Refuses};
 
-// What opening one job gives.
-#[derive(Clone, Copy)]
-pub enum JobAnswer {
-    Done,
+// Why a job is not opened, or not verified.
+#[derive(Clone, Copy, PartialEq, Eq, Debug)]
+pub enum JobError {
     Missing,
     Refused(Refusal),
     Ring,
@@ -15,27 +16,38 @@ pub enum JobAnswer {
     Forged,
 }
 
-impl JobAnswer {
-    pub fn answer(self) -> Answer
-        ensures { (result.number ≡ (opened_answer self).number) × (result.row ≡ (opened_answer self).row) }
-    {
-        match self {
-            JobAnswer::Done => Answer { number: 0, row: 0 },
-            JobAnswer::Missing => Answer { number: 32, row: 0 },
-            JobAnswer::Refused(refusal) => refusal.answer(),
-            JobAnswer::Ring => Answer { number: 2, row: 0 },
-            JobAnswer::Room => Answer { number: 6, row: 0 },
-            JobAnswer::Forged => Answer { number: 8, row: 0 },
+// A lookup that gives no row has the same answer here.
+impl From<LookupError> for JobError {
+    ghost from_gives = { λ found error. job_error_answer error ≡ lookup_error_answer found };
+
+    fn from(found: LookupError) -> JobError {
+        match found {
+            LookupError::Missing => JobError::Missing,
+            LookupError::Refused(refusal) => JobError::Refused(refusal),
         }
     }
 }
 
-// A job's associated data, whose tag is right: number and row as opening the job gives them, and offset and length of the
-// associated data; 0 after every number but 0.
-#[derive(Clone, Copy)]
+impl Refuses for JobError {
+    ghost answer_of = { job_error_answer };
+
+    fn answer(self) -> Answer {
+        match self {
+            JobError::Missing => Answer { number: 32, row: 0 },
+            JobError::Refused(refusal) => refusal.answer(),
+            JobError::Ring => Answer { number: 2, row: 0 },
+            JobError::Room => Answer { number: 6, row: 0 },
+            JobError::Forged => Answer { number: 8, row: 0 },
+        }
+    }
+}
+
+// What opening one job gives.
+pub type JobAnswer = Result<(), JobError>;
+
+// A job's associated data, whose tag is right: its offset in the file, and its length.
+#[derive(Clone, Copy, PartialEq, Eq, Debug)]
 pub struct Genuine {
-    pub number: u8,
-    pub row: usize,
     pub ad_at: u32,
     pub ad_len: u32,
 }

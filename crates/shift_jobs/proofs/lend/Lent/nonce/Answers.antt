@@ -2,10 +2,7 @@
 use native.Mathlib.Omega.{arith}
 use Rattle.shift_format.specs.Format.{nonce_at}
 use Rattle.cipher.proofs.Suites.{nonce_most}
-use Rattle.shift_jobs.proofs.lend.nonce_read.Goals as goal
-
-pub nonce_at-nonce-requires : goal.nonce_at-nonce-requires
-nonce_at-nonce-requires c = rw c.row_size_of.ensures c.requires
+use Rattle.shift_jobs.proofs.lend.Lent.nonce.Goals as goal
 
 pub stretch-requires : goal.stretch-requires
 stretch-requires c = omega (arith, c.nonce_at-nonce.ensures.1, c.nonce_size.ensures, nonce_most c.args.suite)
