@@ -1,7 +1,21 @@
 -- The number of each call of a session, from the suite, the totals and the lengths (document 02, W2).
-use Rattle.std.specs.Prelude.{ℕ, ◌+◌, ◌-◌, ◌≤◌, Bool, cond, not, ◌&&◌, leb, ltb, eqb}
+use Rattle.std.specs.Prelude.{ℕ, ◌+◌, ◌-◌, ◌≤◌, Bool, cond, not, ◌&&◌, leb, ltb, eqb, Ok, Err}
+use Rattle.std.specs.declared.result.Result.{Result}
 use Rattle.cipher.specs.Cipher.{IsSuite, seals, size_of, limit}
 use Rattle.status.specs.Verdicts.{under_key}
+use Rattle.status.specs.Verdicts as verdicts
+use Rattle.session_ladder.specs.declared.SessionError.{SessionError}
+use Rattle.session_ladder.specs.declared.SessionError.TheVariants.{Record, Over}
+
+-- the number of each refusal
+abbrev pub error_number : SessionError → ℕ
+error_number (Record e) = verdicts.error_number e
+error_number Over = 9
+
+-- the number of each outcome
+abbrev pub number_of : {A : Type 0} → Result A SessionError → ℕ
+number_of (Ok x) = 0
+number_of (Err e) = error_number e
 
 -- a session in progress, by its suite and its totals: a suite that seals, and totals within the limit. No run of ours gives any other value
 abbrev pub sound : ℕ → ℕ → ℕ → Bool
