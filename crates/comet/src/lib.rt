@@ -18,7 +18,7 @@ use block::Block;
 use block_state::State;
 use block_state::marks::{MARK_FIRST_DATA, MARK_FIRST_TEXT, MARK_SHORT_DATA, MARK_SHORT_TEXT};
 use block_state::tag::TagAndCalls;
-use cipher::AesTables;
+use cipher::{AesTables, Engine};
 use header::{Header, accepted};
 use status::verdict::{RecordError, Verdict};
 
@@ -42,24 +42,15 @@ impl From<RecordError> for Counted {
 }
 
 // The states after the start and the associated data. Here and below, empty inputs are skipped, so that the states stay in registers.
-fn data_core(tables: &[AesTables], header: Header) -> State
-    requires { TablesFit header.suite tables.now }
-    ensures two { two_of header.entry.suite result ≡ data_done (cipher_of header.entry.suite) header.entry.key.now header.entry.nonce.now header.entry.ad.now }
-    ensures calls { result.calls ≡ add 64 1 (length (blocks (size_of header.entry.suite) header.entry.ad.now)) }
+fn data_core(engine: &Engine, header: Header) -> State
+    requires { engine.now.suite ≡ header.suite }
+    ensures two { two_of engine.now.suite result ≡ data_done (cipher_of engine.now.suite) header.entry.key.now header.entry.nonce.now header.entry.ad.now }
+    ensures calls { result.calls ≡ add 64 1 (length (blocks (size_of engine.now.suite) header.entry.ad.now)) }
 {
-    let suite = header.suite;
-    let mut state = block_state::start(tables, suite, header.key, header.nonce);
+    let mut state = block_state::start(engine, header.key, header.nonce);
     let ad = header.ad;
     if ad.len() != 0 {
-        state = comet_text::absorb_all(
-            tables,
-            false,
-            suite,
-            state,
-            MARK_FIRST_DATA,
-            MARK_SHORT_DATA,
-            ad,
-        );
+        state = comet_text::absorb_all(engine, false, state, MARK_FIRST_DATA, MARK_SHORT_DATA, ad);
     }
     state
 }
@@ -69,11 +60,15 @@ fn crypt_core(tables: &[AesTables], header: Header, opening: bool, text: &mut [u
     requires { TablesFit header.suite tables.now × (length text.old ≤ limit) }
     ensures { Crypts opening header.entry text.old text.new result }
 {
-    let mut state = data_core(tables, header);
+    let engine = Engine {
+        suite: header.suite,
+        tables,
+    };
+    let mut state = data_core(&engine, header);
     if 0 < text.len() {
-        state = comet_text::crypt_all(tables, opening, header.suite, state, text);
+        state = comet_text::crypt_all(&engine, opening, state, text);
     }
-    block_state::tag::tag_of(tables, header.suite, state)
+    block_state::tag::tag_of(&engine, state)
 }
 
 // `crypt_core` under the tables of AES, for suites 1 and 5. This function and the next are two, so that the 4 KiB of the tables are
@@ -299,19 +294,22 @@ fn tag_core(tables: &[AesTables], header: Header, text: &[u8]) -> Block
     requires { TablesFit header.suite tables.now }
     ensures { IsTag true header.entry text.now result }
 {
-    let mut state = data_core(tables, header);
+    let engine = Engine {
+        suite: header.suite,
+        tables,
+    };
+    let mut state = data_core(&engine, header);
     if text.len() != 0 {
         state = comet_text::absorb_all(
-            tables,
+            &engine,
             true,
-            header.suite,
             state,
             MARK_FIRST_TEXT,
             MARK_SHORT_TEXT,
             text,
         );
     }
-    let last = block_state::tag::tag_of(tables, header.suite, state);
+    let last = block_state::tag::tag_of(&engine, state);
     last.tag
 }
 

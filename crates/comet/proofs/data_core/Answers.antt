@@ -5,7 +5,7 @@ use Prim.Native.Nat.{ℕ}
 use native.Mathlib.Omega.{arith}
 use lib.ListN.{length}
 use Rattle.block.specs.Words.{add}
-use Rattle.cipher.specs.Cipher.{size_of, cipher_of}
+use Rattle.cipher.specs.Cipher.{size_of, nonce_of, cipher_of}
 use Rattle.cipher.proofs.Lawful.{lawful}
 use Rattle.mode.specs.Blocks.{blocks}
 use Rattle.mode.specs.Walk.{States, walked}
@@ -17,7 +17,7 @@ use Rattle.comet.proofs.data_core.Goals as goal
 
 pub returns-then-ad-ne0 : goal.returns-then-ad-ne0
 returns-then-ad-ne0 c =
-    let suite = c.args.header.suite in
+    let suite = c.args.engine.now.suite in
     let d = blocks (size_of suite) c.args.header.ad.now in
     record {
       two = c.absorb_all-state.ensures.state ∙ ap (λ (s : States). walked (cipher_of suite) false 0x08 0x10 s d) c.start-state.ensures.two;
@@ -26,7 +26,7 @@ returns-then-ad-ne0 c =
 
 pub returns-else-ad-ne0 : goal.returns-else-ad-ne0
 returns-else-ad-ne0 c =
-    let suite = c.args.header.suite in
+    let suite = c.args.engine.now.suite in
     let κ = cipher_of suite in
     let pos = some κ (lawful suite) in
     let ad = c.args.header.ad.now in
@@ -41,3 +41,6 @@ returns-else-ad-ne0 c =
           empty-count (size_of suite) pos ad begun.result.calls empty (omega (arith, begun.ensures.made))
           ∙ ap (λ (k : ℕ). add 64 k (length d)) begun.ensures.made;
     }
+
+pub start-state-requires : goal.start-state-requires
+start-state-requires c = (c.args.header.key_length, c.args.header.nonce_length ∙ ap nonce_of (sym c.requires))
