@@ -54,6 +54,7 @@ fn check_rows(table: &Table) -> Checked
     for i in 0..table.rows {
         let hash = mark(table, i);
         let marked = has(&seen, hash);
+        // No `map_err(..)?`: of a closure that borrows `i`, the proof of the loop names neither `i` nor the result.
         match check_row(table, i, marked, start) {
             Err(fault) => return Err(Refusal::InRow(fault, i)),
             Ok(()) => {}
