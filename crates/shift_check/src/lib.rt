@@ -19,6 +19,7 @@ use status::checked::{Checked, Refusal};
 use table::Table;
 
 // The first of 20 to 24 that applies; editions from low to high are accepted.
+#[tactic(auto, unfolding(crate::specs::Check::head_number))]
 pub fn check_head(low: u16, high: u16, file: &[u8]) -> Checked
     ensures { checked_answer result ≡ answer (head_number low high file.now) 0 }
 {

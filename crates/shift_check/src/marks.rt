@@ -5,6 +5,7 @@ ghost use Rattle.shift_check.specs.Marks.{folded, mixed, mark_of, word_of, bits_
 use crate::table::Table;
 
 // The XOR of a nonce's two words. The second is rotated, so that counters in both words do not cancel.
+#[tactic(auto, unfolding(crate::specs::Marks::folded))]
 fn fold(low: u64, high: u64) -> u64
     ensures { result ≡ folded low high }
 {
@@ -14,6 +15,7 @@ fn fold(low: u64, high: u64) -> u64
 // Suite, key number and that word, mixed by halves of 32 bits. The three multipliers are odd constants below 2^31, so the sum stays
 // below 2^64. They decide only how often two different rows share their bits and are compared for nothing: no contract of the check
 // names them, so other constants would change its time and not its answer.
+#[tactic(auto, unfolding(crate::specs::Marks::mixed))]
 fn mix(suite: u8, key: u8, nonce: u64) -> u64
     ensures { result ≡ mixed suite key nonce }
 {
@@ -34,6 +36,7 @@ pub(crate) fn mark(table: &Table, index: usize) -> u64
 }
 
 // The index of the word that a hash selects.
+#[tactic(auto, unfolding(crate::specs::Marks::word_of))]
 fn word_of(hash: u64) -> usize
     ensures { (result ≡ word_of hash) × (result < 128) }
 {
@@ -48,6 +51,7 @@ fn bits_of(hash: u64) -> u64
 }
 
 // Whether both bits of the hash are set.
+#[tactic(auto, unfolding(crate::specs::Marks::has))]
 pub(crate) fn has(seen: &[u64; 128], hash: u64) -> bool
     ensures { result ≡ has seen.now hash }
 {
@@ -57,6 +61,7 @@ pub(crate) fn has(seen: &[u64; 128], hash: u64) -> bool
 }
 
 // Sets both bits of the hash.
+#[tactic(auto, unfolding(crate::specs::Marks::with))]
 pub(crate) fn put(seen: &mut [u64; 128], hash: u64)
     ensures { seen.new ≡ with seen.old hash }
 {

@@ -56,6 +56,7 @@ fn misplaced(table: &Table, index: usize, start: usize) -> bool
 }
 
 // 34: a nonce byte that the suite does not read is not 0.
+#[tactic(auto, unfolding(crate::specs::Check::unread_set))]
 fn unread_set(table: &Table, index: usize, row: Row) -> bool
     requires { (index < table.now.rows) × (row ≡ row_at table.now.size table.now.file.now index) }
     ensures { result ≡ unread_set table.now.size table.now.file.now index }
@@ -116,6 +117,7 @@ fn bad_data(file: &[u8], row: Row) -> bool
 }
 
 // 28, 34, 29 and 30, of a row.
+#[tactic(auto, unfolding(crate::specs::Check::body_number))]
 fn check_body(table: &Table, index: usize, row: Row, marked: bool, start: usize) -> RowCheck
     requires { (index < table.now.rows) × ((row ≡ row_at table.now.size table.now.file.now index) × ((bad_length row ≡ false)
         × (Spared table.now.size table.now.file.now index × (Sieved table.now.size table.now.file.now index marked
@@ -138,6 +140,7 @@ fn check_body(table: &Table, index: usize, row: Row, marked: bool, start: usize)
 }
 
 // 25 to 28, 34, 29 and 30, of a row.
+#[tactic(auto, unfolding(crate::specs::Check::row_number))]
 pub(crate) fn check_row(table: &Table, index: usize, marked: bool, start: usize) -> RowCheck
     requires { (index < table.now.rows) × (Spared table.now.size table.now.file.now index × (Sieved table.now.size table.now.file.now index marked
         × (start ≡ body_start table.now.size table.now.file.now table.now.rows index))) }

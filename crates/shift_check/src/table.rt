@@ -44,6 +44,7 @@ impl Table<'_> {
     }
 
     // The offset at which the body of a row has to start. For an index equal to the number of rows: the offset at which the last body ends.
+    #[tactic(auto, unfolding(crate::specs::Check::body_start))]
     pub(crate) fn body_start(&self, index: usize) -> usize
         requires { index ≤ self.now.rows }
         ensures { result ≡ body_start self.now.size self.now.file.now self.now.rows index }

@@ -9,67 +9,16 @@ use Rattle.shift_check.proofs.rules.check_body.Goals as goal
 pub misplaced-requires : goal.misplaced-requires
 misplaced-requires c = (c.requires.0, c.requires.1.1.1.1.1)
 
-pub returns-then-misplaced : goal.returns-then-misplaced
-unfolding body_number
-returns-then-misplaced c = simp (← c.misplaced.ensures, c.if-misplaced.true)
-
 pub unread_set-requires : goal.unread_set-requires
 unread_set-requires c = (c.requires.0, c.requires.1.0)
-
-pub returns-then-unread_set : goal.returns-then-unread_set
-unfolding body_number
-returns-then-unread_set c =
-    simp (← c.misplaced.ensures, c.if-misplaced.false, ← c.unread_set.ensures, c.if-unread_set.true)
 
 pub seen_before-requires : goal.seen_before-requires
 seen_before-requires c =
     let e = sym c.unread_set.ensures ∙ c.if-unread_set.false in
     (c.requires.0, (spared_more c.args.table.now.size c.args.table.now.file.now c.args.index c.requires.1.1.1.0 e, c.requires.1.1.1.1.0))
 
-pub returns-then-seen_before : goal.returns-then-seen_before
-unfolding body_number
-returns-then-seen_before c =
-    simp (
-      ← c.misplaced.ensures,
-      c.if-misplaced.false,
-      ← c.unread_set.ensures,
-      c.if-unread_set.false,
-      ← c.seen_before.ensures,
-      c.if-seen_before.true,
-    )
-
 pub bad_data-requires : goal.bad_data-requires
 bad_data-requires c =
     let q = c.requires.1.0 in
     rw q (head_in c.args.table.now.size c.args.table.now.file.now c.args.table.now.rows c.args.index (rw q at c.requires.1.1.0)
     (sym c.misplaced.ensures ∙ c.if-misplaced.false))
-
-pub returns-then-bad_data : goal.returns-then-bad_data
-unfolding body_number
-returns-then-bad_data c =
-    simp (
-      ← c.requires.1.0,
-      ← c.misplaced.ensures,
-      c.if-misplaced.false,
-      ← c.unread_set.ensures,
-      c.if-unread_set.false,
-      ← c.seen_before.ensures,
-      c.if-seen_before.false,
-      ← c.bad_data.ensures,
-      c.if-bad_data.true,
-    )
-
-pub returns : goal.returns
-unfolding body_number
-returns c =
-    simp (
-      ← c.requires.1.0,
-      ← c.misplaced.ensures,
-      c.if-misplaced.false,
-      ← c.unread_set.ensures,
-      c.if-unread_set.false,
-      ← c.seen_before.ensures,
-      c.if-seen_before.false,
-      ← c.bad_data.ensures,
-      c.if-bad_data.false,
-    )
