@@ -23,10 +23,7 @@ use table::Table;
 pub fn check_head(low: u16, high: u16, file: &[u8]) -> Checked
     ensures { checked_answer result ≡ answer (head_number low high file.now) 0 }
 {
-    if file.len() < HEADER_LEN {
-        return Err(Refusal::Size);
-    }
-    if MAX_FILE < file.len() {
+    if !(HEADER_LEN..=MAX_FILE).contains(&file.len()) {
         return Err(Refusal::Size);
     }
     let edition = get16(file, 0);

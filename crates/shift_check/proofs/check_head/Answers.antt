@@ -1,6 +1,4 @@
 -- Each return is one rung of `head_number`: the tests before it have failed, and its own holds, so the ladder gives its number.
-use borrow.Author.Tests.{lt-ltb, le-ltb, eq-eqb, ne_eqb}
-use Rattle.shift_check.specs.Check.{head_number}
 use Rattle.shift_format.proofs.Rows.{rows_small}
 use Rattle.shift_check.proofs.check_head.Goals as goal
 

@@ -1,16 +1,9 @@
 -- Each return is one rung of the ladder of four tests: the tests before it have failed, and its own holds, so the ladder gives
 -- its number.
 use mathlib.Core.Path.{sym, ◌∙◌}
-use Rattle.shift_check.specs.Check.{body_number}
 use Rattle.shift_check.proofs.Sound.{head_in}
 use Rattle.shift_check.proofs.Nonces.{spared_more}
 use Rattle.shift_check.proofs.rules.check_body.Goals as goal
-
-pub misplaced-requires : goal.misplaced-requires
-misplaced-requires c = (c.requires.0, c.requires.1.1.1.1.1)
-
-pub unread_set-requires : goal.unread_set-requires
-unread_set-requires c = (c.requires.0, c.requires.1.0)
 
 pub seen_before-requires : goal.seen_before-requires
 seen_before-requires c =
