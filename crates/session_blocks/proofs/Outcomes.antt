@@ -42,5 +42,5 @@ pub last_in : OneOutcome last-kinds.ps last-kinds.r last-reads.Pre last-reads.Po
 last_in κs a h x y = (
   counted_told _ _ _ x.result y.result (omega (arith, x.ok)) (omega (arith, y.ok)) (x.ensures.1.1.0 ∙ sym y.ensures.1.1.0)
       x.ensures.1.1.1 y.ensures.1.1.1,
-  ap (λ (l : List ℕ). (tt, (tt, (tt, (tt, (tt, (tt, (l, tt)))))))) (x.ensures.0 ∙ sym y.ensures.0),
+  ap (λ (l : List ℕ). (tt, (tt, (tt, (tt, (tt, (l, tt))))))) (x.ensures.0 ∙ sym y.ensures.0),
 )

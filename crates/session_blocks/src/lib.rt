@@ -3,7 +3,7 @@
 
 ghost use Rattle.std.specs.Prelude.{◌≡◌, false, ◌++◌, ℕ, ◌+◌, ◌-◌, ◌≤◌, ◌<◌, length, take};
 ghost use Rattle.block.specs.Blocks.{filled};
-ghost use Rattle.cipher.specs.Cipher.{TablesFit, IsSuite, size_of, cipher_of};
+ghost use Rattle.cipher.specs.Cipher.{IsSuite, size_of, cipher_of};
 ghost use Rattle.mode.specs.Blocks.{blocks};
 ghost use Rattle.mode.specs.Walk.{whole, rest, walked, covered};
 ghost use Rattle.block_state.specs.Two.{two_of};
@@ -15,7 +15,7 @@ use block_state::State;
 use block_state::marks::MARK_SHORT_TEXT;
 use block_step::one_block::crypt_short;
 use block_walk::Progress;
-use cipher::AesTables;
+use cipher::Engine;
 
 // The two states, and the buffered bytes.
 #[derive(Clone, Copy)]
@@ -29,54 +29,43 @@ fn joined(held: [u8; 16], count: usize, part: &[u8]) -> [u8; 16]
     requires { count + length part.now ≤ 16 }
     ensures { result ≡ filled (take count held ++ part.now) }
 {
-    let mut sixteen = byte_runs::filled_bytes(&held[0..count]);
-    let mut j: usize = 0;
-    while j < part.len() {
-        sixteen[count + j] = part[j];
-        j += 1;
-    }
+    let mut sixteen = [0; 16];
+    gather(held, count, part, &mut sixteen[0..count + part.len()]);
     sixteen
 }
 
 // Absorbs the whole blocks of ad, none of them the first, and buffers the rest.
-fn absorb_blocks(tables: &[AesTables], suite: u8, start: State, ad: &[u8]) -> Absorbed
-    requires { TablesFit suite tables.now × IsSuite suite }
-    ensures states { two_of suite result.s ≡ walked (cipher_of suite) false 0 0x10 (two_of suite start)
-        (blocks (size_of suite) (whole (size_of suite) ad.now)) }
-    ensures held { result.held ≡ filled (rest (size_of suite) ad.now) }
-    ensures calls { Counted suite (length (wholes (size_of suite) ad.now)) start result.s }
+fn absorb_blocks(engine: &Engine, start: State, ad: &[u8]) -> Absorbed
+    ensures states { two_of engine.now.suite result.s ≡ walked (cipher_of engine.now.suite) false 0 0x10 (two_of engine.now.suite start)
+        (blocks (size_of engine.now.suite) (whole (size_of engine.now.suite) ad.now)) }
+    ensures held { result.held ≡ filled (rest (size_of engine.now.suite) ad.now) }
+    ensures calls { Counted engine.now.suite (length (wholes (size_of engine.now.suite) ad.now)) start result.s }
 {
-    let whole = block_walk::absorb(tables, false, suite, start, 0, ad);
-    let state = whole.s;
-    let at = whole.at;
-    let rest = byte_runs::filled_bytes(&ad[at..ad.len()]);
-    Absorbed {
-        s: state,
-        held: rest,
-    }
+    let whole = block_walk::absorb(engine, false, start, 0, ad);
+    let held = byte_runs::filled_bytes(&ad[whole.at..ad.len()]);
+    Absorbed { s: whole.s, held }
 }
 
 // Absorbs the whole blocks of `count` buffered bytes followed by ad, which completes one, the first under the mark, and buffers the rest.
 fn absorb_past(
-    tables: &[AesTables],
-    suite: u8,
+    engine: &Engine,
     state: State,
     mark: u8,
     held: [u8; 16],
     count: usize,
     ad: &[u8],
 ) -> Absorbed
-    requires { TablesFit suite tables.now × IsSuite suite × (count < size_of suite) × (size_of suite ≤ count + length ad.now) }
-    ensures states { two_of suite result.s ≡ walked (cipher_of suite) false mark 0x10 (two_of suite state)
-        (blocks (size_of suite) (whole (size_of suite) (take count held ++ ad.now))) }
-    ensures held { result.held ≡ filled (rest (size_of suite) (take count held ++ ad.now)) }
-    ensures calls { Counted suite (length (wholes (size_of suite) (take count held ++ ad.now))) state result.s }
+    requires { (count < size_of engine.now.suite) × (size_of engine.now.suite ≤ count + length ad.now) }
+    ensures states { two_of engine.now.suite result.s ≡ walked (cipher_of engine.now.suite) false mark 0x10 (two_of engine.now.suite state)
+        (blocks (size_of engine.now.suite) (whole (size_of engine.now.suite) (take count held ++ ad.now))) }
+    ensures held { result.held ≡ filled (rest (size_of engine.now.suite) (take count held ++ ad.now)) }
+    ensures calls { Counted engine.now.suite (length (wholes (size_of engine.now.suite) (take count held ++ ad.now))) state result.s }
 {
-    let n = cipher::size_of(suite);
+    let n = engine.size();
     let need = n - count;
     let first = joined(held, count, &ad[0..need]);
-    let whole = block_walk::absorb(tables, false, suite, state, mark, &first[0..n]);
-    absorb_blocks(tables, suite, whole.s, &ad[need..ad.len()])
+    let whole = block_walk::absorb(engine, false, state, mark, &first[0..n]);
+    absorb_blocks(engine, whole.s, &ad[need..ad.len()])
 }
 
 // Absorbs the whole blocks of `count` buffered bytes followed by ad, the first under the mark, and buffers the rest. Tables are
@@ -97,17 +86,19 @@ pub fn absorb_part(
 {
     let n = cipher::size_of(suite);
     if ad.len() < n - count {
-        let buffered = joined(held, count, ad);
-        return Absorbed {
-            s: state,
-            held: buffered,
-        };
+        let held = joined(held, count, ad);
+        return Absorbed { s: state, held };
     }
     if cipher::needs_tables(suite) {
         let tables = cipher::tables(suite);
-        return absorb_past(&tables, suite, state, mark, held, count, ad);
+        let engine = Engine {
+            suite,
+            tables: &tables,
+        };
+        return absorb_past(&engine, state, mark, held, count, ad);
     }
-    absorb_past(&[], suite, state, mark, held, count, ad)
+    let engine = Engine { suite, tables: &[] };
+    absorb_past(&engine, state, mark, held, count, ad)
 }
 
 // The two states, the buffered bytes, and how many bytes were output.
@@ -137,9 +128,14 @@ fn crypt_blocks(suite: u8, state: State, mark: u8, text: &mut [u8]) -> Progress
 {
     if cipher::needs_tables(suite) {
         let tables = cipher::tables(suite);
-        return block_walk::crypt(&tables, false, suite, state, mark, text);
+        let engine = Engine {
+            suite,
+            tables: &tables,
+        };
+        return block_walk::crypt(&engine, false, state, mark, text);
     }
-    block_walk::crypt(&[], false, suite, state, mark, text)
+    let engine = Engine { suite, tables: &[] };
+    block_walk::crypt(&engine, false, state, mark, text)
 }
 
 // Seals the whole blocks of `count` buffered bytes followed by part, the first under the mark, and outputs their ciphertext; the
@@ -166,10 +162,10 @@ pub fn crypt_part(
     let n = cipher::size_of(suite);
     let all = count + part.len();
     if all < n {
-        let buffered = joined(held, count, part);
+        let held = joined(held, count, part);
         return Sealed {
             s: start,
-            held: buffered,
+            held,
             count: 0,
         };
     }
@@ -177,40 +173,39 @@ pub fn crypt_part(
     let taken = whole - count;
     gather(held, count, &part[0..taken], &mut out[0..whole]);
     let done = crypt_blocks(suite, start, mark, &mut out[0..whole]);
-    let state = done.s;
-    let buffered = byte_runs::filled_bytes(&part[taken..part.len()]);
+    let held = byte_runs::filled_bytes(&part[taken..part.len()]);
     Sealed {
-        s: state,
-        held: buffered,
+        s: done.s,
+        held,
         count: whole,
     }
 }
 
 // Seals the `count` buffered bytes of message as a short block, if there are any, and outputs their ciphertext.
 pub fn last_in(
-    tables: &[AesTables],
-    suite: u8,
+    engine: &Engine,
     state: State,
     mark: u8,
     held: [u8; 16],
     count: usize,
     out: &mut [u8],
 ) -> State
-    requires { TablesFit suite tables.now × IsSuite suite × (count < size_of suite) × (size_of suite ≤ length out.old) }
-    ensures text { out.new ≡ written (covered (cipher_of suite) false mark 0x40 (two_of suite state) (blocks (size_of suite) (take count held)))
-        out.old }
-    ensures count { count ≡ length (covered (cipher_of suite) false mark 0x40 (two_of suite state) (blocks (size_of suite) (take count held))) }
-    ensures state { two_of suite result ≡ walked (cipher_of suite) false mark 0x40 (two_of suite state) (blocks (size_of suite) (take count held)) }
-    ensures calls { Counted suite (length (blocks (size_of suite) (take count held))) state result }
+    requires { (count < size_of engine.now.suite) × (size_of engine.now.suite ≤ length out.old) }
+    ensures text { out.new ≡ written (covered (cipher_of engine.now.suite) false mark 0x40 (two_of engine.now.suite state)
+        (blocks (size_of engine.now.suite) (take count held))) out.old }
+    ensures count { count ≡ length (covered (cipher_of engine.now.suite) false mark 0x40 (two_of engine.now.suite state)
+        (blocks (size_of engine.now.suite) (take count held))) }
+    ensures state { two_of engine.now.suite result ≡ walked (cipher_of engine.now.suite) false mark 0x40 (two_of engine.now.suite state)
+        (blocks (size_of engine.now.suite) (take count held)) }
+    ensures calls { Counted engine.now.suite (length (blocks (size_of engine.now.suite) (take count held))) state result }
 {
     if count == 0 {
         return state;
     }
     byte_runs::copy(&held[0..count], &mut out[0..count]);
     crypt_short(
-        tables,
+        engine,
         false,
-        suite,
         state,
         mark ^ MARK_SHORT_TEXT,
         &mut out[0..count],

@@ -14,22 +14,26 @@ use Rattle.session_blocks.proofs.absorb_blocks.Goals as goal
 
 pub slice_bounds-filled_bytes-count : goal.slice_bounds-filled_bytes-count
 slice_bounds-filled_bytes-count c =
-    left-within (size_of c.args.suite) (some (cipher_of c.args.suite) (lawful c.args.suite)) c.args.ad.now c.absorb-whole.result.at c.absorb-whole.ensures.gone
+    let suite = c.args.engine.now.suite in
+    left-within (size_of suite) (some (cipher_of suite) (lawful suite)) c.args.ad.now c.absorb-whole.result.at c.absorb-whole.ensures.gone
 
 pub slice_bounds-filled_bytes-start : goal.slice_bounds-filled_bytes-start
 slice_bounds-filled_bytes-start c =
-    left-within (size_of c.args.suite) (some (cipher_of c.args.suite) (lawful c.args.suite)) c.args.ad.now c.absorb-whole.result.at c.absorb-whole.ensures.gone
+    let suite = c.args.engine.now.suite in
+    left-within (size_of suite) (some (cipher_of suite) (lawful suite)) c.args.ad.now c.absorb-whole.result.at c.absorb-whole.ensures.gone
 
-pub filled_bytes-rest-requires : goal.filled_bytes-rest-requires
-filled_bytes-rest-requires c =
-    omega (arith, left-short (size_of c.args.suite) (some (cipher_of c.args.suite) (lawful c.args.suite)) c.args.ad.now c.absorb-whole.result.at c.absorb-whole.ensures.gone, size_most c.args.suite)
+pub filled_bytes-held-requires : goal.filled_bytes-held-requires
+filled_bytes-held-requires c =
+    let suite = c.args.engine.now.suite in
+    let short = left-short (size_of suite) (some (cipher_of suite) (lawful suite)) c.args.ad.now c.absorb-whole.result.at c.absorb-whole.ensures.gone in
+    omega (arith, short, size_most suite)
 
 pub returns : goal.returns
 returns c =
-    let suite = c.args.suite in
+    let suite = c.args.engine.now.suite in
     let pos = some (cipher_of suite) (lawful suite) in
     let gone = c.absorb-whole.ensures.gone in record {
       states = c.absorb-whole.ensures.two 0x10;
-      held = c.filled_bytes-rest.ensures ∙ ap filled (left (size_of suite) pos c.args.ad.now c.absorb-whole.result.at gone);
+      held = c.filled_bytes-held.ensures ∙ ap filled (left (size_of suite) pos c.args.ad.now c.absorb-whole.result.at gone);
       calls = counted_passed suite false 0 c.args.start c.args.ad.now c.absorb-whole.result c.absorb-whole.ensures;
     }

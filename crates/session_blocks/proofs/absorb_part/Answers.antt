@@ -29,7 +29,7 @@ returns-then-ad-n c =
     let lx : length x ≡ c.args.count = length-take-le c.args.count c.args.held (omega (arith, c.requires.1, c.size_of-n.ensures.bounds.1)) in
     let l : length (x ++ part) < n = omega (arith, length-append x part, c.if-ad-n.true) in record {
       states = sym (short-walk (cipher_of suite) pos false 0x10 c.args.mark (two_of suite c.args.state) (x ++ part) l);
-      held = c.joined-buffered.ensures ∙ ap filled (sym (rest-short n pos (x ++ part) l));
+      held = c.joined-held.ensures ∙ ap filled (sym (rest-short n pos (x ++ part) l));
       calls = subst (λ (i : ℕ). Counted suite i c.args.state c.args.state) (sym (ap length (short-blocks n pos (x ++ part) l)))
           (counted_none suite c.args.state (omega arith));
     }
@@ -38,13 +38,7 @@ pub tables-tables-requires : goal.tables-tables-requires
 tables-tables-requires c = sym c.needs_tables.ensures ∙ c.if-needs_tables.true
 
 pub absorb_past-requires : goal.absorb_past-requires
-absorb_past-requires c =
-    (c.tables-tables.ensures, c.requires.0, c.requires.1, omega (arith, c.if-ad-n.false))
+absorb_past-requires c = (c.requires.1, omega (arith, c.if-ad-n.false))
 
 pub absorb_past-requires-2 : goal.absorb_past-requires-2
-absorb_past-requires-2 c = (
-  none_ready c.args.suite (sym c.needs_tables.ensures ∙ c.if-needs_tables.false),
-  c.requires.0,
-  c.requires.1,
-  omega (arith, c.if-ad-n.false),
-)
+absorb_past-requires-2 c = (c.requires.1, omega (arith, c.if-ad-n.false))

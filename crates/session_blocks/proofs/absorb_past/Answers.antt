@@ -17,20 +17,20 @@ use Rattle.session_blocks.proofs.absorb_past.Goals as goal
 
 pub returns : goal.returns
 returns c =
-    let suite = c.args.suite in
+    let suite = c.args.engine.now.suite in
     let count = c.args.count in
-    let n = c.size_of-n.result in
-    let en : n ≡ size_of suite = c.size_of-n.ensures.is in
-    let pos : 0 < size_of suite = omega (arith, c.size_of-n.ensures.bounds.0) in
-    let most : size_of suite ≤ 16 = omega (arith, c.size_of-n.ensures.bounds.1) in
+    let n = c.size-n.result in
+    let en : n ≡ size_of suite = c.size-n.ensures.is in
+    let pos : 0 < size_of suite = omega (arith, c.size-n.ensures.bounds.0) in
+    let most : size_of suite ≤ 16 = omega (arith, c.size-n.ensures.bounds.1) in
     let x : List ℕ = take count c.args.held in
     let part = c.args.ad.now in
     let lh : length c.args.held ≡ 16 = search rules in
-    let hn : count < size_of suite = c.requires.2 in
+    let hn : count < size_of suite = c.requires.0 in
     let lx : length x ≡ count = length-take-le count c.args.held (omega arith) in
     let need = n - count in
     let ln : count + need ≡ size_of suite = omega arith in
-    let lp : need ≤ length part = omega (arith, c.requires.3) in
+    let lp : need ≤ length part = omega (arith, c.requires.1) in
     let k = cipher_of suite in
     let first = c.joined-first.result in
     let eb = c.joined-first.ensures in record {

@@ -100,7 +100,7 @@ returns-then-all-n c =
       text = ap (λ (w : List ℕ). written w c.args.out.now) ec;
       count = ap length ec;
       states = sym (short-walk k pos false 0x40 c.args.mark (two_of suite c.args.start) (x ++ part) l);
-      held = c.joined-buffered.ensures ∙ ap filled (sym (rest-short n pos (x ++ part) l));
+      held = c.joined-held.ensures ∙ ap filled (sym (rest-short n pos (x ++ part) l));
       calls = subst (λ (i : ℕ). Counted suite i c.args.start c.args.start) (sym (ap length (short-blocks n pos (x ++ part) l)))
           (counted_none suite c.args.start (omega arith));
     }
@@ -120,9 +120,9 @@ gather-requires c =
           ∙ omega (arith, h-within d, length-take-le (e - 0) (drop 0 (part d)) (omega (arith, w-within d))),
     )
 
-pub filled_bytes-buffered-requires : goal.filled_bytes-buffered-requires
-filled_bytes-buffered-requires c =
-    let d = (goal.at.filled_bytes-buffered-requires c).Else-all-n in
+pub filled_bytes-held-requires : goal.filled_bytes-held-requires
+filled_bytes-held-requires c =
+    let d = (goal.at.filled_bytes-held-requires c).Else-all-n in
     omega (
       arith,
       ap length (rest-is (size_of (suite d)) (pos d) (x d) (part d) c.args.count (w d) (lx d) (w-is d) (h-within d)),
@@ -156,7 +156,7 @@ returns c =
       count = sym lo ∙ ap length ec;
       states = call.ensures.state.two 0x40 ∙ ap (λ (b : List ℕ). walked κ false m 0x40 S (blocks n (whole n b))) el
           ∙ ap (λ (b : List ℕ). walked κ false m 0x40 S (blocks n b)) (whole_alone n (pos d) l).0;
-      held = c.filled_bytes-buffered.ensures ∙ ap filled (rest-is n (pos d) (x d) (part d) c.args.count (w d) (lx d) (w-is d) (h-within d));
+      held = c.filled_bytes-held.ensures ∙ ap filled (rest-is n (pos d) (x d) (part d) c.args.count (w d) (lx d) (w-is d) (h-within d));
       calls = subst (λ (i : ℕ). Counted (suite d) i c.args.start call.result.s)
           (ap (λ (b : List ℕ). length (blocks n (whole n b))) el ∙ ap (λ (b : List ℕ). length (blocks n b)) (whole_alone n (pos d) l).0)
           (counted_passed (suite d) false m c.args.start _ call.result call.ensures.state);

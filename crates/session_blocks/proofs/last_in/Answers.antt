@@ -25,10 +25,10 @@ use Rattle.session_blocks.proofs.last_in.Goals as goal
 
 pub returns-then-count-eq0 : goal.returns-then-count-eq0
 returns-then-count-eq0 c =
-    let suite = c.args.suite in
+    let suite = c.args.engine.now.suite in
     let k = cipher_of suite in
     let s = two_of suite c.args.state in
-    let pos : 0 < size_of suite = omega (arith, c.requires.2) in
+    let pos : 0 < size_of suite = omega (arith, c.requires.0) in
     let x : List ℕ = take c.args.count c.args.held in
     let e : length x ≡ 0 = ap (λ (i : ℕ). length (take i c.args.held)) c.if-count-eq0.true in
     let ec = sym (cover-none k pos false 0x40 c.args.mark s x e) in record {
@@ -42,21 +42,21 @@ returns-then-count-eq0 c =
 pub slice_bounds-copy-end : goal.slice_bounds-copy-end
 slice_bounds-copy-end c =
     let l16 : length c.args.held ≡ 16 = search rules in
-    omega (arith, c.requires.2, size_most c.args.suite)
+    omega (arith, c.requires.0, size_most c.args.engine.now.suite)
 
 pub returns : goal.returns
 unfolding xor
 returns c =
-    let suite = c.args.suite in
+    let suite = c.args.engine.now.suite in
     let k = cipher_of suite in
     let s = two_of suite c.args.state in
     let h = c.args.count in
     let held = c.args.held in
     let out = c.args.out.now in
     let l16 : length held ≡ 16 = search rules in
-    let hn : h < size_of suite = c.requires.2 in
+    let hn : h < size_of suite = c.requires.0 in
     let most : size_of suite ≤ 16 = size_most suite in
-    let room : size_of suite ≤ length out = c.requires.3 in
+    let room : size_of suite ≤ length out = c.requires.1 in
     let pos : 0 < size_of suite = omega arith in
     let x : List ℕ = take h held in
     let lx : length x ≡ h = length-take-le h held (omega arith) in
