@@ -3,34 +3,27 @@
 use lib.ListN.{length}
 use mathlib.Core.Path.{sym, ◌∙◌}
 use Rattle.cipher.proofs.Suites.{none_ready}
+use Rattle.session_ladder.specs.Numbers.{error_number}
+use Rattle.session_ladder.proofs.Outcomes.{refusal_some}
 use Rattle.session.specs.Value.{end_number, end_done, ending}
 use Rattle.session.specs.Structs.{as_value}
 use Rattle.session.proofs.Refuse.{answer-kept}
 use Rattle.session.proofs.Session.finish.Goals as goal
 
-pub returns-then-number-ne0 : goal.returns-then-number-ne0
+pub returns-in-Err : goal.returns-in-Err
 unfolding ending
-returns-then-number-ne0 c =
+returns-in-Err c =
     let v = as_value c.args.self in
     let o = c.args.out.now in
     let t = c.args.tag.now in
-    answer-kept c.end_number-number.result (end_number v.suite v.ad_total v.text_total (length o) (length t)) (end_done v o) v o t
-    c.if-number-ne0.true c.end_number-number.ensures
+    answer-kept (error_number c.in-Err.error) (end_number v.suite v.ad_total v.text_total (length o) (length t)) (end_done v o) v o t
+    (refusal_some c.in-Err.error) c.in-Err.ensures
 
 pub tables-tables-requires : goal.tables-tables-requires
-tables-tables-requires c =
-    sym c.needs_tables.ensures ∙ c.if-needs_tables.true
+tables-tables-requires c = sym c.needs_tables.ensures ∙ c.if-needs_tables.true
 
 pub close-requires : goal.close-requires
-close-requires c = (
-  c.tables-tables.ensures,
-  sym c.end_number-number.ensures
-      ∙ c.if-number-ne0.false,
-)
+close-requires c = (c.tables-tables.ensures, sym c.in-Ok.ensures)
 
-pub close-requires-2 : goal.close-requires-2
-close-requires-2 c = (
-  none_ready c.args.self.suite
-      (sym c.needs_tables.ensures ∙ c.if-needs_tables.false),
-  sym c.end_number-number.ensures ∙ c.if-number-ne0.false,
-)
+pub close-requires-in-Ok : goal.close-requires-in-Ok
+close-requires-in-Ok c = (none_ready c.args.self.suite (sym c.needs_tables.ensures ∙ c.if-needs_tables.false), sym c.in-Ok.ensures)

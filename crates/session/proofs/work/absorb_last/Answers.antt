@@ -7,9 +7,7 @@ pub tables-tables-requires : goal.tables-tables-requires
 tables-tables-requires c = sym c.needs_tables.ensures ∙ c.if-needs_tables.true
 
 pub absorb_short-requires : goal.absorb_short-requires
-absorb_short-requires c =
-    (c.tables-tables.ensures, c.requires.0, c.requires.1)
+absorb_short-requires c = c.requires.1
 
 pub absorb_short-requires-2 : goal.absorb_short-requires-2
-absorb_short-requires-2 c =
-    (none_ready c.args.suite (sym c.needs_tables.ensures ∙ c.if-needs_tables.false), c.requires.0, c.requires.1)
+absorb_short-requires-2 c = c.requires.1

@@ -13,13 +13,13 @@ use Rattle.session.proofs.Flush.{begun-on, begun-none, begun-short}
 use borrow.Author.Rules.{rules}
 use Rattle.session.proofs.work.begin.Goals as goal
 
-pub returns-then-text_total-ne0 : goal.returns-then-text_total-ne0
-returns-then-text_total-ne0 c =
-    sym (begun-on (cipher_of c.args.session.suite) (as_value c.args.session) c.if-text_total-ne0.true)
+pub returns-then-session-ne0 : goal.returns-then-session-ne0
+returns-then-session-ne0 c =
+    sym (begun-on (cipher_of c.args.session.suite) (as_value c.args.session) c.if-session-ne0.true)
 
 pub returns-then-held_len-eq0 : goal.returns-then-held_len-eq0
 returns-then-held_len-eq0 c =
-    sym (begun-none (cipher_of c.args.session.suite) (as_value c.args.session) c.size_of-n.result c.size_of-n.ensures.is c.size_of-n.ensures.bounds.0 c.if-text_total-ne0.false c.if-held_len-eq0.true)
+    sym (begun-none (cipher_of c.args.session.suite) (as_value c.args.session) c.size_of-n.result c.size_of-n.ensures.is c.size_of-n.ensures.bounds.0 c.if-session-ne0.false c.if-held_len-eq0.true)
 
 pub absorb_last-requires : goal.absorb_last-requires
 absorb_last-requires c =
@@ -33,5 +33,5 @@ returns c =
     let lh : length c.args.session.held ≡ 16 = search rules in
     c.absorb_last.ensures.two
     ∙ begun-short (cipher_of c.args.session.suite) (as_value c.args.session) c.size_of-n.result c.size_of-n.ensures.is c.size_of-n.ensures.bounds.0 c.size_of-n.ensures.bounds.1 lh
-    c.if-text_total-ne0.false c.if-held_len-eq0.false
+    c.if-session-ne0.false c.if-held_len-eq0.false
     c.first_mark-mark.result c.first_mark-mark.ensures

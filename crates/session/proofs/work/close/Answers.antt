@@ -15,18 +15,21 @@ use Rattle.session.proofs.Refuse.{answer-done}
 use Rattle.session.proofs.Parts.{end-given}
 use Rattle.session.proofs.work.close.Goals as goal
 
+pub invariant_of-engine : goal.invariant_of-engine
+invariant_of-engine c =
+    let s = c.args.session in
+    let p = end-passed s.suite s.ad_total s.text_total (length c.args.out.now) (length c.args.tag.now) c.requires.1 in
+    record { known = p.0.known; fitted = c.requires.0 }
+
 pub begin-two-requires : goal.begin-two-requires
 begin-two-requires c =
     (end-passed c.args.session.suite c.args.session.ad_total c.args.session.text_total (length c.args.out.now) (length c.args.tag.now) c.requires.1).0.known
 
 pub last_in-state-requires : goal.last_in-state-requires
 last_in-state-requires c =
-    let p = end-passed c.args.session.suite c.args.session.ad_total c.args.session.text_total (length c.args.out.now) (length c.args.tag.now) c.requires.1 in
-    (c.requires.0, p.0.known, subst (λ (k : ℕ). c.args.session.text_total % c.size_of-n.result < k) c.size_of-n.ensures.is (mod-lt c.args.session.text_total c.size_of-n.ensures.bounds.0), p.1)
-
-pub tag_of-last-requires : goal.tag_of-last-requires
-tag_of-last-requires c =
-    (c.requires.0, (end-passed c.args.session.suite c.args.session.ad_total c.args.session.text_total (length c.args.out.now) (length c.args.tag.now) c.requires.1).0.known)
+    let s = c.args.session in
+    let p = end-passed s.suite s.ad_total s.text_total (length c.args.out.now) (length c.args.tag.now) c.requires.1 in
+    (subst (λ (k : ℕ). s.text_total % c.size-n.result < k) c.size-n.ensures.is (mod-lt s.text_total c.size-n.ensures.bounds.0), p.1)
 
 pub put-requires : goal.put-requires
 put-requires c =
@@ -40,7 +43,7 @@ returns c =
     let o = c.args.out.now in
     let t = c.args.tag.now in
     let p = end-passed c.args.session.suite c.args.session.ad_total c.args.session.text_total (length o) (length t) c.requires.1 in
-    end-given v (two_of c.args.session.suite c.begin-two.result) c.size_of-n.result c.first_mark-mark.result c.begin-two.ensures c.size_of-n.ensures.is c.first_mark-mark.ensures o _ _ _ _ (two_of c.args.session.suite c.last_in-state.result)
-    c.last_in-state.ensures.text c.last_in-state.ensures.count c.ended-next.ensures c.last_in-state.ensures.state
+    end-given v (two_of c.args.session.suite c.begin-two.result) c.size-n.result c.first_mark-mark.result c.begin-two.ensures c.size-n.ensures.is c.first_mark-mark.ensures o _ _ _ _ (two_of c.args.session.suite c.last_in-state.result)
+    c.last_in-state.ensures.text c.last_in-state.ensures.count c.default.ensures c.last_in-state.ensures.state
     (c.put.ensures ∙ ap (λ (k : ℕ). take k (wide c.tag_of-last.result.tag)) p.2 ∙ c.tag_of-last.ensures.tag)
     ∙ answer-done 0 (end_number v.suite v.ad_total v.text_total (length o) (length t)) (end_done v o) v o t refl (sym c.requires.1)

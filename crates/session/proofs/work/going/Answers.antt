@@ -5,6 +5,6 @@ use Rattle.session.specs.Structs.{as_value}
 use Rattle.session.proofs.Flush.{begun-on}
 use Rattle.session.proofs.work.going.Goals as goal
 
-pub returns-then-text_total-ne0 : goal.returns-then-text_total-ne0
-returns-then-text_total-ne0 c =
-    sym (begun-on (cipher_of c.args.session.suite) (as_value c.args.session) c.if-text_total-ne0.true)
+pub returns-then-session-ne0 : goal.returns-then-session-ne0
+returns-then-session-ne0 c =
+    sym (begun-on (cipher_of c.args.session.suite) (as_value c.args.session) c.if-session-ne0.true)

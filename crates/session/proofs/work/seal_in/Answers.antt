@@ -23,8 +23,8 @@ crypt_part-sealed-requires c =
     let p = text-passed c.args.session.suite c.args.session.ad_total c.args.session.text_total (length c.args.part.now) (length c.args.out.now) c.requires.0 in
     (p.0.known, subst (λ (k : ℕ). c.args.session.text_total % c.size_of-n.result < k) c.size_of-n.ensures.is (mod-lt c.args.session.text_total c.size_of-n.ensures.bounds.0), p.2)
 
-pub overflow_add-text_total : goal.overflow_add-text_total
-overflow_add-text_total c =
+pub overflow_add-session : goal.overflow_add-session
+overflow_add-session c =
     let s = c.args.session in
     let p = text-passed s.suite s.ad_total s.text_total (length c.args.part.now) (length c.args.out.now) c.requires.0 in
     omega (arith, p.0.text-most, p.1)

@@ -22,8 +22,8 @@ absorb_part-absorbed-requires c =
     let p = data_passed c.args.session.suite c.args.session.ad_total c.args.session.text_total (length c.args.part.now) c.requires in
     (p.0.known, subst (λ (k : ℕ). c.args.session.ad_total % c.size_of-n.result < k) c.size_of-n.ensures.is (mod-lt c.args.session.ad_total c.size_of-n.ensures.bounds.0))
 
-pub overflow_add-ad_total : goal.overflow_add-ad_total
-overflow_add-ad_total c =
+pub overflow_add-session : goal.overflow_add-session
+overflow_add-session c =
     let s = c.args.session in
     let p = data_passed s.suite s.ad_total s.text_total (length c.args.part.now) c.requires in
     omega (arith, p.0.data-most, p.2)
