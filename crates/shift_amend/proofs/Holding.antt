@@ -5,6 +5,7 @@ use native.Mathlib.Omega.{arith}
 use mathlib.Core.Path.{◌≡◌, refl, sym, ap, subst, ◌∙◌}
 use mathlib.Core.Bool.{Bool, true, false, true≢false}
 use mathlib.Core.List.{List}
+use Rattle.std.specs.Prelude.{Result, Ok, Err}
 use mathlib.Core.Logic.{⊎_elim}
 use lib.Dec.{eqb}
 use borrow.Author.Tests.{eqb-true, eqb-false, eq-eqb, ne_eqb}
@@ -14,14 +15,13 @@ use Rattle.status.specs.Answers.{answer}
 use Rattle.shift_check.specs.Check.{check_file}
 use Rattle.status.proofs.Numbers.{refusal_range, refusal-some}
 use Rattle.shift_check.proofs.Numbered.{check_numbered}
-use Rattle.shift_lookup.specs.declared.answers.Found.{Found}
-use Rattle.shift_lookup.specs.declared.answers.Found.TheVariants.{At, Missing, Refused}
+use Rattle.shift_lookup.specs.declared.answers.LookupError.{LookupError}
+use Rattle.shift_lookup.specs.declared.answers.LookupError.TheVariants.{Missing, Refused}
 use Rattle.shift_lookup.specs.Answers.{found_answer}
 use Rattle.shift_lookup.specs.Lookup.{lookup_job}
 use Rattle.shift_lookup.specs.Entry.{data_start, data_length, text_start, text_length, entry_of}
 use Rattle.shift_lookup.proofs.Finding.{finds}
-use Rattle.shift_amend.specs.declared.Amended.{Amended}
-use Rattle.shift_amend.specs.Amending.{no_entry, in_file, answer_of, amended_entry}
+use Rattle.shift_amend.specs.Amending.{Amended, no_entry, in_file, answer_of, amended_entry}
 use Rattle.shift_amend.specs.Inside.{refusing, finding}
 
 -- a number is 0 or not
@@ -63,14 +63,14 @@ module _ (f : List ℕ) (job : ℕ) where
   not-missing q = ⊎_elim (λ z. omega arith) (λ r. ⊎_elim (λ s. omega arith) (λ s. omega arith) r) (check_numbered first_edition newest f).number
 
   -- so what the lookup found tells whether the check refuses
-  module _ (x : Found) (q : found_answer x ≡ lookup_job f job) where
+  module _ (x : Result ℕ LookupError) (q : found_answer x ≡ lookup_job f job) where
     pub refuses-file : refusing x ≡ true → (check_file f).number ≡ 0 → ⊥
     refuses-file e z = by x e (ap number q)
       where
-        by : (y : Found) → refusing y ≡ true → (found_answer y).number ≡ (lookup_job f job).number → ⊥
-        by (At i) g h = true≢false (sym g)
-        by Missing g h = true≢false (sym g)
-        by (Refused y) g h =
+        by : (y : Result ℕ LookupError) → refusing y ≡ true → (found_answer y).number ≡ (lookup_job f job).number → ⊥
+        by (Ok i) g h = true≢false (sym g)
+        by (Err Missing) g h = true≢false (sym g)
+        by (Err (Refused y)) g h =
             zero_or_not (lookup_job f job).number
             (λ m. refusal-some y (h ∙ m))
             (λ n. let m : (lookup_job f job).number ≡ 32 = ap number (missing z n) in ⊎_elim (λ r. omega arith) (λ r. omega arith) (refusal_range y))
@@ -78,27 +78,27 @@ module _ (f : List ℕ) (job : ℕ) where
     pub passes-file : refusing x ≡ false → (check_file f).number ≡ 0
     passes-file e = zero_or_not (check_file f).number (λ z. z) (λ n. absurd (by x e (ap number q ∙ ap number (stands n)) n))
       where
-        by : (y : Found) → refusing y ≡ false → (found_answer y).number ≡ (check_file f).number → ((check_file f).number ≡ 0 → ⊥) → ⊥
-        by (At i) g h n = n (sym h)
-        by Missing g h n = not-missing (sym h)
-        by (Refused y) g h n = true≢false g
+        by : (y : Result ℕ LookupError) → refusing y ≡ false → (found_answer y).number ≡ (check_file f).number → ((check_file f).number ≡ 0 → ⊥) → ⊥
+        by (Ok i) g h n = n (sym h)
+        by (Err Missing) g h n = not-missing (sym h)
+        by (Err (Refused y)) g h n = true≢false g
 
     -- and whether it has the job
     pub finds-job : finding x ≡ true → (lookup_job f job).number ≡ 0
     finds-job e = sym (ap number q) ∙ by x e
       where
-        by : (y : Found) → finding y ≡ true → (found_answer y).number ≡ 0
-        by (At i) g = refl
-        by Missing g = absurd (true≢false (sym g))
-        by (Refused y) g = absurd (true≢false (sym g))
+        by : (y : Result ℕ LookupError) → finding y ≡ true → (found_answer y).number ≡ 0
+        by (Ok i) g = refl
+        by (Err Missing) g = absurd (true≢false (sym g))
+        by (Err (Refused y)) g = absurd (true≢false (sym g))
 
     pub lacks-job : finding x ≡ false → (lookup_job f job).number ≡ 0 → ⊥
     lacks-job e z = by x e (ap number q ∙ z)
       where
-        by : (y : Found) → finding y ≡ false → (found_answer y).number ≡ 0 → ⊥
-        by (At i) g h = true≢false g
-        by Missing g h = omega arith
-        by (Refused y) g h = refusal-some y h
+        by : (y : Result ℕ LookupError) → finding y ≡ false → (found_answer y).number ≡ 0 → ⊥
+        by (Ok i) g h = true≢false g
+        by (Err Missing) g h = omega arith
+        by (Err (Refused y)) g h = refusal-some y h
 
 -- ---- the five cases
 

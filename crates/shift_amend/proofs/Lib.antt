@@ -1,4 +1,5 @@
 pub mod Holding
 pub mod Parts
+pub mod Told
 pub mod Promised
 pub mod Outcomes

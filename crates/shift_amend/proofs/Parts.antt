@@ -7,19 +7,18 @@ use mathlib.Core.Bool.{Bool, true, false, ◌&&◌, cond}
 use mathlib.Core.List.{List}
 use lib.ListN.{length}
 use lib.Dec.{eqb}
-use borrow.Author.Tests.{eq-eqb, ne_eqb}
+use borrow.Author.Tests.{eq-eqb, ne_eqb, eqb-true, eqb-false}
 use denote.Ref.{Bor}
 use Rattle.status.specs.declared.checked.Answer.{Answer}
 use Rattle.shift_format.specs.Part.{PartOf}
 use Rattle.status.specs.Answers.{answer}
 use Rattle.shift_check.specs.Check.{check_file}
-use Rattle.shift_lookup.specs.declared.answers.Entry.{Entry}
 use Rattle.shift_lookup.specs.Lookup.{lookup_job}
-use Rattle.shift_lookup.specs.Entry.{entry_of}
+use Rattle.shift_lookup.specs.Entry.{Entry, entry_of}
 use Rattle.shift_jobs.specs.Opening.{JobOpened, left, found_opening, job_opening}
 use Rattle.shift_lookup.proofs.Places.{data_in}
-use Rattle.shift_amend.specs.declared.Amended.{Amended}
-use Rattle.shift_amend.specs.Amending.{amended_entry, holder, CurrentPart, opened_in, amended_opening}
+use Rattle.shift_amend.specs.Source.{file_of}
+use Rattle.shift_amend.specs.Amending.{Amended, amended_entry, holder, CurrentPart, opened_in, amended_opening}
 use Rattle.shift_amend.proofs.Holding.{stands, missing, five}
 
 -- the file that holds an entry
@@ -72,6 +71,16 @@ module _ (a d : List ℕ) (job : ℕ) where
   part_in z =
       subst (λ (x : Entry). x.ad_at + x.ad_len ≤ length (holder a d (amended_entry a d job))) (sym (held z))
       (data_in (holder a d (amended_entry a d job)) job)
+
+  -- one of the two files holds it
+  pub holds-in : (amended_entry a d job).entry.number ≡ 0 → ((amended_entry a d job).file ≡ 1 → ⊥) → (amended_entry a d job).file ≡ 2
+  holds-in =
+      five a d job (λ x. x.entry.number ≡ 0 → (x.file ≡ 1 → ⊥) → x.file ≡ 2)
+      (λ p z n. absurd (n refl))
+      (λ p q z n. refl)
+      (λ p q h z n. absurd (n refl))
+      (λ p q m h z n. refl)
+      (λ p q n m z k. absurd (omega arith))
 
   -- ---- opening
 
@@ -131,20 +140,24 @@ module _ (a d : Bor (List ℕ)) (job : ℕ) (x : Amended) (is : x ≡ amended_en
         let k = subst NoPlace (sym is) (no_place a.now d.now job (subst (λ (y : Amended). y.entry.number ≡ 0 → ⊥) is n)) in
         placed (rw (holder_none a d x n, k.at, k.len) p)
 
-    pub day-handed : x.entry.number ≡ 0 → x.file ≡ 2 → PartOf d r x.entry.ad_at x.entry.ad_len → CurrentPart a d r job
-    day-handed z q p = placed (rw (holder_day a d x z q) p)
+  module _ (z : x.entry.number ≡ 0) where
+    held-in : (x.file ≡ 1 → ⊥) → x.file ≡ 2
+    held-in = subst (λ (y : Amended). y.entry.number ≡ 0 → (y.file ≡ 1 → ⊥) → y.file ≡ 2) (sym is) (holds-in a.now d.now job) z
 
-    pub amendment-handed : x.entry.number ≡ 0 → (x.file ≡ 2 → ⊥) → PartOf a r x.entry.ad_at x.entry.ad_len → CurrentPart a d r job
-    amendment-handed z n p = placed (rw (holder_amendment a d x z n) p)
+    -- the file that holds it is the one that its number names
+    named : file_of x.file a d ≡ holder a d x
+    named = go (eqb x.file 1) refl
+      where
+        go : (b : Bool) → eqb x.file 1 ≡ b → cond (eqb x.file 1) a d ≡ holder a d x
+        go true e = let q = eqb-true x.file 1 e in simp e (sym (holder_amendment a d x z (λ m. omega arith)))
+        go false e = simp e (sym (holder_day a d x z (held-in (eqb-false x.file 1 e))))
 
-  -- it lies there
-  lies : x.entry.number ≡ 0 → x.entry.ad_at + x.entry.ad_len ≤ length (holder a.now d.now x)
-  lies =
-      subst (λ (y : Amended). y.entry.number ≡ 0 → y.entry.ad_at + y.entry.ad_len ≤ length (holder a.now d.now y)) (sym is)
-      (part_in a.now d.now job)
+    -- it lies there
+    pub lies-in : x.entry.ad_at + x.entry.ad_len ≤ length (file_of x.file a d).now
+    lies-in =
+        rw (named, holder_now a d x)
+        (subst (λ (y : Amended). y.entry.number ≡ 0 → y.entry.ad_at + y.entry.ad_len ≤ length (holder a.now d.now y)) (sym is)
+        (part_in a.now d.now job) z)
 
-  pub day-in : x.entry.number ≡ 0 → x.file ≡ 2 → x.entry.ad_at + x.entry.ad_len ≤ length d.now
-  day-in z q = rw (holder_day a.now d.now x z q) at (lies z)
-
-  pub amendment-in : x.entry.number ≡ 0 → (x.file ≡ 2 → ⊥) → x.entry.ad_at + x.entry.ad_len ≤ length a.now
-  amendment-in z n = rw (holder_amendment a.now d.now x z n) at (lies z)
+    pub handed : (s r : Bor (List ℕ)) → s ≡ file_of x.file a d → PartOf s r x.entry.ad_at x.entry.ad_len → CurrentPart a d r job
+    handed s r q p = placed r (rw (q, named) at p)

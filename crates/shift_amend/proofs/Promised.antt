@@ -8,14 +8,12 @@ use Rattle.status.specs.declared.checked.Answer.{Answer}
 use Rattle.shift_format.specs.Part.{PartOf}
 use Rattle.status.specs.Answers.{answer}
 use Rattle.shift_check.specs.Check.{check_file}
-use Rattle.shift_lookup.specs.declared.answers.Entry.{Entry}
 use Rattle.shift_lookup.specs.Lookup.{lookup_job}
-use Rattle.shift_lookup.specs.Entry.{entry_of}
+use Rattle.shift_lookup.specs.Entry.{Entry, entry_of}
 use Rattle.shift_jobs.specs.Opening.{job_opening}
 use Rattle.shift_lookup.specs.Promised.{Has}
 use Rattle.shift_lookup.proofs.Finding.{finds}
-use Rattle.shift_amend.specs.declared.Amended.{Amended}
-use Rattle.shift_amend.specs.Amending.{amended_entry, holder, opened_in, amended_opening}
+use Rattle.shift_amend.specs.Amending.{Amended, amended_entry, holder, opened_in, amended_opening}
 use Rattle.shift_amend.specs.Promised.{Lacks, InOrder, AmendmentWins, Neither, MissingExactly, PartOfHolder, NoRows}
 use Rattle.shift_amend.proofs.Holding.{not-missing, entry-refused, entry-missing, amendment-refused, day-refused, in-amendment, in-day, in-neither, five}
 use Rattle.shift_amend.proofs.Parts.{holder_none, holder_now, held, no_place, opens-second}

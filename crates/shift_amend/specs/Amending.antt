@@ -5,11 +5,19 @@ use Rattle.status.specs.declared.checked.Answer.{Answer}
 use Rattle.shift_format.specs.Part.{PartOf}
 use Rattle.status.specs.Answers.{answer}
 use Rattle.shift_check.specs.Check.{check_file, refused}
-use Rattle.shift_lookup.specs.declared.answers.Entry.{Entry}
 use Rattle.shift_lookup.specs.Lookup.{lookup_job}
-use Rattle.shift_lookup.specs.Entry.{entry_of}
+use Rattle.shift_lookup.specs.Entry.{Entry, entry_answer, entry_of}
 use Rattle.shift_jobs.specs.Opening.{JobOpened, left, job_opening}
-use Rattle.shift_amend.specs.declared.Amended.{Amended}
+use Rattle.shift_amend.specs.declared.Amended.{Amended as Located}
+use Rattle.shift_amend.specs.Source.{file_number}
+
+-- what a caller in C sees: the file that the status concerns, and the entry
+pub record Amended : Type 0 where
+  pub file : ℕ
+  pub entry : Entry
+
+abbrev pub amended_answer : Located → Amended
+amended_answer x = record { file = file_number x.file; entry = entry_answer x.entry }
 
 -- a refusal: its number and row, and no offset
 abbrev pub no_entry : Answer → Entry

@@ -1,3 +1,4 @@
+pub mod Source
 pub mod Amending
 pub mod Inside
 pub mod Promised

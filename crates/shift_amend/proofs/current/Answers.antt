@@ -1,25 +1,26 @@
--- The located entry tells file, place and length, and they lie in that file.
-use Rattle.shift_amend.proofs.Parts.{none-handed, day-handed, amendment-handed, day-in, amendment-in}
+-- The located entry tells file, place and length, and they lie in that file; a refusal has no place.
+use mathlib.Core.Path.{refl, sym, ap, ◌∙◌}
+use Rattle.shift_lookup.specs.Entry.{entry_answer}
+use Rattle.shift_lookup.proofs.Lookups.{error_some}
+use Rattle.shift_amend.specs.Source.{file_number}
+use Rattle.shift_amend.specs.Amending.{in_file}
+use Rattle.shift_amend.proofs.Parts.{none-handed, lies-in, handed}
 use Rattle.shift_amend.proofs.current.Goals as goal
 
-pub returns-then-located-ne0 : goal.returns-then-located-ne0
-returns-then-located-ne0 c =
-    none-handed c.args.amendment c.args.day c.args.job c.locate-located.result c.locate-located.ensures _ c.if-located-ne0.true c.stretch.ensures.0
+pub stretch-requires : goal.stretch-requires
+stretch-requires c =
+    let k = file_number c.locate-located.result.file in
+    let is = ap (λ y. in_file k (entry_answer y)) (sym c.in-Ok.is) ∙ c.locate-located.ensures in
+    rw c.of-file.ensures (lies-in c.args.amendment c.args.day c.args.job _ is refl)
 
-pub stretch-requires-then-located-eq2 : goal.stretch-requires-then-located-eq2
-stretch-requires-then-located-eq2 c =
-    day-in c.args.amendment c.args.day c.args.job c.locate-located.result c.locate-located.ensures c.if-located-ne0.false c.if-located-eq2.true
+pub returns-in-Ok : goal.returns-in-Ok
+returns-in-Ok c =
+    let k = file_number c.locate-located.result.file in
+    let is = ap (λ y. in_file k (entry_answer y)) (sym c.in-Ok.is) ∙ c.locate-located.ensures in
+    handed c.args.amendment c.args.day c.args.job _ is refl c.of-file.result _ c.of-file.ensures c.stretch.ensures.0
 
-pub returns-then-located-eq2 : goal.returns-then-located-eq2
-returns-then-located-eq2 c =
-    day-handed c.args.amendment c.args.day c.args.job c.locate-located.result c.locate-located.ensures _ c.if-located-ne0.false
-    c.if-located-eq2.true c.stretch-then-located-eq2.ensures.0
-
-pub stretch-requires-2 : goal.stretch-requires-2
-stretch-requires-2 c =
-    amendment-in c.args.amendment c.args.day c.args.job c.locate-located.result c.locate-located.ensures c.if-located-ne0.false c.if-located-eq2.false
-
-pub returns : goal.returns
-returns c =
-    amendment-handed c.args.amendment c.args.day c.args.job c.locate-located.result c.locate-located.ensures _ c.if-located-ne0.false
-    c.if-located-eq2.false c.stretch-2.ensures.0
+pub returns-in-Err : goal.returns-in-Err
+returns-in-Err c =
+    let k = file_number c.locate-located.result.file in
+    let is = ap (λ y. in_file k (entry_answer y)) (sym c.in-Err.is) ∙ c.locate-located.ensures in
+    none-handed c.args.amendment c.args.day c.args.job _ is _ (error_some _) c.stretch-in-Err.ensures.0
