@@ -10,7 +10,7 @@ ghost use Rattle.aes_spec.specs.Cipher.{sub_bytes, shift_rows, mix_columns, add_
 ghost use Rattle.aes_plain.specs.Columns.{bytes_of, row, mix_column, Follows};
 
 use block::block_of;
-use word::{le32, store4_32};
+use word::{Word, le32};
 
 mod sbox;
 
@@ -172,14 +172,12 @@ pub fn encrypt_with(table: &[u8; 256], key: [u8; 16], block: [u8; 16]) -> [u8; 1
     let mut k = load(key);
     let mut s = add_round_key(load(block), k);
     let mut rc: u32 = 1;
-    let mut i: usize = 0;
-    while i < 10 {
+    for i in 0..10usize {
         k = next_key(table, k, rc);
         s = round(table, s, k, i < 9);
         rc = next_rcon(rc);
-        i += 1;
     }
-    store4_32(s.a, s.b, s.c, s.d)
+    u32::store4(s.a, s.b, s.c, s.d)
 }
 
 // The encryption of a block.

@@ -9,7 +9,7 @@ ghost use Rattle.aes_plain.specs.Columns.{bytes_of, row, mix_column, Follows};
 ghost use Rattle.aes_tables.specs.Tables.{share, IsTables};
 
 use aes_plain::Columns;
-use word::{le32, store4_32};
+use word::{Word, le32};
 
 mod rows;
 
@@ -103,15 +103,13 @@ pub fn encrypt_with(tables: &Tables, key: [u8; 16], block: [u8; 16]) -> [u8; 16]
     let mut k = aes_plain::load(key);
     let mut s = aes_plain::add_round_key(aes_plain::load(block), k);
     let mut rc: u32 = 1;
-    let mut i: usize = 0;
-    while i < 9 {
+    for i in 0..9usize {
         k = next_key(tables, k, rc);
         s = aes_plain::add_round_key(mix_columns(tables, s), k);
         rc = aes_plain::next_rcon(rc);
-        i += 1;
     }
     s = aes_plain::add_round_key(shift_rows(tables, s), next_key(tables, k, rc));
-    store4_32(s.a, s.b, s.c, s.d)
+    u32::store4(s.a, s.b, s.c, s.d)
 }
 
 // The encryption of a block.

@@ -7,13 +7,13 @@ ghost use Rattle.mode.specs.Words.{shuffle};
 ghost use Rattle.block_state.specs.Two.{Clean};
 
 use block::Block;
-use word::{rotl16, rotl32};
+use word::Word;
 
 // On four words of 32 bits.
 fn shuffled16(x: Block) -> Block
     ensures { wide result ≡ shuffle 16 (wide x) }
 {
-    let rotated = rotl32((x.b % 0x1_0000_0000) as u32, 31) as u64;
+    let rotated = ((x.b % 0x1_0000_0000) as u32).rotl(31) as u64;
     Block {
         a: x.b / 0x1_0000_0000 + 0x1_0000_0000 * rotated,
         b: x.a,
@@ -25,7 +25,7 @@ fn shuffled8(x: u64) -> u64
     ensures { bytes 8 result ≡ shuffle 8 (bytes 8 x) }
 {
     let high = x / 0x1_0000_0000;
-    let rotated = rotl16((high % 0x1_0000) as u16, 15) as u64;
+    let rotated = ((high % 0x1_0000) as u16).rotl(15) as u64;
     high / 0x1_0000 + 0x1_0000_0000 * (x % 0x1_0000_0000) + 0x1_0000 * rotated
 }
 

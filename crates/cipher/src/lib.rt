@@ -90,7 +90,7 @@ fn by_cham128(key: Block, block: Block) -> Block
 {
     let key_bytes = block::bytes_of(key);
     let block_bytes = block::bytes_of(block);
-    block::block_of(cham128::encrypt(key_bytes, block_bytes))
+    block::block_of(cham::encrypt128(key_bytes, block_bytes))
 }
 
 fn by_speck(key0: u64, key1: u64, block: u64) -> u64
@@ -106,7 +106,7 @@ fn by_cham64(key0: u64, key1: u64, block: u64) -> u64
 {
     let key_bytes = block::bytes_of(Block { a: key0, b: key1 });
     let block_bytes = block::bytes8(block);
-    block::number8(cham64::encrypt(key_bytes, block_bytes))
+    block::number8(cham::encrypt64(key_bytes, block_bytes))
 }
 
 // The encryption of a block of 16 bytes. It takes an engine by its parts, which pass in registers, and has two callers, so that it stays

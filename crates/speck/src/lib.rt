@@ -5,6 +5,8 @@ ghost use Rattle.std.specs.Prelude.{◌≡◌};
 ghost use Rattle.block.specs.Bytes.{word};
 ghost use Rattle.speck.specs.Speck.{upper, lower, next_l, next_r, speck};
 
+use word::Word;
+
 // The state (X1, X0).
 #[derive(Clone, Copy)]
 struct Pair {
@@ -24,10 +26,10 @@ struct Keys {
 fn round(x: Pair, r: u32) -> Pair
     ensures { (result.x1 ≡ upper x.x1 x.x0 r) × (result.x0 ≡ lower x.x1 x.x0 r) }
 {
-    let s = word::add32(word::rotl32(x.x1, 24), x.x0) ^ r;
+    let s = x.x1.rotl(24).plus(x.x0) ^ r;
     Pair {
         x1: s,
-        x0: word::rotl32(x.x0, 3) ^ s,
+        x0: x.x0.rotl(3) ^ s,
     }
 }
 
@@ -47,10 +49,10 @@ fn keys_of(key: [u8; 16]) -> Keys
     ensures { (result.r ≡ word 4 key 0) × (result.l0 ≡ word 4 key 4) × (result.l1 ≡ word 4 key 8) × (result.l2 ≡ word 4 key 12) }
 {
     Keys {
-        r: word::le32(key[0], key[1], key[2], key[3]),
-        l0: word::le32(key[4], key[5], key[6], key[7]),
-        l1: word::le32(key[8], key[9], key[10], key[11]),
-        l2: word::le32(key[12], key[13], key[14], key[15]),
+        r: u32::nth(&key, 0),
+        l0: u32::nth(&key, 1),
+        l1: u32::nth(&key, 2),
+        l2: u32::nth(&key, 3),
     }
 }
 
@@ -58,8 +60,8 @@ fn pair_of(block: [u8; 8]) -> Pair
     ensures { (result.x1 ≡ word 4 block 4) × (result.x0 ≡ word 4 block 0) }
 {
     Pair {
-        x1: word::le32(block[4], block[5], block[6], block[7]),
-        x0: word::le32(block[0], block[1], block[2], block[3]),
+        x1: u32::nth(&block, 1),
+        x0: u32::nth(&block, 0),
     }
 }
 
@@ -70,12 +72,10 @@ pub fn encrypt(key: [u8; 16], block: [u8; 8]) -> [u8; 8]
 {
     let mut k = keys_of(key);
     let mut x = pair_of(block);
-    let mut i: u32 = 0;
-    while i < 27 {
+    for i in 0..27 {
         let r = k.r;
         k = next(k, i);
         x = round(x, r);
-        i += 1;
     }
     word::store2_32(x.x0, x.x1)
 }

@@ -32,9 +32,9 @@ fn answer<R: Read, W: Write>(
             print_line(output, &aes_plain::encrypt(key, block))?;
             print_line(output, &aes_tables::encrypt(key, block))
         }
-        2 => print_line(output, &cham128::encrypt(key, bytes(input)?)),
+        2 => print_line(output, &cham::encrypt128(key, bytes(input)?)),
         3 => print_line(output, &speck::encrypt(key, bytes(input)?)),
-        4 => print_line(output, &cham64::encrypt(key, bytes(input)?)),
+        4 => print_line(output, &cham::encrypt64(key, bytes(input)?)),
         _ => Ok(()),
     }
 }

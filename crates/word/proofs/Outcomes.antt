@@ -1,24 +1,24 @@
--- Every public function of `word` leaves one outcome: its contract gives the result.
+-- Every public function of `word`, and every method of its words, leaves one outcome: its contract gives the result.
 use Rattle.std.proofs.Common.{sym, refl, ◌∙◌}
 use Rattle.block.specs.Outcome.{OneOutcome}
-use Rattle.word.proofs.add16.Kinds as add16-kinds
-use Rattle.word.proofs.add16.Reads as add16-reads
-use Rattle.word.proofs.add32.Kinds as add32-kinds
-use Rattle.word.proofs.add32.Reads as add32-reads
-use Rattle.word.proofs.rotl16.Kinds as rotl16-kinds
-use Rattle.word.proofs.rotl16.Reads as rotl16-reads
-use Rattle.word.proofs.rotl32.Kinds as rotl32-kinds
-use Rattle.word.proofs.rotl32.Reads as rotl32-reads
+use Rattle.word.proofs.U16Word.plus.Kinds as add16-kinds
+use Rattle.word.proofs.U16Word.plus.Reads as add16-reads
+use Rattle.word.proofs.U32Word.plus.Kinds as add32-kinds
+use Rattle.word.proofs.U32Word.plus.Reads as add32-reads
+use Rattle.word.proofs.U16Word.rotl.Kinds as rotl16-kinds
+use Rattle.word.proofs.U16Word.rotl.Reads as rotl16-reads
+use Rattle.word.proofs.U32Word.rotl.Kinds as rotl32-kinds
+use Rattle.word.proofs.U32Word.rotl.Reads as rotl32-reads
 use Rattle.word.proofs.le16.Kinds as le16-kinds
 use Rattle.word.proofs.le16.Reads as le16-reads
 use Rattle.word.proofs.le32.Kinds as le32-kinds
 use Rattle.word.proofs.le32.Reads as le32-reads
 use Rattle.word.proofs.store2_32.Kinds as store2-32-kinds
 use Rattle.word.proofs.store2_32.Reads as store2-32-reads
-use Rattle.word.proofs.store4_16.Kinds as store4-16-kinds
-use Rattle.word.proofs.store4_16.Reads as store4-16-reads
-use Rattle.word.proofs.store4_32.Kinds as store4-32-kinds
-use Rattle.word.proofs.store4_32.Reads as store4-32-reads
+use Rattle.word.proofs.U16Word.store4.Kinds as store4-16-kinds
+use Rattle.word.proofs.U16Word.store4.Reads as store4-16-reads
+use Rattle.word.proofs.U32Word.store4.Kinds as store4-32-kinds
+use Rattle.word.proofs.U32Word.store4.Reads as store4-32-reads
 
 pub add16 : OneOutcome add16-kinds.ps add16-kinds.r add16-reads.Pre add16-reads.Post
 add16 κs a h x y = (x.ensures ∙ sym y.ensures, refl)

@@ -1,22 +1,130 @@
 // Words of 16 and 32 bits: rotation, addition, and reading from and writing to bytes.
 #![tactic(auto)]
 
-ghost use Rattle.std.specs.Prelude.{◌≡◌, ◌+◌, ◌*◌, ◌^◌, ◌<◌, [], ◌∷◌, ◌++◌};
-ghost use Rattle.block.specs.Words.{rotl, add};
-ghost use Rattle.block.specs.Bytes.{value, bytes};
+ghost use Rattle.std.specs.Prelude.{◌≡◌, ◌≤◌, ℕ, List, ◌+◌, ◌*◌, ◌/◌, ◌^◌, ◌<◌, [], ◌∷◌, ◌++◌, length};
+ghost use Rattle.block.specs.Words.{rotl, add, xor};
+ghost use Rattle.block.specs.Bytes.{value, bytes, word};
 
 use block::Block;
 
-pub fn add32(left: u32, right: u32) -> u32
-    ensures { result ≡ add 32 left right }
+// A word of a cipher whose blocks are four words.
+pub trait Word: Copy {
+    // The bytes of four words.
+    type Four;
+
+    // How many bits it has, its number, and the bytes of four of them.
+    ghost width: { ℕ };
+
+    ghost number: { Self → ℕ };
+
+    ghost four: { Self.Four → List ℕ };
+
+    // The word of a small number.
+    fn small(n: u32) -> Self
+        requires { n < 2 ^ 16 }
+        ensures { number result ≡ n };
+
+    // Word i of the bytes.
+    fn nth(from: &[u8], i: usize) -> Self
+        requires { width / 8 * i + width / 8 ≤ length from.now }
+        ensures { number result ≡ word (width / 8) from.now (width / 8 * i) };
+
+    fn rotl(self, by: u32) -> Self
+        requires { (0 < by) × (by < width) }
+        ensures { number result ≡ rotl width by (number self) };
+
+    fn plus(self, right: Self) -> Self
+        ensures { number result ≡ add width (number self) (number right) };
+
+    fn xor(self, right: Self) -> Self
+        ensures { number result ≡ xor (number self) (number right) };
+
+    fn store4(word0: Self, word1: Self, word2: Self, word3: Self) -> Self::Four
+        ensures { four result ≡ bytes (width / 8) (number word0) ++ bytes (width / 8) (number word1) ++ bytes (width / 8) (number word2) ++ bytes (width / 8) (number word3) };
+}
+
+impl Word for u16 {
+    type Four = [u8; 8];
+
+    ghost width = { 16 };
+
+    ghost number = { λ x. x };
+
+    ghost four = { λ x. x };
+
+    fn small(n: u32) -> u16 {
+        n as u16
+    }
+
+    fn nth(from: &[u8], i: usize) -> u16 {
+        le16(from[2 * i], from[2 * i + 1])
+    }
+
+    fn rotl(self, by: u32) -> u16 {
+        u16::rotate_left(self, by)
+    }
+
+    fn plus(self, right: u16) -> u16 {
+        u16::wrapping_add(self, right)
+    }
+
+    fn xor(self, right: u16) -> u16 {
+        self ^ right
+    }
+
+    fn store4(word0: u16, word1: u16, word2: u16, word3: u16) -> [u8; 8] {
+        block::bytes8(join32(join16(word0, word1), join16(word2, word3)))
+    }
+}
+
+impl Word for u32 {
+    type Four = [u8; 16];
+
+    ghost width = { 32 };
+
+    ghost number = { λ x. x };
+
+    ghost four = { λ x. x };
+
+    fn small(n: u32) -> u32 {
+        n
+    }
+
+    fn nth(from: &[u8], i: usize) -> u32 {
+        let at = 4 * i;
+        le32(from[at], from[at + 1], from[at + 2], from[at + 3])
+    }
+
+    fn rotl(self, by: u32) -> u32 {
+        u32::rotate_left(self, by)
+    }
+
+    fn plus(self, right: u32) -> u32 {
+        u32::wrapping_add(self, right)
+    }
+
+    fn xor(self, right: u32) -> u32 {
+        self ^ right
+    }
+
+    fn store4(word0: u32, word1: u32, word2: u32, word3: u32) -> [u8; 16] {
+        block::bytes_of(Block {
+            a: join32(word0, word1),
+            b: join32(word2, word3),
+        })
+    }
+}
+
+pub fn le16(byte0: u8, byte1: u8) -> u16
+    ensures { result ≡ value (byte0 ∷ byte1 ∷ []) }
 {
-    std::num::wrapping_add_u32(left, right)
+    u16::from_le_bytes([byte0, byte1])
 }
 
 pub fn le32(byte0: u8, byte1: u8, byte2: u8, byte3: u8) -> u32
     ensures { result ≡ value (byte0 ∷ byte1 ∷ byte2 ∷ byte3 ∷ []) }
 {
-    byte0 as u32 + ((byte1 as u32) << 8) + ((byte2 as u32) << 16) + ((byte3 as u32) << 24)
+    u32::from_le_bytes([byte0, byte1, byte2, byte3])
 }
 
 // One number in the low half, the other in the high half.
@@ -37,45 +145,4 @@ pub fn store2_32(low: u32, high: u32) -> [u8; 8]
     ensures { result ≡ bytes 4 low ++ bytes 4 high }
 {
     block::bytes8(join32(low, high))
-}
-
-pub fn rotl32(word: u32, by: u32) -> u32
-    requires { (0 < by) × (by < 32) }
-    ensures { result ≡ rotl 32 by word }
-{
-    (word << by) + (word >> (32 - by))
-}
-
-pub fn rotl16(word: u16, by: u16) -> u16
-    requires { (0 < by) × (by < 16) }
-    ensures { result ≡ rotl 16 by word }
-{
-    (word << by) + (word >> (16 - by))
-}
-
-pub fn add16(left: u16, right: u16) -> u16
-    ensures { result ≡ add 16 left right }
-{
-    std::num::wrapping_add_u16(left, right)
-}
-
-pub fn le16(byte0: u8, byte1: u8) -> u16
-    ensures { result ≡ value (byte0 ∷ byte1 ∷ []) }
-{
-    byte0 as u16 + ((byte1 as u16) << 8)
-}
-
-pub fn store4_16(word0: u16, word1: u16, word2: u16, word3: u16) -> [u8; 8]
-    ensures { result ≡ bytes 2 word0 ++ bytes 2 word1 ++ bytes 2 word2 ++ bytes 2 word3 }
-{
-    block::bytes8(join32(join16(word0, word1), join16(word2, word3)))
-}
-
-pub fn store4_32(word0: u32, word1: u32, word2: u32, word3: u32) -> [u8; 16]
-    ensures { result ≡ bytes 4 word0 ++ bytes 4 word1 ++ bytes 4 word2 ++ bytes 4 word3 }
-{
-    block::bytes_of(Block {
-        a: join32(word0, word1),
-        b: join32(word2, word3),
-    })
 }

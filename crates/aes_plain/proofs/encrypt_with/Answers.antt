@@ -10,23 +10,22 @@ use Rattle.aes_plain.proofs.encrypt_with.Goals as goal
 
 pub loop-i-init : goal.loop-i-init
 unfolding power
-loop-i-init c = (omega arith, refl, track_none)
+loop-i-init c = (refl, track_none)
 
 pub next_rcon-rc-requires : goal.next_rcon-rc-requires
 next_rcon-rc-requires c =
-    subst (λ (x : ℕ). x < 256) (sym c.loop-i.invariant.1) (power_lt c.loop-i.i)
+    subst (λ (x : ℕ). x < 256) (sym c.loop-i.invariant.0) (power_lt c.loop-i.i)
 
 pub loop-i-preserved : goal.loop-i-preserved
 loop-i-preserved c = (
-  omega arith,
-  power-turn c.loop-i.i c.loop-i.invariant.1 c.next_rcon-rc.ensures,
-  track_turn c.loop-i.i c.loop-i.invariant.2 (rcon_is c.loop-i.i c.loop-i.invariant.1) c.next_key-k.ensures c.round-s.ensures,
+  power-turn c.loop-i.i c.loop-i.invariant.0 c.next_rcon-rc.ensures,
+  track_turn c.loop-i.i c.loop-i.invariant.1 (rcon_is c.loop-i.i c.loop-i.invariant.0) c.next_key-k.ensures c.round-s.ensures,
 )
 
 pub returns : goal.returns
 returns c =
     let l : length c.args.key ≡ 16 = search rules in
-    let e : c.loop-i.i ≡ 10 = omega (arith, c.loop-i.invariant.0, c.loop-i-test.false) in
-    track_end c.args.key c.args.block c.loop-i.i e c.loop-i.invariant.2 l c.load-k.ensures
+    let e : c.loop-i.i ≡ 10 = omega arith in
+    track_end c.args.key c.args.block c.loop-i.i e c.loop-i.invariant.1 l c.load-k.ensures
     c.load.ensures c.add_round_key-s.ensures
-    c.store4_32.ensures
+    c.store4.ensures

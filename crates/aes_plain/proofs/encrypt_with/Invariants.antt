@@ -1,13 +1,9 @@
 -- `aes_plain::encrypt_with` meets its contract. The loop's invariant: k is round key i, s the state after i rounds, rc the round constant of the next turn.
 use mathlib.Core.Path.{◌≡◌}
-use Prim.Native.Nat.{◌≤◌, ◌-◌}
 use Rattle.aes_spec.specs.Cipher.{power}
 use Rattle.aes_plain.specs.Columns.{bytes_of}
 use Rattle.aes_plain.proofs.Rounds.{Tracks}
 use Rattle.aes_plain.proofs.encrypt_with.Given as goal
 
 abbrev pub invariant-loop-i : goal.invariant-loop-i
-invariant-loop-i l = (l.i ≤ 10) × (l.rc ≡ power l.i) × Tracks (bytes_of l.initial.k) (bytes_of l.initial.s) (bytes_of l.k) (bytes_of l.s) l.i
-
-abbrev pub decreases-loop-i : goal.decreases-loop-i
-decreases-loop-i l = 10 - l.i
+invariant-loop-i l = (l.rc ≡ power l.i) × Tracks (bytes_of l.initial.k) (bytes_of l.initial.s) (bytes_of l.k) (bytes_of l.s) l.i

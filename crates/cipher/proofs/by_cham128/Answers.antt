@@ -5,5 +5,5 @@ use Rattle.cipher.proofs.by_cham128.Goals as goal
 
 pub returns : goal.returns
 returns c =
-    through_whole (cham 32) c.block_of.ensures c.encrypt.ensures c.bytes_of-key_bytes.ensures
+    through_whole (cham 32) c.block_of.ensures c.encrypt128.ensures c.bytes_of-key_bytes.ensures
     c.bytes_of-block_bytes.ensures

@@ -5,5 +5,5 @@ use Rattle.cipher.proofs.by_cham64.Goals as goal
 
 pub returns : goal.returns
 returns c =
-    through_whole (cham 16) c.number8.ensures c.encrypt.ensures c.bytes_of-key_bytes.ensures
+    through_whole (cham 16) c.number8.ensures c.encrypt64.ensures c.bytes_of-key_bytes.ensures
     c.bytes8-block_bytes.ensures

@@ -9,14 +9,13 @@ use Rattle.speck.proofs.encrypt.Goals as goal
 
 pub loop-i-init : goal.loop-i-init
 unfolding schedule rounds
-loop-i-init c = (omega arith, refl, refl)
+loop-i-init c = (refl, refl)
 
 pub loop-i-preserved : goal.loop-i-preserved
 unfolding schedule rounds
 loop-i-preserved c = (
-  omega arith,
-  rw add-one (same-schedule c.next-k.ensures.0 c.next-k.ensures.1 c.next-k.ensures.2 c.next-k.ensures.3 ∙ ap (λ (s : Schedule). next s c.loop-i.i) c.loop-i.invariant.1),
-  rw add-one (same-state c.round-x.ensures.0 c.round-x.ensures.1 ∙ ap₂ (λ (s : Schedule) (q : State). round q s.r) c.loop-i.invariant.1 c.loop-i.invariant.2),
+  rw add-one (same-schedule c.next-k.ensures.0 c.next-k.ensures.1 c.next-k.ensures.2 c.next-k.ensures.3 ∙ ap (λ (s : Schedule). next s c.loop-i.i) c.loop-i.invariant.0),
+  rw add-one (same-state c.round-x.ensures.0 c.round-x.ensures.1 ∙ ap₂ (λ (s : Schedule) (q : State). round q s.r) c.loop-i.invariant.0 c.loop-i.invariant.1),
 )
 
 pub returns : goal.returns
@@ -27,4 +26,4 @@ returns c =
     let q : state c.pair_of-x.result ≡ state_of c.args.block = same-state c.pair_of-x.ensures.0 c.pair_of-x.ensures.1 in
     c.store2_32.ensures
     ∙ ap bytes_of
-    (c.loop-i.invariant.2 ∙ ap (rounds (keys c.keys_of-k.result) (state c.pair_of-x.result)) n ∙ ap₂ (λ (j : Schedule) (y : State). rounds j y 27) p q)
+    (c.loop-i.invariant.1 ∙ ap (rounds (keys c.keys_of-k.result) (state c.pair_of-x.result)) n ∙ ap₂ (λ (j : Schedule) (y : State). rounds j y 27) p q)

@@ -1,5 +1,4 @@
 -- `speck::encrypt` meets its contract: before round i the loop holds the schedule of round i and the state after i rounds.
-use Prim.Native.Nat.{◌≤◌, ◌-◌}
 use mathlib.Core.Path.{◌≡◌}
 use Rattle.speck.specs.declared.Pair.{Pair}
 use Rattle.speck.specs.declared.Keys.{Keys}
@@ -13,7 +12,4 @@ abbrev pub keys : Keys → Schedule
 keys k = record { r = k.r; l0 = k.l0; l1 = k.l1; l2 = k.l2 }
 
 abbrev pub invariant-loop-i : goal.invariant-loop-i
-invariant-loop-i l = (l.i ≤ 27) × (keys l.k ≡ schedule (keys l.initial.k) l.i) × (state l.x ≡ rounds (keys l.initial.k) (state l.initial.x) l.i)
-
-abbrev pub decreases-loop-i : goal.decreases-loop-i
-decreases-loop-i l = 27 - l.i
+invariant-loop-i l = (keys l.k ≡ schedule (keys l.initial.k) l.i) × (state l.x ≡ rounds (keys l.initial.k) (state l.initial.x) l.i)

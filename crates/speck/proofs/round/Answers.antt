@@ -7,5 +7,5 @@ use Rattle.speck.proofs.round.Goals as goal
 pub returns : goal.returns
 unfolding xor
 returns c =
-    let sum = c.add32.ensures ∙ ap (λ (y : ℕ). add 32 y c.args.x.x0) c.rotl32.ensures in
-    (ap (λ (s : ℕ). xor s c.args.r) sum, ap₂ (λ (y s : ℕ). xor y (xor s c.args.r)) c.rotl32-2.ensures sum)
+    let sum = c.plus.ensures ∙ ap (λ (y : ℕ). add 32 y c.args.x.x0) c.rotl.ensures in
+    (ap (λ (s : ℕ). xor s c.args.r) sum, ap₂ (λ (y s : ℕ). xor y (xor s c.args.r)) c.rotl-2.ensures sum)

@@ -10,4 +10,4 @@ use Rattle.block_step.proofs.shuffle.shuffled16.Goals as goal
 pub returns : goal.returns
 returns c =
     let hb : c.args.x.b < 2 ^ 64 = omega arith in
-    ap (λ (t : ℕ). bytes 8 (c.args.x.b / 0x1_0000_0000 + 0x1_0000_0000 * t) ++ bytes 8 c.args.x.a) c.rotl32-rotated.ensures ∙ shuffle_16 c.args.x.a c.args.x.b hb
+    ap (λ (t : ℕ). bytes 8 (c.args.x.b / 0x1_0000_0000 + 0x1_0000_0000 * t) ++ bytes 8 c.args.x.a) c.rotl-rotated.ensures ∙ shuffle_16 c.args.x.a c.args.x.b hb

@@ -1,7 +1,0 @@
--- `cham128::turn` meets its contract: the definition, step by step.
-use Rattle.block.specs.Words.{xor}
-use Rattle.cham128.proofs.turn.Goals as goal
-
-pub returns : goal.returns
-unfolding xor
-returns c = cc

@@ -1,7 +1,0 @@
--- `cham64::turn` meets its contract: the definition, step by step.
-use Rattle.block.specs.Words.{xor}
-use Rattle.cham64.proofs.turn.Goals as goal
-
-pub returns : goal.returns
-unfolding xor
-returns c = cc
