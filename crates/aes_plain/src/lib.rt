@@ -23,37 +23,48 @@ pub struct Columns {
     pub d: u32,
 }
 
-// The S-box at the byte in row k of a column.
-fn sub_byte(t: &[u8; 256], x: u32, k: u32) -> u8
-    requires { IsSbox t.now × (k < 4) }
-    ensures { result ≡ sub_byte (row k x) }
-{
-    t[((x >> (8 * k)) % 256) as usize]
+// Where an engine reads the S-box.
+pub trait SubBytes: Copy {
+    // The S-box at the byte in row k of a column.
+    fn sub_byte(self, x: u32, k: u32) -> u8
+        requires { k < 4 }
+        ensures { result ≡ sub_byte (row k x) };
+}
+
+// The S-box, borrowed.
+#[derive(Clone, Copy)]
+struct Table<'a> {
+    bytes: &'a [u8; 256],
+    ghost rule: { IsSbox bytes.now },
+}
+
+impl SubBytes for Table<'_> {
+    fn sub_byte(self, x: u32, k: u32) -> u8 {
+        self.bytes[((x >> (8 * k)) % 256) as usize]
+    }
 }
 
 // SubBytes and ShiftRows of one column: row r comes from the r-th of the four columns.
-fn shifted(t: &[u8; 256], a: u32, b: u32, c: u32, d: u32) -> u32
-    requires { IsSbox t.now }
+fn shifted<S: SubBytes>(sbox: S, a: u32, b: u32, c: u32, d: u32) -> u32
     ensures { bytes 4 result ≡ sub_byte (row 0 a) ∷ sub_byte (row 1 b) ∷ sub_byte (row 2 c) ∷ sub_byte (row 3 d) ∷ [] }
 {
     le32(
-        sub_byte(t, a, 0),
-        sub_byte(t, b, 1),
-        sub_byte(t, c, 2),
-        sub_byte(t, d, 3),
+        sbox.sub_byte(a, 0),
+        sbox.sub_byte(b, 1),
+        sbox.sub_byte(c, 2),
+        sbox.sub_byte(d, 3),
     )
 }
 
 // SubBytes and ShiftRows.
-fn shift_rows(t: &[u8; 256], s: Columns) -> Columns
-    requires { IsSbox t.now }
+pub fn shift_rows<S: SubBytes>(sbox: S, s: Columns) -> Columns
     ensures { bytes_of result ≡ shift_rows (sub_bytes (bytes_of s)) }
 {
     Columns {
-        a: shifted(t, s.a, s.b, s.c, s.d),
-        b: shifted(t, s.b, s.c, s.d, s.a),
-        c: shifted(t, s.c, s.d, s.a, s.b),
-        d: shifted(t, s.d, s.a, s.b, s.c),
+        a: shifted(sbox, s.a, s.b, s.c, s.d),
+        b: shifted(sbox, s.b, s.c, s.d, s.a),
+        c: shifted(sbox, s.c, s.d, s.a, s.b),
+        d: shifted(sbox, s.d, s.a, s.b, s.c),
     }
 }
 
@@ -105,11 +116,10 @@ pub fn add_round_key(state: Columns, key: Columns) -> Columns
 }
 
 // A round; the last one does not mix columns.
-fn round(t: &[u8; 256], s: Columns, k: Columns, mixing: bool) -> Columns
-    requires { IsSbox t.now }
+fn round<S: SubBytes>(sbox: S, s: Columns, k: Columns, mixing: bool) -> Columns
     ensures { bytes_of result ≡ add_round_key (cond mixing (mix_columns (shift_rows (sub_bytes (bytes_of s)))) (shift_rows (sub_bytes (bytes_of s)))) (bytes_of k) }
 {
-    let u = shift_rows(t, s);
+    let u = shift_rows(sbox, s);
     if mixing {
         return add_round_key(mix_columns(u), k);
     }
@@ -128,12 +138,11 @@ pub fn chained(key: Columns, before: u32) -> Columns
 }
 
 // The round key after k; rc is its Rcon.
-fn next_key(t: &[u8; 256], k: Columns, rc: u32) -> Columns
-    requires { IsSbox t.now }
+pub fn next_key<S: SubBytes>(sbox: S, k: Columns, rc: u32) -> Columns
     ensures { Follows (bytes_of k) (bytes 4 rc) (bytes_of result) }
 {
     let w = rot_word(k.d);
-    chained(k, shifted(t, w, w, w, w) ^ rc)
+    chained(k, shifted(sbox, w, w, w, w) ^ rc)
 }
 
 // The Rcon after an Rcon, as a number: 0x11b is 0x1b and the bit that drops out.
@@ -169,12 +178,13 @@ pub fn encrypt_with(table: &[u8; 256], key: [u8; 16], block: [u8; 16]) -> [u8; 1
     requires { IsSbox table.now }
     ensures { result ≡ cipher key block }
 {
+    let sbox = Table { bytes: table };
     let mut k = load(key);
     let mut s = add_round_key(load(block), k);
     let mut rc: u32 = 1;
     for i in 0..10usize {
-        k = next_key(table, k, rc);
-        s = round(table, s, k, i < 9);
+        k = next_key(sbox, k, rc);
+        s = round(sbox, s, k, i < 9);
         rc = next_rcon(rc);
     }
     u32::store4(s.a, s.b, s.c, s.d)

@@ -5,5 +5,5 @@ use Rattle.aes_plain.proofs.next_key.Goals as goal
 
 pub returns : goal.returns
 unfolding xor
-returns c =
+returns g c =
     key_turn c.args.k c.chained.result c.rot_word-w.result c.shifted.result c.args.rc c.rot_word-w.ensures c.shifted.ensures c.chained.ensures

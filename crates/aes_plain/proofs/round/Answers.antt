@@ -3,7 +3,7 @@
 use Rattle.aes_plain.proofs.round.Goals as goal
 
 pub returns-then-mixing : goal.returns-then-mixing
-returns-then-mixing c = rw c.if-mixing.true (cc)
+returns-then-mixing g c = rw c.if-mixing.true (cc)
 
 pub returns : goal.returns
-returns c = rw c.if-mixing.false (cc)
+returns g c = rw c.if-mixing.false (cc)

@@ -7,4 +7,4 @@ use Rattle.aes_plain.proofs.shift_rows.Goals as goal
 
 pub returns : goal.returns
 unfolding bytes shift_rows sub_bytes
-returns c = four c.shifted.ensures c.shifted-2.ensures c.shifted-3.ensures c.shifted-4.ensures
+returns g c = four c.shifted.ensures c.shifted-2.ensures c.shifted-3.ensures c.shifted-4.ensures

@@ -3,7 +3,7 @@ use Rattle.aes_plain.proofs.Column.{packed}
 use Rattle.aes_plain.proofs.shifted.Goals as goal
 
 pub returns : goal.returns
-returns c =
+returns g c =
     packed c.le32.ensures
     c.sub_byte.type_inv c.sub_byte-2.type_inv c.sub_byte-3.type_inv c.sub_byte-4.type_inv
     c.sub_byte.ensures c.sub_byte-2.ensures c.sub_byte-3.ensures c.sub_byte-4.ensures

@@ -1,9 +1,9 @@
--- `aes_tables::mixed` meets its contract: the four shares add up to the mixed column.
+-- `aes_tables::Shares::mixed` meets its contract: the four shares add up to the mixed column.
 use Rattle.block.specs.Words.{xor}
 use Rattle.aes_spec.specs.Sbox.{sub_byte}
 use Rattle.aes_plain.specs.Columns.{row}
 use Rattle.aes_tables.proofs.Sums.{summed}
-use Rattle.aes_tables.proofs.mixed.Goals as goal
+use Rattle.aes_tables.proofs.Shares.mixed.Goals as goal
 
 pub returns : goal.returns
 unfolding xor

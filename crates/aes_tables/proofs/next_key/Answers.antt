@@ -1,9 +1,0 @@
--- `aes_tables::next_key` meets its contract: its words are those of the key schedule.
-use Rattle.block.specs.Words.{xor}
-use Rattle.aes_plain.proofs.Column.{key_turn}
-use Rattle.aes_tables.proofs.next_key.Goals as goal
-
-pub returns : goal.returns
-unfolding xor
-returns c =
-    key_turn c.args.k c.chained.result c.rot_word-w.result c.shifted.result c.args.rc c.rot_word-w.ensures c.shifted.ensures c.chained.ensures

@@ -1,6 +1,0 @@
--- `aes_tables::sub_byte` meets its contract: what the byte brings from two rows on has it in its own row.
-use Rattle.aes_tables.proofs.Sums.{once_in}
-use Rattle.aes_tables.proofs.sub_byte.Goals as goal
-
-pub returns : goal.returns
-returns c = once_in _ c.entry.result _ c.requires.1 c.entry.ensures
