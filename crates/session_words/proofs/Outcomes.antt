@@ -3,15 +3,10 @@ use mathlib.Core.Path.{refl, sym, ◌∙◌}
 use native.Mathlib.Omega.{arith}
 use Rattle.block.specs.Outcome.{OneOutcome}
 use Rattle.session.proofs.Outcomes.{session_told}
-use Rattle.session_words.proofs.copied.Kinds as copied-kinds
-use Rattle.session_words.proofs.copied.Reads as copied-reads
 use Rattle.session_words.proofs.session_of.Kinds as session-of-kinds
 use Rattle.session_words.proofs.session_of.Reads as session-of-reads
 use Rattle.session_words.proofs.words_of.Kinds as words-of-kinds
 use Rattle.session_words.proofs.words_of.Reads as words-of-reads
-
-pub copied : OneOutcome copied-kinds.ps copied-kinds.r copied-reads.Pre copied-reads.Post
-copied κs a h x y = (x.ensures ∙ sym y.ensures, refl)
 
 pub session_of : OneOutcome session-of-kinds.ps session-of-kinds.r session-of-reads.Pre session-of-reads.Post
 session_of κs a h x y = (

@@ -15,7 +15,7 @@ use Rattle.block.proofs.Blocks.{first_eight, last_eight}
 use Rattle.session.specs.declared.Session.{Session}
 use Rattle.session.specs.declared.Step.{Step}
 use Rattle.session.specs.Value.{Given, over, gave}
-use Rattle.session.specs.Structs.{as_value, gives}
+use Rattle.session.specs.Structs.{as_value, number_of, count_of, gives}
 use Rattle.session_words.specs.Words.{Nine, of_words, words_of, after, in_words}
 
 -- ---- two words side by side
@@ -83,10 +83,10 @@ module _ (s : Session) (h : Block) (p : Small s h) (e : wide h ≡ s.held) where
 -- ---- a call
 
 -- the library's step, its session as words
-pub handed : (r : Step) (n : ℕ) (words out tag : List ℕ) (g : Given) → n ≡ r.count → words ≡ words_of (as_value r.next) → of_words words ≡ as_value r.next
-    → gives r out tag ≡ g → after r.number n words out tag ≡ in_words g
-handed r n words out tag g c p q e =
-    (λ i. record { given = record { number = r.number; count = c i; next = q i; out = out; tag = tag }; words = p i })
+pub handed : (r : Step) (m n : ℕ) (words out tag : List ℕ) (g : Given) → m ≡ number_of r.outcome → n ≡ count_of r.outcome
+    → words ≡ words_of (as_value r.next) → of_words words ≡ as_value r.next → gives r out tag ≡ g → after m n words out tag ≡ in_words g
+handed r m n words out tag g d c p q e =
+    (λ i. record { given = record { number = d i; count = c i; next = q i; out = out; tag = tag }; words = p i })
     ∙ ap in_words e
 
 -- a first word that is no byte: the words stay

@@ -8,12 +8,7 @@ ghost use Rattle.session_words.specs.Words.{of_words, words_of};
 use block::Block;
 use session::Session;
 
-// The nine words by value.
-pub fn copied(state: &[u64; 9]) -> [u64; 9]
-    ensures { result ≡ state.now }
-{
-    *state
-}
+// Two functions, and no From: neither type is of this crate, and a first word above 255 stands for no session.
 
 // The session that nine words stand for.
 pub fn session_of(words: [u64; 9]) -> Session
@@ -34,7 +29,7 @@ pub fn session_of(words: [u64; 9]) -> Session
             a: words[3],
             b: words[4],
         },
-        held: held,
+        held,
         ad_total: words[7] as usize,
         text_total: words[8] as usize,
     }
@@ -45,16 +40,13 @@ pub fn words_of(state: Session) -> [u64; 9]
     ensures words { result ≡ words_of (as_value state) }
     ensures session { of_words result ≡ as_value state }
 {
-    let y = state.y;
-    let z = state.z;
-    let held = state.held;
-    let buffered = block::block_of(held);
+    let buffered = block::block_of(state.held);
     [
         state.suite as u64,
-        y.a,
-        y.b,
-        z.a,
-        z.b,
+        state.y.a,
+        state.y.b,
+        state.z.a,
+        state.z.b,
         buffered.a,
         buffered.b,
         state.ad_total as u64,
