@@ -1,13 +1,13 @@
 -- The report on a supplier's file (document 02, W14): all that the program prints.
-use Rattle.std.specs.Prelude.{ℕ, zero, suc, not, ◌||◌, cond, List, [], ◌∷◌, ◌++◌, length, drop, ltb, eqb}
+use Rattle.std.specs.Prelude.{ℕ, zero, suc, not, ◌||◌, cond, List, [], ◌∷◌, ◌++◌, length, drop, ltb, eqb, Result, Ok, Err}
 use Rattle.status.specs.declared.checked.Answer.{Answer}
 use Rattle.shift_format.specs.Format.{count_of, row_of}
 use Rattle.status.specs.Answers.{answer, refusal_answer}
 use Rattle.shift_check.specs.Check.{check_file, refused}
 use Rattle.shift_draft.specs.Answers.{tag_right}
 use Rattle.shift_report.specs.declared.answers.ReportSummary.{ReportSummary}
-use Rattle.shift_report.specs.declared.answers.Reported.{Reported}
-use Rattle.shift_report.specs.declared.answers.Reported.TheVariants.{Entries, Refused, Ring, Room}
+use Rattle.shift_report.specs.declared.answers.ReportError.{ReportError}
+use Rattle.shift_report.specs.declared.answers.ReportError.TheVariants.{Refused, Ring, Room}
 
 -- ---- the entries
 
@@ -38,12 +38,16 @@ refuses x = record { number = x.number; row = x.row; count = 0 }
 abbrev pub entries : ℕ → ReportSummary
 entries n = record { number = 0; row = 0; count = n }
 
+-- why there is no report
+abbrev pub report_error_answer : ReportError → Answer
+report_error_answer (Refused x) = refusal_answer x
+report_error_answer Ring = answer 2 0
+report_error_answer Room = answer 6 0
+
 -- number, row and count of every case
-abbrev pub said_of : Reported → ReportSummary
-said_of (Entries n) = entries n
-said_of (Refused x) = refuses (refusal_answer x)
-said_of Ring = refuses (answer 2 0)
-said_of Room = refuses (answer 6 0)
+abbrev pub said_of : Result ℕ ReportError → ReportSummary
+said_of (Ok n) = entries n
+said_of (Err e) = refuses (report_error_answer e)
 
 -- the result, and the two lists after the call
 pub record Report : Type 0 where

@@ -7,12 +7,12 @@ mod entries;
 ghost use Rattle.std.specs.Prelude.{◌≡◌};
 ghost use Rattle.shift_report.specs.Reporting.{said_of, Report, reporting};
 
-use answers::Reported;
+use answers::{ReportError, Reported};
 use entries::list_all;
 use shift_check::check;
 use shift_format::row::count;
 use shift_limits::RING_LEN;
-use status::checked::{Checked, Refusal};
+use status::checked::Refusal;
 
 // The most bytes of a file that is reported on (document 02, W14).
 pub const MAX_REPORT: usize = 65280;
@@ -24,24 +24,19 @@ pub fn report(file: &[u8], ring: &[u8], jobs: &mut [u32], numbers: &mut [u8]) ->
         (reporting file.now ring.now jobs.old numbers.old) }
 {
     if MAX_REPORT < file.len() {
-        return Reported::Refused(Refusal::Size);
+        return Err(ReportError::Refused(Refusal::Size));
     }
-    match check(file) {
-        Checked::Refused(refusal) => {
-            return Reported::Refused(refusal);
-        }
-        Checked::Passed => {}
-    }
+    check(file)?;
     if ring.len() != RING_LEN {
-        return Reported::Ring;
+        return Err(ReportError::Ring);
     }
     let n = count(file);
     if jobs.len() < n {
-        return Reported::Room;
+        return Err(ReportError::Room);
     }
     if numbers.len() < n {
-        return Reported::Room;
+        return Err(ReportError::Room);
     }
     list_all(file, ring, n, jobs, numbers);
-    Reported::Entries(n)
+    Ok(n)
 }

@@ -1,11 +1,7 @@
 -- After i turns both lists hold the first i entries, and what stood after them.
-use Prim.Native.Nat.{◌-◌, ◌≤◌}
 use mathlib.Core.Path.{◌≡◌}
 use Rattle.shift_report.specs.Reporting.{job_of, tag_number, front}
 use Rattle.shift_report.proofs.entries.list_all.Given as goal
 
 abbrev pub invariant-loop-i : goal.invariant-loop-i
-invariant-loop-i l = (l.i ≤ l.rows) × (l.jobs ≡ front (job_of l.file) l.i l.initial.jobs) × (l.numbers ≡ front (tag_number l.file l.ring) l.i l.initial.numbers)
-
-abbrev pub decreases-loop-i : goal.decreases-loop-i
-decreases-loop-i l = l.rows - l.i
+invariant-loop-i l = (l.jobs ≡ front (job_of l.file) l.i l.initial.jobs) × (l.numbers ≡ front (tag_number l.file l.ring) l.i l.initial.numbers)
