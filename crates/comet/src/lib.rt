@@ -55,7 +55,8 @@ fn data_core(engine: &Engine, header: Header) -> State
     state
 }
 
-// Seals or opens text in place under these tables; returns the tag and the count of cipher calls.
+// Seals or opens text in place under these tables; returns the tag and the count of cipher calls. The direction is a value, so that one
+// copy of the code serves both: `block_walk` chooses its loop by it, once a text.
 fn crypt_core(tables: &[AesTables], header: Header, opening: bool, text: &mut [u8]) -> TagAndCalls
     requires { TablesFit header.suite tables.now × (length text.old ≤ limit) }
     ensures { Crypts opening header.entry text.old text.new result }

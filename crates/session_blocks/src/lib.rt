@@ -69,7 +69,8 @@ fn absorb_past(
 }
 
 // Absorbs the whole blocks of `count` buffered bytes followed by ad, the first under the mark, and buffers the rest. Tables are
-// constructed only if a block is completed.
+// constructed only if a block is completed. With and without tables are written out, here and in `session`: a closure that takes the
+// engine would need its own contract at each of these calls, which is longer than the second call.
 pub fn absorb_part(
     suite: u8,
     state: State,
