@@ -87,8 +87,8 @@ pub fn block_key(suite: u8, z: Block, mark: u8) -> Keyed
     if cipher::is_second(suite) {
         let key = next_key_two(z, 0);
         let kept = with_mark(key, mark);
-        return Keyed { key: key, z: kept };
+        return Keyed { key, z: kept };
     }
     let key = next_key_one(z, mark);
-    Keyed { key: key, z: key }
+    Keyed { key, z: key }
 }

@@ -1,5 +1,5 @@
 // The marks of document 01: the bits that are XORed into byte 15 of Z before a cipher call. They stay bits, not an enum: a block may have
-// two, and `block_key` takes any byte, of which document 01's theorems speak.
+// two of them, and the contracts of `block_key` and `block_state::turn` are of every byte.
 
 // The first block of associated data.
 pub const MARK_FIRST_DATA: u8 = 0x08;

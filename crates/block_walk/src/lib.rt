@@ -1,5 +1,6 @@
 // The loops over the whole blocks of a text, shared by the one-call sealer, the opener and the sessions. Each loop is
-// compiled once for each direction and is then the only caller of its step, so that the compiler inlines the step.
+// compiled once for each direction and is then the only caller of its step, so that the compiler inlines the step. The index stays: where it
+// ends is part of what a loop returns (`at`), and beside `chunks_exact` that would be counted again, by a remainder.
 #![tactic(auto)]
 
 ghost use Rattle.std.specs.Prelude.{◌≡◌, ◌++◌, ℕ};
