@@ -3,6 +3,7 @@ pub mod Filling
 pub mod Turns
 pub mod Passing
 pub mod Cases
+pub mod Checked
 pub mod Members
 pub mod Rising
 pub mod Promised

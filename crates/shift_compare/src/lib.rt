@@ -78,13 +78,7 @@ pub fn said(compared: Compared) -> Finding
 fn too_long(counts: Counts, first: usize, second: usize, differ: usize) -> bool
     ensures { result ≡ longer counts first second differ }
 {
-    if first < counts.first {
-        return true;
-    }
-    if second < counts.second {
-        return true;
-    }
-    differ < counts.differ
+    first < counts.first || second < counts.second || differ < counts.differ
 }
 
 // Whether a list of two files that pass is longer than its buffer. If each buffer has an element for every row, none is; otherwise the lists are counted.
@@ -152,13 +146,7 @@ pub fn compare(
     })
         (comparison first.now second.now only_first.old only_second.old differ.old) }
 {
-    match check(first) {
-        Err(refusal) => return Err(CompareError::First(refusal)),
-        Ok(()) => {}
-    }
-    match check(second) {
-        Err(refusal) => return Err(CompareError::Second(refusal)),
-        Ok(()) => {}
-    }
+    check(first).map_err(CompareError::First)?;
+    check(second).map_err(CompareError::Second)?;
     lists(first, second, only_first, only_second, differ)
 }
