@@ -16,6 +16,7 @@ pub fn text_start(row: Row) -> usize
 }
 
 // A row's associated data.
+#[tactic(auto, unfolding(crate::specs::Format::body_end))]
 pub fn data_of(file: &[u8], row: Row) -> &[u8]
     requires { body_end row ≤ length file.now }
     ensures { PartOf file.entry result row.ad_at row.ad_len }
@@ -24,6 +25,7 @@ pub fn data_of(file: &[u8], row: Row) -> &[u8]
 }
 
 // A row's text.
+#[tactic(auto, unfolding(crate::specs::Format::body_end))]
 pub fn text_of(file: &[u8], row: Row) -> &[u8]
     requires { body_end row ≤ length file.now }
     ensures { PartOf file.entry result (row.ad_at + row.ad_len) row.text_len }
@@ -32,6 +34,7 @@ pub fn text_of(file: &[u8], row: Row) -> &[u8]
 }
 
 // A row's tag.
+#[tactic(auto, unfolding(crate::specs::Format::body_end))]
 pub fn tag_of(file: &[u8], row: Row) -> &[u8]
     requires { body_end row ≤ length file.now }
     ensures { PartOf file.entry result (row.ad_at + row.ad_len + row.text_len) (size_of row.suite) }

@@ -10,7 +10,7 @@ ghost use Rattle.shift_format.specs.Inside.{RowIn};
 use block::Block;
 
 // A row without its nonce. The body starts with the associated data, at `ad_at`.
-#[derive(Clone, Copy)]
+#[derive(Clone, Copy, PartialEq, Eq, Debug)]
 pub struct Row {
     pub job: u32,
     pub suite: u8,
@@ -50,6 +50,7 @@ pub const FIRST_EDITION: u16 = 1;
 pub const NEWEST: u16 = 2;
 
 // The bytes of a row, in an edition.
+#[tactic(auto, unfolding(crate::specs::Format::row_size))]
 pub fn row_size(edition: u16) -> usize
     ensures { result ≡ row_size edition }
 {
@@ -65,6 +66,7 @@ pub fn row_size_of(file: &[u8]) -> usize
 }
 
 // The offset of a row, by its index. For an index equal to the number of rows: the offset of the first body.
+#[tactic(auto, unfolding(crate::specs::Format::row_start))]
 pub fn row_start(size: usize, index: usize) -> usize
     requires { row_start size index < 0x1_0000_0000_0000_0000 }
     ensures { result ≡ row_start size index }
@@ -73,6 +75,7 @@ pub fn row_start(size: usize, index: usize) -> usize
 }
 
 // The offset of the rest of a row, after job number and station.
+#[tactic(auto, unfolding(crate::specs::Format::rest_start))]
 pub fn rest_start(size: usize, index: usize) -> usize
     requires { (28 ≤ size) × (row_start size index + size < 0x1_0000_0000_0000_0000) }
     ensures { (result ≡ rest_start size index) × (result + 28 ≡ row_start size index + size) }
@@ -81,6 +84,7 @@ pub fn rest_start(size: usize, index: usize) -> usize
 }
 
 // The offset of a row's nonce, its last sixteen bytes.
+#[tactic(auto, unfolding(crate::specs::Format::nonce_start))]
 pub fn nonce_start(size: usize, index: usize) -> usize
     requires { (28 ≤ size) × (row_start size index + size < 0x1_0000_0000_0000_0000) }
     ensures { (result ≡ nonce_start size index) × (result + 16 ≡ row_start size index + size) }
@@ -88,7 +92,9 @@ pub fn nonce_start(size: usize, index: usize) -> usize
     rest_start(size, index) + 12
 }
 
-// A row of the table.
+// A row of the table. Row size, file and index are no struct: a caller reads one row of it, and would build the struct for one call.
+// The check, which goes over all rows, has its own (`shift_check::table`).
+#[tactic(auto, unfolding(crate::specs::Format::row_at))]
 pub fn row_at(size: usize, file: &[u8], index: usize) -> Row
     requires { RowIn size file.now index }
     ensures { result ≡ row_at size file.now index }
@@ -158,6 +164,7 @@ pub fn read_block(size: usize, file: &[u8], index: usize, suite: u8) -> Block
 }
 
 // The offset at which a row's body ends.
+#[tactic(auto, unfolding(crate::specs::Format::body_end))]
 pub fn body_end(row: Row) -> usize
     ensures { result ≡ body_end row }
 {

@@ -6,10 +6,6 @@ use Rattle.shift_format.specs.Format.{body_end}
 use Rattle.shift_format.proofs.Parts.{part_at}
 use Rattle.shift_format.proofs.body.tag_of.Goals as goal
 
-pub stretch-requires : goal.stretch-requires
-unfolding body_end
-stretch-requires c = omega (arith, c.requires, c.text_start.ensures, c.size_of.ensures.is)
-
 pub returns : goal.returns
 returns c =
     let len = c.args.row.text_len in

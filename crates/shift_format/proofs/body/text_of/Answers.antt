@@ -5,9 +5,5 @@ use Rattle.shift_format.specs.Format.{body_end}
 use Rattle.shift_format.proofs.Parts.{part_at}
 use Rattle.shift_format.proofs.body.text_of.Goals as goal
 
-pub stretch-requires : goal.stretch-requires
-unfolding body_end
-stretch-requires c = omega (arith, c.requires, c.text_start.ensures)
-
 pub returns : goal.returns
 returns c = part_at c.stretch.ensures.0 c.text_start.ensures refl
