@@ -9,7 +9,7 @@ use shift_format::row::{FIRST_EDITION, NEWEST, Row, count, nonce_start, row_size
 use shift_lookup::found::row_of;
 
 // The row that is next, and how many rows there are.
-#[derive(Clone, Copy)]
+#[derive(Clone, Copy, PartialEq, Eq, Debug)]
 pub struct Cursor {
     at: usize,
     end: usize,
@@ -17,7 +17,7 @@ pub struct Cursor {
 
 // A row as the table has it: which one it is, its fields, its station (0 in edition 1), and where in the file its sixteen
 // nonce bytes start.
-#[derive(Clone, Copy)]
+#[derive(Clone, Copy, PartialEq, Eq, Debug)]
 pub struct Listed {
     pub index: usize,
     pub row: Row,
@@ -26,7 +26,7 @@ pub struct Listed {
 }
 
 // The result of a call, a row or the end of the rows, and the cursor after it.
-#[derive(Clone, Copy)]
+#[derive(Clone, Copy, PartialEq, Eq, Debug)]
 pub struct Stepped {
     pub next: Cursor,
     pub entry: Option<Listed>,

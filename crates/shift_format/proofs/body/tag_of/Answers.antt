@@ -1,8 +1,6 @@
 -- The tag starts after the text, is one block long, and ends where the body does.
 use mathlib.Core.Path.{ap}
-use native.Mathlib.Omega.{arith}
 use Prim.Native.Nat.{ℕ, ◌+◌}
-use Rattle.shift_format.specs.Format.{body_end}
 use Rattle.shift_format.proofs.Parts.{part_at}
 use Rattle.shift_format.proofs.body.tag_of.Goals as goal
 

@@ -1,7 +1,5 @@
 -- The text starts after the associated data, and lies in the body.
 use mathlib.Core.Path.{refl}
-use native.Mathlib.Omega.{arith}
-use Rattle.shift_format.specs.Format.{body_end}
 use Rattle.shift_format.proofs.Parts.{part_at}
 use Rattle.shift_format.proofs.body.text_of.Goals as goal
 

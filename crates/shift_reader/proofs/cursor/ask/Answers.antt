@@ -1,18 +1,7 @@
 -- Each way out is a case of the definition; a row that is given is one that the header lays down.
-use Rattle.std.proofs.Common.{lt-ltb, eq-eqb}
-use Rattle.shift_reader.specs.Reading.{ask_of}
 use Rattle.shift_reader.proofs.Asking.{laid_in}
 use Rattle.shift_reader.proofs.cursor.ask.Goals as goal
 
 pub listed_at-row-requires : goal.listed_at-row-requires
 listed_at-row-requires c =
     laid_in c.args.file.now _ (rw c.laid-n.ensures at c.if-n-cursor.false)
-
-pub returns : goal.returns
-unfolding ask_of
-returns c =
-    simp (
-      eq-eqb _ _ (rw c.laid-n.ensures at c.if-cursor-n.false),
-      lt-ltb _ _ (rw c.laid-n.ensures at c.if-n-cursor.false),
-      c.listed_at-row.ensures,
-    )
