@@ -115,7 +115,7 @@ pub fn add_round_key(state: Columns, key: Columns) -> Columns
     }
 }
 
-// A round; the last one does not mix columns.
+// A round; the last one does not mix columns. Whether it mixes is data, so that ten rounds are one loop.
 fn round<S: SubBytes>(sbox: S, s: Columns, k: Columns, mixing: bool) -> Columns
     ensures { bytes_of result ≡ add_round_key (cond mixing (mix_columns (shift_rows (sub_bytes (bytes_of s)))) (shift_rows (sub_bytes (bytes_of s)))) (bytes_of k) }
 {

@@ -6,7 +6,7 @@ ghost use Rattle.block.specs.Bytes.{value, bytes, same_bytes};
 ghost use Rattle.block.specs.Xors.{xors};
 ghost use Rattle.block.specs.Blocks.{wide, filled};
 
-// Bytes 0 to 7 and 8 to 15, the least first.
+// Bytes 0 to 7 and 8 to 15, the least first. Without a derived `==`, which may end at the first difference: `same` compares.
 #[derive(Clone, Copy)]
 pub struct Block {
     pub a: u64,
@@ -95,7 +95,7 @@ pub fn put_whole(block: Block, out: &mut [u8])
     put8(block.a, out);
 }
 
-// The bytes of a block.
+// The bytes of a block. By name and not by `From`: which way the bytes go is plainer, and `Outcomes` states it of each name.
 pub fn bytes_of(block: Block) -> [u8; 16]
     ensures { result ≡ wide block }
 {

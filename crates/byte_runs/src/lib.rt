@@ -7,7 +7,7 @@ ghost use Rattle.block.specs.Blocks.{wide, filled};
 
 use block::{Block, block_of, bytes_of, fifteen, put_whole, whole};
 
-// Copies all of `from` into an output of the same length.
+// Copies all of `from` into an output of the same length. Not by `copy_from_slice`, which calls `memmove`: no object of ours needs that.
 pub fn copy(from: &[u8], to: &mut [u8])
     requires { length to.old ≡ length from.now }
     ensures { to.new ≡ from.now }
