@@ -18,14 +18,15 @@ loop-i-init c = record { rest = refl; spared = spared_none _ _; left = left_none
 
 pub check_row-requires : goal.check_row-requires
 check_row-requires c =
+    let t = c.args.table.now in
     let h = c.loop-i.invariant in
     let q = c.has-marked.ensures ∙ ap (has c.loop-i.seen) c.mark-hash.ensures in (
       omega arith,
       (
         h.spared,
         (
-          subst (Sieved c.args.table.now.size c.args.table.now.file.now c.loop-i.i) (sym q)
-              (sieved c.args.table.now.size c.args.table.now.file.now c.loop-i.i c.loop-i.seen h.left h.spared),
+          subst (Sieved t.size t.file.now c.loop-i.i) (sym q)
+              (sieved t.size t.file.now c.loop-i.i c.loop-i.seen h.left h.spared),
           h.starts,
         ),
       ),
@@ -33,20 +34,22 @@ check_row-requires c =
 
 pub returns-in-Err : goal.returns-in-Err
 returns-in-Err c =
-    rows-bad c.args.table.now.size c.args.table.now.file.now c.args.table.now.rows c.loop-i.i c.in-Err.fault (omega arith)
+    let t = c.args.table.now in
+    rows-bad t.size t.file.now t.rows c.loop-i.i c.in-Err.fault (omega arith)
     (ap row_number_of (sym c.in-Err.is) ∙ c.check_row.ensures)
     ∙ sym c.loop-i.invariant.rest
 
 pub loop-i-preserved : goal.loop-i-preserved
 loop-i-preserved c =
+    let t = c.args.table.now in
     let z = ap row_number_of (sym c.in-Ok.is) ∙ c.check_row.ensures in
     let h = c.loop-i.invariant in
     let q = c.put.ensures ∙ ap (with c.loop-i.seen) c.mark-hash.ensures in
     record {
-      rest = h.rest ∙ rows-sound c.args.table.now.size c.args.table.now.file.now c.args.table.now.rows c.loop-i.i (omega arith) z;
-      spared = spared_more c.args.table.now.size c.args.table.now.file.now _ h.spared (sound c.args.table.now.size c.args.table.now.file.now c.args.table.now.rows _ (sym z)).spare;
-      left = subst (Left c.args.table.now.size c.args.table.now.file.now (c.loop-i.i + 1)) (sym q)
-          (left_more c.args.table.now.size c.args.table.now.file.now c.loop-i.i c.loop-i.seen h.left);
+      rest = h.rest ∙ rows-sound t.size t.file.now t.rows c.loop-i.i (omega arith) z;
+      spared = spared_more t.size t.file.now _ h.spared (sound t.size t.file.now t.rows _ (sym z)).spare;
+      left = subst (Left t.size t.file.now (c.loop-i.i + 1)) (sym q)
+          (left_more t.size t.file.now c.loop-i.i c.loop-i.seen h.left);
       starts = c.body_start-start-in-loop-i.ensures;
     }
 
@@ -57,11 +60,13 @@ ended w f n i start e l m = let q : i ≡ n = omega arith in rw q at e
 pub returns-then-start-table : goal.returns-then-start-table
 unfolding end_answer
 returns-then-start-table c =
-    let e = ended c.args.table.now.size c.args.table.now.file.now c.args.table.now.rows c.loop-i.i c.loop-i.start c.loop-i.invariant.starts (omega arith) (omega arith) in
-    rw (c.loop-i.invariant.rest, rows_end c.args.table.now.size c.args.table.now.file.now c.args.table.now.rows c.loop-i.i (omega arith)) (simp (← e, ne_eqb _ _ c.if-start-table.true))
+    let t = c.args.table.now in
+    let e = ended t.size t.file.now t.rows c.loop-i.i c.loop-i.start c.loop-i.invariant.starts (omega arith) (omega arith) in
+    rw (c.loop-i.invariant.rest, rows_end t.size t.file.now t.rows c.loop-i.i (omega arith)) (simp (← e, ne_eqb _ _ c.if-start-table.true))
 
 pub returns : goal.returns
 unfolding end_answer
 returns c =
-    let e = ended c.args.table.now.size c.args.table.now.file.now c.args.table.now.rows c.loop-i.i c.loop-i.start c.loop-i.invariant.starts (omega arith) (omega arith) in
-    rw (c.loop-i.invariant.rest, rows_end c.args.table.now.size c.args.table.now.file.now c.args.table.now.rows c.loop-i.i (omega arith)) (simp (← e, eq-eqb _ _ c.if-start-table.false))
+    let t = c.args.table.now in
+    let e = ended t.size t.file.now t.rows c.loop-i.i c.loop-i.start c.loop-i.invariant.starts (omega arith) (omega arith) in
+    rw (c.loop-i.invariant.rest, rows_end t.size t.file.now t.rows c.loop-i.i (omega arith)) (simp (← e, eq-eqb _ _ c.if-start-table.false))
