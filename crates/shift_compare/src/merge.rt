@@ -148,7 +148,8 @@ fn put<const WRITE: bool>(out: &mut [u32], at: usize, yes: bool, job: u32) -> us
     at + 1
 }
 
-// The pass over both tables: counts the three lists, and writes them if `WRITE`.
+// The pass over both tables: counts the three lists, and writes them if `WRITE`. It is a merge: a turn moves one index or both, so
+// neither is a `for`'s.
 pub(crate) fn pass<const WRITE: bool>(
     first: &[u8],
     second: &[u8],
