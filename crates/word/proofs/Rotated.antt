@@ -1,6 +1,6 @@
 -- The library's rotation joins the two parts of the word by OR. They share no bit, so this is their sum.
 use Rattle.std.proofs.Common.{◌≡◌, ℕ, ◌+◌, ◌-◌, ◌*◌, ◌/◌, ◌%◌, ◌^◌, ◌<◌, sym, ap, ap₂, ◌∙◌, subst, add_comm, add-zero, arith}
-use Rattle.std.proofs.Math.Nat.{mod-eq_of_lt, mul-mod_left, sub-add_cancel}
+use Rattle.std.proofs.Math.Nat.{mod-eq_of_lt, mul-mod_left}
 use Rattle.std.proofs.Math.Pow.{pow_pos, mod-pow-add, shl-shr, shr_lt}
 use Rattle.std.proofs.lemmas.Nat.{or_block}
 use lib.Bits.{bit_or, or_zero_l, or_zero_r}
