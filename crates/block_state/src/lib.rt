@@ -48,11 +48,7 @@ pub fn start(engine: &Engine, key: &[u8], nonce: &[u8]) -> State
     let zero = Block { a: 0, b: 0 };
     let y = engine.encipher(key_block, zero);
     let z = block::xor(key_block, nonce_block);
-    State {
-        y,
-        z,
-        calls: 1,
-    }
+    State { y, z, calls: 1 }
 }
 
 // The encryption of a block, chosen by its size n: a loop over blocks then tests only that number.

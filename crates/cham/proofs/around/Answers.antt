@@ -11,5 +11,5 @@ loop-j-preserved g c =
     let j = c.loop-j.j in
     let even : (i + 4 * j) % 2 ≡ 0 = omega (arith, c.requires.1) in
     λ s h. four g.W.Word.width (map g.W.Word.number c.args.keys.now) s (i + 4 * j) (i + 4 * (j + 1)) (4 * j) _ _ _ _ _ _ _ _
-        even (at_place c.requires.0 i j c.requires.2 c.loop-j-test.true) (at_fits c.requires.0 j c.loop-j-test.true) (omega arith)
-        (c.loop-j.invariant s h) e.0 e.1 e.2 e.3
+    even (at_place c.requires.0 i j c.requires.2 c.loop-j-test.true) (at_fits c.requires.0 j c.loop-j-test.true) (omega arith)
+    (c.loop-j.invariant s h) e.0 e.1 e.2 e.3

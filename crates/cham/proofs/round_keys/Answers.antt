@@ -38,8 +38,8 @@ loop-i-preserved g c =
     let keys = c.loop-i.keys in (
       simp (length-set, c.loop-i.invariant.0),
       map-set f (set keys c.loop-i.i a) j b
-      ∙ ap (λ (l : List ℕ). set l j (f b)) (map-set f keys c.loop-i.i a)
-      ∙ one_more g.W.Word.width c.args.key c.loop-i.i c.loop-i.invariant.1 c.nth-k.ensures
+          ∙ ap (λ (l : List ℕ). set l j (f b)) (map-set f keys c.loop-i.i a)
+          ∙ one_more g.W.Word.width c.args.key c.loop-i.i c.loop-i.invariant.1 c.nth-k.ensures
           (c.second_place-j.ensures ∙ ap (λ (h : ℕ). xor (c.loop-i.i + h) 1) (half c.requires)) c.mix.ensures c.mix-in-loop-i.ensures,
     )
 
