@@ -8,12 +8,14 @@
 #![tactic(auto)]
 
 use cipher::LIMIT;
-use comet::Counted;
-use program_text::call::{Call, HEAD_LEN};
-use program_text::read::{field, full};
-use program_text::text::{and_number, and_shown, end, number};
-use std::io;
+use program_text::calls;
+use program_text::calls::{Call, CallError};
+use program_text::print::{Page, Shown};
+use program_text::read::{front_mut, part};
+use status::verdict::{Verdict, number};
+use std::fmt::Display;
 use std::io::{Read, Write};
+use std::{fmt, io};
 
 // The most bytes that a call can have here: of associated data and of text, one more than the limit; of an output; and of key,
 // nonce and tag.
@@ -23,270 +25,204 @@ const OUT_ROOM: usize = LIMIT + 4;
 
 const KEY_ROOM: usize = 40;
 
-// Number and count.
-fn counted(res: Counted, line: &mut [u8]) -> usize {
-    let verdict = res.verdict;
-    let at = number(line, 0, verdict.number() as u64);
-    and_number(line, at, res.calls)
+// What a record is sealed and opened under.
+#[derive(Clone, Copy)]
+struct Context<'a> {
+    suite: u8,
+    key: &'a [u8],
+    nonce: &'a [u8],
+    ad: &'a [u8],
 }
 
-// Seals, and writes the status into the line.
-fn sealed(
-    call: Call,
-    key: &[u8],
-    nonce: &[u8],
-    ad: &[u8],
-    text: &[u8],
-    out: &mut [u8],
-    tag: &mut [u8],
-    line: &mut [u8],
-) -> usize {
-    if call.op == 2 {
-        let result = comet::seal_counted(call.suite, key, nonce, ad, text, out, tag);
-        return counted(result, line);
+// A status, by its number.
+#[derive(Clone, Copy)]
+struct Status(Verdict);
+
+impl Display for Status {
+    fn fmt<W: fmt::Write>(&self, f: &mut fmt::Formatter<W>) -> fmt::Result {
+        let number = number(self.0);
+        write!(f, "{number}")
     }
-    let verdict = comet::seal(call.suite, key, nonce, ad, text, out, tag);
-    number(line, 0, verdict.number() as u64)
 }
 
-// The same, opened.
-fn unsealed(
-    call: Call,
-    key: &[u8],
-    nonce: &[u8],
-    ad: &[u8],
-    text: &[u8],
-    tag: &[u8],
-    out: &mut [u8],
-    line: &mut [u8],
-) -> usize {
-    if call.op == 3 {
-        let result = comet::unseal_counted(call.suite, key, nonce, ad, text, tag, out);
-        return counted(result, line);
+// The same, and how many cipher calls it took.
+#[derive(Clone, Copy)]
+struct Counted(comet::Counted);
+
+impl Display for Counted {
+    fn fmt<W: fmt::Write>(&self, f: &mut fmt::Formatter<W>) -> fmt::Result {
+        let Counted(counted) = *self;
+        write!(f, "{} {}", number(counted.verdict), counted.calls)
     }
-    let verdict = comet::unseal(call.suite, key, nonce, ad, text, tag, out);
-    number(line, 0, verdict.number() as u64)
 }
 
-fn seal(
-    call: Call,
-    key: &[u8],
-    nonce: &[u8],
-    ad: &[u8],
-    text: &[u8],
-    out: &mut [u8],
-    tag: &mut [u8],
-    line: &mut [u8],
-) -> usize {
-    let at = sealed(call, key, nonce, ad, text, out, tag, line);
-    let at = and_shown(line, at, out);
-    let at = and_shown(line, at, tag);
-    end(line, at)
-}
-
-// The tag is still to be read.
-fn unseal<R: Read>(
+// Reads the text, and seals it into an output by the function.
+fn seal<R: Read, D: Display + Drop, F>(
     input: &mut R,
     call: Call,
-    key: &[u8],
-    nonce: &[u8],
-    ad: &[u8],
-    text: &[u8],
-    out: &mut [u8],
-    tag: &mut [u8],
-    line: &mut [u8],
-) -> io::Result<usize> {
-    if full(input, tag)? != tag.len() {
-        return Ok(0);
-    }
-    let at = unsealed(call, key, nonce, ad, text, tag, out, line);
-    let at = and_shown(line, at, out);
-    Ok(end(line, at))
+    line: &mut Page,
+    by: F,
+) -> Result<(), CallError>
+where
+    F: FnOnce(&[u8], &mut [u8], &mut [u8]) -> D,
+    requires { F.IsAlwaysCallable by }
+{
+    let [_, _, _, text_len, out_len, tag_len] = call.numbers;
+    let mut text_buf = [0u8; TEXT_ROOM];
+    let mut out_buf = [0xa5u8; OUT_ROOM];
+    let mut tag_buf = [0xa5u8; KEY_ROOM];
+    let text = part(input, &mut text_buf, text_len)?;
+    let out = front_mut(&mut out_buf, out_len)?;
+    let tag = front_mut(&mut tag_buf, tag_len)?;
+    let status = by(text, out, tag);
+    writeln!(line, "{status} {} {}", Shown(out), Shown(tag))?;
+    Ok(())
 }
 
-// Runs a call on what was read; no line if a buffer is too small or the tag ends early.
-fn answer<R: Read>(
+// Reads text and tag, and opens into an output by the function.
+fn open<R: Read, D: Display + Drop, F>(
     input: &mut R,
     call: Call,
-    key: &[u8],
-    nonce: &[u8],
-    ad: &[u8],
-    text: &[u8],
-    line: &mut [u8],
-) -> io::Result<usize> {
-    let mut out = [0xa5u8; OUT_ROOM];
-    let mut tag = [0xa5u8; KEY_ROOM];
-    let out_len = call.fifth;
-    let tag_len = call.sixth;
-    if OUT_ROOM < out_len || KEY_ROOM < tag_len || 3 < call.op {
-        return Ok(0);
-    }
-    if call.op % 2 == 0 {
-        return Ok(seal(
-            call,
-            key,
-            nonce,
-            ad,
-            text,
-            &mut out[0..out_len],
-            &mut tag[0..tag_len],
-            line,
-        ));
-    }
-    unseal(
-        input,
-        call,
-        key,
-        nonce,
-        ad,
-        text,
-        &mut out[0..out_len],
-        &mut tag[0..tag_len],
-        line,
-    )
+    line: &mut Page,
+    by: F,
+) -> Result<(), CallError>
+where
+    F: FnOnce(&[u8], &[u8], &mut [u8]) -> D,
+    requires { F.IsAlwaysCallable by }
+{
+    let [_, _, _, text_len, out_len, tag_len] = call.numbers;
+    let mut text_buf = [0u8; TEXT_ROOM];
+    let mut out_buf = [0xa5u8; OUT_ROOM];
+    let mut tag_buf = [0u8; KEY_ROOM];
+    let text = part(input, &mut text_buf, text_len)?;
+    let out = front_mut(&mut out_buf, out_len)?;
+    let tag = part(input, &mut tag_buf, tag_len)?;
+    let status = by(text, tag, out);
+    writeln!(line, "{status} {}", Shown(out))?;
+    Ok(())
 }
 
 // Reads the text and seals it in place.
 fn seal_in_place<R: Read>(
     input: &mut R,
+    under: Context<'_>,
     call: Call,
-    key: &[u8],
-    nonce: &[u8],
-    ad: &[u8],
-    text: &mut [u8],
-    tag: &mut [u8],
-    line: &mut [u8],
-) -> io::Result<usize> {
-    if full(input, text)? != text.len() {
-        return Ok(0);
-    }
-    let verdict = comet::seal_in_place(call.suite, key, nonce, ad, text, tag);
-    let at = number(line, 0, verdict.number() as u64);
-    let at = and_shown(line, at, text);
-    let at = and_shown(line, at, tag);
-    Ok(end(line, at))
-}
-
-// Opens text in place, or verifies it.
-fn unsealed_in_place(
-    call: Call,
-    key: &[u8],
-    nonce: &[u8],
-    ad: &[u8],
-    text: &mut [u8],
-    tag: &[u8],
-    line: &mut [u8],
-) -> usize {
-    if call.op == 6 {
-        let verdict = comet::verify(call.suite, key, nonce, ad, text, tag);
-        let at = number(line, 0, verdict.number() as u64);
-        return end(line, at);
-    }
-    let verdict = comet::unseal_in_place(call.suite, key, nonce, ad, text, tag);
-    let at = number(line, 0, verdict.number() as u64);
-    let at = and_shown(line, at, text);
-    end(line, at)
-}
-
-// The same, once the text and its tag are read.
-fn unseal_in_place<R: Read>(
-    input: &mut R,
-    call: Call,
-    key: &[u8],
-    nonce: &[u8],
-    ad: &[u8],
-    text: &mut [u8],
-    tag: &mut [u8],
-    line: &mut [u8],
-) -> io::Result<usize> {
-    let text_read = full(input, text)?;
-    let tag_read = full(input, tag)?;
-    if text_read != text.len() || tag_read != tag.len() {
-        return Ok(0);
-    }
-    Ok(unsealed_in_place(call, key, nonce, ad, text, tag, line))
-}
-
-// Runs a call in place; no line if text or tag do not fit or end early.
-fn in_place<R: Read>(
-    input: &mut R,
-    call: Call,
-    key: &[u8],
-    nonce: &[u8],
-    ad: &[u8],
-    line: &mut [u8],
-) -> io::Result<usize> {
-    let mut text = [0u8; TEXT_ROOM];
-    let mut tag = [0xa5u8; KEY_ROOM];
-    let text_len = call.fourth;
-    let tag_len = call.sixth;
-    if TEXT_ROOM < text_len || KEY_ROOM < tag_len || 6 < call.op {
-        return Ok(0);
-    }
-    if call.op == 4 {
-        return seal_in_place(
-            input,
-            call,
-            key,
-            nonce,
-            ad,
-            &mut text[0..text_len],
-            &mut tag[0..tag_len],
-            line,
-        );
-    }
-    unseal_in_place(
-        input,
-        call,
+    line: &mut Page,
+) -> Result<(), CallError> {
+    let [_, _, _, text_len, _, tag_len] = call.numbers;
+    let mut text_buf = [0u8; TEXT_ROOM];
+    let mut tag_buf = [0xa5u8; KEY_ROOM];
+    let tag = front_mut(&mut tag_buf, tag_len)?;
+    let text = part(input, &mut text_buf, text_len)?;
+    let Context {
+        suite,
         key,
         nonce,
         ad,
-        &mut text[0..text_len],
-        &mut tag[0..tag_len],
-        line,
-    )
+    } = under;
+    let status = Status(comet::seal_in_place(suite, key, nonce, ad, text, tag));
+    writeln!(line, "{status} {} {}", Shown(text), Shown(tag))?;
+    Ok(())
 }
 
-// Reads the rest of a call and runs it; no line if a buffer is too small or the input ends.
-fn run<R: Read>(input: &mut R, call: Call, line: &mut [u8]) -> io::Result<usize> {
+// Reads text and tag, and opens in place.
+fn open_in_place<R: Read>(
+    input: &mut R,
+    under: Context<'_>,
+    call: Call,
+    line: &mut Page,
+) -> Result<(), CallError> {
+    let [_, _, _, text_len, _, tag_len] = call.numbers;
+    let mut text_buf = [0u8; TEXT_ROOM];
+    let mut tag_buf = [0u8; KEY_ROOM];
+    let text = part(input, &mut text_buf, text_len)?;
+    let tag = part(input, &mut tag_buf, tag_len)?;
+    let Context {
+        suite,
+        key,
+        nonce,
+        ad,
+    } = under;
+    let status = Status(comet::unseal_in_place(suite, key, nonce, ad, text, tag));
+    writeln!(line, "{status} {}", Shown(text))?;
+    Ok(())
+}
+
+// Reads text and tag, and verifies them.
+fn verify<R: Read>(
+    input: &mut R,
+    under: Context<'_>,
+    call: Call,
+    line: &mut Page,
+) -> Result<(), CallError> {
+    let [_, _, _, text_len, _, tag_len] = call.numbers;
+    let mut text_buf = [0u8; TEXT_ROOM];
+    let mut tag_buf = [0u8; KEY_ROOM];
+    let text = part(input, &mut text_buf, text_len)?;
+    let tag = part(input, &mut tag_buf, tag_len)?;
+    let Context {
+        suite,
+        key,
+        nonce,
+        ad,
+    } = under;
+    let status = Status(comet::verify(suite, key, nonce, ad, text, tag));
+    writeln!(line, "{status}")?;
+    Ok(())
+}
+
+// The op is its number in the input, which is looked at here alone.
+fn run_under<R: Read>(
+    input: &mut R,
+    under: Context<'_>,
+    call: Call,
+    line: &mut Page,
+) -> Result<(), CallError> {
+    let Context {
+        suite,
+        key,
+        nonce,
+        ad,
+    } = under;
+    match call.op {
+        0 => seal(input, call, line, |text, out, tag| {
+            Status(comet::seal(suite, key, nonce, ad, text, out, tag))
+        }),
+        1 => open(input, call, line, |text, tag, out| {
+            Status(comet::unseal(suite, key, nonce, ad, text, tag, out))
+        }),
+        2 => seal(input, call, line, |text, out, tag| {
+            Counted(comet::seal_counted(suite, key, nonce, ad, text, out, tag))
+        }),
+        3 => open(input, call, line, |text, tag, out| {
+            Counted(comet::unseal_counted(suite, key, nonce, ad, text, tag, out))
+        }),
+        4 => seal_in_place(input, under, call, line),
+        5 => open_in_place(input, under, call, line),
+        6 => verify(input, under, call, line),
+        _ => Err(CallError::Bad),
+    }
+}
+
+// Reads key, nonce and associated data, and runs the call under them.
+fn run<R: Read>(input: &mut R, call: Call, line: &mut Page) -> Result<(), CallError> {
+    let [key_len, nonce_len, ad_len, ..] = call.numbers;
     let mut key_buf = [0u8; KEY_ROOM];
     let mut nonce_buf = [0u8; KEY_ROOM];
     let mut ad_buf = [0u8; TEXT_ROOM];
-    let mut text_buf = [0u8; TEXT_ROOM];
-    let key = field(input, &mut key_buf, call.first)?;
-    let nonce = field(input, &mut nonce_buf, call.second)?;
-    let ad = field(input, &mut ad_buf, call.third)?;
-    if key.len() != call.first || nonce.len() != call.second || ad.len() != call.third {
-        return Ok(0);
-    }
-    if 3 < call.op {
-        return in_place(input, call, key, nonce, ad, line);
-    }
-    let text = field(input, &mut text_buf, call.fourth)?;
-    if text.len() != call.fourth {
-        return Ok(0);
-    }
-    answer(input, call, key, nonce, ad, text, line)
+    let under = Context {
+        suite: call.suite,
+        key: part(input, &mut key_buf, key_len)?,
+        nonce: part(input, &mut nonce_buf, nonce_len)?,
+        ad: part(input, &mut ad_buf, ad_len)?,
+    };
+    run_under(input, under, call, line)
 }
 
-// Reads a call and runs it; false at the end of the input.
-fn turn<R: Read, W: Write>(input: &mut R, output: &mut W) -> io::Result<bool> {
-    let mut head = [0u8; HEAD_LEN];
-    let mut line = [0u8; 512];
-    if !program_text::call::next(input, output, &mut head)? {
-        return Ok(false);
-    }
-    let len = run(input, program_text::call::call_of(&head), &mut line)?;
-    program_text::call::done(output, &line, len)
-}
-
-// The end of an input is not provable, so the loop counts down from a number that no input reaches.
 fn main(rt: HostRuntime) -> io::Result<()> {
-    let mut input = rt.stdin();
-    let mut output = rt.stdout();
-    let mut left = u64::MAX;
-    while left > 0 && turn(&mut input, &mut output)? {
-        left -= 1;
-    }
-    Ok(())
+    calls::each(
+        &mut rt.stdin(),
+        &mut rt.stdout(),
+        |input, call, line| run(input, call, line),
+    )
 }
