@@ -6,65 +6,91 @@
 ghost use Rattle.std.specs.Prelude.{◌≤◌, ◌<◌, length};
 
 use crate::{FILE_ROOM, RING_ROOM};
-use program_text::call::Call;
-use program_text::read::full;
-use program_text::text::{and_number, and_shown, answer, end, space};
-use status::checked::Answer;
+use program_text::calls::{Call, CallError};
+use program_text::fold::Fold;
+use program_text::print::Shown;
+use program_text::read;
+use program_text::read::{front_mut, part};
+use shift_lookup::answers::answer_of;
+use status::checked::answered;
 use std::io;
-use std::io::Read;
+use std::io::{Read, Write};
 
 // The most bytes of an output where every damage is tried.
 const SHORT_ROOM: usize = 300;
 
-// A space, number and row.
-fn and_answer(line: &mut [u8], at: usize, answered: Answer) -> usize {
-    let to = space(line, at);
-    answer(line, to, answered.number, answered.row)
-}
-
-// Number and row of the check and of the lookup.
-fn found(file: &[u8], job: u32, line: &mut [u8]) -> usize {
-    let checked = shift_check::check(file).answer();
-    let at = answer(line, 0, checked.number, checked.row);
-    and_answer(line, at, shift_lookup::lookup(file, job).answer())
-}
-
-// Offset, length and bytes of the associated data.
-fn place(file: &[u8], job: u32, line: &mut [u8], at: usize) -> usize {
-    let entry = shift_lookup::entry(file, job);
+// Number and row of the check and of the lookup; offset, length and bytes of the associated data.
+fn looked_up<W: Write>(file: &[u8], job: u32, line: &mut W) -> io::Result<()> {
+    let checked = answered(shift_check::check(file));
+    let found = answer_of(shift_lookup::lookup(file, job));
+    let start = shift_lookup::entry(file, job).map_or(0, |entry| entry.ad_at);
     let ad = shift_lookup::associated(file, job);
-    let at = and_number(line, at, entry.ad_at as u64);
-    let at = and_number(line, at, ad.len() as u64);
-    and_shown(line, at, ad)
+    write!(line, "{} {} {} {}", checked.number, checked.row, found.number, found.row)?;
+    write!(line, " {start} {} {}", ad.len(), Shown(ad))
 }
 
-fn opening(
-    file: &[u8],
-    ring: &[u8],
+// Op 0.
+pub(crate) fn one<R: Read, W: Write>(
+    input: &mut R,
+    call: Call,
+    line: &mut W,
+) -> Result<(), CallError> {
+    let [file_len, ring_len, out_len, ..] = call.numbers;
+    let mut file_buf = read::room::<{ read::FILE_ROOM }>();
+    let mut ring_buf = [0u8; RING_ROOM];
+    let mut out_buf = [0xa5u8; FILE_ROOM];
+    let file = part(input, &mut file_buf, file_len)?;
+    let ring = part(input, &mut ring_buf, ring_len)?;
+    let out = front_mut(&mut out_buf, out_len)?;
+    looked_up(file, call.job, line)?;
+    let opened = answered(shift_jobs::open_job(file, ring, call.job, out));
+    writeln!(line, " {} {} {}", opened.number, opened.row, Shown(out))?;
+    Ok(())
+}
+
+// With what each damaged file is tried.
+#[derive(Clone, Copy)]
+struct Trial<'a> {
+    ring: &'a [u8],
     job: u32,
-    out: &mut [u8],
-    line: &mut [u8],
-    at: usize,
-) -> usize {
-    let at = and_answer(
-        line,
-        at,
-        shift_jobs::open_job(file, ring, job, out).answer(),
-    );
-    let at = and_shown(line, at, out);
-    end(line, at)
+    out_len: usize,
+    ghost short: { out_len ≤ 300 },
 }
 
-// Op 0; no line if the output's buffer is too small.
-fn one(file: &[u8], ring: &[u8], call: Call, line: &mut [u8]) -> usize {
-    let mut out = [0xa5u8; FILE_ROOM];
-    let out_len = call.third;
-    if FILE_ROOM < out_len {
-        return 0;
+impl Trial<'_> {
+    // The fold with the number of opening, and the output that it leaves.
+    fn opened(self, fold: Fold, file: &[u8]) -> Fold {
+        let mut out_buf = [0xa5u8; SHORT_ROOM];
+        let out = &mut out_buf[..self.out_len];
+        let opened = answered(shift_jobs::open_job(file, self.ring, self.job, out));
+        fold.byte(opened.number).bytes(out)
     }
-    let at = found(file, call.job, line);
-    let at = place(file, call.job, line, at);
-    opening(file, ring, call.job, &mut out[0..out_len], line, at)
+
+    // The fold with the answers to a file.
+    fn answers(self, fold: Fold, file: &[u8]) -> Fold {
+        let checked = answered(shift_check::check(file));
+        let found = answer_of(shift_lookup::lookup(file, self.job));
+        let fold = fold
+            .byte(checked.number)
+            .byte(low(checked.row))
+            .byte(found.number)
+            .byte(low(found.row));
+        self.opened(fold, file)
+    }
+
+    // The fold of the answers to the 255 other values of the byte at a position.
+    fn damages(self, file: &mut [u8], position: usize) -> Fold
+        requires { position < length file.old }
+    {
+        let old = file[position];
+        let mut fold = Fold::new();
+        for mask in 1..=255 {
+            file[position] = old ^ mask;
+            fold = self.answers(fold, file);
+        }
+        file[position] = old;
+        fold
+    }
 }
 
 // The low byte of a row.
@@ -72,111 +98,28 @@ fn low(row: usize) -> u8 {
     (row % 256) as u8
 }
 
-// The fold with the number of opening, and the output that it leaves.
-fn opened_into(fold: u64, file: &[u8], ring: &[u8], job: u32, out: &mut [u8]) -> u64
-    requires { fold < 4294967291 }
-    ensures { result < 4294967291 }
-{
-    let answered = shift_jobs::open_job(file, ring, job, out).answer();
-    program_text::fold::fold_from(program_text::fold::folded(fold, answered.number), out)
-}
-
-// The same with a fresh output of out_len bytes.
-fn opened(fold: u64, file: &[u8], ring: &[u8], job: u32, out_len: usize) -> u64
-    requires { (fold < 4294967291) × (out_len ≤ 300) }
-    ensures { result < 4294967291 }
-{
-    let mut out = [0xa5u8; SHORT_ROOM];
-    opened_into(fold, file, ring, job, &mut out[0..out_len])
-}
-
-// The fold with the answers to the file as it is.
-fn answers(fold: u64, file: &[u8], ring: &[u8], job: u32, out_len: usize) -> u64
-    requires { (fold < 4294967291) × (out_len ≤ 300) }
-    ensures { result < 4294967291 }
-{
-    let checked = shift_check::check(file).answer();
-    let found = shift_lookup::lookup(file, job).answer();
-    let fold1 = program_text::fold::folded(fold, checked.number);
-    let fold2 = program_text::fold::folded(fold1, low(checked.row));
-    let fold3 = program_text::fold::folded(fold2, found.number);
-    let fold4 = program_text::fold::folded(fold3, low(found.row));
-    opened(fold4, file, ring, job, out_len)
-}
-
-// The fold of the answers to the 255 other values of the byte at a position.
-fn damages(file: &mut [u8], position: usize, ring: &[u8], job: u32, out_len: usize) -> u64
-    requires { (position < length file.old) × (out_len ≤ 300) }
-{
-    let old = file[position];
-    let mut fold: u64 = 0;
-    let mut mask: u8 = 0;
-    while mask < 255 {
-        mask += 1;
-        file[position] = old ^ mask;
-        fold = answers(fold, file, ring, job, out_len);
-    }
-    file[position] = old;
-    fold
-}
-
-// A fold on a line of its own.
-fn fold_line(line: &mut [u8], at: usize, fold: u64) -> usize {
-    let to = program_text::text::hex_number(line, at, fold, 8);
-    end(line, to)
-}
-
-// Op 1; no line if the output's buffer is too small.
-fn damage(file: &mut [u8], ring: &[u8], job: u32, out_len: usize, line: &mut [u8]) -> usize {
-    if SHORT_ROOM < out_len {
-        return 0;
-    }
-    let mut at: usize = 0;
-    let mut index: usize = 0;
-    while index < file.len() {
-        at = fold_line(line, at, damages(file, index, ring, job, out_len));
-        index += 1;
-    }
-    at
-}
-
-// Runs a call on its file, once its ring is read.
-fn run_on<R: Read>(
+// Op 1; the call is bad if the file is empty, which leaves no line.
+pub(crate) fn damaged<R: Read, W: Write>(
     input: &mut R,
-    file: &mut [u8],
     call: Call,
-    line: &mut [u8],
-) -> io::Result<usize> {
+    line: &mut W,
+) -> Result<(), CallError> {
+    let [file_len, ring_len, out_len, ..] = call.numbers;
+    let mut file_buf = read::room::<{ read::FILE_ROOM }>();
     let mut ring_buf = [0u8; RING_ROOM];
-    let ring_len = call.second;
-    let ring = program_text::read::field(input, &mut ring_buf, ring_len)?;
-    if ring.len() != ring_len {
-        return Ok(0);
+    let file = part(input, &mut file_buf, file_len)?;
+    let ring = part(input, &mut ring_buf, ring_len)?;
+    if SHORT_ROOM < out_len || file.is_empty() {
+        return Err(CallError::Bad);
     }
-    if call.op == 0 {
-        return Ok(one(file, ring, call, line));
+    let trial = Trial {
+        ring,
+        job: call.job,
+        out_len,
+    };
+    for position in 0..file.len() {
+        let fold = trial.damages(file, position);
+        writeln!(line, "{:08x}", fold.value)?;
     }
-    Ok(damage(file, ring, call.job, call.third, line))
-}
-
-// Reads the file of a call into file_buf and runs it; no line if file_buf is too small or the input ends.
-fn run_in<R: Read>(
-    input: &mut R,
-    file_buf: &mut [u8],
-    call: Call,
-    line: &mut [u8],
-) -> io::Result<usize> {
-    let file_len = call.first;
-    if file_buf.len() < file_len {
-        return Ok(0);
-    }
-    if full(input, &mut file_buf[0..file_len])? != file_len {
-        return Ok(0);
-    }
-    run_on(input, &mut file_buf[0..file_len], call, line)
-}
-
-pub(crate) fn run<R: Read>(input: &mut R, call: Call, line: &mut [u8]) -> io::Result<usize> {
-    let mut file_buf = program_text::read::file_room();
-    run_in(input, &mut file_buf, call, line)
+    Ok(())
 }
