@@ -14,7 +14,7 @@ use Rattle.session.proofs.Whatever.{over_shut}
 use Rattle.session.proofs.AnyValue.{data_shut, text_shut, end_shut}
 use Rattle.shift_format.specs.Format.{first_edition, newest}
 use Rattle.shift_check.proofs.Passed.{passes}
-use Rattle.shift_reader.specs.declared.contents.HeaderFields.{HeaderFields}
+use Rattle.shift_reader.specs.Contents.{HeaderFields}
 use Rattle.shift_reader.proofs.ByRow.{header-given, row-given, row-past}
 use Rattle.snoekeldraf.specs.Fields.{InFields, in_fields}
 use Rattle.session_words.specs.Words.{Nine, of_words, words_of, after, in_words}

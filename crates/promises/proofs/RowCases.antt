@@ -8,9 +8,7 @@ use mathlib.Core.List.{List}
 use lib.Dec.{eqb, ltb}
 use borrow.Author.Tests.{eqb-true, eqb-false, ltb-true, ltb-false}
 use Rattle.shift_format.specs.Format.{count_of, first_edition, newest}
-use Rattle.shift_reader.specs.declared.contents.HeaderFields.{HeaderFields}
-use Rattle.shift_reader.specs.declared.contents.RowFields.{RowFields}
-use Rattle.shift_reader.specs.Contents.{head_status, no_header, header_answer, no_fields, row_answer}
+use Rattle.shift_reader.specs.Contents.{RowFields, HeaderFields, head_status, no_header, header_answer, no_fields, row_answer}
 use Rattle.shift_reader.proofs.ByRow.{header-goes, header-stops, row_goes, row-past, row-stops}
 use Rattle.promises.specs.Tables.{None}
 use Rattle.promises.specs.Numbers.{head_table}

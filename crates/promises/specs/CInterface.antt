@@ -10,12 +10,10 @@ use Rattle.session.specs.Calls.{Shut}
 use Rattle.status.specs.Answers.{answer}
 use Rattle.shift_format.specs.Format.{edition_of, count_of, row_size_of, nonce_start, row_of, station_of}
 use Rattle.shift_check.specs.Check.{check_file}
-use Rattle.shift_lookup.specs.declared.answers.Entry.{Entry}
 use Rattle.shift_lookup.specs.Lookup.{lookup_job}
-use Rattle.shift_lookup.specs.Entry.{entry_of}
+use Rattle.shift_lookup.specs.Entry.{Entry, entry_of}
 use Rattle.shift_jobs.specs.Opening.{left, job_opening}
-use Rattle.shift_jobs.specs.declared.answers.Genuine.{Genuine}
-use Rattle.shift_jobs.specs.Genuine.{job_verifying}
+use Rattle.shift_jobs.specs.Genuine.{Genuine, job_verifying}
 use Rattle.shift_search.specs.Searching.{searching}
 use Rattle.shift_draft.specs.Answers.{writes, file_sealing, file_unsealing}
 use Rattle.shift_reseal.specs.Answers.{file_resealing}
@@ -23,8 +21,7 @@ use Rattle.shift_amend.specs.Amending.{AmendedOpening, amended_opening}
 use Rattle.shift_editions.specs.Answers.{moved_length_of, FileMoved, to_edition2_of, to_edition1_of}
 use Rattle.shift_compare.specs.Comparing.{Comparison, comparison}
 use Rattle.shift_report.specs.Reporting.{Report, reporting}
-use Rattle.shift_reader.specs.declared.contents.HeaderFields.{HeaderFields}
-use Rattle.shift_reader.specs.Contents.{header_answer, row_answer}
+use Rattle.shift_reader.specs.Contents.{HeaderFields, header_answer, row_answer}
 use Rattle.session_words.specs.Words.{Nine, of_words, words_of, after, in_words}
 use Rattle.snoekeldraf.specs.Located.{Located, locating}
 use Rattle.snoekeldraf.specs.Amended.{Placed, placing}

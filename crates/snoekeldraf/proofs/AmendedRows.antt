@@ -1,15 +1,16 @@
 -- The row of the current entry, or of a refusal, is one file's, so it is at most 512 and fits C's number.
 use Prim.Native.Nat.{ℕ, ◌≤◌}
 use native.Mathlib.Omega.{arith}
-use mathlib.Core.Path.{subst}
+use mathlib.Core.Path.{◌≡◌, sym, subst}
 use mathlib.Core.Bool.{Bool, true, false, cond}
 use mathlib.Core.List.{List}
 use lib.Dec.{eqb}
 use Rattle.status.specs.declared.checked.Answer.{Answer}
 use Rattle.status.specs.Answers.{answer}
 use Rattle.shift_jobs.specs.Opening.{left, job_opening}
-use Rattle.shift_amend.specs.declared.Amended.{Amended}
-use Rattle.shift_amend.specs.Amending.{amended_entry, holder, amended_opening}
+use Rattle.shift_lookup.specs.Entry.{entry_answer}
+use Rattle.shift_amend.specs.declared.Amended.{Amended as Located}
+use Rattle.shift_amend.specs.Amending.{Amended, amended_answer, amended_entry, holder, amended_opening}
 use Rattle.shift_amend.proofs.Holding.{stands, five}
 use Rattle.snoekeldraf.proofs.Rows.{lookup-row, job-row}
 
@@ -21,6 +22,10 @@ amended_row a d job =
     (λ p q h. lookup-row a job)
     (λ p q n h. lookup-row d job)
     (λ p q n m. omega arith)
+
+-- of a located entry
+pub located_row : (x : Located) (a d : List ℕ) (job : ℕ) → amended_answer x ≡ amended_entry a d job → (entry_answer x.entry).row ≤ 512
+located_row x a d job e = subst (λ (w : Amended). w.entry.row ≤ 512) (sym e) (amended_row a d job)
 
 pub open_amended_row : (a d ring : List ℕ) (job : ℕ) (out₀ : List ℕ) → (amended_opening a d ring job out₀).answer.row ≤ 512
 unfolding amended_opening

@@ -7,7 +7,7 @@ use Rattle.comet.specs.Answers.{Sealed, Opened}
 use Rattle.comet.specs.Counted.{Counting}
 use Rattle.status.specs.declared.checked.Answer.{Answer}
 use Rattle.shift_lookup.specs.Entry.{Entry}
-use Rattle.shift_jobs.specs.declared.answers.Genuine.{Genuine}
+use Rattle.shift_jobs.specs.Genuine.{Genuine}
 use Rattle.shift_jobs.specs.Opening.{JobOpened}
 use Rattle.snoekeldraf.specs.Located.{Located}
 use Rattle.session_words.specs.Words.{InWords}

@@ -1,7 +1,7 @@
 -- A shift file has at most 512 rows, so the row of every answer is at most 512 and fits C's number.
 use Prim.Native.Nat.{ℕ, ◌-◌, ◌≤◌}
 use native.Mathlib.Omega.{arith}
-use mathlib.Core.Path.{◌≡◌, refl, ap}
+use mathlib.Core.Path.{◌≡◌, refl, sym, ap, subst}
 use mathlib.Core.Bool.{Bool, true, false, not, cond}
 use mathlib.Core.List.{List}
 use mathlib.Core.Logic.{⊎_elim}
@@ -16,9 +16,15 @@ use Rattle.shift_check.specs.Check.{body_start, end_answer, rows_from, head_numb
 use Rattle.shift_check.proofs.Searches.{first_says}
 use Rattle.shift_check.proofs.Sound.{headed}
 use Rattle.shift_check.proofs.Passed.{passes, both_zero}
+use Rattle.std.specs.Prelude.{Result}
+use Rattle.shift_lookup.specs.declared.answers.Entry.{Entry as Place}
+use Rattle.shift_lookup.specs.declared.answers.LookupError.{LookupError}
+use Rattle.shift_lookup.specs.Entry.{Entry, entry_answer, entry_of}
 use Rattle.shift_lookup.specs.Lookup.{find_from, lookup_job}
 use Rattle.shift_jobs.specs.Opening.{entry_opening, left, row_opening, job_opening, entry_verifying}
-use Rattle.shift_jobs.specs.Genuine.{withheld, row_verifying, job_verifying}
+use Rattle.shift_jobs.specs.declared.answers.Genuine.{Genuine as GenuineAt}
+use Rattle.shift_jobs.specs.declared.answers.JobError.{JobError}
+use Rattle.shift_jobs.specs.Genuine.{Genuine, genuine_answer, withheld, row_verifying, job_verifying}
 use Rattle.shift_draft.specs.Files.{draft_edition}
 use Rattle.shift_editions.specs.Files.{moved}
 use Rattle.shift_editions.specs.Answers.{stations_from, length_answer, up_answer, back_answer, to_edition2_of, to_edition1_of}
@@ -72,6 +78,10 @@ lookup-row f job =
     then_row (check_file f) (find_from (row_size_of f) f (count_of f) job 0) 512 (check_row first_edition newest f)
     (λ z. omega (arith, (passes first_edition newest f z).head.few, find-row (row_size_of f) f (count_of f) job))
 
+-- of a job's entry
+pub entry-row : (r : Result Place LookupError) (f : List ℕ) (job : ℕ) → entry_answer r ≡ entry_of f job → (entry_answer r).row ≤ 512
+entry-row r f job e = subst (λ (w : Entry). w.row ≤ 512) (sym e) (lookup-row f job)
+
 opened-row : (f ring : List ℕ) (i : ℕ) (out₀ : List ℕ) → (row_opening f ring i out₀).answer.row ≡ 0
 unfolding row_opening
 opened-row f ring i out₀ = go (not (eqb (length ring) 256)) (not (eqb (length out₀) (row_of f i).text_len))
@@ -109,6 +119,10 @@ verified-row f ring job = go (eqb (lookup_job f job).number 0)
     go : (b : Bool) → (cond b (row_verifying f ring (lookup_job f job).row) (withheld (lookup_job f job).number (lookup_job f job).row)).row ≤ 512
     go true = omega (arith, tested_row f ring (lookup_job f job).row)
     go false = lookup-row f job
+
+-- of a verified entry
+pub genuine-row : (r : Result GenuineAt JobError) (f ring : List ℕ) (job : ℕ) → genuine_answer r ≡ job_verifying f ring job → (genuine_answer r).row ≤ 512
+genuine-row r f ring job e = subst (λ (w : Genuine). w.row ≤ 512) (sym e) (verified-row f ring job)
 
 -- the writer's answers
 lent_row : (file ring out : ℕ) → (lent_answer file ring out).row ≤ 512

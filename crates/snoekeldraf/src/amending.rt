@@ -4,7 +4,7 @@ ghost use Rattle.status.specs.Answers.{answer};
 ghost use Rattle.shift_amend.specs.Amending.{AmendedOpening, amended_opening};
 ghost use Rattle.snoekeldraf.specs.Amended.{Placed, placing};
 
-use status::checked::say;
+use status::checked::{Refuses, answered, say};
 
 // The checks, or 32; then the file that holds the current entry (1 the amendment, 2 the day's), its row, and where in
 // that file its associated data lies; 0 and 0 on a refusal.
@@ -21,11 +21,20 @@ pub fn shift_amended(
         (placing amendment.now day.now job) }
 {
     let current = shift_amend::locate(amendment, day, job);
-    *file = current.file as u32;
-    *row = current.entry.row as u32;
-    *at = current.entry.ad_at;
-    *len = current.entry.ad_len;
-    current.entry.number as u32
+    *file = u32::from(current.file);
+    match current.entry {
+        Ok(entry) => {
+            *row = entry.row as u32;
+            *at = entry.ad_at;
+            *len = entry.ad_len;
+            0
+        }
+        Err(error) => {
+            *at = 0;
+            *len = 0;
+            say(error.answer(), row)
+        }
+    }
 }
 
 // Opens the current entry of a job into out: the checks, 32, then 2, 6, 8.
@@ -42,7 +51,6 @@ pub fn shift_open_amended(
         (amended_opening amendment.now day.now ring.now job out.old) }
 {
     let current = shift_amend::open_current(amendment, day, ring, job, out);
-    *file = current.file as u32;
-    let opened = current.opened;
-    say(opened.answer(), row)
+    *file = u32::from(current.file);
+    say(answered(current.opened), row)
 }

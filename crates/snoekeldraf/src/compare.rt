@@ -30,7 +30,8 @@ pub fn shift_compare(
     })
         (comparison first.now second.now only_first.old only_second.old differ.old) }
 {
-    let finding = shift_compare::compare(first, second, only_first, only_second, differ).finding();
+    let compared = shift_compare::compare(first, second, only_first, only_second, differ);
+    let finding = shift_compare::finding(compared);
     *first_count = finding.first as u32;
     *second_count = finding.second as u32;
     *differ_count = finding.differ as u32;

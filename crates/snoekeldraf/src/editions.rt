@@ -3,7 +3,7 @@ ghost use Rattle.std.specs.Prelude.{◌≡◌};
 ghost use Rattle.status.specs.Answers.{answer};
 ghost use Rattle.shift_editions.specs.Answers.{moved_length_of, FileMoved, to_edition2_of, to_edition1_of};
 
-use status::checked::say;
+use status::checked::{answered, say};
 
 // The length of the file after its move; 0 if one of 20 to 24 applies.
 pub fn shift_moved_length(file: &[u8]) -> usize
@@ -17,7 +17,7 @@ pub fn shift_to_edition2(file: &[u8], out: &mut [u8], row: &mut u32) -> u32
     ensures { ◌≡◌ {A = FileMoved} (record { answer = answer result row.new; out = out.new })
         (to_edition2_of file.now out.old) }
 {
-    say(shift_editions::to_edition2(file, out).answer(), row)
+    say(answered(shift_editions::to_edition2(file, out)), row)
 }
 
 // Writes a file of edition 2 in edition 1 into out: the checks, 35, 6.
@@ -25,5 +25,5 @@ pub fn shift_to_edition1(file: &[u8], out: &mut [u8], row: &mut u32) -> u32
     ensures { ◌≡◌ {A = FileMoved} (record { answer = answer result row.new; out = out.new })
         (to_edition1_of file.now out.old) }
 {
-    say(shift_editions::to_edition1(file, out).answer(), row)
+    say(answered(shift_editions::to_edition1(file, out)), row)
 }

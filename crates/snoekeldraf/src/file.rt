@@ -2,11 +2,10 @@
 ghost use Rattle.std.specs.Prelude.{◌≡◌};
 ghost use Rattle.status.specs.Answers.{answer};
 ghost use Rattle.shift_check.specs.Check.{check_file};
-ghost use Rattle.shift_jobs.specs.declared.answers.Genuine.{Genuine};
 ghost use Rattle.shift_lookup.specs.Lookup.{lookup_job};
 ghost use Rattle.shift_lookup.specs.Entry.{Entry, entry_of};
 ghost use Rattle.shift_jobs.specs.Opening.{JobOpened, job_opening};
-ghost use Rattle.shift_jobs.specs.Genuine.{job_verifying};
+ghost use Rattle.shift_jobs.specs.Genuine.{Genuine, job_verifying};
 ghost use Rattle.snoekeldraf.specs.Located.{Located, locating};
 
 use shift_lookup::answers::answer_of;
@@ -88,7 +87,7 @@ pub fn shift_open_job(file: &[u8], ring: &[u8], job: u32, out: &mut [u8], row: &
     ensures { ◌≡◌ {A = JobOpened} (record { answer = answer result row.new; out = out.new })
         (job_opening file.now ring.now job out.old) }
 {
-    say(shift_jobs::open_job(file, ring, job, out).answer(), row)
+    say(answered(shift_jobs::open_job(file, ring, job, out)), row)
 }
 
 // The offset of the job's associated data, after its tag was compared: the full check, 32, then 2, 8; 0 and 0 after every number but 0.
@@ -103,9 +102,17 @@ pub fn shift_verified(
     ensures { ◌≡◌ {A = Genuine} (record { number = result; row = row.new; ad_at = at.new; ad_len = len.new })
         (job_verifying file.now ring.now job) }
 {
-    let genuine = shift_jobs::verified(file, ring, job);
-    *row = genuine.row as u32;
-    *at = genuine.ad_at;
-    *len = genuine.ad_len;
-    genuine.number as u32
+    match shift_jobs::verified(file, ring, job) {
+        Ok(genuine) => {
+            *row = 0;
+            *at = genuine.ad_at;
+            *len = genuine.ad_len;
+            0
+        }
+        Err(error) => {
+            *at = 0;
+            *len = 0;
+            say(error.answer(), row)
+        }
+    }
 }

@@ -19,7 +19,7 @@ pub fn shift_report(
     })
         (reporting file.now ring.now jobs.old numbers.old) }
 {
-    let summary = shift_report::report(file, ring, jobs, numbers).said();
+    let summary = shift_report::answers::said(shift_report::report(file, ring, jobs, numbers));
     *count = summary.count as u32;
     *row = summary.row as u32;
     summary.number as u32

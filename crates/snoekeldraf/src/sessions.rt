@@ -13,7 +13,7 @@ pub fn comet_session_start(state: &mut [u64; 9], suite: u8, key: &[u8], nonce: &
     let step = Session::start(suite, key, nonce);
     let next = step.next;
     *state = words_of(next);
-    step.number as u32
+    step.number() as u32
 }
 
 // A part of the associated data.
@@ -27,7 +27,7 @@ pub fn comet_session_data(state: &mut [u64; 9], ad: &[u8]) -> u32
     let step = session_of(words).associated(ad);
     let next = step.next;
     *state = words_of(next);
-    step.number as u32
+    step.number() as u32
 }
 
 // A part of the message.
@@ -43,8 +43,8 @@ pub fn comet_session_part(state: &mut [u64; 9], msg: &[u8], out: &mut [u8], coun
     let step = session_of(words).message(msg, out);
     let next = step.next;
     *state = words_of(next);
-    *count = step.count as u32;
-    step.number as u32
+    *count = step.count() as u32;
+    step.number() as u32
 }
 
 // The end: the rest of the ciphertext into out, and the tag; the session is over.
@@ -65,8 +65,8 @@ pub fn comet_session_end(
     let step = session_of(words).finish(out, tag);
     let next = step.next;
     *state = words_of(next);
-    *count = step.count as u32;
-    step.number as u32
+    *count = step.count() as u32;
+    step.number() as u32
 }
 
 // Wipes a session: nine zeros, for which every later call returns 9.

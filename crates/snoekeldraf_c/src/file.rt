@@ -2,11 +2,10 @@
 ghost use Rattle.std.specs.Prelude.{◌≡◌};
 ghost use Rattle.status.specs.Answers.{answer};
 ghost use Rattle.shift_check.specs.Check.{check_file};
-ghost use Rattle.shift_jobs.specs.declared.answers.Genuine.{Genuine};
 ghost use Rattle.shift_lookup.specs.Lookup.{lookup_job};
 ghost use Rattle.shift_lookup.specs.Entry.{Entry, entry_of};
 ghost use Rattle.shift_jobs.specs.Opening.{JobOpened, job_opening};
-ghost use Rattle.shift_jobs.specs.Genuine.{job_verifying};
+ghost use Rattle.shift_jobs.specs.Genuine.{Genuine, job_verifying};
 ghost use Rattle.snoekeldraf.specs.Located.{Located, locating};
 
 // The full check: numbers 20 to 31 and 34, and the row.

@@ -1,13 +1,15 @@
 -- A move answers with a row of the file, which fits, so what it says passes whole beside the output.
-use mathlib.Core.Path.{ap, ◌∙◌}
+use Prim.Native.Nat.{◌≤◌}
+use mathlib.Core.Path.{sym, ap, subst, ◌∙◌}
+use Rattle.status.specs.declared.checked.Answer.{Answer}
 use Rattle.shift_editions.specs.Answers.{FileMoved}
-use Rattle.status.proofs.Outcomes.{same_answer}
 use Rattle.snoekeldraf.proofs.Rows.{up_row}
 use Rattle.snoekeldraf.proofs.editions.shift_to_edition2.Goals as goal
 
 pub say-requires : goal.say-requires
 say-requires c =
-    rw (c.answer.ensures.1, ap (λ (w : FileMoved). w.answer.row) c.to_edition2.ensures) (up_row _ _)
+    let e = c.answered.ensures ∙ ap (λ (w : FileMoved). w.answer) c.to_edition2.ensures in
+    subst (λ (w : Answer). w.row ≤ 512) (sym e) (up_row _ _)
 
 pub returns : goal.returns
-returns c = rw (c.say.ensures ∙ same_answer c.answer.ensures) c.to_edition2.ensures
+returns c = rw (c.say.ensures ∙ c.answered.ensures) c.to_edition2.ensures

@@ -1,10 +1,9 @@
--- The entry's row is the lookup's, which fits; all else passes whole.
-use Prim.Native.Nat.{ℕ, ◌≤◌}
-use mathlib.Core.Path.{◌≡◌, sym, ap, ◌∙◌}
+-- The entry's row, or its error's, is the lookup's, which fits; all else passes whole.
+use Prim.Native.Nat.{◌≤◌}
 use native.Mathlib.Omega.{arith}
-use Rattle.status.specs.declared.checked.Answer.{Answer}
-use Rattle.shift_lookup.specs.Entry.{Entry, entry_answer}
-use Rattle.snoekeldraf.proofs.Rows.{lookup-row}
+use mathlib.Core.Path.{subst}
+use Rattle.shift_lookup.specs.Entry.{entry_answer}
+use Rattle.snoekeldraf.proofs.Rows.{entry-row}
 use Rattle.snoekeldraf.proofs.file.shift_entry.Goals as goal
 
 abbrev row_of : Entry → ℕ
@@ -12,21 +11,9 @@ row_of x = x.row
 
 pub overflow_cast-row : goal.overflow_cast-row
 overflow_cast-row c =
-    let e = ap row_of (ap entry_answer (sym c.in-Ok.is) ∙ c.entry.ensures) in
-    let low : c.in-Ok.entry.row ≤ 512 = rw e (lookup-row _ _) in
+    let low : c.in-Ok.entry.row ≤ 512 = subst (λ r. (entry_answer r).row ≤ 512) c.in-Ok.is (entry-row _ _ _ c.entry.ensures) in
     omega arith
-
-pub returns-in-Ok : goal.returns-in-Ok
-returns-in-Ok c = ap entry_answer (sym c.in-Ok.is) ∙ c.entry.ensures
 
 pub say-requires : goal.say-requires
 say-requires c =
-    let e = ap row_of (ap entry_answer (sym c.in-Err.is) ∙ c.entry.ensures) in
-    rw (c.answer.ensures, e) (lookup-row _ _)
-
--- a refusal's entry
-abbrev refused : Answer → Entry
-refused x = record { number = x.number; row = x.row; ad_at = 0; ad_len = 0; text_at = 0; text_len = 0 }
-
-pub returns-in-Err : goal.returns-in-Err
-returns-in-Err c = ap refused (c.say.ensures ∙ c.answer.ensures) ∙ ap entry_answer (sym c.in-Err.is) ∙ c.entry.ensures
+    rw c.answer.ensures (subst (λ r. (entry_answer r).row ≤ 512) c.in-Err.is (entry-row _ _ _ c.entry.ensures))

@@ -1,7 +1,8 @@
 -- The row that is found and the number of looks fit, so what the search says passes whole.
 use Prim.Native.Nat.{◌≤◌}
 use native.Mathlib.Omega.{arith}
-use mathlib.Core.Path.{◌∙◌}
+use mathlib.Core.Path.{sym, subst, ◌∙◌}
+use Rattle.status.specs.declared.checked.Answer.{Answer}
 use Rattle.shift_search.proofs.Promised.{ten_looks, says-low}
 use Rattle.snoekeldraf.proofs.search.shift_search.Goals as goal
 
@@ -11,7 +12,8 @@ overflow_cast-looked c =
     omega arith
 
 pub say-requires : goal.say-requires
-say-requires c = rw (c.answer_of.ensures, c.search-search.ensures.0) (says-low _ _)
+say-requires c =
+    subst (λ (w : Answer). w.row ≤ 512) (sym (c.answer_of.ensures ∙ c.search-search.ensures.0)) (says-low _ _)
 
 pub returns : goal.returns
 returns c = (c.say.ensures ∙ c.answer_of.ensures ∙ c.search-search.ensures.0, c.search-search.ensures.1)
