@@ -31,7 +31,7 @@ pub fn shift_compare(
         (comparison first.now second.now only_first.old only_second.old differ.old) }
 {
     let compared = shift_compare::compare(first, second, only_first, only_second, differ);
-    let finding = shift_compare::finding(compared);
+    let finding = shift_compare::said(compared);
     *first_count = finding.first as u32;
     *second_count = finding.second as u32;
     *differ_count = finding.differ as u32;

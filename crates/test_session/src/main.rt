@@ -6,7 +6,6 @@
 // number, the count and, if the call has them, output and tag. The borrowed buffers hold 0xa5 before the call.
 #![tactic(auto)]
 
-use block::Block;
 use cipher::LIMIT;
 use program_text::calls;
 use program_text::calls::{Call, CallError};
@@ -24,19 +23,6 @@ const OUT_ROOM: usize = LIMIT + 64;
 
 const KEY_ROOM: usize = 40;
 
-// Before the first call.
-fn over() -> Session {
-    let zero = Block { a: 0, b: 0 };
-    Session {
-        suite: 0,
-        y: zero,
-        z: zero,
-        held: [0u8; 16],
-        ad_total: 0,
-        text_total: 0,
-    }
-}
-
 fn start<R: Read>(
     input: &mut R,
     state: &mut Session,
@@ -50,7 +36,7 @@ fn start<R: Read>(
     let nonce = part(input, &mut nonce_buf, nonce_len)?;
     let step = Session::start(call.suite, key, nonce);
     *state = step.next;
-    writeln!(line, "{} {}", step.number, step.count)?;
+    writeln!(line, "{} {}", step.number(), step.count())?;
     Ok(())
 }
 
@@ -65,7 +51,7 @@ fn associated<R: Read>(
     let ad = part(input, &mut ad_buf, ad_len)?;
     let step = state.associated(ad);
     *state = step.next;
-    writeln!(line, "{} {}", step.number, step.count)?;
+    writeln!(line, "{} {}", step.number(), step.count())?;
     Ok(())
 }
 
@@ -82,7 +68,7 @@ fn message<R: Read>(
     let out = front_mut(&mut out_buf, out_len)?;
     let step = state.message(msg, out);
     *state = step.next;
-    writeln!(line, "{} {} {}", step.number, step.count, Shown(out))?;
+    writeln!(line, "{} {} {}", step.number(), step.count(), Shown(out))?;
     Ok(())
 }
 
@@ -97,8 +83,8 @@ fn finish(state: &mut Session, call: Call, line: &mut Page) -> Result<(), CallEr
     writeln!(
         line,
         "{} {} {} {}",
-        step.number,
-        step.count,
+        step.number(),
+        step.count(),
         Shown(out),
         Shown(tag)
     )?;
@@ -137,7 +123,7 @@ fn run<R: Read>(
 }
 
 fn main(rt: HostRuntime) -> io::Result<()> {
-    let mut state = over();
+    let mut state = Session::default();
     calls::each(&mut rt.stdin(), &mut rt.stdout(), |input, call, line| {
         run(input, &mut state, call, line)
     })

@@ -5,7 +5,7 @@ use crate::{FILE_ROOM, LIST_ROOM};
 use program_text::calls::{Call, CallError};
 use program_text::print::Spaced;
 use program_text::read::{front_mut, part};
-use shift_compare::{compare, finding};
+use shift_compare::{compare, said};
 use std::io::{Read, Write};
 
 pub(crate) fn run<R: Read, W: Write>(
@@ -24,7 +24,7 @@ pub(crate) fn run<R: Read, W: Write>(
     let only_first = front_mut(&mut only_first_buf, only_first_len)?;
     let only_second = front_mut(&mut only_second_buf, only_second_len)?;
     let differ = front_mut(&mut differ_buf, differ_len)?;
-    let finding = finding(compare(first, second, only_first, only_second, differ));
+    let finding = said(compare(first, second, only_first, only_second, differ));
     write!(line, "{} {} {}", finding.number, finding.file, finding.row)?;
     write!(line, " {} {} {}", finding.first, finding.second, finding.differ)?;
     writeln!(line, "{}{}{}", Spaced(only_first), Spaced(only_second), Spaced(differ))?;

@@ -7,6 +7,7 @@ use mir.Val.{Fits}
 use mir.Syntax.{w64}
 use Rattle.session_words.specs.Words.{Nine, of_words}
 use Rattle.session_words.proofs.Words.{handed, stays}
+use Rattle.session.specs.Structs.{count_of}
 use Rattle.session.specs.Value.{Value, Given, data_part}
 use Rattle.session.proofs.AnyValue.{data_shut, data_none}
 use borrow.Author.Rules.{rules}
@@ -23,5 +24,5 @@ pub returns : goal.returns
 returns c =
     let v = c.session_of.ensures ∙ ap of_words c.copied-words.ensures in
     let e = c.associated-step.ensures ∙ ap (λ (v : Value). data_part v c.args.ad.now) v in
-    let n : 0 ≡ c.associated-step.result.count = sym (ap (λ (g : Given). g.count) e ∙ data_none (of_words c.args.state.now) c.args.ad.now) in
-    handed c.associated-step.result 0 c.words_of.result [] [] _ n c.words_of.ensures.words c.words_of.ensures.session e
+    let n : 0 ≡ count_of c.associated-step.result.outcome = sym (ap (λ (g : Given). g.count) e ∙ data_none (of_words c.args.state.now) c.args.ad.now) in
+    handed c.associated-step.result c.number.result 0 c.words_of.result [] [] _ c.number.ensures n c.words_of.ensures.words c.words_of.ensures.session e

@@ -1,6 +1,6 @@
 -- `snoekeldraf::sessions::comet_session_part` meets its contract: the library's, on the value that the words stand for; a first word over 255 is no suite.
 use mathlib.Core.List.{List, []}
-use mathlib.Core.Path.{◌≡◌, refl, ap, subst, ◌∙◌}
+use mathlib.Core.Path.{◌≡◌, ap, subst, ◌∙◌}
 use Prim.Native.Nat.{ℕ, ◌<◌}
 use lib.ListN.{length, get_or}
 use mir.Val.{Fits}
@@ -27,7 +27,7 @@ overflow_cast-count c =
     let v = c.session_of.ensures
     ∙ ap of_words c.copied-words.ensures in
     let e = c.message-step.ensures ∙ ap (λ (v : Value). text_part v c.args.msg.now c.args.out.now) v in
-    let n : c.message-step.result.count ≡ (text_part (of_words w) c.args.msg.now c.args.out.now).count = ap (λ (g : Given). g.count) e in
+    let n : c.count.result ≡ (text_part (of_words w) c.args.msg.now c.args.out.now).count = c.count.ensures ∙ ap (λ (g : Given). g.count) e in
     record { fits = omega (arith, n, text-few (of_words w) (length-wide (get_or w 5 0) (get_or w 6 0)) c.args.msg.now c.args.out.now) }
 
 pub returns : goal.returns
@@ -35,4 +35,4 @@ returns c =
     let v = c.session_of.ensures
     ∙ ap of_words c.copied-words.ensures in
     let e = c.message-step.ensures ∙ ap (λ (v : Value). text_part v c.args.msg.now c.args.out.now) v in
-    handed c.message-step.result c.message-step.result.count c.words_of.result c.message-step.new.out [] _ refl c.words_of.ensures.words c.words_of.ensures.session e
+    handed c.message-step.result c.number.result c.count.result c.words_of.result c.message-step.new.out [] _ c.number.ensures c.count.ensures c.words_of.ensures.words c.words_of.ensures.session e
