@@ -4,7 +4,7 @@ ghost use Rattle.session.specs.Value.{starting, data_part, text_part, ending};
 ghost use Rattle.session_words.specs.Words.{of_words, after, in_words};
 
 use session::Session;
-use session_words::{copied, session_of, words_of};
+use session_words::{session_of, words_of};
 
 // Starts a session. A refused start leaves nine zeros, for which every later call returns 9.
 pub fn comet_session_start(state: &mut [u64; 9], suite: u8, key: &[u8], nonce: &[u8]) -> u32
@@ -20,7 +20,7 @@ pub fn comet_session_start(state: &mut [u64; 9], suite: u8, key: &[u8], nonce: &
 pub fn comet_session_data(state: &mut [u64; 9], ad: &[u8]) -> u32
     ensures { after result 0 state.new [] [] ≡ in_words (data_part (of_words state.old) ad.now) }
 {
-    let words = copied(state);
+    let words = *state;
     if words[0] > 255 {
         return 9;
     }
@@ -35,7 +35,7 @@ pub fn comet_session_part(state: &mut [u64; 9], msg: &[u8], out: &mut [u8], coun
     ensures { after result count.new state.new out.new []
         ≡ in_words (text_part (of_words state.old) msg.now out.old) }
 {
-    let words = copied(state);
+    let words = *state;
     if words[0] > 255 {
         *count = 0;
         return 9;
@@ -57,7 +57,7 @@ pub fn comet_session_end(
     ensures { after result count.new state.new out.new tag.new
         ≡ in_words (ending (of_words state.old) out.old tag.old) }
 {
-    let words = copied(state);
+    let words = *state;
     if words[0] > 255 {
         *count = 0;
         return 9;

@@ -1,7 +1,7 @@
 -- `snoekeldraf::sessions::comet_session_data` meets its contract: the library's, on the value that the words stand for; a first word over 255 is no suite.
 use mathlib.Core.List.{List, []}
-use mathlib.Core.Path.{◌≡◌, sym, ap, subst, ◌∙◌}
-use Prim.Native.Nat.{ℕ, ◌<◌}
+use mathlib.Core.Path.{◌≡◌, sym, ap, ◌∙◌}
+use Prim.Native.Nat.{ℕ}
 use lib.ListN.{length, get_or}
 use mir.Val.{Fits}
 use mir.Syntax.{w64}
@@ -15,14 +15,12 @@ use Rattle.snoekeldraf.proofs.sessions.comet_session_data.Goals as goal
 
 pub returns-then-words-gt255 : goal.returns-then-words-gt255
 returns-then-words-gt255 c =
-    let l : length c.copied-words.result ≡ 9 = search rules in
-    let h : Nine c.copied-words.result = record { long = l; small = λ i. let f : Fits w64 (get_or c.copied-words.result i 0) = search rules in f.fits } in
-    let o : 255 < get_or c.args.state.now 0 0 = subst (λ (w : List ℕ). 255 < get_or w 0 0) c.copied-words.ensures c.if-words-gt255.true in
-    stays c.args.state.now [] [] _ (subst Nine c.copied-words.ensures h) (data_shut (of_words c.args.state.now) c.args.ad.now o)
+    let l : length c.args.state.now ≡ 9 = search rules in
+    let h : Nine c.args.state.now = record { long = l; small = λ i. let f : Fits w64 (get_or c.args.state.now i 0) = search rules in f.fits } in
+    stays c.args.state.now [] [] _ h (data_shut (of_words c.args.state.now) c.args.ad.now c.if-words-gt255.true)
 
 pub returns : goal.returns
 returns c =
-    let v = c.session_of.ensures ∙ ap of_words c.copied-words.ensures in
-    let e = c.associated-step.ensures ∙ ap (λ (v : Value). data_part v c.args.ad.now) v in
+    let e = c.associated-step.ensures ∙ ap (λ (v : Value). data_part v c.args.ad.now) c.session_of.ensures in
     let n : 0 ≡ count_of c.associated-step.result.outcome = sym (ap (λ (g : Given). g.count) e ∙ data_none (of_words c.args.state.now) c.args.ad.now) in
     handed c.associated-step.result c.number.result 0 c.words_of.result [] [] _ c.number.ensures n c.words_of.ensures.words c.words_of.ensures.session e

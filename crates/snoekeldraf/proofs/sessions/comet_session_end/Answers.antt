@@ -1,7 +1,7 @@
 -- `snoekeldraf::sessions::comet_session_end` meets its contract: the library's, on the value that the words stand for; a first word over 255 is no suite.
 use mathlib.Core.List.{List}
-use mathlib.Core.Path.{◌≡◌, ap, subst, ◌∙◌}
-use Prim.Native.Nat.{ℕ, ◌<◌}
+use mathlib.Core.Path.{◌≡◌, ap, ◌∙◌}
+use Prim.Native.Nat.{ℕ}
 use lib.ListN.{length, get_or}
 use mir.Val.{Fits}
 use mir.Syntax.{w64}
@@ -16,23 +16,18 @@ use Rattle.snoekeldraf.proofs.sessions.comet_session_end.Goals as goal
 
 pub returns-then-words-gt255 : goal.returns-then-words-gt255
 returns-then-words-gt255 c =
-    let l : length c.copied-words.result ≡ 9 = search rules in
-    let h : Nine c.copied-words.result = record { long = l; small = λ i. let f : Fits w64 (get_or c.copied-words.result i 0) = search rules in f.fits } in
-    let o : 255 < get_or c.args.state.now 0 0 = subst (λ (w : List ℕ). 255 < get_or w 0 0) c.copied-words.ensures c.if-words-gt255.true in
-    stays c.args.state.now c.args.out.now c.args.tag.now _ (subst Nine c.copied-words.ensures h) (end_shut (of_words c.args.state.now) c.args.out.now c.args.tag.now o)
+    let l : length c.args.state.now ≡ 9 = search rules in
+    let h : Nine c.args.state.now = record { long = l; small = λ i. let f : Fits w64 (get_or c.args.state.now i 0) = search rules in f.fits } in
+    stays c.args.state.now c.args.out.now c.args.tag.now _ h (end_shut (of_words c.args.state.now) c.args.out.now c.args.tag.now c.if-words-gt255.true)
 
 pub overflow_cast-count : goal.overflow_cast-count
 overflow_cast-count c =
     let w = c.args.state.now in
-    let v = c.session_of.ensures
-    ∙ ap of_words c.copied-words.ensures in
-    let e = c.finish-step.ensures ∙ ap (λ (v : Value). ending v c.args.out.now c.args.tag.now) v in
+    let e = c.finish-step.ensures ∙ ap (λ (v : Value). ending v c.args.out.now c.args.tag.now) c.session_of.ensures in
     let n : c.count.result ≡ (ending (of_words w) c.args.out.now c.args.tag.now).count = c.count.ensures ∙ ap (λ (g : Given). g.count) e in
     record { fits = omega (arith, n, end-few (of_words w) (length-wide (get_or w 5 0) (get_or w 6 0)) c.args.out.now c.args.tag.now) }
 
 pub returns : goal.returns
 returns c =
-    let v = c.session_of.ensures
-    ∙ ap of_words c.copied-words.ensures in
-    let e = c.finish-step.ensures ∙ ap (λ (v : Value). ending v c.args.out.now c.args.tag.now) v in
+    let e = c.finish-step.ensures ∙ ap (λ (v : Value). ending v c.args.out.now c.args.tag.now) c.session_of.ensures in
     handed c.finish-step.result c.number.result c.count.result c.words_of.result c.finish-step.new.out c.finish-step.new.tag _ c.number.ensures c.count.ensures c.words_of.ensures.words c.words_of.ensures.session e
