@@ -22,7 +22,13 @@ fn located<'a, W: Write>(
     let answer = answer_of(current.entry.map(|entry| entry.row));
     let start = current.entry.map_or(0, |entry| entry.ad_at);
     let ad = shift_amend::current(amendment, day, job);
-    write!(line, "{} {} {}", answer.number, u32::from(current.file), answer.row)?;
+    write!(
+        line,
+        "{} {} {}",
+        answer.number,
+        u32::from(current.file),
+        answer.row
+    )?;
     write!(line, " {start} {} {}", ad.len(), Shown(ad))
 }
 
@@ -44,6 +50,12 @@ pub(crate) fn run<R: Read, W: Write>(
     let current = shift_amend::open_current(amendment, day, ring, call.job, out);
     let opened = answered(current.opened);
     let file = u32::from(current.file);
-    writeln!(line, " {} {file} {} {}", opened.number, opened.row, Shown(out))?;
+    writeln!(
+        line,
+        " {} {file} {} {}",
+        opened.number,
+        opened.row,
+        Shown(out)
+    )?;
     Ok(())
 }

@@ -13,7 +13,14 @@ pub(crate) fn run<R: Read, W: Write>(
     call: Call,
     line: &mut W,
 ) -> Result<(), CallError> {
-    let [first_len, second_len, only_first_len, only_second_len, differ_len, _] = call.numbers;
+    let [
+        first_len,
+        second_len,
+        only_first_len,
+        only_second_len,
+        differ_len,
+        _,
+    ] = call.numbers;
     let mut first_buf = [0u8; FILE_ROOM];
     let mut second_buf = [0u8; FILE_ROOM];
     let mut only_first_buf = [0xa5a5a5a5u32; LIST_ROOM];
@@ -26,7 +33,17 @@ pub(crate) fn run<R: Read, W: Write>(
     let differ = front_mut(&mut differ_buf, differ_len)?;
     let finding = said(compare(first, second, only_first, only_second, differ));
     write!(line, "{} {} {}", finding.number, finding.file, finding.row)?;
-    write!(line, " {} {} {}", finding.first, finding.second, finding.differ)?;
-    writeln!(line, "{}{}{}", Spaced(only_first), Spaced(only_second), Spaced(differ))?;
+    write!(
+        line,
+        " {} {} {}",
+        finding.first, finding.second, finding.differ
+    )?;
+    writeln!(
+        line,
+        "{}{}{}",
+        Spaced(only_first),
+        Spaced(only_second),
+        Spaced(differ)
+    )?;
     Ok(())
 }

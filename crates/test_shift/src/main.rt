@@ -46,5 +46,9 @@ fn run<R: Read>(input: &mut R, call: Call, line: &mut Page) -> Result<(), CallEr
 }
 
 fn main(rt: HostRuntime) -> io::Result<()> {
-    calls::each(&mut rt.stdin(), &mut rt.stdout(), |input, call, line| run(input, call, line))
+    calls::each(
+        &mut rt.stdin(),
+        &mut rt.stdout(),
+        |input, call, line| run(input, call, line),
+    )
 }

@@ -25,7 +25,11 @@ fn looked_up<W: Write>(file: &[u8], job: u32, line: &mut W) -> io::Result<()> {
     let found = answer_of(shift_lookup::lookup(file, job));
     let start = shift_lookup::entry(file, job).map_or(0, |entry| entry.ad_at);
     let ad = shift_lookup::associated(file, job);
-    write!(line, "{} {} {} {}", checked.number, checked.row, found.number, found.row)?;
+    write!(
+        line,
+        "{} {} {} {}",
+        checked.number, checked.row, found.number, found.row
+    )?;
     write!(line, " {start} {} {}", ad.len(), Shown(ad))
 }
 

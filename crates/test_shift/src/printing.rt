@@ -29,7 +29,11 @@ pub(crate) fn job<R: Read, W: Write>(
     call: Call,
     line: &mut W,
 ) -> Result<(), CallError> {
-    of_two(input, call, |file, ring| program_reports::job(file, ring, call.job, line))
+    of_two(
+        input,
+        call,
+        |file, ring| program_reports::job(file, ring, call.job, line),
+    )
 }
 
 pub(crate) fn differ<R: Read, W: Write>(
@@ -37,7 +41,11 @@ pub(crate) fn differ<R: Read, W: Write>(
     call: Call,
     line: &mut W,
 ) -> Result<(), CallError> {
-    of_two(input, call, |first, second| program_reports::differ(first, second, line))
+    of_two(
+        input,
+        call,
+        |first, second| program_reports::differ(first, second, line),
+    )
 }
 
 pub(crate) fn inspect<R: Read, W: Write>(
@@ -45,7 +53,11 @@ pub(crate) fn inspect<R: Read, W: Write>(
     call: Call,
     line: &mut W,
 ) -> Result<(), CallError> {
-    of_two(input, call, |file, ring| program_reports::inspect(file, ring, line))
+    of_two(
+        input,
+        call,
+        |file, ring| program_reports::inspect(file, ring, line),
+    )
 }
 
 pub(crate) fn current<R: Read, W: Write>(

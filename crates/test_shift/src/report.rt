@@ -18,10 +18,7 @@ fn entry<W: Write>(found: Option<Listed>, line: &mut W) -> io::Result<()> {
         Some(listed) => write!(
             line,
             " {} {} {} {}",
-            listed.index,
-            listed.row.job,
-            listed.station,
-            listed.nonce,
+            listed.index, listed.row.job, listed.station, listed.nonce,
         ),
         None => write!(line, " -"),
     }

@@ -5,11 +5,10 @@
 // without a ring). A line is number, row and output, which holds 0xa5 before the call.
 #![tactic(auto)]
 
-use program_text::calls;
 use program_text::calls::{Call, CallError};
 use program_text::print::{Page, Shown};
-use program_text::read;
 use program_text::read::{FILE_ROOM, front_mut, part};
+use program_text::{calls, read};
 use status::checked::{Answer, answered};
 use std::io;
 use std::io::{Read, Write};
@@ -45,5 +44,9 @@ fn run<R: Read>(input: &mut R, call: Call, line: &mut Page) -> Result<(), CallEr
 }
 
 fn main(rt: HostRuntime) -> io::Result<()> {
-    calls::each(&mut rt.stdin(), &mut rt.stdout(), |input, call, line| run(input, call, line))
+    calls::each(
+        &mut rt.stdin(),
+        &mut rt.stdout(),
+        |input, call, line| run(input, call, line),
+    )
 }

@@ -9,7 +9,7 @@ use Rattle.snoekeldraf.proofs.amending.shift_amended.Goals as goal
 pub overflow_cast-row : goal.overflow_cast-row
 overflow_cast-row c =
     let low : c.in-Ok.entry.row ≤ 512 =
-        subst (λ r. (entry_answer r).row ≤ 512) c.in-Ok.is (located_row _ _ _ _ c.locate-current.ensures) in
+    subst (λ r. (entry_answer r).row ≤ 512) c.in-Ok.is (located_row _ _ _ _ c.locate-current.ensures) in
     omega arith
 
 pub say-requires : goal.say-requires
