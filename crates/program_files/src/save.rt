@@ -1,8 +1,6 @@
 // Writes a file as a whole or not at all: to a temporary file beside it first, which is then renamed over it.
 use crate::PATH_MAX;
-use crate::reason::failed;
-use program_text::read::front;
-use program_text::text::{byte, put};
+use program_text::print::Text;
 use std::fs::{File, OpenOptions};
 use std::io::{ErrorKind, Seek, SeekFrom, Write};
 use std::os::unix::fs::OpenOptionsExt;
@@ -10,7 +8,9 @@ use std::random::RandomSource;
 use std::{fs, io};
 
 // A path, and after it a dot and six letters: the name of a temporary file beside it.
-const NAME_ROOM: usize = PATH_MAX + 7;
+type TemporaryName = Text<NAME_MAX>;
+
+const NAME_MAX: usize = PATH_MAX + 7;
 
 // The letters of a temporary name.
 const LETTERS: [u8; 62] = *b"abcdefghijklmnopqrstuvwxyzABCDEFGHIJKLMNOPQRSTUVWXYZ0123456789";
@@ -23,42 +23,22 @@ const EEXIST: i32 = 17;
 
 const EILSEQ: i32 = 84;
 
-// Writes the bytes; a regular file is synced then.
-fn written_whole(file: &mut File, bytes: &[u8], regular: bool) -> io::Result<()> {
+// Writes the bytes, syncs the file and closes it.
+fn fill(mut file: File, bytes: &[u8]) -> io::Result<()> {
     file.write_all(bytes)?;
-    if regular {
-        file.sync_all()?;
-    }
-    Ok(())
-}
-
-// Writes the bytes and closes the file; a regular file is synced first.
-fn filled(rt: &HostRuntime, mut file: File, path: &str, bytes: &[u8], regular: bool) -> bool {
-    match written_whole(&mut file, bytes, regular) {
-        Ok(()) => true,
-        Err(error) => failed(rt, path.as_bytes(), error),
-    }
-}
-
-// Renames the temporary file over the path, or removes it.
-fn renamed(rt: &HostRuntime, name: &str, path: &str) -> bool {
-    match fs::rename(rt, name, path) {
-        Ok(()) => true,
-        Err(error) => {
-            failed(rt, path.as_bytes(), error);
-            let _ = fs::remove_file(rt, name);
-            false
-        }
-    }
+    file.sync_all()
 }
 
 // Fills the temporary file of that name, and renames it over the path; removes it if that fails.
-fn moved(rt: &HostRuntime, file: File, name: &str, path: &str, bytes: &[u8]) -> bool {
-    if !filled(rt, file, path, bytes, true) {
+fn place(rt: &HostRuntime, file: File, name: &str, path: &str, bytes: &[u8]) -> io::Result<()> {
+    let placed = match fill(file, bytes) {
+        Ok(()) => fs::rename(rt, name, path),
+        Err(error) => Err(error),
+    };
+    if placed.is_err() {
         let _ = fs::remove_file(rt, name);
-        return false;
     }
-    renamed(rt, name, path)
+    placed
 }
 
 // One of the letters.
@@ -66,26 +46,21 @@ fn letter(random: u8) -> u8 {
     LETTERS[(random % 62) as usize]
 }
 
-// Puts the path, a dot and six random letters at the start of room, and returns their length.
-fn drawn(rt: &HostRuntime, path: &str, room: &mut [u8; NAME_ROOM]) -> io::Result<usize> {
+// The path, a dot and six random letters.
+fn draw(rt: &HostRuntime, path: &str) -> io::Result<TemporaryName> {
     let mut random = [0u8; 6];
     rt.fill_bytes(&mut random)?;
-    let at = put(room, 0, path.as_bytes());
-    let at = put(room, at, b".");
-    let at = byte(room, at, letter(random[0]));
-    let at = byte(room, at, letter(random[1]));
-    let at = byte(room, at, letter(random[2]));
-    let at = byte(room, at, letter(random[3]));
-    let at = byte(room, at, letter(random[4]));
-    Ok(byte(room, at, letter(random[5])))
+    let mut name = TemporaryName::new();
+    write!(name, "{path}.")?;
+    for byte in random {
+        name.push(&[letter(byte)]);
+    }
+    Ok(name)
 }
 
 // The bytes as a name, if they are UTF-8.
 fn name(bytes: &[u8]) -> io::Result<&str> {
-    match std::str::from_utf8(bytes) {
-        Ok(name) => Ok(name),
-        Err(_) => Err(io::Error::from_raw_os_error(EILSEQ)),
-    }
+    std::str::from_utf8(bytes).map_err(|_| io::Error::from_raw_os_error(EILSEQ))
 }
 
 // Creates a file of that name, which its owner alone can read and write; fails if the name is taken.
@@ -98,17 +73,14 @@ fn new_file(rt: &HostRuntime, name: &str) -> io::Result<File> {
         .open(rt, name)
 }
 
-// Creates a temporary file beside the path. Its name is put at the start of room, and its length is returned.
-fn created(rt: &HostRuntime, path: &str, room: &mut [u8; NAME_ROOM]) -> io::Result<(File, usize)> {
+// Creates a temporary file beside the path.
+fn create(rt: &HostRuntime, path: &str) -> io::Result<(File, TemporaryName)> {
     for _ in 0..TRIES {
-        let len = drawn(rt, path, room)?;
-        match new_file(rt, name(front(room, len))?) {
-            Ok(file) => return Ok((file, len)),
-            Err(error) => {
-                if error.kind() != ErrorKind::AlreadyExists {
-                    return Err(error);
-                }
-            }
+        let drawn = draw(rt, path)?;
+        match new_file(rt, name(drawn.as_bytes())?) {
+            Ok(file) => return Ok((file, drawn)),
+            Err(error) if error.kind() == ErrorKind::AlreadyExists => {}
+            Err(error) => return Err(error),
         }
     }
     Err(io::Error::from_raw_os_error(EEXIST))
@@ -116,16 +88,9 @@ fn created(rt: &HostRuntime, path: &str, room: &mut [u8; NAME_ROOM]) -> io::Resu
 
 // Replaces the file by way of a temporary file beside it. That is created with mode 0600: a decrypted draft is
 // never readable by others, not even while it is being written.
-fn replaced(rt: &HostRuntime, path: &str, bytes: &[u8]) -> bool {
-    let mut room = [0u8; NAME_ROOM];
-    let (file, len) = match created(rt, path, &mut room) {
-        Ok(made) => made,
-        Err(error) => return failed(rt, path.as_bytes(), error),
-    };
-    match name(front(&room, len)) {
-        Ok(name) => moved(rt, file, name, path, bytes),
-        Err(error) => failed(rt, path.as_bytes(), error),
-    }
+fn replace(rt: &HostRuntime, path: &str, bytes: &[u8]) -> io::Result<()> {
+    let (file, drawn) = create(rt, path)?;
+    place(rt, file, name(drawn.as_bytes())?, path, bytes)
 }
 
 // Whether it is a regular file: only such a file can be truncated, here to its own length.
@@ -138,53 +103,43 @@ fn is_regular(file: &mut File) -> bool {
 
 // Whether the path names a symbolic link. A rename would replace the link itself.
 fn is_link(rt: &HostRuntime, path: &str) -> bool {
-    match fs::symlink_metadata(rt, path) {
-        Ok(metadata) => metadata.is_symlink(),
-        Err(_) => false,
-    }
+    fs::symlink_metadata(rt, path).is_ok_and(|metadata| metadata.is_symlink())
 }
 
-// Overwrites the file that a link names, and creates it if it is missing.
-fn written(rt: &HostRuntime, path: &str, bytes: &[u8]) -> bool {
-    match File::create(rt, path) {
-        Ok(file) => filled(rt, file, path, bytes, true),
-        Err(error) => failed(rt, path.as_bytes(), error),
-    }
-}
-
-// A link is followed; any other name is replaced.
-fn placed(rt: &HostRuntime, path: &str, bytes: &[u8]) -> bool {
+// Overwrites the file that a link names, and creates it if it is missing; any other name is replaced.
+fn follow(rt: &HostRuntime, path: &str, bytes: &[u8]) -> io::Result<()> {
     if is_link(rt, path) {
-        return written(rt, path, bytes);
+        return fill(File::create(rt, path)?, bytes);
     }
-    replaced(rt, path, bytes)
+    replace(rt, path, bytes)
 }
 
 // A regular file is closed again and replaced. A device or a pipe is written whole.
-fn save_open(rt: &HostRuntime, mut file: File, path: &str, bytes: &[u8]) -> bool {
+fn save_open(rt: &HostRuntime, mut file: File, path: &str, bytes: &[u8]) -> io::Result<()> {
     if !is_regular(&mut file) {
-        return filled(rt, file, path, bytes, false);
+        return file.write_all(bytes);
     }
     drop(file);
-    placed(rt, path, bytes)
+    follow(rt, path, bytes)
 }
 
 // A missing or regular file is replaced. A device or a pipe is opened once, here, and written whole.
-fn save_as(rt: &HostRuntime, path: &str, bytes: &[u8]) -> bool {
+fn save_as(rt: &HostRuntime, path: &str, bytes: &[u8]) -> io::Result<()> {
     match OpenOptions::new().append(true).open(rt, path) {
         Ok(file) => save_open(rt, file, path, bytes),
-        Err(error) if error.kind() == ErrorKind::NotFound => placed(rt, path, bytes),
-        Err(error) => failed(rt, path.as_bytes(), error),
+        Err(error) if error.kind() == ErrorKind::NotFound => follow(rt, path, bytes),
+        Err(error) => Err(error),
     }
 }
 
-// Writes the file that an argument names; false if that fails, and then the old file is unchanged. No file has a name that is
-// not UTF-8, as far as std can say: to write such a file fails.
-pub(crate) fn save(rt: &HostRuntime, argument: usize, bytes: &[u8]) -> bool {
+// Writes the file that an argument names, or prints why that fails, and then the old file is unchanged. No file has a name that
+// is not UTF-8, as far as std can say: to write such a file fails.
+pub(crate) fn save(rt: &HostRuntime, argument: usize, bytes: &[u8]) -> io::Result<()> {
     let mut path = [0u8; PATH_MAX];
-    let len = crate::arg(rt, argument, &mut path);
-    match name(&path[..len]) {
-        Ok(name) => save_as(rt, name, bytes),
-        Err(error) => failed(rt, &path[..len], error),
+    let path = crate::arg(rt, argument, &mut path).unwrap_or(b"");
+    let saved = name(path).and_then(|name| save_as(rt, name, bytes));
+    if let Err(error) = &saved {
+        crate::reason::print(rt, path, error);
     }
+    saved
 }
