@@ -6,66 +6,48 @@
 
 ghost use Rattle.std.specs.Prelude.{◌≤◌};
 
+use program_files::WORD_MAX;
+use program_text::read::{FILE_ROOM, front_mut, room};
 use shift_limits::{MAX_FILE, MAX_ROWS};
 use status::checked::Answer;
-
-// The argument names the output.
-fn say(rt: &HostRuntime, answer: Answer, out: &[u8], argument: usize) {
-    program_files::answered(rt, answer.number, answer.row, out, argument);
-}
-
-fn run(rt: &HostRuntime, back: bool, file: &[u8], argument: usize, out: &mut [u8]) {
-    if back {
-        say(
-            rt,
-            shift_editions::to_edition1(file, out).answer(),
-            out,
-            argument,
-        );
-    } else {
-        say(
-            rt,
-            shift_editions::to_edition2(file, out).answer(),
-            out,
-            argument,
-        );
-    }
-}
-
-// An output of the moved file's length; the buffer holds 512 stations more than the file, so the test always holds.
-fn run_in(rt: &HostRuntime, back: bool, file: &[u8], argument: usize, out: &mut [u8]) {
-    let len = shift_editions::moved_length(file);
-    if len <= out.len() {
-        run(rt, back, file, argument, &mut out[0..len]);
-    }
-}
 
 // The most bytes of a moved file: as a shift file, and a station of four bytes more for each row.
 const MOVED_ROOM: usize = MAX_FILE + 4 * MAX_ROWS;
 
-// Zeros for a moved file. A function of its own: the prover carries no array of this
-// length that stands in the body where it is used.
-fn moved_room() -> [u8; MOVED_ROOM] {
-    [0u8; MOVED_ROOM]
-}
-
-// The argument names the file, the next one the output.
-fn convert(rt: &HostRuntime, back: bool, argument: usize)
-    requires { argument ≤ 2 }
+// Moves the file that the argument at a place names, and writes it under the name of the next one. The output has the moved file's
+// length, and the buffer holds 512 stations more than every file.
+fn convert<F: FnOnce(&[u8], &mut [u8]) -> Answer>(rt: &HostRuntime, place: usize, make: F)
+    requires called { F.IsAlwaysCallable make }
+    requires place { place ≤ 2 }
 {
-    let mut file_buf = program_text::read::file_room();
-    let mut out_buf = moved_room();
-    let file = program_files::load(rt, argument, &mut file_buf);
-    run_in(rt, back, file, argument + 1, &mut out_buf);
+    let mut file = room::<FILE_ROOM>();
+    let mut out = room::<MOVED_ROOM>();
+    let file = program_files::load(rt, place, &mut file);
+    let Ok(out) = front_mut(&mut out, shift_editions::moved_length(file)) else {
+        return;
+    };
+    let answer = make(file, out);
+    program_files::answered(rt, answer, out, place + 1);
 }
 
 fn main(rt: HostRuntime) {
-    let count = program_files::arg_count(&rt);
-    if count == 3 {
-        convert(&rt, false, 1);
-    } else if count == 4 && program_files::is_word(&rt, 1, b"back") {
-        convert(&rt, true, 2);
-    } else {
-        program_files::usage(&rt, b"convert FILE OUT\nconvert back FILE OUT\n");
+    let mut room = [0u8; WORD_MAX];
+    match (
+        program_files::arg_count(&rt),
+        program_files::word(&rt, 1, &mut room),
+    ) {
+        (3, _) => convert(
+            &rt,
+            1,
+            |file, out| shift_editions::to_edition2(file, out).answer(),
+        ),
+        (4, Some("back")) => convert(
+            &rt,
+            2,
+            |file, out| shift_editions::to_edition1(file, out).answer(),
+        ),
+        _ => {
+            let _ = eprintln!(rt; "convert FILE OUT\nconvert back FILE OUT");
+        }
     }
 }

@@ -5,26 +5,22 @@
 // program takes files up to the format's 1,048,576 bytes each (longer: 20).
 #![tactic(auto)]
 
-use program_files::NO_JOB;
-use program_text::read::RING_ROOM;
-
-fn run<'a>(rt: &HostRuntime, amendment: &'a [u8], day: &'a [u8], job: u32) {
-    let mut ring_buf = [0u8; RING_ROOM];
-    let mut out = program_reports::page();
-    let ring = program_files::load(rt, 3, &mut ring_buf);
-    let written = program_reports::current(amendment, day, ring, job, &mut out);
-    let _ = program_text::text::write(&mut rt.stdout(), &out, written);
-}
+use program_text::print::Page;
+use program_text::read::{FILE_ROOM, RING_ROOM, room};
+use std::io::Print;
 
 fn main(rt: HostRuntime) {
-    let job = program_files::job(&rt, 4);
-    if program_files::arg_count(&rt) != 5 || NO_JOB <= job {
-        program_files::usage(&rt, b"current AMENDMENT DAY RING JOB\n");
+    let (5, Some(job)) = (program_files::arg_count(&rt), program_files::job(&rt, 4)) else {
+        let _ = eprintln!(rt; "current AMENDMENT DAY RING JOB");
         return;
-    }
-    let mut amendment_buf = program_text::read::file_room();
-    let mut day_buf = program_text::read::file_room();
-    let amendment = program_files::load(&rt, 1, &mut amendment_buf);
-    let day = program_files::load(&rt, 2, &mut day_buf);
-    run(&rt, amendment, day, job as u32);
+    };
+    let mut amendment = room::<FILE_ROOM>();
+    let mut day = room::<FILE_ROOM>();
+    let mut ring = room::<RING_ROOM>();
+    let mut page = Page::new();
+    let amendment = program_files::load(&rt, 1, &mut amendment);
+    let day = program_files::load(&rt, 2, &mut day);
+    let ring = program_files::load(&rt, 3, &mut ring);
+    let _ = program_reports::current(amendment, day, ring, job, &mut page);
+    let _ = Print::write_all(&rt, page.as_bytes());
 }

@@ -5,21 +5,24 @@
 // as zero bytes. The program takes files up to 65,280 bytes (longer: 20).
 #![tactic(auto)]
 
+use program_text::print::Page;
+use program_text::read::room;
 use shift_report::MAX_REPORT;
+use std::io::Print;
 
 // The most bytes of each file, as of a supplier's file, and one more.
 const REPORT_ROOM: usize = MAX_REPORT + 1;
 
 fn main(rt: HostRuntime) {
     if program_files::arg_count(&rt) != 3 {
-        program_files::usage(&rt, b"differ FIRST SECOND\n");
+        let _ = eprintln!(rt; "differ FIRST SECOND");
         return;
     }
-    let mut first_buf = [0u8; REPORT_ROOM];
-    let mut second_buf = [0u8; REPORT_ROOM];
-    let mut out = program_reports::page();
-    let first = program_files::load(&rt, 1, &mut first_buf);
-    let second = program_files::load(&rt, 2, &mut second_buf);
-    let written = program_reports::differ(first, second, &mut out);
-    let _ = program_text::text::write(&mut rt.stdout(), &out, written);
+    let mut first = room::<REPORT_ROOM>();
+    let mut second = room::<REPORT_ROOM>();
+    let mut page = Page::new();
+    let first = program_files::load(&rt, 1, &mut first);
+    let second = program_files::load(&rt, 2, &mut second);
+    let _ = program_reports::differ(first, second, &mut page);
+    let _ = Print::write_all(&rt, page.as_bytes());
 }

@@ -5,22 +5,24 @@
 // bytes. The program takes files up to 65,280 bytes (longer: 20).
 #![tactic(auto)]
 
-use program_text::read::RING_ROOM;
+use program_text::print::Page;
+use program_text::read::{RING_ROOM, room};
 use shift_report::MAX_REPORT;
+use std::io::Print;
 
 // The most bytes of a supplier's file, and one more.
 const REPORT_ROOM: usize = MAX_REPORT + 1;
 
 fn main(rt: HostRuntime) {
     if program_files::arg_count(&rt) != 3 {
-        program_files::usage(&rt, b"inspect FILE RING\n");
+        let _ = eprintln!(rt; "inspect FILE RING");
         return;
     }
-    let mut file_buf = [0u8; REPORT_ROOM];
-    let mut ring_buf = [0u8; RING_ROOM];
-    let mut out = program_reports::page();
-    let file = program_files::load(&rt, 1, &mut file_buf);
-    let ring = program_files::load(&rt, 2, &mut ring_buf);
-    let written = program_reports::inspect(file, ring, &mut out);
-    let _ = program_text::text::write(&mut rt.stdout(), &out, written);
+    let mut file = room::<REPORT_ROOM>();
+    let mut ring = room::<RING_ROOM>();
+    let mut page = Page::new();
+    let file = program_files::load(&rt, 1, &mut file);
+    let ring = program_files::load(&rt, 2, &mut ring);
+    let _ = program_reports::inspect(file, ring, &mut page);
+    let _ = Print::write_all(&rt, page.as_bytes());
 }

@@ -4,20 +4,20 @@
 // A file that cannot be read counts as zero bytes. The program takes files up to the format's 1,048,576 bytes (longer: 20).
 #![tactic(auto)]
 
-use program_files::NO_JOB;
-use program_text::read::RING_ROOM;
+use program_text::print::Page;
+use program_text::read::{FILE_ROOM, RING_ROOM, room};
+use std::io::Print;
 
 fn main(rt: HostRuntime) {
-    let job = program_files::job(&rt, 3);
-    if program_files::arg_count(&rt) != 4 || NO_JOB <= job {
-        program_files::usage(&rt, b"job FILE RING JOB\n");
+    let (4, Some(job)) = (program_files::arg_count(&rt), program_files::job(&rt, 3)) else {
+        let _ = eprintln!(rt; "job FILE RING JOB");
         return;
-    }
-    let mut file_buf = program_text::read::file_room();
-    let mut ring_buf = [0u8; RING_ROOM];
-    let mut out = program_reports::page();
-    let file = program_files::load(&rt, 1, &mut file_buf);
-    let ring = program_files::load(&rt, 2, &mut ring_buf);
-    let written = program_reports::job(file, ring, job as u32, &mut out);
-    let _ = program_text::text::write(&mut rt.stdout(), &out, written);
+    };
+    let mut file = room::<FILE_ROOM>();
+    let mut ring = room::<RING_ROOM>();
+    let mut page = Page::new();
+    let file = program_files::load(&rt, 1, &mut file);
+    let ring = program_files::load(&rt, 2, &mut ring);
+    let _ = program_reports::job(file, ring, job, &mut page);
+    let _ = Print::write_all(&rt, page.as_bytes());
 }

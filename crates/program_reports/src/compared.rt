@@ -1,48 +1,21 @@
 // Two files compared: `differ` (document 02, W8).
-use program_text::text::{and_number, end, number, put};
-use shift_compare::Finding;
 use shift_limits::MAX_ROWS;
+use std::io;
+use std::io::Write;
 
-fn number_line(out: &mut [u8], at: usize, value: u32) -> usize {
-    let at = number(out, at, value as u64);
-    end(out, at)
-}
-
-// The first `count` numbers of a list, one to a line.
-fn list(out: &mut [u8], at: usize, list: &[u32], count: usize) -> usize {
-    let mut to = at;
-    let mut i: usize = 0;
-    while i < list.len() {
-        if count <= i {
-            return to;
-        }
-        to = number_line(out, to, list[i]);
-        i += 1;
+// A name, and the first `count` jobs of a list, one to a line.
+fn list<W: Write>(out: &mut W, name: &str, jobs: &[u32], count: usize) -> io::Result<()> {
+    writeln!(out, "{name}")?;
+    for job in jobs.iter().take(count) {
+        writeln!(out, "{job}")?;
     }
-    to
-}
-
-fn refusal(out: &mut [u8], finding: Finding) -> usize {
-    let at = put(out, 0, b"refused");
-    let at = and_number(out, at, finding.file as u64);
-    let at = and_number(out, at, finding.number as u64);
-    let at = and_number(out, at, finding.row as u64);
-    end(out, at)
-}
-
-fn lists(out: &mut [u8], finding: Finding, first: &[u32], second: &[u32], differ: &[u32]) -> usize {
-    let at = put(out, 0, b"first\n");
-    let at = list(out, at, first, finding.first);
-    let at = put(out, at, b"second\n");
-    let at = list(out, at, second, finding.second);
-    let at = put(out, at, b"differ\n");
-    list(out, at, differ, finding.differ)
+    Ok(())
 }
 
 // The jobs only in the first, only in the second, and in both but different, one number to a line, under the lines "first",
 // "second" and "differ"; on a refusal one line, "refused", file, number and row. A file has at most 512 rows, so no list is
 // longer.
-pub fn differ(first: &[u8], second: &[u8], out: &mut [u8]) -> usize {
+pub fn differ<W: Write>(first: &[u8], second: &[u8], out: &mut W) -> io::Result<()> {
     let mut only_first = [0u32; MAX_ROWS];
     let mut only_second = [0u32; MAX_ROWS];
     let mut differ = [0u32; MAX_ROWS];
@@ -55,7 +28,13 @@ pub fn differ(first: &[u8], second: &[u8], out: &mut [u8]) -> usize {
     )
     .finding();
     if finding.number != 0 {
-        return refusal(out, finding);
+        return writeln!(
+            out,
+            "refused {} {} {}",
+            finding.file, finding.number, finding.row
+        );
     }
-    lists(out, finding, &only_first, &only_second, &differ)
+    list(out, "first", &only_first, finding.first)?;
+    list(out, "second", &only_second, finding.second)?;
+    list(out, "differ", &differ, finding.differ)
 }

@@ -38,29 +38,9 @@ impl Fold {
     }
 }
 
-// The fold with a byte after it.
-pub fn folded(fold: u64, byte: u8) -> u64
-    requires { fold < 4294967291 }
-    ensures { (result ≡ next fold byte) × (result < 4294967291) }
-{
-    (fold * 257 + byte as u64 + 1) % 4294967291
-}
-
-// The fold with the bytes after it.
-pub fn fold_from(fold: u64, bytes: &[u8]) -> u64
-    requires { fold < 4294967291 }
-    ensures { (result ≡ fold_from fold bytes.now) × (result < 4294967291) }
-{
-    let mut sum = fold;
-    for byte in bytes {
-        sum = folded(sum, *byte);
-    }
-    sum
-}
-
 // One number for all the bytes, modulo the largest prime below 2^32.
 pub fn fold_of(bytes: &[u8]) -> u64
     ensures { result ≡ fold_of bytes.now }
 {
-    fold_from(0, bytes)
+    Fold::new().bytes(bytes).value
 }

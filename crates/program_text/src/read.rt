@@ -12,24 +12,15 @@ pub const FILE_ROOM: usize = MAX_FILE + 1;
 
 pub const RING_ROOM: usize = RING_LEN + 1;
 
-// Zeros for a shift file, with the one byte more.
-pub fn file_room() -> [u8; FILE_ROOM]
-    ensures { result ≡ replicate 1048577 0 }
-{
-    [0u8; FILE_ROOM]
-}
-
 // The first len bytes of buf, or all of buf if it is shorter.
 pub fn front(buf: &[u8], len: usize) -> &[u8]
     ensures { (result.now ≡ take len buf.now) × (result.ref_ptr ≡ buf.entry.ref_ptr) }
 {
-    if buf.len() <= len {
-        return buf;
-    }
-    &buf[0..len]
+    &buf[..len.min(buf.len())]
 }
 
-// Reads until buf is full or the input ends, and returns how many bytes it put at the start of buf.
+// Reads until buf is full or the input ends, and returns how many bytes it put at the start of buf. The loop stands here since
+// `read_exact` does not say how many bytes came before the end.
 pub fn full<R: Read>(input: &mut R, buf: &mut [u8]) -> io::Result<usize>
     ensures bound { IfOk result (λ n. n ≤ length buf.new) }
     ensures end { IfOk result (λ n. n < length buf.new → IsAtEnd (R.remaining input.new)) }
@@ -43,15 +34,6 @@ pub fn full<R: Read>(input: &mut R, buf: &mut [u8]) -> io::Result<usize>
         done += got;
     }
     Ok(done)
-}
-
-// Reads len bytes of the input into buf and returns them; fewer if buf is too short or the input ends.
-pub fn field<'a, R: Read>(input: &mut R, buf: &'a mut [u8], len: usize) -> io::Result<&'a [u8]> {
-    let mut got: usize = 0;
-    if len <= buf.len() {
-        got = full(input, &mut buf[0..len])?;
-    }
-    Ok(front(&buf[..], got))
 }
 
 // The first len elements of buf; the call is bad if buf is shorter.
@@ -77,7 +59,8 @@ pub fn part<'a, R: Read>(
     Ok(part)
 }
 
-// Zeros, with room for so many bytes.
+// Zeros, with room for so many bytes. A function of its own: the prover carries no array of a file's length that stands in the
+// body where it is used.
 pub fn room<const N: usize>() -> [u8; N]
     ensures { result ≡ replicate N 0 }
 {

@@ -7,82 +7,47 @@
 
 ghost use Rattle.std.specs.Prelude.{◌≤◌};
 
-use program_text::read::RING_ROOM;
+use program_files::WORD_MAX;
+use program_text::read::{FILE_ROOM, RING_ROOM, front_mut, room};
 use status::checked::Answer;
 
-// What the program is to do.
-#[derive(Clone, Copy)]
-enum Way {
-    Seal,
-    Back,
-    Reseal,
-}
-
-// The argument names the output.
-fn say(rt: &HostRuntime, answer: Answer, out: &[u8], argument: usize) {
-    program_files::answered(rt, answer.number, answer.row, out, argument);
-}
-
-// The argument names the ring, the next one the output.
-fn run(rt: &HostRuntime, way: Way, file: &[u8], argument: usize, out: &mut [u8])
-    requires { argument ≤ 3 }
+// Makes the output of file and ring, which the argument at a place and the next one name, and writes it under the name of the
+// one after them. The output has the file's length, and the buffer holds every file.
+fn write<F: FnOnce(&[u8], &[u8], &mut [u8]) -> Answer>(rt: &HostRuntime, place: usize, make: F)
+    requires called { F.IsAlwaysCallable make }
+    requires place { place ≤ 2 }
 {
-    let mut ring_buf = [0u8; RING_ROOM];
-    let ring = program_files::load(rt, argument, &mut ring_buf);
-    match way {
-        Way::Seal => say(
-            rt,
-            shift_writer::seal_file(file, ring, out).answer(),
-            out,
-            argument + 1,
-        ),
-        Way::Back => say(
-            rt,
-            shift_writer::unseal_file(file, ring, out).answer(),
-            out,
-            argument + 1,
-        ),
-        Way::Reseal => say(
-            rt,
-            shift_reseal::reseal(file, ring, out).answer(),
-            out,
-            argument + 1,
-        ),
-    }
-}
-
-// An output of the file's length; the buffer holds every file, so the test always holds.
-fn run_in(rt: &HostRuntime, way: Way, file: &[u8], argument: usize, out: &mut [u8])
-    requires { argument ≤ 3 }
-{
-    let len = file.len();
-    if len <= out.len() {
-        run(rt, way, file, argument, &mut out[0..len]);
-    }
-}
-
-// The argument names the file.
-fn write(rt: &HostRuntime, way: Way, argument: usize)
-    requires { argument ≤ 2 }
-{
-    let mut file_buf = program_text::read::file_room();
-    let mut out_buf = program_text::read::file_room();
-    let file = program_files::load(rt, argument, &mut file_buf);
-    run_in(rt, way, file, argument + 1, &mut out_buf);
+    let mut file = room::<FILE_ROOM>();
+    let mut ring = room::<RING_ROOM>();
+    let mut out = room::<FILE_ROOM>();
+    let file = program_files::load(rt, place, &mut file);
+    let ring = program_files::load(rt, place + 1, &mut ring);
+    let Ok(out) = front_mut(&mut out, file.len()) else {
+        return;
+    };
+    let answer = make(file, ring, out);
+    program_files::answered(rt, answer, out, place + 2);
 }
 
 fn main(rt: HostRuntime) {
-    let count = program_files::arg_count(&rt);
-    if count == 4 {
-        write(&rt, Way::Seal, 1);
-    } else if count == 5 && program_files::is_word(&rt, 1, b"back") {
-        write(&rt, Way::Back, 2);
-    } else if count == 5 && program_files::is_word(&rt, 1, b"reseal") {
-        write(&rt, Way::Reseal, 2);
-    } else {
-        program_files::usage(
-            &rt,
-            b"write DRAFT RING OUT\nwrite back FILE RING OUT\nwrite reseal FILE RING OUT\n",
-        );
+    let mut room = [0u8; WORD_MAX];
+    match (
+        program_files::arg_count(&rt),
+        program_files::word(&rt, 1, &mut room),
+    ) {
+        (4, _) => write(&rt, 1, |draft, ring, out| {
+            shift_writer::seal_file(draft, ring, out).answer()
+        }),
+        (5, Some("back")) => write(&rt, 2, |file, ring, out| {
+            shift_writer::unseal_file(file, ring, out).answer()
+        }),
+        (5, Some("reseal")) => write(&rt, 2, |file, ring, out| {
+            shift_reseal::reseal(file, ring, out).answer()
+        }),
+        _ => {
+            let _ = eprintln!(rt;
+                "write DRAFT RING OUT\nwrite back FILE RING OUT\nwrite reseal FILE RING OUT"
+            );
+        }
     }
 }
