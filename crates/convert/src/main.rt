@@ -9,7 +9,7 @@ ghost use Rattle.std.specs.Prelude.{◌≤◌};
 use program_files::WORD_MAX;
 use program_text::read::{FILE_ROOM, front_mut, room};
 use shift_limits::{MAX_FILE, MAX_ROWS};
-use status::checked::Answer;
+use status::checked::{Answer, answered};
 
 // The most bytes of a moved file: as a shift file, and a station of four bytes more for each row.
 const MOVED_ROOM: usize = MAX_FILE + 4 * MAX_ROWS;
@@ -39,12 +39,12 @@ fn main(rt: HostRuntime) {
         (3, _) => convert(
             &rt,
             1,
-            |file, out| shift_editions::to_edition2(file, out).answer(),
+            |file, out| answered(shift_editions::to_edition2(file, out)),
         ),
         (4, Some("back")) => convert(
             &rt,
             2,
-            |file, out| shift_editions::to_edition1(file, out).answer(),
+            |file, out| answered(shift_editions::to_edition1(file, out)),
         ),
         _ => {
             let _ = eprintln!(rt; "convert FILE OUT\nconvert back FILE OUT");

@@ -19,22 +19,26 @@ pub fn differ<W: Write>(first: &[u8], second: &[u8], out: &mut W) -> io::Result<
     let mut only_first = [0u32; MAX_ROWS];
     let mut only_second = [0u32; MAX_ROWS];
     let mut differ = [0u32; MAX_ROWS];
-    let finding = shift_compare::compare(
+    let compared = shift_compare::compare(
         first,
         second,
         &mut only_first,
         &mut only_second,
         &mut differ,
-    )
-    .finding();
-    if finding.number != 0 {
-        return writeln!(
-            out,
-            "refused {} {} {}",
-            finding.file, finding.number, finding.row
-        );
+    );
+    match compared {
+        Ok(counts) => {
+            list(out, "first", &only_first, counts.first)?;
+            list(out, "second", &only_second, counts.second)?;
+            list(out, "differ", &differ, counts.differ)
+        }
+        Err(_) => {
+            let refused = shift_compare::said(compared);
+            writeln!(
+                out,
+                "refused {} {} {}",
+                refused.file, refused.number, refused.row
+            )
+        }
     }
-    list(out, "first", &only_first, finding.first)?;
-    list(out, "second", &only_second, finding.second)?;
-    list(out, "differ", &differ, finding.differ)
 }

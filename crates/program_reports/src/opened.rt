@@ -8,12 +8,15 @@ ghost use Rattle.shift_lookup.specs.Inside.{FoundIn};
 
 use crate::readable::Readable;
 use cipher::LIMIT;
+use shift_amend::{Source, look_up};
 use shift_format::body::data_of;
 use shift_format::row::station_of;
+use shift_jobs::answers::JobError;
 use shift_jobs::found::open_found;
 use shift_lookup::answers::Found;
 use shift_lookup::found::{entry_found, row_of};
-use status::checked::Answer;
+use status::checked::Refuses;
+use std::fmt::Display;
 use std::io;
 use std::io::Write;
 
@@ -56,55 +59,56 @@ fn lines_of<W: Write>(out: &mut W, file: &[u8], found: Found, message: &[u8]) ->
     requires { FoundIn file.now (found_answer found) }
 {
     match found {
-        Found::At(index) => entry_lines(out, file, index, message),
-        _ => Ok(()),
+        Ok(index) => entry_lines(out, file, index, message),
+        Err(_) => Ok(()),
     }
 }
 
-// Opens what the lookup found into a buffer that holds every message: the answer, and the message.
-fn open<'a>(file: &[u8], ring: &[u8], found: Found, room: &'a mut [u8; LIMIT]) -> (Answer, &'a [u8])
-    requires { FoundIn file.now (found_answer found) }
-{
-    let len = entry_found(file, found).text_len as usize;
-    let message = &mut room[..len.min(LIMIT)];
-    let answer = open_found(file, ring, found, message).answer();
-    (answer, message)
-}
-
-// Looks the job up and opens what it finds: status and row on one line and, after status 0, the lines of the entry. Only the
-// lookup checks the file.
-pub fn job<W: Write>(file: &[u8], ring: &[u8], job: u32, out: &mut W) -> io::Result<()> {
-    let mut room = [0u8; LIMIT];
-    let found = shift_lookup::lookup(file, job);
-    let (answer, message) = open(file, ring, found, &mut room);
-    writeln!(out, "{} {}", answer.number, answer.row)?;
-    if answer.number != 0 {
-        return Ok(());
-    }
-    lines_of(out, file, found, message)
-}
-
-// The same of what the lookup found in one of two files, with the file's number on the first line.
-fn job_in<W: Write>(
+// Opens what the lookup found into a buffer that holds every message.
+fn opened<'a>(
     file: &[u8],
     ring: &[u8],
-    named: u8,
     found: Found,
+    room: &'a mut [u8; LIMIT],
+) -> Result<&'a [u8], JobError>
+    requires { FoundIn file.now (found_answer found) }
+{
+    let len = entry_found(file, found)?.text_len as usize;
+    let message = &mut room[..len.min(LIMIT)];
+    open_found(file, ring, found, message)?;
+    Ok(message)
+}
+
+// Opens what the lookup found: status, what the caller names, and row on one line and, after status 0, the lines of the entry.
+fn open<W: Write, D: Display + Drop>(
     out: &mut W,
+    file: &[u8],
+    ring: &[u8],
+    found: Found,
+    named: D,
 ) -> io::Result<()>
     requires { FoundIn file.now (found_answer found) }
 {
     let mut room = [0u8; LIMIT];
-    let (answer, message) = open(file, ring, found, &mut room);
-    writeln!(out, "{} {named} {}", answer.number, answer.row)?;
-    if answer.number != 0 {
-        return Ok(());
+    match opened(file, ring, found, &mut room) {
+        Ok(message) => {
+            writeln!(out, "0{named} 0")?;
+            lines_of(out, file, found, message)
+        }
+        Err(error) => {
+            let answer = error.answer();
+            writeln!(out, "{}{named} {}", answer.number, answer.row)
+        }
     }
-    lines_of(out, file, found, message)
 }
 
-// Looks the job up in both files and opens the current entry: status, file and row on one line and, after status 0, the lines of
-// the entry. Only the lookup checks the files.
+// Looks the job up and opens what it finds (`open`). Only the lookup checks the file.
+pub fn job<W: Write>(file: &[u8], ring: &[u8], job: u32, out: &mut W) -> io::Result<()> {
+    open(out, file, ring, shift_lookup::lookup(file, job), "")
+}
+
+// Looks the job up in both files and opens the current entry (`open`), with the number of its file on the first line. Only the
+// lookup checks the files.
 pub fn current<W: Write>(
     amendment: &[u8],
     day: &[u8],
@@ -112,11 +116,11 @@ pub fn current<W: Write>(
     job: u32,
     out: &mut W,
 ) -> io::Result<()> {
-    let looked = shift_amend::look_up(amendment, day, job);
-    let file = looked.file;
+    let looked = look_up(amendment, day, job);
     let found = looked.found;
-    if file == 1 {
-        return job_in(amendment, ring, 1, found, out);
+    match looked.file {
+        Source::Amendment => open(out, amendment, ring, found, " 1"),
+        Source::Day => open(out, day, ring, found, " 2"),
+        Source::Neither => open(out, day, ring, found, " 0"),
     }
-    job_in(day, ring, file, found, out)
 }

@@ -9,7 +9,7 @@ ghost use Rattle.std.specs.Prelude.{◌≤◌};
 
 use program_files::WORD_MAX;
 use program_text::read::{FILE_ROOM, RING_ROOM, front_mut, room};
-use status::checked::Answer;
+use status::checked::{Answer, answered};
 
 // Makes the output of file and ring, which the argument at a place and the next one name, and writes it under the name of the
 // one after them. The output has the file's length, and the buffer holds every file.
@@ -36,13 +36,13 @@ fn main(rt: HostRuntime) {
         program_files::word(&rt, 1, &mut room),
     ) {
         (4, _) => write(&rt, 1, |draft, ring, out| {
-            shift_writer::seal_file(draft, ring, out).answer()
+            answered(shift_writer::seal_file(draft, ring, out))
         }),
         (5, Some("back")) => write(&rt, 2, |file, ring, out| {
-            shift_writer::unseal_file(file, ring, out).answer()
+            answered(shift_writer::unseal_file(file, ring, out))
         }),
         (5, Some("reseal")) => write(&rt, 2, |file, ring, out| {
-            shift_reseal::reseal(file, ring, out).answer()
+            answered(shift_reseal::reseal(file, ring, out))
         }),
         _ => {
             let _ = eprintln!(rt;

@@ -1,17 +1,27 @@
 -- The lookup is one of the file that it names.
+use Rattle.std.proofs.Common.{sym, ap, ◌∙◌}
+use native.Mathlib.Omega.{arith}
+use Rattle.shift_amend.specs.Source.{file_number}
 use Rattle.shift_amend.proofs.Holding.{tells}
 use Rattle.program_reports.proofs.opened.current.Goals as goal
 
-pub job_in-requires : goal.job_in-requires
-job_in-requires g c =
+pub open-requires : goal.open-requires
+open-requires g c =
     record {
       job = c.args.job;
-      gives = (tells _ _ _ _ _ c.look_up-looked.ensures).amendment c.if-file-eq1.true;
+      gives = (tells _ _ _ _ _ c.look_up-looked.ensures).amendment (ap file_number c.in-Amendment.is);
     }
 
-pub job_in-requires-2 : goal.job_in-requires-2
-job_in-requires-2 g c =
+pub open-requires-2 : goal.open-requires-2
+open-requires-2 g c =
     record {
       job = c.args.job;
-      gives = (tells _ _ _ _ _ c.look_up-looked.ensures).day c.if-file-eq1.false;
+      gives = (tells _ _ _ _ _ c.look_up-looked.ensures).day (λ z. let e = sym (ap file_number c.in-Day.is) ∙ z in omega arith);
+    }
+
+pub open-requires-3 : goal.open-requires-3
+open-requires-3 g c =
+    record {
+      job = c.args.job;
+      gives = (tells _ _ _ _ _ c.look_up-looked.ensures).day (λ z. let e = sym (ap file_number c.in-Neither.is) ∙ z in omega arith);
     }

@@ -5,4 +5,4 @@ use Rattle.shift_lookup.proofs.Lookups.{found_in}
 use Rattle.program_reports.proofs.opened.lines_of.Goals as goal
 
 pub entry_lines-requires : goal.entry_lines-requires
-entry_lines-requires g c = found_in c.args.file.now c.requires.job _ (sym c.requires.gives ∙ ap found_answer c.in-At.is)
+entry_lines-requires g c = found_in c.args.file.now c.requires.job _ (sym c.requires.gives ∙ ap found_answer c.in-Ok.is)
