@@ -7,7 +7,7 @@ use std::io;
 use std::io::{ErrorKind, Read, Write};
 
 // The bytes of a call's head.
-pub const HEAD_LEN: usize = 30;
+const HEAD_LEN: usize = 30;
 
 // What every call begins with: op, suite, job and six numbers, most of them lengths; 0 if a call has none.
 #[derive(Clone, Copy)]

@@ -8,7 +8,8 @@ use std::io::Write;
 use std::marker::Model;
 use std::{fmt, io};
 
-// A text of at most N bytes. What does not fit is left out.
+// A text of at most N bytes. What does not fit is left out, where std's `Cursor` would fail; and of a `Cursor` over an array no
+// clause says what it holds.
 #[derive(Drop)]
 pub struct Text<const N: usize> {
     bytes: [u8; N],
