@@ -1,4 +1,5 @@
 pub mod Searches
+pub mod Finds
 pub mod Sound
 pub mod Passed
 pub mod Nonces

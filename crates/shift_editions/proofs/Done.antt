@@ -3,19 +3,19 @@ use Prim.Native.Nat.{ℕ, ◌-◌, ◌≤◌, ◌<◌}
 use native.Mathlib.Nat.{mul-le-mul_right}
 use native.Mathlib.Omega.{arith}
 use mathlib.Core.Path.{◌≡◌, refl, sym, ap, ◌∙◌}
-use mathlib.Core.Bool.{Bool, true, false, not, cond}
-use mathlib.Core.List.{List, [], ◌∷◌}
+use mathlib.Core.Bool.{Bool, true, false, not, cond, true≢false}
+use mathlib.Core.List.{List}
 use mathlib.Core.Logic.{⊎_elim}
 use lib.ListN.{length}
 use lib.Dec.{eqb, ltb}
 use borrow.Author.Tests.{eq-eqb, ne_eqb, le-ltb, eqb-true, ltb-false, not-false}
-use types.Run.{OneOf, miss}
-use denote.Enum.Declared.{tag_of}
+use Rattle.std.specs.Prelude.{Result, Ok, Err}
+use Rattle.std.specs.Result.{is_err}
 use Rattle.block.proofs.Tests.{is_false}
 use Rattle.status.specs.declared.checked.Answer.{Answer}
 use Rattle.status.specs.declared.checked.Refusal.{Refusal}
 use Rattle.shift_format.specs.Format.{edition_of, count_of, first_edition, newest, row_size, row_size_of, row_start, body_end, station_of}
-use Rattle.status.specs.Answers.{answer, refusal_answer}
+use Rattle.status.specs.Answers.{answer, checked_answer}
 use Rattle.shift_check.specs.Check.{head_number, and_then, check_as}
 use Rattle.shift_check.proofs.Searches.{first_says, first-none}
 use Rattle.status.proofs.Numbers.{refusal-some}
@@ -23,24 +23,22 @@ use Rattle.shift_format.proofs.Rows.{row_broad, row_narrow}
 use Rattle.shift_check.proofs.Sound.{headed}
 use Rattle.shift_check.proofs.Passed.{passes, both_zero}
 use Rattle.shift_check.proofs.Bodies.{after_table}
-use Rattle.shift_editions.specs.declared.answers.Moved.{Moved}
-use Rattle.shift_editions.specs.declared.answers.Moved.TheVariants as moved-case
+use Rattle.shift_editions.specs.declared.answers.MoveError.{MoveError}
+use Rattle.shift_editions.specs.declared.answers.MoveError.TheVariants as moved-case
 use Rattle.shift_editions.specs.Files.{carried, moved}
-use Rattle.shift_editions.specs.Answers.{moved_answer, stations_from, length_answer, moved_length_of, up_answer, back_answer, FileMoved, moves, to_edition2_of}
+use Rattle.shift_editions.specs.Answers.{move_answer, moved_answer, stations_from, length_answer, moved_length_of, up_answer, back_answer, FileMoved, moves, to_edition2_of}
 use Rattle.shift_editions.specs.Answers.{to_edition1_of}
 use Rattle.shift_editions.specs.Promised.{done}
 use Rattle.shift_editions.specs.Inside.{Movable, Tabled, Source, Room}
 use Rattle.shift_editions.proofs.Laid.{file-long}
-use Rattle.shift_editions.specs.contracts.answers.Moved.{the_type}
 
--- only Done is number 0
-pub not_done : (x : Moved) → OneOf (1 ∷ 2 ∷ 3 ∷ []) (tag_of the_type x) → (moved_answer x).number ≡ 0 → ⊥
-not_done moved-case.Done k q = miss (1 ∷ 2 ∷ 3 ∷ []) 0 tt k
-not_done (moved-case.Refused x) k q = refusal-some x q
-not_done (moved-case.Station i) k q = omega arith
-not_done moved-case.Room k q = omega arith
+-- no refusal is number 0
+pub refusal_some : (e : MoveError) → (move_answer e).number ≡ 0 → ⊥
+refusal_some (moved-case.Refused x) q = refusal-some x q
+refusal_some (moved-case.Station i) q = omega arith
+refusal_some moved-case.Room q = omega arith
 
-pub told_zero : (x : Moved) (y : Answer) → moved_answer x ≡ y → x ≡ moved-case.Done → y.number ≡ 0
+pub told_zero : (x : Result Unit MoveError) (y : Answer) {u : Unit} → moved_answer x ≡ y → x ≡ Ok u → y.number ≡ 0
 told_zero x y q d = ap (λ (z : Answer). z.number) (sym q ∙ ap moved_answer d)
 
 -- a refusal leaves the output
@@ -166,9 +164,18 @@ movable f e s l = record {
 
 -- ---- the length that is told
 
-pub length_none : (f : List ℕ) (x : Refusal) → answer (head_number first_edition newest f) 0 ≡ refusal_answer x → moved_length_of f ≡ 0
+-- a refused header has none
+pub length_none : (f : List ℕ) (x : Result Unit Refusal) → is_err x ≡ true → checked_answer x ≡ answer (head_number first_edition newest f) 0 → 0 ≡ moved_length_of f
 unfolding moved_length_of
-length_none f x q = simp (ne_eqb (head_number first_edition newest f) 0 (λ z. refusal-some x (ap (λ (y : Answer). y.number) (sym q) ∙ z)))
+length_none f (Ok u) e q = absurd (true≢false (sym e))
+length_none f (Err x) e q =
+    let n : head_number first_edition newest f ≡ 0 → ⊥ = λ z. refusal-some x (ap (λ (y : Answer). y.number) q ∙ z) in
+    simp (ne_eqb (head_number first_edition newest f) 0 n)
+
+-- and one that is not refused has number 0
+pub head_passed : (x : Result Unit Refusal) (a : Answer) → is_err x ≡ false → checked_answer x ≡ a → a.number ≡ 0
+head_passed (Ok u) a e q = ap (λ (y : Answer). y.number) (sym q)
+head_passed (Err x) a e q = absurd (true≢false e)
 
 -- a row of the newest edition's size is of that edition
 newest_size : (e : ℕ) → row_size e ≡ row_size newest → eqb e newest ≡ true

@@ -1,40 +1,46 @@
 -- One outcome for each input: an answer's number and row are those of one case, so what a contract allows is one value.
 use mathlib.Core.Path.{◌≡◌, refl, sym, ap, ◌∙◌}
 use mathlib.Core.Bool.{cond}
+use Rattle.std.specs.Prelude.{Result, Ok, Err}
 use mathlib.Core.Logic.{inl, inr}
 use lib.Dec.{eqb, lit<}
 use borrow.Author.Tests.{ne_eqb}
 use Rattle.block.specs.Outcome.{OneOutcome}
 use Rattle.status.specs.declared.checked.Answer.{Answer}
-use Rattle.status.proofs.Numbers.{refusal-some}
-use Rattle.status.proofs.Outcomes.{refusal_of, refusal_back, unlike, answer-one}
-use Rattle.shift_editions.specs.declared.answers.Moved.{Moved}
-use Rattle.shift_editions.specs.declared.answers.Moved.TheVariants.{Done, Refused, Station, Room}
-use Rattle.shift_editions.specs.Answers.{moved_answer, FileMoved}
+use Rattle.status.proofs.Outcomes.{refusal_of, refusal_back, unlike}
+use Rattle.shift_editions.specs.declared.answers.MoveError.{MoveError}
+use Rattle.shift_editions.specs.declared.answers.MoveError.TheVariants.{Refused, Station, Room}
+use Rattle.shift_editions.specs.Answers.{move_answer, moved_answer, FileMoved}
+use Rattle.shift_editions.proofs.Done.{refusal_some}
 use Rattle.shift_editions.proofs.moved_length.Kinds as moved-length-kinds
 use Rattle.shift_editions.proofs.moved_length.Reads as moved-length-reads
 use Rattle.shift_editions.proofs.to_edition2.Kinds as to-edition2-kinds
 use Rattle.shift_editions.proofs.to_edition2.Reads as to-edition2-reads
 use Rattle.shift_editions.proofs.to_edition1.Kinds as to-edition1-kinds
 use Rattle.shift_editions.proofs.to_edition1.Reads as to-edition1-reads
-use Rattle.shift_editions.proofs.answers.Moved.answer.Kinds as answer-kinds
-use Rattle.shift_editions.proofs.answers.Moved.answer.Reads as answer-reads
+use Rattle.shift_editions.proofs.answers.MoveErrorRefuses.answer.Kinds as answer-kinds
+use Rattle.shift_editions.proofs.answers.MoveErrorRefuses.answer.Reads as answer-reads
 
--- the case that a number and a row stand for
-abbrev moved_of : Answer → Moved
-moved_of x =
-    cond (eqb x.number 0) Done
-    (cond (eqb x.number 6) Room
+-- the refusal that a number and a row stand for
+abbrev error_of : Answer → MoveError
+error_of x =
+    cond (eqb x.number 6) Room
     (cond (eqb x.number 35) (Station x.row)
-    (Refused (refusal_of x))))
+    (Refused (refusal_of x)))
 
-moved_back : (x : Moved) → moved_of (moved_answer x) ≡ x
-moved_back Done = refl
-moved_back (Refused x) = simp (ne_eqb _ _ (refusal-some x), unlike x 6 (inl (lit< tt)), unlike x 35 (inr (lit< tt))) (ap Refused (refusal_back x))
-moved_back (Station i) = refl
-moved_back Room = refl
+error_back : (e : MoveError) → error_of (move_answer e) ≡ e
+error_back (Refused x) = simp (unlike x 6 (inl (lit< tt)) refl, unlike x 35 (inr (lit< tt)) refl) (ap Refused (refusal_back x))
+error_back (Station i) = refl
+error_back Room = refl
 
-moved-one : {x y : Moved} → moved_answer x ≡ moved_answer y → x ≡ y
+abbrev moved_of : Answer → Result Unit MoveError
+moved_of x = cond (eqb x.number 0) (Ok tt) (Err (error_of x))
+
+moved_back : (x : Result Unit MoveError) → moved_of (moved_answer x) ≡ x
+moved_back (Ok x) = refl
+moved_back (Err e) = simp (ne_eqb _ _ (refusal_some e)) (ap Err (error_back e))
+
+moved-one : {x y : Result Unit MoveError} → moved_answer x ≡ moved_answer y → x ≡ y
 moved-one {x} {y} q = sym (moved_back x) ∙ ap moved_of q ∙ moved_back y
 
 pub moved_length : OneOutcome moved-length-kinds.ps moved-length-kinds.r moved-length-reads.Pre moved-length-reads.Post
@@ -51,4 +57,4 @@ to_edition1 κs a h x y =
     (moved-one (ap (λ (m : FileMoved). m.answer) e), ap (λ (m : FileMoved). (tt, (m.out, tt))) e)
 
 pub answer : OneOutcome answer-kinds.ps answer-kinds.r answer-reads.Pre answer-reads.Post
-answer κs a h x y = (answer-one x.ensures y.ensures, refl)
+answer κs a h x y = (x.ensures ∙ sym y.ensures, refl)

@@ -1,20 +1,22 @@
 -- The status and output of a move (document 02, W10): the source's own checks, 35, 20, 6, in this order.
-use Rattle.std.specs.Prelude.{ℕ, ◌-◌, not, cond, List, length, eqb, ltb}
+use Rattle.std.specs.Prelude.{ℕ, ◌-◌, not, cond, List, length, eqb, ltb, Result}
 use Rattle.status.specs.declared.checked.Answer.{Answer}
 use Rattle.shift_check.specs.Search.{first_of}
 use Rattle.shift_format.specs.Format.{edition_of, count_of, first_edition, newest, station_of}
-use Rattle.status.specs.Answers.{answer, refusal_answer}
+use Rattle.status.specs.Answers.{answer, outcome_answer, refusal_answer}
 use Rattle.shift_check.specs.Check.{head_number, and_then, check_as}
-use Rattle.shift_editions.specs.declared.answers.Moved.{Moved}
-use Rattle.shift_editions.specs.declared.answers.Moved.TheVariants.{Done, Refused, Station, Room}
+use Rattle.shift_editions.specs.declared.answers.MoveError.{MoveError}
+use Rattle.shift_editions.specs.declared.answers.MoveError.TheVariants.{Refused, Station, Room}
 use Rattle.shift_editions.specs.Files.{moved}
 
--- number and row of each case; a move that would make the file too long is refused like a file that is too long
-abbrev pub moved_answer : Moved → Answer
-moved_answer Done = answer 0 0
-moved_answer (Refused x) = refusal_answer x
-moved_answer (Station i) = answer 35 i
-moved_answer Room = answer 6 0
+-- number and row of each refusal; a move that would make the file too long is refused like a file that is too long
+abbrev pub move_answer : MoveError → Answer
+move_answer (Refused x) = refusal_answer x
+move_answer (Station i) = answer 35 i
+move_answer Room = answer 6 0
+
+abbrev pub moved_answer : Result Unit MoveError → Answer
+moved_answer = outcome_answer move_answer
 
 -- 35: the first row of n, from row i on, whose station is not 0
 unfoldable pub stations_from : List ℕ → ℕ → ℕ → Answer

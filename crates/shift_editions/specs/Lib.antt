@@ -1,4 +1,5 @@
 pub mod Files
 pub mod Answers
 pub mod Inside
+pub mod Appended
 pub mod Promised

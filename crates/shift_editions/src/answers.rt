@@ -1,30 +1,37 @@
 // The statuses of a move, and their numbers in documents 01 and 02.
 ghost use Rattle.std.specs.Prelude.{◌≡◌};
-ghost use Rattle.shift_editions.specs.Answers.{moved_answer};
+ghost use Rattle.shift_editions.specs.declared.answers.MoveError.TheVariants.{Refused};
+ghost use Rattle.shift_editions.specs.Answers.{move_answer};
 
-use status::checked::{Answer, Refusal};
+use status::checked::{Answer, Refusal, Refuses};
 
-// What a move to another edition gives.
-#[derive(Clone, Copy)]
-pub enum Moved {
-    Done,
+// Why a move to another edition is refused.
+#[derive(Clone, Copy, PartialEq, Eq, Debug)]
+pub enum MoveError {
     Refused(Refusal),
     Station(usize),
     Room,
 }
 
-impl Moved {
-    pub fn answer(self) -> Answer
-        ensures { (result.number ≡ (moved_answer self).number) × (result.row ≡ (moved_answer self).row) }
-    {
+// What a move to another edition gives.
+pub type Moved = Result<(), MoveError>;
+
+impl From<Refusal> for MoveError {
+    ghost from_gives = { λ refusal error. error ≡ Refused refusal };
+
+    fn from(refusal: Refusal) -> MoveError {
+        MoveError::Refused(refusal)
+    }
+}
+
+impl Refuses for MoveError {
+    ghost answer_of = { move_answer };
+
+    fn answer(self) -> Answer {
         match self {
-            Moved::Done => Answer { number: 0, row: 0 },
-            Moved::Refused(refusal) => refusal.answer(),
-            Moved::Station(row) => Answer {
-                number: 35,
-                row: row,
-            },
-            Moved::Room => Answer { number: 6, row: 0 },
+            MoveError::Refused(refusal) => refusal.answer(),
+            MoveError::Station(row) => Answer { number: 35, row },
+            MoveError::Room => Answer { number: 6, row: 0 },
         }
     }
 }

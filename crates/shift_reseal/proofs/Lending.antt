@@ -23,8 +23,8 @@ use Rattle.shift_check.proofs.Passed.{Passes, passes}
 use Rattle.shift_draft.specs.Put.{put, put_all}
 use Rattle.shift_draft.specs.Files.{piece_start, piece_as, entry_out}
 use Rattle.shift_draft.specs.Answers.{tag_right}
-use Rattle.shift_writer.specs.declared.answers.Written.{Written}
-use Rattle.shift_writer.specs.declared.answers.Written.TheVariants as written
+use Rattle.std.specs.Prelude.{Result, Ok}
+use Rattle.shift_writer.specs.declared.answers.WriteError.{WriteError}
 use Rattle.shift_writer.specs.Answers.{written_answer}
 use Rattle.shift_piece.specs.Inside.{PieceWritable}
 use Rattle.shift_piece.proofs.Lending.{body_fits, front_is}
@@ -81,7 +81,7 @@ module _ (f : List ℕ) (i : ℕ) (r : Row) (ring out : List ℕ) (p : Resealabl
 
         pub can-seal : PieceWritable f ring i r successor (stretch (put_mid a (a + r.text_len - a) out x) a (a + (r.text_len + n) - a))
         can-seal =
-            record { is_row = p.is_row; entry = p.row.entry; still = three-seals; ring_long = p.row.ring_long; out-long = omega (arith, piece-long, m) }
+            record { entry = p.row.entry; still = three-seals; ring_long = p.row.ring_long; out-long = omega (arith, piece-long, m) }
 
 -- ---- a row
 
@@ -183,7 +183,7 @@ module _ (f : List ℕ) (n : ℕ) (p : Passing f n) where
 -- ---- the entry point
 
 -- the definition's answer is 0, and says what it says
-pub take_can : (file : List ℕ) (ring out : ℕ) (x : Written) → written_answer x ≡ take_answer file ring out → x ≡ written.Done → Takeable file ring out
+pub take_can : (file : List ℕ) (ring out : ℕ) (x : Result Unit WriteError) {u : Unit} → written_answer x ≡ take_answer file ring out → x ≡ Ok u → Takeable file ring out
 take_can file ring out x q d = takeable file ring out (ap (λ (y : Answer). y.number) (sym q ∙ ap written_answer d))
 
 -- the table lies in the file, and in an output of its length

@@ -9,29 +9,23 @@ ghost use Rattle.shift_draft.specs.Answers.{FileWritten};
 ghost use Rattle.shift_writer.specs.Answers.{written_answer};
 ghost use Rattle.shift_reseal.specs.Answers.{take_answer, file_resealing};
 
-use byte_runs::copy;
 use rows::reseal_rows;
 use shift_check::check_as;
 use shift_format::row::{FIRST_EDITION, count};
-use shift_writer::answers::Written;
+use shift_writer::answers::{WriteError, Written};
 use shift_writer::lent_refused;
-use status::checked::Checked;
+use status::checked::{Fault, Refusal};
 use suites::{first_clash, put_suites};
 
 // The refusals but for 8: the checks, 29, 2, 6.
 fn refused(file: &[u8], ring: usize, out: usize) -> Written
     ensures { written_answer result ≡ take_answer file.now ring out }
 {
-    match check_as(FIRST_EDITION, file) {
-        Checked::Refused(refusal) => {
-            return Written::Refused(refusal);
-        }
-        Checked::Passed => {}
+    check_as(FIRST_EDITION, file)?;
+    let rows = count(file);
+    if let Some(row) = first_clash(file, rows) {
+        return Err(WriteError::Refused(Refusal::InRow(Fault::Nonce, row)));
     }
-    let clash = first_clash(file, count(file));
-    let Written::Done = clash else {
-        return clash;
-    };
     lent_refused(file.len(), ring, out)
 }
 
@@ -40,11 +34,8 @@ pub fn reseal(file: &[u8], ring: &[u8], out: &mut [u8]) -> Written
     ensures { ◌≡◌ {A = FileWritten} (record { answer = written_answer result; out = out.new })
         (file_resealing file.now ring.now out.old) }
 {
-    let refused = refused(file, ring.len(), out.len());
-    let Written::Done = refused else {
-        return refused;
-    };
-    copy(file, out);
+    refused(file, ring.len(), out.len())?;
+    out.copy_from_slice(file);
     let n = count(file);
     put_suites(file, n, out);
     reseal_rows(file, n, ring, out)

@@ -1,10 +1,11 @@
 // The table after resealing: 3 for 4 in its suite bytes, and the first of its rows that clashes.
 ghost use Rattle.std.specs.Prelude.{◌≡◌, ◌&&◌, ◌<◌, eqb};
+ghost use Rattle.std.specs.Option.{option_map_or};
+ghost use Rattle.status.specs.Answers.{answer};
 ghost use Rattle.block.specs.Blocks.{wide};
 ghost use Rattle.shift_format.specs.Format.{row_size_of, nonce_at};
 ghost use Rattle.shift_check.specs.Check.{clash, nonce_seen};
 ghost use Rattle.shift_format.specs.Inside.{RowIn, TableIn};
-ghost use Rattle.shift_writer.specs.Answers.{written_answer};
 ghost use Rattle.shift_reseal.specs.Files.{new_suite, resuited, retabled};
 ghost use Rattle.shift_reseal.specs.Answers.{seen_from};
 ghost use Rattle.shift_reseal.specs.Inside.{Passing};
@@ -13,12 +14,11 @@ use block::{Block, same};
 use cipher::RETIRED;
 use shift_format::row::{Row, nonce_block, row_size_of, set_suite};
 use shift_lookup::found::row_of;
-use shift_writer::answers::Written;
-use status::checked::{Fault, Refusal};
 
 // The suite that follows the retired one.
 pub(crate) const SUCCESSOR: u8 = 3;
 
+// The suite byte of a row after resealing: a byte as the file stores it, whatever suite it names.
 fn new_suite(suite: u8) -> u8
     ensures { result ≡ new_suite suite }
 {
@@ -30,11 +30,9 @@ pub(crate) fn put_suites(file: &[u8], rows: usize, out: &mut [u8])
     requires { TableIn (row_size_of file.now) file.now rows × TableIn (row_size_of file.now) out.old rows }
     ensures { out.new ≡ resuited file.now rows out.old }
 {
-    let mut i: usize = 0;
-    while i < rows {
+    for i in 0..rows {
         let row = row_of(file, i);
         set_suite(row_size_of(file), out, i, new_suite(row.suite));
-        i += 1;
     }
 }
 
@@ -42,10 +40,7 @@ pub(crate) fn put_suites(file: &[u8], rows: usize, out: &mut [u8])
 fn same_key(this: Row, earlier: Row) -> bool
     ensures { result ≡ (eqb (new_suite this.suite) (new_suite earlier.suite) && eqb this.key earlier.key) }
 {
-    if new_suite(this.suite) != new_suite(earlier.suite) {
-        return false;
-    }
-    this.key == earlier.key
+    new_suite(this.suite) == new_suite(earlier.suite) && this.key == earlier.key
 }
 
 // The nonce of a row as a block.
@@ -72,27 +67,18 @@ fn nonce_seen(file: &[u8], rows: usize, index: usize) -> bool
     requires { Passing file.now rows × (index < rows) }
     ensures { result ≡ nonce_seen (row_size_of (retabled file.now)) (retabled file.now) index }
 {
-    let mut j: usize = 0;
-    while j < index {
+    for j in 0..index {
         if clashes(file, rows, index, j) {
             return true;
         }
-        j += 1;
     }
     false
 }
 
 // 29 for the table after resealing, from the file's own rows: no table is copied.
-pub(crate) fn first_clash(file: &[u8], rows: usize) -> Written
+pub(crate) fn first_clash(file: &[u8], rows: usize) -> Option<usize>
     requires { Passing file.now rows }
-    ensures { written_answer result ≡ seen_from (retabled file.now) rows 0 }
+    ensures { option_map_or (answer 29) result (answer 0 0) ≡ seen_from (retabled file.now) rows 0 }
 {
-    let mut i: usize = 0;
-    while i < rows {
-        if nonce_seen(file, rows, i) {
-            return Written::Refused(Refusal::InRow(Fault::Nonce, i));
-        }
-        i += 1;
-    }
-    Written::Done
+    (0..rows).find(|i| nonce_seen(file, rows, *i))
 }

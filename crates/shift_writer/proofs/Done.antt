@@ -1,11 +1,10 @@
--- The code's answers as the definitions': only Done is number 0, and then every row can be written.
+-- The code's answers as the definitions': no refusal is number 0, and at 0 every row can be written.
 use Prim.Native.Nat.{ℕ, ◌≤◌}
 use native.Mathlib.Omega.{arith}
 use mathlib.Core.Path.{◌≡◌, sym, ap, ◌∙◌}
-use mathlib.Core.List.{List, [], ◌∷◌}
+use mathlib.Core.List.{List}
 use lib.ListN.{length}
-use types.Run.{OneOf, miss}
-use denote.Enum.Declared.{tag_of}
+use Rattle.std.specs.Prelude.{Result, Ok}
 use Rattle.status.specs.declared.checked.Answer.{Answer}
 use Rattle.shift_format.specs.Format.{count_of}
 use Rattle.shift_check.specs.Check.{check_as}
@@ -15,26 +14,24 @@ use Rattle.shift_draft.specs.Answers.{seal_answer, open_answer}
 use Rattle.shift_draft.proofs.Pieces.{entry_at}
 use Rattle.shift_draft.proofs.Answers.{Sealable, sealable, Openable, openable}
 use Rattle.shift_draft.proofs.Rewritten.{Plain}
-use Rattle.shift_writer.specs.declared.answers.Written.{Written}
-use Rattle.shift_writer.specs.declared.answers.Written.TheVariants as written
-use Rattle.shift_writer.specs.Answers.{written_answer}
+use Rattle.shift_writer.specs.declared.answers.WriteError.{WriteError}
+use Rattle.shift_writer.specs.declared.answers.WriteError.TheVariants as write
+use Rattle.shift_writer.specs.Answers.{write_answer, written_answer}
 use Rattle.shift_writer.specs.Inside.{RowsIn, Writable}
-use Rattle.shift_writer.specs.contracts.answers.Written.{the_type}
 
-pub not_done : (x : Written) → OneOf (1 ∷ 2 ∷ 3 ∷ 4 ∷ 5 ∷ 6 ∷ []) (tag_of the_type x) → (written_answer x).number ≡ 0 → ⊥
-not_done written.Done k q = miss (1 ∷ 2 ∷ 3 ∷ 4 ∷ 5 ∷ 6 ∷ []) 0 tt k
-not_done (written.Refused x) k q = refusal-some x q
-not_done (written.TagSet i) k q = omega arith
-not_done (written.Retired i) k q = omega arith
-not_done written.Ring k q = omega arith
-not_done written.Room k q = omega arith
-not_done (written.Forged i) k q = omega arith
+pub write_some : (e : WriteError) → (write_answer e).number ≡ 0 → ⊥
+write_some (write.Refused x) q = refusal-some x q
+write_some (write.TagSet i) q = omega arith
+write_some (write.Retired i) q = omega arith
+write_some write.Ring q = omega arith
+write_some write.Room q = omega arith
+write_some (write.Forged i) q = omega arith
 
 -- so the definition's answer is 0, and says what it says
-pub seal_can : (draft : List ℕ) (ring out : ℕ) (x : Written) → written_answer x ≡ seal_answer draft ring out → x ≡ written.Done → Sealable draft ring out
+pub seal_can : (draft : List ℕ) (ring out : ℕ) (x : Result Unit WriteError) {u : Unit} → written_answer x ≡ seal_answer draft ring out → x ≡ Ok u → Sealable draft ring out
 seal_can draft ring out x q d = sealable draft ring out (ap (λ (y : Answer). y.number) (sym q ∙ ap written_answer d))
 
-pub open_can : (file : List ℕ) (ring out : ℕ) (x : Written) → written_answer x ≡ open_answer file ring out → x ≡ written.Done → Openable file ring out
+pub open_can : (file : List ℕ) (ring out : ℕ) (x : Result Unit WriteError) {u : Unit} → written_answer x ≡ open_answer file ring out → x ≡ Ok u → Openable file ring out
 open_can file ring out x q d = openable file ring out (ap (λ (y : Answer). y.number) (sym q ∙ ap written_answer d))
 
 module _ (e : ℕ) (f : List ℕ) (p : Plain e) (z : (check_as e f).number ≡ 0) where

@@ -1,13 +1,13 @@
 // The writer's statuses, and their numbers in documents 01 and 02.
 ghost use Rattle.std.specs.Prelude.{◌≡◌};
-ghost use Rattle.shift_writer.specs.Answers.{written_answer};
+ghost use Rattle.shift_writer.specs.declared.answers.WriteError.TheVariants.{Refused};
+ghost use Rattle.shift_writer.specs.Answers.{write_answer};
 
-use status::checked::{Answer, Refusal};
+use status::checked::{Answer, Refusal, Refuses};
 
-// What sealing a draft, or unsealing a file, gives.
-#[derive(Clone, Copy)]
-pub enum Written {
-    Done,
+// Why a draft is not sealed, or a file not unsealed.
+#[derive(Clone, Copy, PartialEq, Eq, Debug)]
+pub enum WriteError {
     Refused(Refusal),
     TagSet(usize),
     Retired(usize),
@@ -16,24 +16,34 @@ pub enum Written {
     Forged(usize),
 }
 
-impl Written {
-    pub fn answer(self) -> Answer
-        ensures { (result.number ≡ (written_answer self).number) × (result.row ≡ (written_answer self).row) }
-    {
+// What sealing a draft, or unsealing a file, gives.
+pub type Written = Result<(), WriteError>;
+
+impl From<Refusal> for WriteError {
+    ghost from_gives = { λ refusal error. error ≡ Refused refusal };
+
+    fn from(refusal: Refusal) -> WriteError {
+        WriteError::Refused(refusal)
+    }
+}
+
+impl Refuses for WriteError {
+    ghost answer_of = { write_answer };
+
+    fn answer(self) -> Answer {
         match self {
-            Written::Done => Answer { number: 0, row: 0 },
-            Written::Refused(refusal) => refusal.answer(),
-            Written::TagSet(row) => Answer {
+            WriteError::Refused(refusal) => refusal.answer(),
+            WriteError::TagSet(row) => Answer {
                 number: 33,
                 row: row,
             },
-            Written::Retired(row) => Answer {
+            WriteError::Retired(row) => Answer {
                 number: 10,
                 row: row,
             },
-            Written::Ring => Answer { number: 2, row: 0 },
-            Written::Room => Answer { number: 6, row: 0 },
-            Written::Forged(row) => Answer {
+            WriteError::Ring => Answer { number: 2, row: 0 },
+            WriteError::Room => Answer { number: 6, row: 0 },
+            WriteError::Forged(row) => Answer {
                 number: 8,
                 row: row,
             },

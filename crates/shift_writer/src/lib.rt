@@ -10,13 +10,11 @@ ghost use Rattle.std.specs.Prelude.{◌≡◌};
 ghost use Rattle.shift_draft.specs.Answers.{lent_answer, seal_answer, open_answer, FileWritten, file_sealing, file_unsealing};
 ghost use Rattle.shift_writer.specs.Answers.{written_answer};
 
-use answers::Written;
-use byte_runs::copy;
+use answers::{WriteError, Written};
 use rows::{put_edition, seal_rows, unseal_rows};
 use shift_check::check_as;
 use shift_format::row::{FIRST_EDITION, count};
 use shift_limits::RING_LEN;
-use status::checked::Checked;
 use suites::first_retired;
 use tags::first_set;
 
@@ -29,33 +27,26 @@ pub fn lent_refused(file: usize, ring: usize, out: usize) -> Written
     ensures { written_answer result ≡ lent_answer file ring out }
 {
     if ring != RING_LEN {
-        return Written::Ring;
+        return Err(WriteError::Ring);
     }
     if out != file {
-        return Written::Room;
+        return Err(WriteError::Room);
     }
-    Written::Done
+    Ok(())
 }
 
 // The refusals of sealing: the checks, 33, 10, 2, 6.
 fn seal_refused(draft: &[u8], ring: usize, out: usize) -> Written
     ensures { written_answer result ≡ seal_answer draft.now ring out }
 {
-    match check_as(DRAFT, draft) {
-        Checked::Refused(refusal) => {
-            return Written::Refused(refusal);
-        }
-        Checked::Passed => {}
-    }
+    check_as(DRAFT, draft)?;
     let n = count(draft);
-    let set = first_set(draft, n);
-    let Written::Done = set else {
-        return set;
-    };
-    let retired = first_retired(draft, n);
-    let Written::Done = retired else {
-        return retired;
-    };
+    if let Some(row) = first_set(draft, n) {
+        return Err(WriteError::TagSet(row));
+    }
+    if let Some(row) = first_retired(draft, n) {
+        return Err(WriteError::Retired(row));
+    }
     lent_refused(draft.len(), ring, out)
 }
 
@@ -63,12 +54,7 @@ fn seal_refused(draft: &[u8], ring: usize, out: usize) -> Written
 fn unseal_refused(file: &[u8], ring: usize, out: usize) -> Written
     ensures { written_answer result ≡ open_answer file.now ring out }
 {
-    match check_as(FIRST_EDITION, file) {
-        Checked::Refused(refusal) => {
-            return Written::Refused(refusal);
-        }
-        Checked::Passed => {}
-    }
+    check_as(FIRST_EDITION, file)?;
     lent_refused(file.len(), ring, out)
 }
 
@@ -77,14 +63,11 @@ pub fn seal_file(draft: &[u8], ring: &[u8], out: &mut [u8]) -> Written
     ensures { ◌≡◌ {A = FileWritten} (record { answer = written_answer result; out = out.new })
         (file_sealing draft.now ring.now out.old) }
 {
-    let refused = seal_refused(draft, ring.len(), out.len());
-    let Written::Done = refused else {
-        return refused;
-    };
-    copy(draft, out);
+    seal_refused(draft, ring.len(), out.len())?;
+    out.copy_from_slice(draft);
     put_edition(FIRST_EDITION, out);
     seal_rows(draft, count(draft), ring, out);
-    Written::Done
+    Ok(())
 }
 
 // Restores the draft of a sealed file: the checks, 2, 6, 8.
@@ -92,11 +75,8 @@ pub fn unseal_file(file: &[u8], ring: &[u8], out: &mut [u8]) -> Written
     ensures { ◌≡◌ {A = FileWritten} (record { answer = written_answer result; out = out.new })
         (file_unsealing file.now ring.now out.old) }
 {
-    let refused = unseal_refused(file, ring.len(), out.len());
-    let Written::Done = refused else {
-        return refused;
-    };
-    copy(file, out);
+    unseal_refused(file, ring.len(), out.len())?;
+    out.copy_from_slice(file);
     put_edition(DRAFT, out);
     unseal_rows(file, count(file), ring, out)
 }

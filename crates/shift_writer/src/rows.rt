@@ -1,5 +1,6 @@
 // The rows, from the file into the output: text and tag of each are replaced.
 ghost use Rattle.std.specs.Prelude.{◌≡◌, true, ◌≤◌, length};
+ghost use Rattle.std.specs.Result.{is_ok};
 ghost use Rattle.cipher.specs.Cipher.{Seals};
 ghost use Rattle.shift_format.specs.Format.{row_of};
 ghost use Rattle.shift_draft.specs.Put.{put, put_all};
@@ -8,11 +9,10 @@ ghost use Rattle.shift_draft.specs.Answers.{tag_right, wrong_from, leaves, FileW
 ghost use Rattle.shift_writer.specs.Answers.{written_answer};
 ghost use Rattle.shift_writer.specs.Inside.{RowsSeal, Writable, RowWritable};
 
-use crate::answers::Written;
-use byte_runs::{copy, wipe};
+use crate::answers::{WriteError, Written};
+use byte_runs::wipe;
 use shift_format::body::{text_of, text_start};
-use shift_jobs::lend::open_row;
-use shift_lookup::found::row_of;
+use shift_jobs::lend::Lent;
 use shift_piece::seal_into;
 use status::verdict::Verdict;
 
@@ -21,9 +21,7 @@ pub(crate) fn put_edition(edition: u16, out: &mut [u8])
     requires { 2 ≤ length out.old }
     ensures { out.new ≡ in_edition edition out.old }
 {
-    let high = edition / 256;
-    out[0] = (edition % 256) as u8;
-    out[1] = (high % 256) as u8;
+    out[0..2].copy_from_slice(&edition.to_le_bytes());
 }
 
 // Seals row i of a draft at its offset in the output, after copying its text there.
@@ -32,14 +30,15 @@ fn seal_entry(file: &[u8], ring: &[u8], index: usize, out: &mut [u8])
     ensures { out.new ≡ put out.old (piece_start file.now index)
         (sealed_piece file.now ring.now index) }
 {
-    let row = row_of(file, index);
+    let lent = Lent::new(file, ring, index);
+    let row = lent.row;
     let len = row.text_len as usize;
     let n = cipher::size_of(row.suite);
     let start = text_start(row);
     let tag_start = start + len;
     let end = tag_start + n;
-    copy(text_of(file, row), &mut out[start..tag_start]);
-    seal_into(file, ring, index, row, row.suite, &mut out[start..end]);
+    out[start..tag_start].copy_from_slice(text_of(file, row));
+    seal_into(&lent, row.suite, &mut out[start..end]);
 }
 
 // Seals the n rows of a draft into the output.
@@ -47,32 +46,28 @@ pub(crate) fn seal_rows(file: &[u8], rows: usize, ring: &[u8], out: &mut [u8])
     requires { Writable file.now rows ring.now out.old × RowsSeal file.now rows }
     ensures { out.new ≡ put_all (piece_start file.now) (sealed_piece file.now ring.now) rows out.old }
 {
-    let mut i: usize = 0;
-    while i < rows {
+    for i in 0..rows {
         seal_entry(file, ring, i, out);
-        i += 1;
     }
 }
 
-// Opens row i of a file into the output, and zeros its tag there; false if the tag is wrong.
-fn unseal_entry(file: &[u8], ring: &[u8], index: usize, out: &mut [u8]) -> bool
+// Opens row i of a file into the output, and zeros its tag there; a refusal if the tag is wrong.
+fn unseal_entry(file: &[u8], ring: &[u8], index: usize, out: &mut [u8]) -> Verdict
     requires { RowWritable file.now index ring.now out.old }
-    ensures right { result ≡ tag_right file.now ring.now index }
-    ensures text { result ≡ true → out.new ≡ put out.old (piece_start file.now index)
+    ensures right { is_ok result ≡ tag_right file.now ring.now index }
+    ensures text { is_ok result ≡ true → out.new ≡ put out.old (piece_start file.now index)
         (draft_piece file.now ring.now index) }
 {
-    let row = row_of(file, index);
+    let lent = Lent::new(file, ring, index);
+    let row = lent.row;
     let len = row.text_len as usize;
     let n = cipher::size_of(row.suite);
     let start = text_start(row);
     let tag_start = start + len;
     let end = tag_start + n;
-    let opened = open_row(file, ring, index, row, &mut out[start..tag_start]);
-    let Verdict::Done = opened else {
-        return false;
-    };
+    lent.open(&mut out[start..tag_start])?;
     wipe(&mut out[tag_start..end]);
-    true
+    Ok(())
 }
 
 // Opens the n rows of a file into the output; the first whose tag is wrong sets all of it to 0.
@@ -82,13 +77,11 @@ pub(crate) fn unseal_rows(file: &[u8], rows: usize, ring: &[u8], out: &mut [u8])
         (leaves (wrong_from file.now ring.now rows 0)
         (put_all (piece_start file.now) (draft_piece file.now ring.now) rows out.old) out.old) }
 {
-    let mut i: usize = 0;
-    while i < rows {
-        if !unseal_entry(file, ring, i, out) {
+    for i in 0..rows {
+        if unseal_entry(file, ring, i, out).is_err() {
             wipe(out);
-            return Written::Forged(i);
+            return Err(WriteError::Forged(i));
         }
-        i += 1;
     }
-    Written::Done
+    Ok(())
 }

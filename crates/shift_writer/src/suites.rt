@@ -1,12 +1,12 @@
 // 10: every suite of a draft has to seal.
 ghost use Rattle.std.specs.Prelude.{◌≡◌, not};
+ghost use Rattle.std.specs.Option.{option_map_or};
+ghost use Rattle.status.specs.Answers.{answer};
 ghost use Rattle.shift_format.specs.Format.{row_size_of};
 ghost use Rattle.shift_format.specs.Inside.{EntryIn};
 ghost use Rattle.shift_draft.specs.Answers.{row_retired, retired_from};
-ghost use Rattle.shift_writer.specs.Answers.{written_answer};
 ghost use Rattle.shift_writer.specs.Inside.{RowsIn};
 
-use crate::answers::Written;
 use shift_lookup::found::row_of;
 
 // Whether the suite of row i seals.
@@ -19,16 +19,9 @@ fn row_seals(file: &[u8], index: usize) -> bool
 }
 
 // The first of n rows whose suite is retired.
-pub(crate) fn first_retired(file: &[u8], rows: usize) -> Written
+pub(crate) fn first_retired(file: &[u8], rows: usize) -> Option<usize>
     requires { RowsIn file.now rows }
-    ensures { written_answer result ≡ retired_from file.now rows 0 }
+    ensures { option_map_or (answer 10) result (answer 0 0) ≡ retired_from file.now rows 0 }
 {
-    let mut i: usize = 0;
-    while i < rows {
-        if !row_seals(file, i) {
-            return Written::Retired(i);
-        }
-        i += 1;
-    }
-    Written::Done
+    (0..rows).find(|i| !row_seals(file, *i))
 }

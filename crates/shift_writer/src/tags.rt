@@ -1,12 +1,12 @@
 // 33: every tag of a draft has to be zero.
 ghost use Rattle.std.specs.Prelude.{◌≡◌, not};
+ghost use Rattle.std.specs.Option.{option_map_or};
+ghost use Rattle.status.specs.Answers.{answer};
 ghost use Rattle.shift_format.specs.Format.{row_size_of};
 ghost use Rattle.shift_format.specs.Inside.{EntryIn};
 ghost use Rattle.shift_draft.specs.Answers.{tag_set, set_from};
-ghost use Rattle.shift_writer.specs.Answers.{written_answer};
 ghost use Rattle.shift_writer.specs.Inside.{RowsIn};
 
-use crate::answers::Written;
 use byte_runs::all_zero;
 use shift_format::body::tag_of;
 use shift_lookup::found::row_of;
@@ -20,16 +20,9 @@ fn tag_zero(file: &[u8], index: usize) -> bool
 }
 
 // The first of n rows whose tag has a byte that is not zero.
-pub(crate) fn first_set(file: &[u8], rows: usize) -> Written
+pub(crate) fn first_set(file: &[u8], rows: usize) -> Option<usize>
     requires { RowsIn file.now rows }
-    ensures { written_answer result ≡ set_from file.now rows 0 }
+    ensures { option_map_or (answer 33) result (answer 0 0) ≡ set_from file.now rows 0 }
 {
-    let mut i: usize = 0;
-    while i < rows {
-        if !tag_zero(file, i) {
-            return Written::TagSet(i);
-        }
-        i += 1;
-    }
-    Written::Done
+    (0..rows).find(|i| !tag_zero(file, *i))
 }

@@ -1,30 +1,22 @@
--- No row below i has a station: the search from i on gives the whole answer.
-use mathlib.Core.Path.{sym, ◌∙◌}
-use native.Mathlib.Omega.{arith}
-use borrow.Author.Rules.{rules}
-use borrow.Author.Tests.{eq-eqb, ne_eqb}
+-- The first row in which the test holds, as `find` says it, is the definition's.
+use Rattle.std.proofs.Common.{◌≡◌, ℕ, rules, tests, true, false, not}
+use Rattle.std.proofs.lemmas.Iterator.{first_from_Range, serves_from_Range}
+use lib.Dec.{eqb}
+use Rattle.shift_format.specs.Format.{row_size_of, station_of}
 use Rattle.shift_format.proofs.Rows.{row_in}
-use Rattle.shift_check.proofs.Searches.{first-hit, first-skip, first-end}
 use Rattle.shift_editions.specs.Answers.{stations_from}
+use Rattle.shift_check.proofs.Finds.{first_found}
 use Rattle.shift_editions.proofs.first_station.Goals as goal
 
-pub station_of-requires : goal.station_of-requires
-station_of-requires c = search (rules, row_in)
-
-pub returns-then-station_of-ne0 : goal.returns-then-station_of-ne0
-unfolding stations_from
-returns-then-station_of-ne0 c =
-    sym (c.loop-i.invariant.1 ∙ first-hit _ _ _ _ _ c.loop-i-test.true
-    (simp (← c.station_of.ensures, ne_eqb _ _ c.if-station_of-ne0.true)))
-
-pub loop-i-preserved : goal.loop-i-preserved
-unfolding stations_from
-loop-i-preserved c = (
-  omega arith,
-  c.loop-i.invariant.1 ∙ first-skip _ _ _ _ _ c.loop-i-test.true
-      (simp (← c.station_of.ensures, eq-eqb _ _ c.if-station_of-ne0.false)),
-)
+pub find-requires-clause-callable : goal.find-requires-clause-callable
+find-requires-clause-callable c = serves_from_Range (λ x q k. search (rules, tests)) (λ x low high. search (rules, row_in (row_size_of c.args.file.now) c.args.file.now c.args.rows x c.requires high))
 
 pub returns : goal.returns
 unfolding stations_from
-returns c = sym (c.loop-i.invariant.1 ∙ first-end _ _ _ _ _ c.loop-i-test.false)
+returns c =
+    let f = c.args.file.now in
+    let hit = λ (i : ℕ). not (eqb (station_of f i) 0) in
+    first_found hit _ _ c.args.rows c.find.result
+    (first_from_Range _ _ _ _ (λ i. hit i ≡ true) (λ i. hit i ≡ false) c.find.ensures.ran
+    (λ x q k. search (rules, tests))
+    (λ x q k. search (rules, tests)))

@@ -5,11 +5,17 @@ use Rattle.shift_editions.specs.Files.{moved_from}
 use Rattle.shift_editions.proofs.Done.{length_is, movable}
 use Rattle.shift_editions.proofs.write.Goals as goal
 
+pub invariant_of-moving : goal.invariant_of-moving
+invariant_of-moving c =
+    record {
+      few = omega (arith, c.count.ensures, c.requires.0.tabled.few);
+      movable = rw (c.row_size_of.ensures, c.row_size.ensures, c.count.ensures) (movable c.args.file.now c.args.edition c.requires.0 c.requires.1.short);
+    }
+
 pub put_file-requires : goal.put_file-requires
 put_file-requires c =
     let f = c.args.file.now in
-    rw (c.row_size_of.ensures, c.row_size.ensures, c.count.ensures)
-    (movable f c.args.edition c.requires.0 c.requires.1.short, (omega (arith, c.requires.0.tabled.few), c.requires.1.fits ∙ length_is f c.args.edition c.requires.0.tabled))
+    rw (c.row_size_of.ensures, c.row_size.ensures, c.count.ensures) (c.requires.1.fits ∙ length_is f c.args.edition c.requires.0.tabled)
 
 pub returns : goal.returns
 returns c =

@@ -1,27 +1,19 @@
--- No row below i clashes with an earlier one: the search from i on gives the whole answer.
-use mathlib.Core.Path.{sym, ◌∙◌}
-use native.Mathlib.Omega.{arith}
-use Rattle.shift_check.proofs.Searches.{first-hit, first-skip, first-end}
+-- The first row in which the test holds, as `find` says it, is the definition's.
+use Rattle.std.proofs.Common.{◌≡◌, ℕ, rules, tests, true, false}
+use Rattle.std.proofs.lemmas.Iterator.{first_from_Range, serves_from_Range}
+use Rattle.shift_format.specs.Format.{row_size_of}
+use Rattle.shift_check.specs.Check.{nonce_seen}
+use Rattle.shift_check.proofs.Finds.{first_found}
+use Rattle.shift_reseal.specs.Files.{retabled}
 use Rattle.shift_reseal.specs.Answers.{seen_from}
 use Rattle.shift_reseal.proofs.suites.first_clash.Goals as goal
 
-pub nonce_seen-requires : goal.nonce_seen-requires
-nonce_seen-requires c = (c.requires, c.loop-i-test.true)
-
-pub returns-then-nonce_seen : goal.returns-then-nonce_seen
-unfolding seen_from
-returns-then-nonce_seen c =
-    sym (c.loop-i.invariant.1 ∙ first-hit _ _ _ _ _ c.loop-i-test.true
-    (sym c.nonce_seen.ensures ∙ c.if-nonce_seen.true))
-
-pub loop-i-preserved : goal.loop-i-preserved
-unfolding seen_from
-loop-i-preserved c = (
-  omega arith,
-  c.loop-i.invariant.1 ∙ first-skip _ _ _ _ _ c.loop-i-test.true
-      (sym c.nonce_seen.ensures ∙ c.if-nonce_seen.false),
-)
-
 pub returns : goal.returns
 unfolding seen_from
-returns c = sym (c.loop-i.invariant.1 ∙ first-end _ _ _ _ _ c.loop-i-test.false)
+returns c =
+    let f = retabled c.args.file.now in
+    let hit = nonce_seen (row_size_of f) f in
+    first_found hit _ _ c.args.rows c.find.result
+    (first_from_Range _ _ _ _ (λ i. hit i ≡ true) (λ i. hit i ≡ false) c.find.ensures.ran
+    (λ x q k. search (rules, tests))
+    (λ x q k. search (rules, tests)))

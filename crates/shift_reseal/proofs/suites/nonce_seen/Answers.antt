@@ -21,4 +21,4 @@ loop-j-preserved c = yet-more c.loop-j.invariant c.loop-j-test.true (cc)
 
 pub returns : goal.returns
 unfolding nonce_seen
-returns c = sym (yet-end c.loop-j.invariant c.loop-j-test.false)
+returns c = sym (yet-end c.loop-j.invariant (omega arith))

@@ -1,5 +1,4 @@
 -- Whether an earlier row clashes with row i: the loop has come to row j, and no row below j clashes (`NoneYet`).
-use Prim.Native.Nat.{◌-◌}
 use Rattle.shift_format.specs.Format.{row_size_of}
 use Rattle.shift_check.specs.Check.{clash}
 use Rattle.shift_check.proofs.Searches.{NoneYet}
@@ -8,6 +7,3 @@ use Rattle.shift_reseal.proofs.suites.nonce_seen.Given as goal
 
 abbrev pub invariant-loop-j : goal.invariant-loop-j
 invariant-loop-j l = NoneYet (clash (row_size_of (retabled l.file)) (retabled l.file) l.index) l.index l.j
-
-abbrev pub decreases-loop-j : goal.decreases-loop-j
-decreases-loop-j l = l.index - l.j

@@ -1,7 +1,8 @@
 -- The text is opened into the output; if its tag is right, zeros follow it, and both are the piece of the draft.
-use borrow.Author.Rules.{rules}
 use lib.ListN.{length, replicate}
-use mathlib.Core.Bool.{true≢false}
+use mathlib.Core.Bool.{false, true≢false}
+use Rattle.std.specs.Result.{is_ok}
+use Rattle.std.proofs.lemmas.Result.{err_from_is_err_and}
 use mathlib.Core.List.{List, ◌++◌}
 use mathlib.Core.Path.{◌≡◌, sym, ap, ◌∙◌}
 use native.Mathlib.Omega.{arith}
@@ -14,9 +15,8 @@ use Rattle.shift_format.specs.Format.{row_size_of, row_of}
 use Rattle.shift_format.specs.Inside.{EntryIn}
 use Rattle.shift_format.proofs.Rows.{stretch-length}
 use Rattle.shift_draft.specs.Put.{put}
-use Rattle.shift_jobs.proofs.Entries.{lendable}
 use Rattle.status.specs.Verdicts.{number_of}
-use Rattle.status.proofs.Refuse.{other-some}
+use Rattle.status.proofs.Refuse.{error-some}
 use Rattle.shift_piece.proofs.Lending.{body_fits, open_told, put_two, row_opened}
 use Rattle.shift_writer.proofs.rows.unseal_entry.Goals as goal
 
@@ -28,55 +28,53 @@ module _ (f : List ℕ) (i : ℕ) (r : Row) (h : EntryIn (row_size_of f) f i) (q
   text-long : (a : ℕ) → a ≡ r.ad_at + r.ad_len → length (stretch out a (a + r.text_len - a)) ≡ r.text_len
   text-long a s = stretch-length out a (a + r.text_len - a) (omega (arith, body_fits f i r h q)) ∙ omega arith
 
-pub slice_bounds-open_row-end : goal.slice_bounds-open_row-end
-slice_bounds-open_row-end c =
-    let i = inside c.args.file.now c.args.index _ c.requires.entry c.row_of-row.ensures c.args.out.now c.requires.out-long _ _ c.text_start-start.ensures c.size_of-n.ensures.is in
+pub slice_bounds-open-end : goal.slice_bounds-open-end
+slice_bounds-open-end c =
+    let i = inside c.args.file.now c.args.index _ c.requires.entry c.new-lent.ensures.3 c.args.out.now c.requires.out-long _ _ c.text_start-start.ensures c.size_of-n.ensures.is in
     omega (arith, i)
 
-pub open_row-opened-requires : goal.open_row-opened-requires
-open_row-opened-requires c =
-    lendable c.args.file.now c.args.ring.now c.args.index c.requires.entry c.requires.ring_long _ c.row_of-row.ensures
-
-pub returns-in_default : goal.returns-in_default
-returns-in_default c =
+pub returns-in_err-open : goal.returns-in_err-open
+returns-in_err-open c =
     let f = c.args.file.now in
     let a = c.text_start-start.result in
-    let r = c.row_of-row.result in
-    let long = text-long f c.args.index r c.requires.entry c.row_of-row.ensures c.args.out.now c.requires.out-long a c.text_start-start.ensures ∙ ap (λ (q : Row). q.text_len) c.row_of-row.ensures in
+    let r = c.new-lent.result.row in
+    let long = text-long f c.args.index r c.requires.entry c.new-lent.ensures.3 c.args.out.now c.requires.out-long a c.text_start-start.ensures ∙ ap (λ (q : Row). q.text_len) c.new-lent.ensures.3 in
     let t = open_told f c.args.ring.now c.args.index c.requires.entry c.requires.ring_long _ _ (stretch c.args.out.now a (a + r.text_len - a)) long
-    c.open_row-opened.ensures in
-    record { right = t.wrong (other-some c.open_row-opened.result (search rules)); text = λ e. absurd (true≢false (sym e)) }
+    (rw (c.new-lent.ensures.0, c.new-lent.ensures.1, c.new-lent.ensures.2) at c.open.ensures) in
+    let p = err_from_is_err_and c.from_residual.result c.from_residual.ensures.1 in
+    let w : is_ok c.from_residual.result ≡ false = ap is_ok p.1 in
+    record { right = w ∙ t.wrong (rw c.in_err-open.was (error-some _)); text = λ e. absurd (true≢false (sym e ∙ w)) }
 
 pub slice_bounds-wipe-end : goal.slice_bounds-wipe-end
 slice_bounds-wipe-end c =
     let a = c.text_start-start.result in
-    let i = inside c.args.file.now c.args.index _ c.requires.entry c.row_of-row.ensures c.args.out.now c.requires.out-long _ _ c.text_start-start.ensures c.size_of-n.ensures.is in
-    omega (arith, i, same_len_mid a (a + c.row_of-row.result.text_len - a) c.args.out.now c.open_row-opened.new.out c.open_row-opened.auto.out)
+    let i = inside c.args.file.now c.args.index _ c.requires.entry c.new-lent.ensures.3 c.args.out.now c.requires.out-long _ _ c.text_start-start.ensures c.size_of-n.ensures.is in
+    omega (arith, i, same_len_mid a (a + c.new-lent.result.row.text_len - a) c.args.out.now c.open.new.out c.open.auto.out)
 
 pub returns : goal.returns
 returns c =
     let f = c.args.file.now in
     let ring = c.args.ring.now in
     let out = c.args.out.now in
-    let r = c.row_of-row.result in
+    let r = c.new-lent.result.row in
     let a = c.text_start-start.result in
     let b = a + r.text_len in
     let e = b + c.size_of-n.result in
-    let x = c.open_row-opened.new.out in
+    let x = c.open.new.out in
     let y = c.wipe.new.out in
-    let i : e ≤ length out = inside f c.args.index r c.requires.entry c.row_of-row.ensures out c.requires.out-long a c.size_of-n.result c.text_start-start.ensures c.size_of-n.ensures.is in
-    let lo = text-long f c.args.index r c.requires.entry c.row_of-row.ensures out c.requires.out-long a c.text_start-start.ensures in
-    let lx : length x ≡ b - a = c.open_row-opened.auto.out ∙ lo ∙ omega arith in
+    let i : e ≤ length out = inside f c.args.index r c.requires.entry c.new-lent.ensures.3 out c.requires.out-long a c.size_of-n.result c.text_start-start.ensures c.size_of-n.ensures.is in
+    let lo = text-long f c.args.index r c.requires.entry c.new-lent.ensures.3 out c.requires.out-long a c.text_start-start.ensures in
+    let lx : length x ≡ b - a = c.open.auto.out ∙ lo ∙ omega arith in
     let m = put_mid a (b - a) out x in
-    let lm : length m ≡ length out = same_len_mid a (b - a) out x c.open_row-opened.auto.out in
+    let lm : length m ≡ length out = same_len_mid a (b - a) out x c.open.auto.out in
     let lt : length (stretch m b (e - b)) ≡ e - b = stretch-length m b (e - b) (omega (arith, lm, i)) in
     let n : e - b ≡ size_of r.suite = omega (arith, c.size_of-n.ensures.is) in
-    let long = lo ∙ ap (λ (q : Row). q.text_len) c.row_of-row.ensures in
-    let told = open_told f ring c.args.index c.requires.entry c.requires.ring_long _ _ (stretch out a (b - a)) long c.open_row-opened.ensures in
-    let t = told.done (ap number_of c.in-Done.is) in record {
+    let long = lo ∙ ap (λ (q : Row). q.text_len) c.new-lent.ensures.3 in
+    let told = open_told f ring c.args.index c.requires.entry c.requires.ring_long _ _ (stretch out a (b - a)) long (rw (c.new-lent.ensures.0, c.new-lent.ensures.1, c.new-lent.ensures.2) at c.open.ensures) in
+    let t = told.done (ap number_of c.in_ok-open.was) in record {
       right = t.0;
       text = λ z.
           put_two out x y a b e (omega arith) (omega arith) i lx (c.wipe.auto.out ∙ lt)
           ∙ ap (λ (k : ℕ). put out k (x ++ y)) c.text_start-start.ensures
-          ∙ row_opened f ring c.args.index r c.row_of-row.ensures out x y t.1 (c.wipe.ensures ∙ ap (λ (k : ℕ). replicate k 0) (lt ∙ n));
+          ∙ row_opened f ring c.args.index r c.new-lent.ensures.3 out x y t.1 (c.wipe.ensures ∙ ap (λ (k : ℕ). replicate k 0) (lt ∙ n));
     }

@@ -1,27 +1,15 @@
--- No row below i has a tag that is set: the search from i on gives the whole answer.
-use mathlib.Core.Path.{sym, ◌∙◌}
-use native.Mathlib.Omega.{arith}
-use Rattle.shift_check.proofs.Searches.{first-hit, first-skip, first-end}
-use Rattle.shift_draft.specs.Answers.{set_from}
+-- The first row in which the test holds, as `find` says it, is the definition's.
+use Rattle.std.proofs.Common.{◌≡◌, ℕ, rules, tests, true, false}
+use Rattle.std.proofs.lemmas.Iterator.{first_from_Range}
+use Rattle.shift_check.proofs.Finds.{first_found}
+use Rattle.shift_draft.specs.Answers.{tag_set, set_from}
 use Rattle.shift_writer.proofs.tags.first_set.Goals as goal
-
-pub tag_zero-requires : goal.tag_zero-requires
-tag_zero-requires c = c.requires.entries _ c.loop-i-test.true
-
-pub returns-then-not-tag_zero : goal.returns-then-not-tag_zero
-unfolding set_from
-returns-then-not-tag_zero c =
-    sym (c.loop-i.invariant.1 ∙ first-hit _ _ _ _ _ c.loop-i-test.true
-    (simp (← c.tag_zero.ensures, c.if-not-tag_zero.true)))
-
-pub loop-i-preserved : goal.loop-i-preserved
-unfolding set_from
-loop-i-preserved c = (
-  omega arith,
-  c.loop-i.invariant.1 ∙ first-skip _ _ _ _ _ c.loop-i-test.true
-      (simp (← c.tag_zero.ensures, c.if-not-tag_zero.false)),
-)
 
 pub returns : goal.returns
 unfolding set_from
-returns c = sym (c.loop-i.invariant.1 ∙ first-end _ _ _ _ _ c.loop-i-test.false)
+returns c =
+    let f = c.args.file.now in
+    first_found (tag_set f) _ _ c.args.rows c.find.result
+    (first_from_Range _ _ _ _ (λ i. tag_set f i ≡ true) (λ i. tag_set f i ≡ false) c.find.ensures.ran
+    (λ x q k. search (rules, tests))
+    (λ x q k. search (rules, tests)))
