@@ -1,4 +1,5 @@
-// The C interface: every function that programs in other languages call. A slice passes as a pointer and a length.
+// The C interface: every function that programs in other languages call. A slice passes as a pointer and a length. Parameters and
+// results are as C has them: outputs stand one by one, and statuses are numbers.
 #![tactic(auto)]
 
 pub mod amending;
