@@ -11,25 +11,26 @@ use Rattle.session.specs.declared.Session.{Session}
 use Rattle.session.specs.Value.{starting, data_part, text_part, ending}
 use Rattle.session.specs.Structs.{as_value, gives}
 use Rattle.shift_format.specs.Part.{PartOf}
-use Rattle.status.specs.Answers.{checked_answer}
+use Rattle.status.specs.Answers.{refusal_answer, checked_answer}
 use Rattle.shift_check.specs.Check.{check_file}
-use Rattle.shift_lookup.specs.Answers.{found_answer}
+use Rattle.shift_lookup.specs.Answers.{lookup_error_answer, found_answer}
 use Rattle.shift_jobs.specs.Answers.{opened_answer}
 use Rattle.shift_lookup.specs.Lookup.{lookup_job}
-use Rattle.shift_lookup.specs.Entry.{data_start, data_length, entry_of}
+use Rattle.shift_lookup.specs.Entry.{data_start, data_length, entry_answer, entry_of}
 use Rattle.shift_jobs.specs.Opening.{left, job_opening}
-use Rattle.shift_jobs.specs.Genuine.{job_verifying}
+use Rattle.shift_jobs.specs.Genuine.{genuine_answer, job_verifying}
 use Rattle.shift_search.specs.Searching.{searching}
 use Rattle.shift_draft.specs.Answers.{writes, file_sealing, file_unsealing}
 use Rattle.shift_writer.specs.Answers.{written_answer}
 use Rattle.shift_reseal.specs.Answers.{file_resealing}
-use Rattle.shift_amend.specs.Amending.{amended_entry, CurrentPart, AmendedOpening, amended_opening}
+use Rattle.shift_amend.specs.Amending.{amended_answer, amended_entry, CurrentPart, AmendedOpening, amended_opening}
+use Rattle.shift_amend.specs.Source.{file_number}
 use Rattle.shift_editions.specs.Answers.{moved_answer, moved_length_of, FileMoved, to_edition2_of, to_edition1_of}
 use Rattle.shift_compare.specs.Comparing.{finding_of, Comparison, comparison}
 use Rattle.shift_reader.specs.declared.cursor.Cursor.{Cursor}
 use Rattle.shift_reader.specs.Reading.{start_of, ask_of}
 use Rattle.shift_report.specs.Reporting.{said_of, Report, reporting}
-use Rattle.shift_reader.specs.Contents.{header_answer, row_answer}
+use Rattle.shift_reader.specs.Contents.{header_told, header_answer, row_told, row_answer, error_row}
 use Rattle.promises.specs.Signatures as the
 use Rattle.promises.specs.Demand1.{Gave}
 
@@ -83,14 +84,14 @@ pub record Routines : Type 0 where
   pub lookup : (κs : Lfts 1) (file : Bor (List ℕ)) (job : ℕ) (x : Gave the.lookup κs (file, (job, tt))) →
       found_answer x.result ≡ lookup_job file.now job
   pub entry : (κs : Lfts 1) (file : Bor (List ℕ)) (job : ℕ) (x : Gave the.entry κs (file, (job, tt))) →
-      x.result ≡ entry_of file.now job
+      entry_answer x.result ≡ entry_of file.now job
   pub associated : (κs : Lfts 1) (file : Bor (List ℕ)) (job : ℕ) (x : Gave the.associated κs (file, (job, tt))) →
       PartOf file x.result (data_start file.now (lookup_job file.now job)) (data_length file.now (lookup_job file.now job))
   pub open_job : (κs : Lfts 3) (file ring : Bor (List ℕ)) (job : ℕ) (out : MutBor (List ℕ)) (x : Gave the.open_job κs (file, (ring, (job, (out, tt))))) →
       let (_, (_, (_, (out', _)))) = x.last in
       left (opened_answer x.result) out' ≡ job_opening file.now ring.now job out.now
   pub verified : (κs : Lfts 2) (file ring : Bor (List ℕ)) (job : ℕ) (x : Gave the.verified κs (file, (ring, (job, tt)))) →
-      x.result ≡ job_verifying file.now ring.now job
+      genuine_answer x.result ≡ job_verifying file.now ring.now job
   pub search : (κs : Lfts 1) (file : Bor (List ℕ)) (job : ℕ) (x : Gave the.search κs (file, (job, tt))) →
       (found_answer x.result.found ≡ (searching file.now job).says) × (x.result.looked ≡ length (searching file.now job).rows)
   -- W4: the writer; W7: the reseal pass
@@ -105,13 +106,13 @@ pub record Routines : Type 0 where
       writes (written_answer x.result) out' ≡ file_resealing file.now ring.now out.now
   -- W11: amendments
   pub locate : (κs : Lfts 2) (amendment day : Bor (List ℕ)) (job : ℕ) (x : Gave the.locate κs (amendment, (day, (job, tt)))) →
-      x.result ≡ amended_entry amendment.now day.now job
+      amended_answer x.result ≡ amended_entry amendment.now day.now job
   pub current : (κs : Lfts 1) (amendment day : Bor (List ℕ)) (job : ℕ) (x : Gave the.current κs (amendment, (day, (job, tt)))) →
       CurrentPart amendment day x.result job
   pub open_current : (κs : Lfts 4) (amendment day ring : Bor (List ℕ)) (job : ℕ) (out : MutBor (List ℕ))
       (x : Gave the.open_current κs (amendment, (day, (ring, (job, (out, tt)))))) →
       let (_, (_, (_, (_, (out', _))))) = x.last in
-      ◌≡◌ {A = AmendedOpening} (record { file = x.result.file; answer = opened_answer x.result.opened; out = out' })
+      ◌≡◌ {A = AmendedOpening} (record { file = file_number x.result.file; answer = opened_answer x.result.opened; out = out' })
       (amended_opening amendment.now day.now ring.now job out.now)
   -- W10: the length of a moved file, and the moves
   pub moved_length : (κs : Lfts 1) (file : Bor (List ℕ)) (x : Gave the.moved_length κs (file, tt)) →
@@ -137,6 +138,6 @@ pub record Routines : Type 0 where
       ◌≡◌ {A = Report} (record { said = said_of x.result; jobs = jobs'; numbers = numbers' }) (reporting file.now ring.now jobs.now numbers.now)
   -- the table of contents by row number
   pub header : (κs : Lfts 1) (file : Bor (List ℕ)) (x : Gave the.header κs (file, tt)) →
-      x.result ≡ header_answer file.now
+      (header_told x.result ≡ header_answer file.now) × (error_row refusal_answer x.result ≡ 0)
   pub row : (κs : Lfts 1) (file : Bor (List ℕ)) (i : ℕ) (x : Gave the.row κs (file, (i, tt))) →
-      x.result ≡ row_answer file.now i
+      (row_told x.result ≡ row_answer file.now i) × (error_row lookup_error_answer x.result ≡ 0)

@@ -12,15 +12,15 @@ open-requires g c =
       gives = (tells _ _ _ _ _ c.look_up-looked.ensures).amendment (ap file_number c.in-Amendment.is);
     }
 
-pub open-requires-2 : goal.open-requires-2
-open-requires-2 g c =
+pub open-requires-in-Day : goal.open-requires-in-Day
+open-requires-in-Day g c =
     record {
       job = c.args.job;
       gives = (tells _ _ _ _ _ c.look_up-looked.ensures).day (λ z. let e = sym (ap file_number c.in-Day.is) ∙ z in omega arith);
     }
 
-pub open-requires-3 : goal.open-requires-3
-open-requires-3 g c =
+pub open-requires-in-Neither : goal.open-requires-in-Neither
+open-requires-in-Neither g c =
     record {
       job = c.args.job;
       gives = (tells _ _ _ _ _ c.look_up-looked.ensures).day (λ z. let e = sym (ap file_number c.in-Neither.is) ∙ z in omega arith);

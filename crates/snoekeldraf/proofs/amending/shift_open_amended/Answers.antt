@@ -12,4 +12,4 @@ say-requires c =
     subst (λ (w : Answer). w.row ≤ 512) (sym e) (open_amended_row _ _ _ _ _)
 
 pub returns : goal.returns
-returns c = rw (c.say.ensures ∙ c.answered.ensures) c.open_current-current.ensures
+returns c = rw (c.from.ensures, c.say.ensures ∙ c.answered.ensures) c.open_current-current.ensures

@@ -6,9 +6,6 @@ use Rattle.shift_lookup.specs.Entry.{entry_answer}
 use Rattle.snoekeldraf.proofs.Rows.{entry-row}
 use Rattle.snoekeldraf.proofs.file.shift_entry.Goals as goal
 
-abbrev row_of : Entry → ℕ
-row_of x = x.row
-
 pub overflow_cast-row : goal.overflow_cast-row
 overflow_cast-row c =
     let low : c.in-Ok.entry.row ≤ 512 = subst (λ r. (entry_answer r).row ≤ 512) c.in-Ok.is (entry-row _ _ _ c.entry.ensures) in
