@@ -1,13 +1,14 @@
 -- One outcome for each input: an answer's number and row are those of one case, so what a contract allows is one value.
 use Prim.Native.Nat.{ℕ, zero, suc, ◌<◌}
 use native.Mathlib.Omega.{arith}
-use mathlib.Core.Path.{◌≡◌, refl, sym, ap, ap₂, ◌∙◌}
+use mathlib.Core.Path.{◌≡◌, refl, sym, ap, ap₂, subst, ◌∙◌}
 use mathlib.Core.Bool.{false, cond}
 use mathlib.Core.Logic.{◌⊎◌, ⊎_elim}
 use Rattle.std.specs.Prelude.{Result, Ok, Err}
 use lib.Dec.{eqb}
 use borrow.Author.Tests.{ne_eqb, eqb-false}
 use denote.RattleType.{RattleType}
+use denote.Exit.{Kept, unchanged}
 use denote.Param.Laws.{Laws}
 use mir.Syntax.{Dict}
 use Rattle.status.specs.declared.checked.Refuses.{Ghosts as Refuses}
@@ -32,6 +33,8 @@ use Rattle.status.proofs.checked.RefusalRefuses.answer.Kinds as refusal-kinds
 use Rattle.status.proofs.checked.RefusalRefuses.answer.Reads as refusal-reads
 use Rattle.status.proofs.checked.answered.Kinds as answered-kinds
 use Rattle.status.proofs.checked.answered.Reads as answered-reads
+use Rattle.status.specs.contracts.checked.Refusal.{the_row}
+use Rattle.status.proofs.checked.Refusal.TheLaws.{the_row_laws}
 use Rattle.status.proofs.checked.say.Kinds as say-kinds
 use Rattle.status.proofs.checked.say.Reads as say-reads
 
@@ -137,10 +140,58 @@ fault_number κs a h x y = (x.ensures ∙ sym y.ensures, refl)
 pub refusal-answer : OneOutcome refusal-kinds.ps refusal-kinds.r refusal-reads.Pre refusal-reads.Post
 refusal-answer κs a h x y = (x.ensures ∙ sym y.ensures, refl)
 
--- at each type of error; its argument comes by value, so the result is all of the outcome
+-- at each type of error, the answer
 pub answered : (E : RattleType) (is : Laws E) (refuses : Refuses E.Denot) (of : Dict)
     → (κs : _) (a : _) (x y : Outcome (answered-kinds.ps E is) (answered-kinds.r E is) (answered-reads.Post E is refuses of) κs a) → x.result ≡ y.result
 answered E is refuses of κs a x y = x.ensures ∙ sym y.ensures
+
+-- the answer and what is left of the argument
+abbrev pub AnsweredOnce : (E : RattleType) → Laws E → Refuses E.Denot → Dict → Type 0
+AnsweredOnce E is refuses of =
+    OneOutcome (answered-kinds.ps E is) (answered-kinds.r E is) (answered-reads.Pre E is refuses of) (answered-reads.Post E is refuses of)
+
+-- the type of errors E, where a call leaves nothing of an error
+abbrev stilled : RattleType → RattleType
+stilled E =
+    record {
+      Denot = E.Denot;
+      mir = E.mir;
+      written = E.written;
+      reaches = E.reaches;
+      lives = E.lives;
+      own_val = E.own_val;
+      exit = λ k. unchanged;
+      coded = E.coded;
+      shr_at = E.shr_at;
+    }
+
+stilled_same : (E : RattleType) → ((k : Kept) → E.exit k ≡ unchanged) → stilled E ≡ E
+stilled_same E still = λ i.
+    record {
+      Denot = E.Denot;
+      mir = E.mir;
+      written = E.written;
+      reaches = E.reaches;
+      lives = E.lives;
+      own_val = E.own_val;
+      exit = λ k. sym (still k) i;
+      coded = E.coded;
+      shr_at = E.shr_at;
+    }
+
+stilled_once : (E : RattleType) (is : Laws (stilled E)) (refuses : Refuses E.Denot) (of : Dict) → AnsweredOnce (stilled E) is refuses of
+stilled_once E is refuses of κs (Ok u, t) h x y = (x.ensures ∙ sym y.ensures, refl)
+stilled_once E is refuses of κs (Err e, t) h x y = (x.ensures ∙ sym y.ensures, refl)
+
+-- at each type of error that holds no `&mut`, so that nothing of it outlives the call
+pub answered_once : (E : RattleType) → ((k : Kept) → E.exit k ≡ unchanged)
+    → (is : Laws E) (refuses : Refuses E.Denot) (of : Dict) → AnsweredOnce E is refuses of
+answered_once E still =
+    subst (λ (D : RattleType). (is : Laws D) (refuses : Refuses D.Denot) (of : Dict) → AnsweredOnce D is refuses of) (stilled_same E still) (stilled_once E)
+
+-- of the check
+pub checked_answer_lem : (of : Dict) → AnsweredOnce the_row the_row_laws (record { answer_of = refusal_answer }) of
+checked_answer_lem = answered_once the_row (λ k. refl) the_row_laws (record { answer_of = refusal_answer })
 
 pub say : OneOutcome say-kinds.ps say-kinds.r say-reads.Pre say-reads.Post
 say κs a h x y =
