@@ -17,7 +17,7 @@ use Rattle.aes_spec.proofs.Field.{xtime_sum, two_product, three_product}
 use Rattle.aes_spec.proofs.Steps.{from-same}
 use Rattle.aes_spec.proofs.Schedule.{next_key}
 use Rattle.aes_plain.specs.declared.Columns.{Columns}
-use Rattle.aes_plain.specs.Columns.{bytes_of, mix_column, Follows}
+use Rattle.aes_plain.specs.Columns.{bytes_of, mix_column, Follows, Expands}
 
 -- row k is what is left when the rows below it are shifted out
 pub row_is : (k x : ℕ) → k < 4 → x / 2 ^ (8 * k) % 256 ≡ get_or (bytes 4 x) k 0
@@ -75,6 +75,16 @@ told_only x y f g e =
     (bytes_inj 4 f.3 g.3 (ap (λ (l : List ℕ). part 4 l 12) e))
 
 -- ---- the round key after k: its last column turned is t, and t through the S-box is s
+
+pub key_columns : (k n : Columns) (t s rc : ℕ) → bytes 4 t ≡ rot_word (bytes 4 k.d) → bytes 4 s ≡ sub_word (bytes 4 t)
+    → (n.a ≡ xor k.a (xor s rc)) × (n.b ≡ xor k.b n.a) × (n.c ≡ xor k.c n.b) × (n.d ≡ xor k.d n.c) → Expands k (bytes 4 rc) n
+key_columns k n t s rc f e h = (
+  ap (bytes 4) h.0 ∙ bytes-xor 4 k.a (xor s rc)
+  ∙ ap (xors (bytes 4 k.a)) (bytes-xor 4 s rc ∙ ap (λ (l : List ℕ). xors l (bytes 4 rc)) (e ∙ ap sub_word f)),
+  h.1,
+  h.2,
+  h.3,
+)
 
 pub key_turn : (k n : Columns) (t s rc : ℕ) → bytes 4 t ≡ rot_word (bytes 4 k.d) → bytes 4 s ≡ sub_word (bytes 4 t)
     → (n.a ≡ xor k.a (xor s rc)) × (n.b ≡ xor k.b n.a) × (n.c ≡ xor k.c n.b) × (n.d ≡ xor k.d n.c)

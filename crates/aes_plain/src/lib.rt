@@ -7,7 +7,7 @@ ghost use Rattle.block.specs.Bytes.{bytes};
 ghost use Rattle.aes_spec.specs.Field.{xtime};
 ghost use Rattle.aes_spec.specs.Sbox.{sub_byte, IsSbox};
 ghost use Rattle.aes_spec.specs.Cipher.{sub_bytes, shift_rows, mix_columns, add_round_key, rot_word, cipher};
-ghost use Rattle.aes_plain.specs.Columns.{bytes_of, row, mix_column, Follows};
+ghost use Rattle.aes_plain.specs.Columns.{bytes_of, row, mix_column, Follows, Expands};
 
 use block::block_of;
 use word::{Word, le32};
@@ -139,7 +139,8 @@ pub fn chained(key: Columns, before: u32) -> Columns
 
 // The round key after k; rc is its Rcon.
 pub fn next_key<S: SubBytes>(sbox: S, k: Columns, rc: u32) -> Columns
-    ensures { Follows (bytes_of k) (bytes 4 rc) (bytes_of result) }
+    ensures columns { Expands k (bytes 4 rc) result }
+    ensures follows { Follows (bytes_of k) (bytes 4 rc) (bytes_of result) }
 {
     let w = rot_word(k.d);
     chained(k, shifted(sbox, w, w, w, w) ^ rc)

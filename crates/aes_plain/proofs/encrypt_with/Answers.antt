@@ -19,7 +19,7 @@ next_rcon-rc-requires c =
 pub loop-i-preserved : goal.loop-i-preserved
 loop-i-preserved c = (
   power-turn c.loop-i.i c.loop-i.invariant.0 c.next_rcon-rc.ensures,
-  track_turn c.loop-i.i c.loop-i.invariant.1 (rcon_is c.loop-i.i c.loop-i.invariant.0) c.next_key-k.ensures c.round-s.ensures,
+  track_turn c.loop-i.i c.loop-i.invariant.1 (rcon_is c.loop-i.i c.loop-i.invariant.0) c.next_key-k.ensures.follows c.round-s.ensures,
 )
 
 pub returns : goal.returns
