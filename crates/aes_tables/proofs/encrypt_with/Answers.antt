@@ -22,7 +22,7 @@ next_rcon-rc-requires c =
 pub loop-i-preserved : goal.loop-i-preserved
 loop-i-preserved c = (
   power-turn c.loop-i.i c.loop-i.invariant.0 c.next_rcon-rc.ensures,
-  track_step true c.loop-i.i (lt-ltb c.loop-i.i 9 (omega arith)) c.loop-i.invariant.1 (rcon_is c.loop-i.i c.loop-i.invariant.0) c.next_key-k.ensures
+  track_step true c.loop-i.i (lt-ltb c.loop-i.i 9 (omega arith)) c.loop-i.invariant.1 (rcon_is c.loop-i.i c.loop-i.invariant.0) c.next_key-k.ensures.follows
       c.mix_columns.ensures c.add_round_key-s-in-loop-i.ensures,
 )
 
@@ -32,7 +32,7 @@ returns c =
     let e : c.loop-i.i + 1 ≡ 10 = omega arith in
     let h : 9 ≤ c.loop-i.i = omega arith in
     track_end c.args.key c.args.block (c.loop-i.i + 1) e
-    (track_step false c.loop-i.i (le-ltb c.loop-i.i 9 h) c.loop-i.invariant.1 (rcon_is c.loop-i.i c.loop-i.invariant.0) c.next_key.ensures
+    (track_step false c.loop-i.i (le-ltb c.loop-i.i 9 h) c.loop-i.invariant.1 (rcon_is c.loop-i.i c.loop-i.invariant.0) c.next_key.ensures.follows
     c.shift_rows.ensures c.add_round_key-s-2.ensures)
     l c.load-k.ensures
     c.load.ensures
