@@ -61,7 +61,7 @@ impl Word for u16 {
     }
 
     fn rotl(self, by: u32) -> u16 {
-        u16::rotate_left(self, by)
+        (self << by) + (self >> (16 - by))
     }
 
     fn plus(self, right: u16) -> u16 {
@@ -96,7 +96,7 @@ impl Word for u32 {
     }
 
     fn rotl(self, by: u32) -> u32 {
-        u32::rotate_left(self, by)
+        (self << by) + (self >> (32 - by))
     }
 
     fn plus(self, right: u32) -> u32 {

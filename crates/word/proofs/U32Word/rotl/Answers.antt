@@ -1,7 +1,7 @@
--- The library's rotation, as `rotl` says it.
+-- The rotation of 32 bits meets its contract: the sum of the two shifts is a word, by the law of rotations.
 use Rattle.std.proofs.Common.{arith}
-use Rattle.word.proofs.Rotated.{rotated}
+use Rattle.block.proofs.Rotate.{rotl_lt}
 use Rattle.word.proofs.U32Word.rotl.Goals as goal
 
-pub returns : goal.returns
-returns c = cc (rotated 32 c.args.by c.args.self (omega arith) (omega arith) c.ranges.self.fits)
+pub overflow_add-result : goal.overflow_add-result
+overflow_add-result c = record { fits = rotl_lt 32 _ (omega arith) c.ranges.self.fits }
