@@ -70,6 +70,7 @@ impl<const N: usize> Write for Text<N> {
 
     fn flush(&mut self) -> io::Result<()>
         ensures bytes { Keeps None None }
+        ensures done { result ≡ Ok tt }
         ensures text { self.new ≡ self.old }
     {
         Ok(())
