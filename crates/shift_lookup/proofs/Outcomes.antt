@@ -31,6 +31,8 @@ use Rattle.shift_lookup.proofs.found.entry_found.Kinds as entry-found-kinds
 use Rattle.shift_lookup.proofs.found.entry_found.Reads as entry-found-reads
 use Rattle.shift_lookup.proofs.found.row_of.Kinds as row-of-kinds
 use Rattle.shift_lookup.proofs.found.row_of.Reads as row-of-reads
+use Rattle.shift_lookup.proofs.answers.LookupErrorFromRefusal.from.Kinds as from-kinds
+use Rattle.shift_lookup.proofs.answers.LookupErrorFromRefusal.from.Reads as from-reads
 use Rattle.shift_lookup.proofs.answers.LookupErrorRefuses.answer.Kinds as error-kinds
 use Rattle.shift_lookup.proofs.answers.LookupErrorRefuses.answer.Reads as error-reads
 use Rattle.shift_lookup.proofs.answers.answer_of.Kinds as found-kinds
@@ -85,6 +87,9 @@ associated κs a x y = part-one x.ensures y.ensures
 
 pub entry_found : OneOutcome entry-found-kinds.ps entry-found-kinds.r entry-found-reads.Pre entry-found-reads.Post
 entry_found κs a h x y = (entry-one (x.ensures ∙ sym y.ensures), refl)
+
+pub error-from : OneOutcome from-kinds.ps from-kinds.r from-reads.Pre from-reads.Post
+error-from κs a h x y = (x.ensures ∙ sym y.ensures, refl)
 
 pub error-answer : OneOutcome error-kinds.ps error-kinds.r error-reads.Pre error-reads.Post
 error-answer κs a h x y = (x.ensures ∙ sym y.ensures, refl)
