@@ -3,14 +3,17 @@ use mathlib.Core.Path.{◌≡◌, refl, sym, ap, ◌∙◌}
 use mathlib.Core.Bool.{cond}
 use mathlib.Core.Logic.{inl, inr}
 use lib.Dec.{eqb, lit<}
+use mir.Syntax.{Dict}
 use Rattle.std.specs.Prelude.{Result, Ok, Err}
 use borrow.Author.Tests.{ne_eqb}
-use Rattle.block.specs.Outcome.{OneOutcome}
+use contract.Lifetimes.{Lfts}
+use borrow.Fn.Kinds.{Dens}
+use Rattle.block.specs.Outcome.{Outcome, OneOutcome}
 use Rattle.comet.specs.Answers as comet
 use Rattle.status.proofs.Outcomes.{number_tells}
 use Rattle.status.specs.declared.checked.Answer.{Answer}
 use Rattle.status.specs.Answers.{answer}
-use Rattle.status.proofs.Outcomes.{refusal_of, refusal_back, unlike}
+use Rattle.status.proofs.Outcomes.{refusal_of, refusal_back, unlike, AnsweredOnce, answered_once}
 use Rattle.shift_jobs.specs.declared.answers.Genuine.{Genuine as Place}
 use Rattle.shift_jobs.specs.declared.answers.JobError.{JobError}
 use Rattle.shift_jobs.specs.declared.answers.JobError.TheVariants as opened
@@ -26,6 +29,8 @@ use Rattle.shift_jobs.proofs.verified.Kinds as verified-kinds
 use Rattle.shift_jobs.proofs.verified.Reads as verified-reads
 use Rattle.shift_jobs.proofs.testing.verify_found.Kinds as verify-found-kinds
 use Rattle.shift_jobs.proofs.testing.verify_found.Reads as verify-found-reads
+use Rattle.shift_jobs.proofs.lend.Lent.new.Kinds as lent-kinds
+use Rattle.shift_jobs.proofs.lend.Lent.new.Reads as lent-reads
 use Rattle.shift_jobs.proofs.lend.Lent.seal_as.Kinds as seal-as-kinds
 use Rattle.shift_jobs.proofs.lend.Lent.seal_as.Reads as seal-as-reads
 use Rattle.shift_jobs.proofs.lend.Lent.open.Kinds as open-row-kinds
@@ -34,6 +39,8 @@ use Rattle.shift_jobs.proofs.lend.Lent.verify.Kinds as verify-row-kinds
 use Rattle.shift_jobs.proofs.lend.Lent.verify.Reads as verify-row-reads
 use Rattle.shift_jobs.proofs.answers.JobErrorFromLookupError.from.Kinds as from-kinds
 use Rattle.shift_jobs.proofs.answers.JobErrorFromLookupError.from.Reads as from-reads
+use Rattle.shift_jobs.specs.contracts.answers.JobError.{the_row}
+use Rattle.shift_jobs.proofs.answers.JobError.TheLaws.{the_row_laws}
 use Rattle.shift_jobs.proofs.answers.JobErrorRefuses.answer.Kinds as error-kinds
 use Rattle.shift_jobs.proofs.answers.JobErrorRefuses.answer.Reads as error-reads
 
@@ -106,6 +113,20 @@ error-from κs a h x y = (error-one (x.ensures ∙ sym y.ensures), refl)
 
 pub error-answer : OneOutcome error-kinds.ps error-kinds.r error-reads.Pre error-reads.Post
 error-answer κs a h x y = (x.ensures ∙ sym y.ensures, refl)
+
+-- `status::checked::answered`, of an opening
+pub opened-answer : (of : Dict) → AnsweredOnce the_row the_row_laws (record { answer_of = job_error_answer }) of
+opened-answer = answered_once the_row (λ k. refl) the_row_laws (record { answer_of = job_error_answer })
+
+-- the same file, ring, row number and row; that they lie in one another belongs to the proof and is no outcome
+pub lent : (κs : Lfts 1) (a : Dens κs lent-kinds.ps) (x y : Outcome lent-kinds.ps lent-kinds.r lent-reads.Post κs a)
+    → (x.result.file ≡ y.result.file) × (x.result.ring ≡ y.result.ring) × (x.result.index ≡ y.result.index) × (x.result.row ≡ y.result.row)
+lent κs a x y = (
+  x.ensures.0 ∙ sym y.ensures.0,
+  x.ensures.1 ∙ sym y.ensures.1,
+  x.ensures.2 ∙ sym y.ensures.2,
+  x.ensures.3 ∙ sym y.ensures.3,
+)
 
 pub seal_as : OneOutcome seal-as-kinds.ps seal-as-kinds.r seal-as-reads.Pre seal-as-reads.Post
 seal_as κs a h x y =
