@@ -14,6 +14,8 @@ use Rattle.session.specs.declared.Session.{Session}
 use Rattle.session.specs.declared.Step.{Step}
 use Rattle.session.specs.Value.{Value, Given}
 use Rattle.session.specs.Structs.{as_value, number_of, count_of, gives}
+use Rattle.session.proofs.SessionDefault.default.Kinds as default-kinds
+use Rattle.session.proofs.SessionDefault.default.Reads as default-reads
 use Rattle.session.proofs.Step.number.Kinds as number-kinds
 use Rattle.session.proofs.Step.number.Reads as number_Reads
 use Rattle.session.proofs.Step.count.Kinds as count-kinds
@@ -52,6 +54,14 @@ step_told x y o t o' t' p q e =
     let en : x.next ≡ y.next = session_told x.next y.next p q (ap (λ (g : Given). g.next) e) in
     let eo = outcome_told x.outcome y.outcome (ap (λ (g : Given). g.number) e) (ap (λ (g : Given). g.count) e) in
     λ i. record { next = en i; outcome = eo i }
+
+pub default : OneOutcome default-kinds.ps default-kinds.r default-reads.Pre default-reads.Post
+default κs a h x y = (
+  session_told x.result y.result (record { ya = omega arith; yb = omega arith; za = omega arith; zb = omega arith })
+      (record { ya = omega arith; yb = omega arith; za = omega arith; zb = omega arith })
+      (x.ensures ∙ sym y.ensures),
+  refl,
+)
 
 pub number : OneOutcome number-kinds.ps number-kinds.r number_Reads.Pre number_Reads.Post
 number κs a h x y = (x.ensures ∙ sym y.ensures, refl)

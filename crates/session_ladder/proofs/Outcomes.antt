@@ -13,6 +13,8 @@ use Rattle.status.proofs.Outcomes.{number_tells}
 use Rattle.session_ladder.specs.declared.SessionError.{SessionError}
 use Rattle.session_ladder.specs.declared.SessionError.TheVariants.{Record, Over}
 use Rattle.session_ladder.specs.Numbers.{error_number, number_of}
+use Rattle.session_ladder.proofs.SessionErrorFromRecordError.from.Kinds as from-kinds
+use Rattle.session_ladder.proofs.SessionErrorFromRecordError.from.Reads as from-reads
 use Rattle.session_ladder.proofs.SessionError.number.Kinds as number-kinds
 use Rattle.session_ladder.proofs.SessionError.number.Reads as number_Reads
 use Rattle.session_ladder.proofs.check_start.Kinds as start-kinds
@@ -59,6 +61,9 @@ outcome_tells (Ok x) (Ok y) q = refl
 outcome_tells (Ok x) (Err f) q = absurd (refusal_some f (sym q))
 outcome_tells (Err e) (Ok x) q = absurd (refusal_some e q)
 outcome_tells (Err e) (Err f) q = ap Err (refusal_tells e f q)
+
+pub error_from : OneOutcome from-kinds.ps from-kinds.r from-reads.Pre from-reads.Post
+error_from κs a h x y = (x.ensures ∙ sym y.ensures, refl)
 
 pub number : OneOutcome number-kinds.ps number-kinds.r number_Reads.Pre number_Reads.Post
 number κs a h x y = (x.ensures ∙ sym y.ensures, refl)
