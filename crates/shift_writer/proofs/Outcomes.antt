@@ -1,12 +1,13 @@
 -- One outcome for each input: an answer's number and row are those of one case, so what a contract allows is one value.
 use mathlib.Core.Path.{◌≡◌, refl, sym, ap, ◌∙◌}
 use mathlib.Core.Bool.{cond}
+use mir.Syntax.{Dict}
 use Rattle.std.specs.Prelude.{Result, Ok, Err}
 use lib.Dec.{eqb}
 use borrow.Author.Tests.{ne_eqb}
 use Rattle.block.specs.Outcome.{OneOutcome}
 use Rattle.status.specs.declared.checked.Answer.{Answer}
-use Rattle.status.proofs.Outcomes.{refusal_of, refusal_back, unlike}
+use Rattle.status.proofs.Outcomes.{refusal_of, refusal_back, unlike, AnsweredOnce, answered_once}
 use mathlib.Core.Logic.{inl, inr}
 use lib.Dec.{lit<}
 use Rattle.shift_writer.specs.declared.answers.WriteError.{WriteError}
@@ -20,6 +21,10 @@ use Rattle.shift_writer.proofs.seal_file.Kinds as seal-kinds
 use Rattle.shift_writer.proofs.seal_file.Reads as seal-reads
 use Rattle.shift_writer.proofs.unseal_file.Kinds as unseal-kinds
 use Rattle.shift_writer.proofs.unseal_file.Reads as unseal-reads
+use Rattle.shift_writer.proofs.answers.WriteErrorFromRefusal.from.Kinds as from-kinds
+use Rattle.shift_writer.proofs.answers.WriteErrorFromRefusal.from.Reads as from-reads
+use Rattle.shift_writer.specs.contracts.answers.WriteError.{the_row}
+use Rattle.shift_writer.proofs.answers.WriteError.TheLaws.{the_row_laws}
 use Rattle.shift_writer.proofs.answers.WriteErrorRefuses.answer.Kinds as answer-kinds
 use Rattle.shift_writer.proofs.answers.WriteErrorRefuses.answer.Reads as answer-reads
 
@@ -71,6 +76,13 @@ pub unseal_file : OneOutcome unseal-kinds.ps unseal-kinds.r unseal-reads.Pre uns
 unseal_file κs a h x y =
     let e = x.ensures ∙ sym y.ensures in
     (written_one (ap (λ (z : FileWritten). z.answer) e), ap (λ (z : FileWritten). (tt, (tt, (z.out, tt)))) e)
+
+pub error_from : OneOutcome from-kinds.ps from-kinds.r from-reads.Pre from-reads.Post
+error_from κs a h x y = (x.ensures ∙ sym y.ensures, refl)
+
+-- `status::checked::answered`, of the writer
+pub written-answer : (of : Dict) → AnsweredOnce the_row the_row_laws (record { answer_of = write_answer }) of
+written-answer = answered_once the_row (λ k. refl) the_row_laws (record { answer_of = write_answer })
 
 pub answer : OneOutcome answer-kinds.ps answer-kinds.r answer-reads.Pre answer-reads.Post
 answer κs a h x y = (x.ensures ∙ sym y.ensures, refl)
