@@ -1,6 +1,8 @@
 // An output that is written from the front.
 ghost use Rattle.std.specs.Prelude.{◌+◌, ◌≤◌, length, replicate};
 
+use byte_runs::copy;
+
 // An output, and how many bytes of it are written. Each call appends a part to them, and keeps what stands before it.
 #[derive(Drop)]
 pub(crate) struct Front<'a> {
@@ -17,7 +19,7 @@ impl Front<'_> {
         ensures { Appended self.old self.new part.now }
     {
         let end = self.at + part.len();
-        self.out[self.at..end].copy_from_slice(part);
+        copy(part, &mut self.out[self.at..end]);
         self.at = end;
     }
 
