@@ -11,6 +11,7 @@ ghost use Rattle.shift_draft.specs.Answers.{lent_answer, seal_answer, open_answe
 ghost use Rattle.shift_writer.specs.Answers.{written_answer};
 
 use answers::{WriteError, Written};
+use byte_runs::copy;
 use rows::{put_edition, seal_rows, unseal_rows};
 use shift_check::check_as;
 use shift_format::row::{FIRST_EDITION, count};
@@ -64,7 +65,7 @@ pub fn seal_file(draft: &[u8], ring: &[u8], out: &mut [u8]) -> Written
         (file_sealing draft.now ring.now out.old) }
 {
     seal_refused(draft, ring.len(), out.len())?;
-    out.copy_from_slice(draft);
+    copy(draft, out);
     put_edition(FIRST_EDITION, out);
     seal_rows(draft, count(draft), ring, out);
     Ok(())
@@ -76,7 +77,7 @@ pub fn unseal_file(file: &[u8], ring: &[u8], out: &mut [u8]) -> Written
         (file_unsealing file.now ring.now out.old) }
 {
     unseal_refused(file, ring.len(), out.len())?;
-    out.copy_from_slice(file);
+    copy(file, out);
     put_edition(DRAFT, out);
     unseal_rows(file, count(file), ring, out)
 }

@@ -10,7 +10,7 @@ ghost use Rattle.shift_writer.specs.Answers.{written_answer};
 ghost use Rattle.shift_writer.specs.Inside.{RowsSeal, Writable, RowWritable};
 
 use crate::answers::{WriteError, Written};
-use byte_runs::wipe;
+use byte_runs::{copy, wipe};
 use shift_format::body::{text_of, text_start};
 use shift_jobs::lend::Lent;
 use shift_piece::seal_into;
@@ -37,7 +37,7 @@ fn seal_entry(file: &[u8], ring: &[u8], index: usize, out: &mut [u8])
     let start = text_start(row);
     let tag_start = start + len;
     let end = tag_start + n;
-    out[start..tag_start].copy_from_slice(text_of(file, row));
+    copy(text_of(file, row), &mut out[start..tag_start]);
     seal_into(&lent, row.suite, &mut out[start..end]);
 }
 

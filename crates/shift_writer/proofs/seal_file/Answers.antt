@@ -22,13 +22,13 @@ returns-in_err-seal_refused c =
     (sym (sealing-kept c.args.draft.now c.args.ring.now c.args.out.now _ (rw c.in_err-seal_refused.was at c.seal_refused.ensures) (write_some _)))
 
 -- nothing was refused
-pub copy_from_slice-requires : goal.copy_from_slice-requires
-copy_from_slice-requires c = (seal_can _ _ _ _ c.seal_refused.ensures c.in_ok-seal_refused.was).room.out-long
+pub copy-requires : goal.copy-requires
+copy-requires c = (seal_can _ _ _ _ c.seal_refused.ensures c.in_ok-seal_refused.was).room.out-long
 
 pub put_edition-requires : goal.put_edition-requires
 put_edition-requires c =
     let can = seal_can _ _ _ _ c.seal_refused.ensures c.in_ok-seal_refused.was in
-    omega (arith, c.copy_from_slice.ensures.len, can.room.out-long, header-in draft_edition c.args.draft.now plain_draft can.passed)
+    omega (arith, c.copy.auto.to, can.room.out-long, header-in draft_edition c.args.draft.now plain_draft can.passed)
 
 pub count-requires : goal.count-requires
 count-requires c =
@@ -37,7 +37,7 @@ count-requires c =
 pub seal_rows-requires : goal.seal_rows-requires
 seal_rows-requires c =
     let can = seal_can _ _ _ _ c.seal_refused.ensures c.in_ok-seal_refused.was in
-    let long = c.put_edition.auto.out ∙ c.copy_from_slice.ensures.len ∙ can.room.out-long in (
+    let long = c.put_edition.auto.out ∙ c.copy.auto.to ∙ can.room.out-long in (
       writable draft_edition c.args.draft.now plain_draft can.passed _ _ _ c.count.ensures can.room.ring_long long,
       record { still = λ i l. can.all-seal i (rw c.count.ensures at l) },
     )
@@ -47,7 +47,7 @@ unfolding sealed_file
 returns c =
     let f = c.args.draft.now in
     let ring = c.args.ring.now in
-    let edited = c.put_edition.ensures ∙ ap (in_edition first_edition) c.copy_from_slice.ensures.after in
+    let edited = c.put_edition.ensures ∙ ap (in_edition first_edition) c.copy.ensures in
     let done = sym (ap written_answer c.in_ok-seal_refused.was) ∙ c.seal_refused.ensures in
     ap (writes (answer 0 0))
     (c.seal_rows.ensures ∙ ap₂ (λ (k : ℕ) (l : List ℕ). put_all (piece_start f) (sealed_piece f ring) k l) c.count.ensures edited)

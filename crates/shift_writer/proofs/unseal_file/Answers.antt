@@ -20,13 +20,13 @@ returns-in_err-unseal_refused c =
     (sym (unsealing-kept c.args.file.now c.args.ring.now c.args.out.now _ (rw c.in_err-unseal_refused.was at c.unseal_refused.ensures) (write_some _)))
 
 -- nothing was refused
-pub copy_from_slice-requires : goal.copy_from_slice-requires
-copy_from_slice-requires c = (open_can _ _ _ _ c.unseal_refused.ensures c.in_ok-unseal_refused.was).room.out-long
+pub copy-requires : goal.copy-requires
+copy-requires c = (open_can _ _ _ _ c.unseal_refused.ensures c.in_ok-unseal_refused.was).room.out-long
 
 pub put_edition-requires : goal.put_edition-requires
 put_edition-requires c =
     let can = open_can _ _ _ _ c.unseal_refused.ensures c.in_ok-unseal_refused.was in
-    omega (arith, c.copy_from_slice.ensures.len, can.room.out-long, header-in first_edition c.args.file.now plain_file can.passed)
+    omega (arith, c.copy.auto.to, can.room.out-long, header-in first_edition c.args.file.now plain_file can.passed)
 
 pub count-requires : goal.count-requires
 count-requires c =
@@ -35,7 +35,7 @@ count-requires c =
 pub unseal_rows-requires : goal.unseal_rows-requires
 unseal_rows-requires c =
     let can = open_can _ _ _ _ c.unseal_refused.ensures c.in_ok-unseal_refused.was in
-    let long = c.put_edition.auto.out ∙ c.copy_from_slice.ensures.len ∙ can.room.out-long in
+    let long = c.put_edition.auto.out ∙ c.copy.auto.to ∙ can.room.out-long in
     writable first_edition c.args.file.now plain_file can.passed _ _ _ c.count.ensures can.room.ring_long long
 
 pub returns : goal.returns
@@ -45,8 +45,8 @@ returns c =
     let ring = c.args.ring.now in
     let mid = c.put_edition.new.out in
     let zero = sym (ap (λ (x : Answer). x.number) (sym (ap written_answer c.in_ok-unseal_refused.was) ∙ c.unseal_refused.ensures)) in
-    let edited = c.put_edition.ensures ∙ ap (in_edition draft_edition) c.copy_from_slice.ensures.after in
+    let edited = c.put_edition.ensures ∙ ap (in_edition draft_edition) c.copy.ensures in
     c.unseal_rows.ensures
     ∙ (λ j. leaves (wrong_from f ring (c.count.ensures j) 0) (put_all (piece_start f) (draft_piece f ring) (c.count.ensures j) (edited j)) mid)
-    ∙ wrong-leaves f ring (draft_file f ring) mid c.args.out.now (c.put_edition.auto.out ∙ c.copy_from_slice.ensures.len)
+    ∙ wrong-leaves f ring (draft_file f ring) mid c.args.out.now (c.put_edition.auto.out ∙ c.copy.auto.to)
     ∙ sym (unsealing-tags f ring c.args.out.now zero)

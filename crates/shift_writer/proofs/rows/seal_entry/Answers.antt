@@ -38,13 +38,13 @@ module _ (out : List ℕ) (a len e : ℕ) (k : a + len ≤ e) (i : e ≤ length 
       stretch-length (put_mid a (a + len - a) out t) a (e - a)
       (omega (arith, same_len_mid a (a + len - a) out t l))
 
-pub slice_bounds-copy_from_slice-end : goal.slice_bounds-copy_from_slice-end
-slice_bounds-copy_from_slice-end c =
+pub slice_bounds-copy-end : goal.slice_bounds-copy-end
+slice_bounds-copy-end c =
     let i = inside c.args.file.now c.args.index _ c.requires.0.entry c.new-lent.ensures.3 c.args.out.now c.requires.0.out-long _ _ c.text_start-start.ensures c.size_of-n.ensures.is in
     omega (arith, i)
 
-pub copy_from_slice-requires : goal.copy_from_slice-requires
-copy_from_slice-requires c =
+pub copy-requires : goal.copy-requires
+copy-requires c =
     let f = c.args.file.now in
     let r = c.new-lent.result.row in
     let i = inside f c.args.index r c.requires.0.entry c.new-lent.ensures.3 c.args.out.now c.requires.0.out-long _ _ c.text_start-start.ensures c.size_of-n.ensures.is in
@@ -55,7 +55,7 @@ pub slice_bounds-seal_into-end : goal.slice_bounds-seal_into-end
 slice_bounds-seal_into-end c =
     let a = c.text_start-start.result in
     let i = inside c.args.file.now c.args.index _ c.requires.0.entry c.new-lent.ensures.3 c.args.out.now c.requires.0.out-long _ _ c.text_start-start.ensures c.size_of-n.ensures.is in
-    omega (arith, i, same_len_mid a (a + c.new-lent.result.row.text_len - a) c.args.out.now c.copy_from_slice.new.self c.copy_from_slice.ensures.len)
+    omega (arith, i, same_len_mid a (a + c.new-lent.result.row.text_len - a) c.args.out.now c.copy.new.to c.copy.auto.to)
 
 pub seal_into-requires : goal.seal_into-requires
 seal_into-requires c =
@@ -67,7 +67,7 @@ seal_into-requires c =
       out-long =
           omega (
             arith,
-            piece-long c.args.out.now c.text_start-start.result c.new-lent.result.row.text_len _ (omega arith) i c.copy_from_slice.new.self c.copy_from_slice.ensures.len,
+            piece-long c.args.out.now c.text_start-start.result c.new-lent.result.row.text_len _ (omega arith) i c.copy.new.to c.copy.auto.to,
             c.size_of-n.ensures.is,
           );
     })
@@ -79,8 +79,8 @@ returns c =
     let out = c.args.out.now in
     let a = c.text_start-start.result in
     let e = a + r.text_len + c.size_of-n.result in
-    let t = c.copy_from_slice.new.self in
-    let k = c.copy_from_slice.ensures.len in
+    let t = c.copy.new.to in
+    let k = c.copy.auto.to in
     let x = c.seal_into.new.out in
     let i : e ≤ length out = inside f c.args.index r c.requires.0.entry c.new-lent.ensures.3 out c.requires.0.out-long a c.size_of-n.result c.text_start-start.ensures c.size_of-n.ensures.is in
     let lt : length t ≡ r.text_len = k ∙ place-long out a r.text_len e (omega arith) i in
@@ -89,4 +89,4 @@ returns c =
     put-over out t x a (a + r.text_len) e (omega arith) (omega arith) i (lt ∙ omega arith) lx
     ∙ ap₂ (put out) c.text_start-start.ensures (rw (c.new-lent.ensures.0, c.new-lent.ensures.1, c.new-lent.ensures.2) at c.seal_into.ensures)
     ∙ row-sealed f c.args.ring.now c.args.index r c.new-lent.ensures.3 out (take r.text_len (stretch (put_mid a (a + r.text_len - a) out t) a (e - a)))
-    (front ∙ c.copy_from_slice.ensures.after ∙ c.text_of.ensures.bytes)
+    (front ∙ c.copy.ensures ∙ c.text_of.ensures.bytes)
