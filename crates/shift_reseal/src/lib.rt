@@ -9,6 +9,7 @@ ghost use Rattle.shift_draft.specs.Answers.{FileWritten};
 ghost use Rattle.shift_writer.specs.Answers.{written_answer};
 ghost use Rattle.shift_reseal.specs.Answers.{take_answer, file_resealing};
 
+use byte_runs::copy;
 use rows::reseal_rows;
 use shift_check::check_as;
 use shift_format::row::{FIRST_EDITION, count};
@@ -35,7 +36,7 @@ pub fn reseal(file: &[u8], ring: &[u8], out: &mut [u8]) -> Written
         (file_resealing file.now ring.now out.old) }
 {
     refused(file, ring.len(), out.len())?;
-    out.copy_from_slice(file);
+    copy(file, out);
     let n = count(file);
     put_suites(file, n, out);
     reseal_rows(file, n, ring, out)

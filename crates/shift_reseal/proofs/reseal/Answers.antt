@@ -22,8 +22,8 @@ returns-in_err-refused c =
     (sym (resealing-kept c.args.file.now c.args.ring.now c.args.out.now _ (rw c.in_err-refused.was at c.refused.ensures) (write_some _)))
 
 -- nothing was refused
-pub copy_from_slice-requires : goal.copy_from_slice-requires
-copy_from_slice-requires c = (take_can _ _ _ _ c.refused.ensures c.in_ok-refused.was).room.out-long
+pub copy-requires : goal.copy-requires
+copy-requires c = (take_can _ _ _ _ c.refused.ensures c.in_ok-refused.was).room.out-long
 
 pub count-n-requires : goal.count-n-requires
 count-n-requires c = header-in first_edition c.args.file.now plain_file (take_can _ _ _ _ c.refused.ensures c.in_ok-refused.was).calm.checked
@@ -31,12 +31,12 @@ count-n-requires c = header-in first_edition c.args.file.now plain_file (take_ca
 pub put_suites-requires : goal.put_suites-requires
 put_suites-requires c =
     let can = take_can _ _ _ _ c.refused.ensures c.in_ok-refused.was in
-    both_tables c.args.file.now _ can.calm.checked c.count-n.ensures _ (c.copy_from_slice.ensures.len ∙ can.room.out-long)
+    both_tables c.args.file.now _ can.calm.checked c.count-n.ensures _ (c.copy.auto.to ∙ can.room.out-long)
 
 pub reseal_rows-requires : goal.reseal_rows-requires
 reseal_rows-requires c =
     let can = take_can _ _ _ _ c.refused.ensures c.in_ok-refused.was in
-    let long = c.put_suites.auto.out ∙ c.copy_from_slice.ensures.len ∙ can.room.out-long in
+    let long = c.put_suites.auto.out ∙ c.copy.auto.to ∙ can.room.out-long in
     writable first_edition c.args.file.now plain_file can.calm.checked _ _ _ c.count-n.ensures can.room.ring_long long
 
 pub returns : goal.returns
@@ -46,8 +46,8 @@ returns c =
     let ring = c.args.ring.now in
     let mid = c.put_suites.new.out in
     let zero = ap (λ (x : Answer). x.number) (sym c.refused.ensures ∙ ap written_answer c.in_ok-refused.was) in
-    let suited = c.put_suites.ensures ∙ ap₂ (resuited f) c.count-n.ensures c.copy_from_slice.ensures.after in
+    let suited = c.put_suites.ensures ∙ ap₂ (resuited f) c.count-n.ensures c.copy.ensures in
     c.reseal_rows.ensures
     ∙ (λ j. leaves (wrong_again_from f ring (c.count-n.ensures j) 0) (put_all (piece_start f) (again_piece f ring) (c.count-n.ensures j) (suited j)) mid)
-    ∙ again-leaves f ring (resealed_file f ring) mid c.args.out.now (c.put_suites.auto.out ∙ c.copy_from_slice.ensures.len)
+    ∙ again-leaves f ring (resealed_file f ring) mid c.args.out.now (c.put_suites.auto.out ∙ c.copy.auto.to)
     ∙ sym (resealing-tags f ring c.args.out.now zero)
