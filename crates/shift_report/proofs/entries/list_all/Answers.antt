@@ -13,6 +13,8 @@ use Rattle.shift_report.proofs.entries.list_all.Goals as goal
 pub loop-i-init : goal.loop-i-init
 loop-i-init c = (front_none _ _, front_none _ _)
 
+-- The row is an entry of a file that passes,
+-- and the ring has its 256 bytes.
 pub new-lent-requires : goal.new-lent-requires
 new-lent-requires c =
     let f = c.args.file.now in
