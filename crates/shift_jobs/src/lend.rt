@@ -21,7 +21,7 @@ pub struct Lent<'a> {
     pub ring: &'a [u8],
     pub index: usize,
     pub row: Row,
-    ghost lendable: { Lendable file.now ring.now index row },
+    pub ghost lendable: { Lendable file.now ring.now index row },
 }
 
 impl<'a> Lent<'a> {
