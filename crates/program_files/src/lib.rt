@@ -4,10 +4,13 @@
 mod reason;
 mod save;
 
-use program_text::read::{front, full};
+ghost use Rattle.std.specs.Prelude.{◌≤◌, IfSome, length};
+
+use program_text::read::front;
 use status::checked::Answer;
 use std::env::{Env, FillError};
 use std::fs::File;
+use std::io::Read;
 
 // The most bytes of a path.
 pub(crate) const PATH_MAX: usize = 4096;
@@ -28,7 +31,9 @@ pub fn arg_count(rt: &HostRuntime) -> usize {
 }
 
 // An argument, put at the start of room; none if it is missing or longer than room.
-pub(crate) fn arg<'a>(rt: &HostRuntime, place: usize, room: &'a mut [u8]) -> Option<&'a [u8]> {
+pub(crate) fn arg<'a>(rt: &HostRuntime, place: usize, room: &'a mut [u8]) -> Option<&'a [u8]>
+    ensures { IfSome result (λ word. length word.now ≤ length room.old) }
+{
     let len = rt.arg(place, room).ok()?;
     Some(&room[..len])
 }
@@ -51,13 +56,32 @@ pub fn job(rt: &HostRuntime, place: usize) -> Option<u32> {
     spelled(word(rt, place, &mut [0u8; WORD_MAX])?)
 }
 
-// Reads the file that an argument names into buf, and returns how many bytes it has; none if they fill buf.
+// Reads until buf is full, the file ends or a read fails, and returns how many bytes it put at the start of buf.
+fn read_full(file: &mut File, buf: &mut [u8]) -> usize
+    ensures { result ≤ length buf.new }
+{
+    let mut done: usize = 0;
+    while done < buf.len() {
+        let got = file.read(&mut buf[done..]).unwrap_or(0);
+        if got == 0 {
+            return done;
+        }
+        done += got;
+    }
+    done
+}
+
+// Reads the file that an argument names into buf, and returns how many bytes it has; none if they fill buf, or if no read says that
+// the file ends there. A read that fails is tried once more, so that one which is interrupted at the end loses no file.
 fn loaded(rt: &HostRuntime, place: usize, buf: &mut [u8]) -> Option<usize> {
     let mut path = [0u8; PATH_MAX];
     let path = std::str::from_utf8(arg(rt, place, &mut path)?).ok()?;
     let mut file = File::open(rt, path).ok()?;
-    let len = full(&mut file, buf).ok()?;
-    if len < buf.len() { Some(len) } else { None }
+    let len = read_full(&mut file, buf);
+    if len == buf.len() || !matches!(file.read(&mut [0u8; 1]), Ok(0)) {
+        return None;
+    }
+    Some(len)
 }
 
 // The file that an argument names, read into buf, which has one byte more than the program takes. A file that is longer, or
