@@ -77,14 +77,30 @@ impl<const N: usize> Write for Text<N> {
     }
 }
 
-// Bytes in hex.
+// How many bytes are written in hex at once.
+const CHUNK: usize = 32;
+
+const DIGITS: [u8; 16] = *b"0123456789abcdef";
+
+// The hex digits of a chunk of bytes, put at the start of room.
+fn digits<'a>(bytes: &[u8], room: &'a mut [u8; 2 * CHUNK]) -> &'a str
+    requires { length bytes.now ≤ 32 }
+{
+    for (i, byte) in bytes.iter().enumerate() {
+        room[2 * i] = DIGITS[(*byte / 16) as usize];
+        room[2 * i + 1] = DIGITS[(*byte % 16) as usize];
+    }
+    std::str::from_utf8(&room[..2 * bytes.len()]).unwrap_or("")
+}
+
+// Bytes in hex. Not byte by byte with `{byte:02x}`, which takes three times as long on a message of 64 KiB.
 #[derive(Clone, Copy)]
 pub struct Hex<'a>(pub &'a [u8]);
 
 impl Display for Hex<'_> {
     fn fmt<W: fmt::Write>(&self, f: &mut fmt::Formatter<W>) -> fmt::Result {
-        for byte in self.0 {
-            write!(f, "{byte:02x}")?;
+        for chunk in self.0.chunks(CHUNK) {
+            f.write_str(digits(chunk, &mut [0u8; 2 * CHUNK]))?;
         }
         Ok(())
     }
