@@ -26,8 +26,12 @@ fn words(said: &[u8]) -> &[u8] {
     }
 }
 
+// A file cannot be written, and the reason is printed.
+#[derive(Debug, Drop)]
+pub(crate) struct Said;
+
 // Prints why the file of that name cannot be written. The name need not be UTF-8.
-pub(crate) fn print(rt: &HostRuntime, path: &[u8], error: &io::Error) {
+pub(crate) fn say(rt: &HostRuntime, path: &[u8], error: io::Error) -> Said {
     let mut said = Text::<REASON>::new();
     let _ = write!(said, "{error}");
     let mut line = Text::<LINE>::new();
@@ -36,4 +40,5 @@ pub(crate) fn print(rt: &HostRuntime, path: &[u8], error: &io::Error) {
     line.push(words(said.as_bytes()));
     line.push(b"\n");
     let _ = Print::write_all(&rt.stderr(), line.as_bytes());
+    Said
 }

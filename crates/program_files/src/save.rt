@@ -1,5 +1,6 @@
 // Writes a file as a whole or not at all: to a temporary file beside it first, which is then renamed over it.
 use crate::PATH_MAX;
+use crate::reason::{Said, say};
 use program_text::print::Text;
 use std::fs::{File, OpenOptions};
 use std::io::{ErrorKind, Seek, SeekFrom, Write};
@@ -23,17 +24,39 @@ const EEXIST: i32 = 17;
 
 const EILSEQ: i32 = 84;
 
-// Writes the bytes, syncs the file and closes it.
-fn fill(mut file: File, bytes: &[u8]) -> io::Result<()> {
+// Writes the bytes; a regular file is synced then.
+fn write_whole(file: &mut File, bytes: &[u8], regular: bool) -> io::Result<()> {
     file.write_all(bytes)?;
-    file.sync_all()
+    if regular { file.sync_all() } else { Ok(()) }
+}
+
+// Writes the bytes and closes the file; a regular file is synced first. A reason is printed before the file is closed.
+fn fill(
+    rt: &HostRuntime,
+    mut file: File,
+    path: &str,
+    bytes: &[u8],
+    regular: bool,
+) -> Result<(), Said> {
+    match write_whole(&mut file, bytes, regular) {
+        Ok(()) => Ok(()),
+        Err(error) => Err(say(rt, path.as_bytes(), error)),
+    }
+}
+
+// Renames the temporary file over the path.
+fn rename(rt: &HostRuntime, name: &str, path: &str) -> Result<(), Said> {
+    match fs::rename(rt, name, path) {
+        Ok(()) => Ok(()),
+        Err(error) => Err(say(rt, path.as_bytes(), error)),
+    }
 }
 
 // Fills the temporary file of that name, and renames it over the path; removes it if that fails.
-fn place(rt: &HostRuntime, file: File, name: &str, path: &str, bytes: &[u8]) -> io::Result<()> {
-    let placed = match fill(file, bytes) {
-        Ok(()) => fs::rename(rt, name, path),
-        Err(error) => Err(error),
+fn place(rt: &HostRuntime, file: File, name: &str, path: &str, bytes: &[u8]) -> Result<(), Said> {
+    let placed = match fill(rt, file, path, bytes, true) {
+        Ok(()) => rename(rt, name, path),
+        Err(said) => Err(said),
     };
     if placed.is_err() {
         let _ = fs::remove_file(rt, name);
@@ -88,9 +111,15 @@ fn create(rt: &HostRuntime, path: &str) -> io::Result<(File, TemporaryName)> {
 
 // Replaces the file by way of a temporary file beside it. That is created with mode 0600: a decrypted draft is
 // never readable by others, not even while it is being written.
-fn replace(rt: &HostRuntime, path: &str, bytes: &[u8]) -> io::Result<()> {
-    let (file, drawn) = create(rt, path)?;
-    place(rt, file, name(drawn.as_bytes())?, path, bytes)
+fn replace(rt: &HostRuntime, path: &str, bytes: &[u8]) -> Result<(), Said> {
+    let (file, drawn) = match create(rt, path) {
+        Ok(created) => created,
+        Err(error) => return Err(say(rt, path.as_bytes(), error)),
+    };
+    match name(drawn.as_bytes()) {
+        Ok(name) => place(rt, file, name, path, bytes),
+        Err(error) => Err(say(rt, path.as_bytes(), error)),
+    }
 }
 
 // Whether it is a regular file: only such a file can be truncated, here to its own length.
@@ -107,39 +136,41 @@ fn is_link(rt: &HostRuntime, path: &str) -> bool {
 }
 
 // Overwrites the file that a link names, and creates it if it is missing; any other name is replaced.
-fn follow(rt: &HostRuntime, path: &str, bytes: &[u8]) -> io::Result<()> {
-    if is_link(rt, path) {
-        return fill(File::create(rt, path)?, bytes);
+fn follow(rt: &HostRuntime, path: &str, bytes: &[u8]) -> Result<(), Said> {
+    if !is_link(rt, path) {
+        return replace(rt, path, bytes);
     }
-    replace(rt, path, bytes)
+    match File::create(rt, path) {
+        Ok(file) => fill(rt, file, path, bytes, true),
+        Err(error) => Err(say(rt, path.as_bytes(), error)),
+    }
 }
 
 // A regular file is closed again and replaced. A device or a pipe is written whole.
-fn save_open(rt: &HostRuntime, mut file: File, path: &str, bytes: &[u8]) -> io::Result<()> {
+fn save_open(rt: &HostRuntime, mut file: File, path: &str, bytes: &[u8]) -> Result<(), Said> {
     if !is_regular(&mut file) {
-        return file.write_all(bytes);
+        return fill(rt, file, path, bytes, false);
     }
     drop(file);
     follow(rt, path, bytes)
 }
 
 // A missing or regular file is replaced. A device or a pipe is opened once, here, and written whole.
-fn save_as(rt: &HostRuntime, path: &str, bytes: &[u8]) -> io::Result<()> {
+fn save_as(rt: &HostRuntime, path: &str, bytes: &[u8]) -> Result<(), Said> {
     match OpenOptions::new().append(true).open(rt, path) {
         Ok(file) => save_open(rt, file, path, bytes),
         Err(error) if error.kind() == ErrorKind::NotFound => follow(rt, path, bytes),
-        Err(error) => Err(error),
+        Err(error) => Err(say(rt, path.as_bytes(), error)),
     }
 }
 
 // Writes the file that an argument names, or prints why that fails, and then the old file is unchanged. No file has a name that
 // is not UTF-8, as far as std can say: to write such a file fails.
-pub(crate) fn save(rt: &HostRuntime, argument: usize, bytes: &[u8]) -> io::Result<()> {
+pub(crate) fn save(rt: &HostRuntime, argument: usize, bytes: &[u8]) -> Result<(), Said> {
     let mut path = [0u8; PATH_MAX];
     let path = crate::arg(rt, argument, &mut path).unwrap_or(b"");
-    let saved = name(path).and_then(|name| save_as(rt, name, bytes));
-    if let Err(error) = &saved {
-        crate::reason::print(rt, path, error);
+    match name(path) {
+        Ok(name) => save_as(rt, name, bytes),
+        Err(error) => Err(say(rt, path, error)),
     }
-    saved
 }
