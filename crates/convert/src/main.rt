@@ -15,7 +15,9 @@ use status::checked::{Answer, answered};
 const MOVED_ROOM: usize = MAX_FILE + 4 * MAX_ROWS;
 
 // Moves the file that the argument at a place names, and writes it under the name of the next one. The output has the moved file's
-// length, and the buffer holds 512 stations more than every file.
+// length, and the buffer holds 512 stations more than every file. Not inlined, so that a call with wrong arguments does not need the
+// stack of the two buffers.
+#[inline(never)]
 fn convert<F: FnOnce(&[u8], &mut [u8]) -> Answer>(rt: &HostRuntime, place: usize, make: F)
     requires called { F.IsAlwaysCallable make }
     requires place { place ≤ 2 }

@@ -12,7 +12,9 @@ use program_text::read::{FILE_ROOM, RING_ROOM, front_mut, room};
 use status::checked::{Answer, answered};
 
 // Makes the output of file and ring, which the argument at a place and the next one name, and writes it under the name of the
-// one after them. The output has the file's length, and the buffer holds every file.
+// one after them. The output has the file's length, and the buffer holds every file. Not inlined, so that a call with wrong arguments
+// does not need the stack of the two buffers.
+#[inline(never)]
 fn write<F: FnOnce(&[u8], &[u8], &mut [u8]) -> Answer>(rt: &HostRuntime, place: usize, make: F)
     requires called { F.IsAlwaysCallable make }
     requires place { place ≤ 2 }
