@@ -21,6 +21,6 @@ fn main(rt: HostRuntime) {
     let amendment = program_files::load(&rt, 1, &mut amendment);
     let day = program_files::load(&rt, 2, &mut day);
     let ring = program_files::load(&rt, 3, &mut ring);
-    let _ = program_reports::current(amendment, day, ring, job, &mut page);
+    program_reports::current(amendment, day, ring, job, &mut page);
     let _ = Print::write_all(&rt, page.as_bytes());
 }

@@ -23,6 +23,6 @@ fn main(rt: HostRuntime) {
     let mut page = Page::new();
     let first = program_files::load(&rt, 1, &mut first);
     let second = program_files::load(&rt, 2, &mut second);
-    let _ = program_reports::differ(first, second, &mut page);
+    program_reports::differ(first, second, &mut page);
     let _ = Print::write_all(&rt, page.as_bytes());
 }

@@ -18,6 +18,6 @@ fn main(rt: HostRuntime) {
     let mut page = Page::new();
     let file = program_files::load(&rt, 1, &mut file);
     let ring = program_files::load(&rt, 2, &mut ring);
-    let _ = program_reports::job(file, ring, job, &mut page);
+    program_reports::job(file, ring, job, &mut page);
     let _ = Print::write_all(&rt, page.as_bytes());
 }

@@ -15,7 +15,7 @@ fn list<W: Write>(out: &mut W, name: &str, jobs: &[u32], count: usize) -> io::Re
 // The jobs only in the first, only in the second, and in both but different, one number to a line, under the lines "first",
 // "second" and "differ"; on a refusal one line, "refused", file, number and row. A file has at most 512 rows, so no list is
 // longer.
-pub fn differ<W: Write>(first: &[u8], second: &[u8], out: &mut W) -> io::Result<()> {
+pub fn write_differ<W: Write>(first: &[u8], second: &[u8], out: &mut W) -> io::Result<()> {
     let mut only_first = [0u32; MAX_ROWS];
     let mut only_second = [0u32; MAX_ROWS];
     let mut differ = [0u32; MAX_ROWS];

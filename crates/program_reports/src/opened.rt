@@ -103,13 +103,13 @@ fn open<W: Write, D: Display + Drop>(
 }
 
 // Looks the job up and opens what it finds (`open`). Only the lookup checks the file.
-pub fn job<W: Write>(file: &[u8], ring: &[u8], job: u32, out: &mut W) -> io::Result<()> {
+pub fn write_job<W: Write>(file: &[u8], ring: &[u8], job: u32, out: &mut W) -> io::Result<()> {
     open(out, file, ring, shift_lookup::lookup(file, job), "")
 }
 
 // Looks the job up in both files and opens the current entry (`open`), with the number of its file on the first line. Only the
 // lookup checks the files.
-pub fn current<W: Write>(
+pub fn write_current<W: Write>(
     amendment: &[u8],
     day: &[u8],
     ring: &[u8],

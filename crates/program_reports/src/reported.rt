@@ -14,7 +14,7 @@ fn list<W: Write>(out: &mut W, jobs: &[u32], numbers: &[u8], count: usize) -> io
 
 // "entries" and their number, and then a line for each: its job number and 0 if its tag is right under the ring, 8
 // if it is wrong; on a refusal one line, "refused", status and row. A file has at most 512 rows, so no list is too short.
-pub fn inspect<W: Write>(file: &[u8], ring: &[u8], out: &mut W) -> io::Result<()> {
+pub fn write_inspect<W: Write>(file: &[u8], ring: &[u8], out: &mut W) -> io::Result<()> {
     let mut jobs = [0u32; MAX_ROWS];
     let mut numbers = [0u8; MAX_ROWS];
     match shift_report::report(file, ring, &mut jobs, &mut numbers) {

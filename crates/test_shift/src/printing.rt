@@ -32,7 +32,7 @@ pub(crate) fn job<R: Read, W: Write>(
     of_two(
         input,
         call,
-        |file, ring| program_reports::job(file, ring, call.job, line),
+        |file, ring| program_reports::write_job(file, ring, call.job, line),
     )
 }
 
@@ -44,7 +44,7 @@ pub(crate) fn differ<R: Read, W: Write>(
     of_two(
         input,
         call,
-        |first, second| program_reports::differ(first, second, line),
+        |first, second| program_reports::write_differ(first, second, line),
     )
 }
 
@@ -56,7 +56,7 @@ pub(crate) fn inspect<R: Read, W: Write>(
     of_two(
         input,
         call,
-        |file, ring| program_reports::inspect(file, ring, line),
+        |file, ring| program_reports::write_inspect(file, ring, line),
     )
 }
 
@@ -72,6 +72,6 @@ pub(crate) fn current<R: Read, W: Write>(
     let amendment = part(input, &mut amendment_buf, amendment_len)?;
     let day = part(input, &mut day_buf, day_len)?;
     let ring = part(input, &mut ring_buf, ring_len)?;
-    program_reports::current(amendment, day, ring, call.job, line)?;
+    program_reports::write_current(amendment, day, ring, call.job, line)?;
     Ok(())
 }

@@ -3,7 +3,7 @@ use Rattle.std.proofs.Common.{sym, ap, ◌∙◌}
 use native.Mathlib.Omega.{arith}
 use Rattle.shift_amend.specs.Source.{file_number}
 use Rattle.shift_amend.proofs.Holding.{tells}
-use Rattle.program_reports.proofs.opened.current.Goals as goal
+use Rattle.program_reports.proofs.opened.write_current.Goals as goal
 
 pub open-requires : goal.open-requires
 open-requires g c =
