@@ -41,7 +41,9 @@ impl From<RecordError> for Counted {
     }
 }
 
-// The states after the start and the associated data. Here and below, empty inputs are skipped, so that the states stay in registers.
+// The states after the start and the associated data. Here and below, empty inputs are skipped, so that the states stay in registers;
+// inlined, so that they find the header there too.
+#[inline(always)]
 fn data_core(engine: &Engine, header: Header) -> State
     requires { engine.now.suite ≡ header.suite }
     ensures two { two_of engine.now.suite result ≡ data_done (cipher_of engine.now.suite) header.entry.key.now header.entry.nonce.now header.entry.ad.now }
