@@ -80,7 +80,7 @@ pub key_columns : (k n : Columns) (t s rc : ℕ) → bytes 4 t ≡ rot_word (byt
     → (n.a ≡ xor k.a (xor s rc)) × (n.b ≡ xor k.b n.a) × (n.c ≡ xor k.c n.b) × (n.d ≡ xor k.d n.c) → Expands k (bytes 4 rc) n
 key_columns k n t s rc f e h = (
   ap (bytes 4) h.0 ∙ bytes-xor 4 k.a (xor s rc)
-  ∙ ap (xors (bytes 4 k.a)) (bytes-xor 4 s rc ∙ ap (λ (l : List ℕ). xors l (bytes 4 rc)) (e ∙ ap sub_word f)),
+      ∙ ap (xors (bytes 4 k.a)) (bytes-xor 4 s rc ∙ ap (λ (l : List ℕ). xors l (bytes 4 rc)) (e ∙ ap sub_word f)),
   h.1,
   h.2,
   h.3,
