@@ -18,6 +18,8 @@ use Rattle.shift_report.specs.declared.answers.ReportError.TheVariants.{Refused,
 use Rattle.shift_report.specs.Reporting.{report_error_answer, said_of, Report}
 use Rattle.shift_report.proofs.report.Kinds as report-kinds
 use Rattle.shift_report.proofs.report.Reads as report-reads
+use Rattle.shift_report.proofs.answers.ReportErrorFromRefusal.from.Kinds as from-kinds
+use Rattle.shift_report.proofs.answers.ReportErrorFromRefusal.from.Reads as from-reads
 use Rattle.shift_report.proofs.answers.ReportErrorRefuses.answer.Kinds as error-kinds
 use Rattle.shift_report.proofs.answers.ReportErrorRefuses.answer.Reads as error-reads
 use Rattle.shift_report.proofs.answers.said.Kinds as said-kinds
@@ -53,6 +55,9 @@ report κs a h x y =
 
 pub said : OneOutcome said-kinds.ps said-kinds.r said-reads.Pre said-reads.Post
 said κs a h x y = (x.ensures ∙ sym y.ensures, refl)
+
+pub error-from : OneOutcome from-kinds.ps from-kinds.r from-reads.Pre from-reads.Post
+error-from κs a h x y = (x.ensures ∙ sym y.ensures, refl)
 
 pub error-answer : OneOutcome error-kinds.ps error-kinds.r error-reads.Pre error-reads.Post
 error-answer κs a h x y = (x.ensures ∙ sym y.ensures, refl)
