@@ -8,7 +8,8 @@ ghost use Rattle.shift_format.specs.Format.{row_size_of, body_end};
 ghost use Rattle.shift_format.specs.Inside.{EntryIn};
 ghost use Rattle.shift_same.specs.Same.{same_fields, same_entry};
 
-use shift_format::row::{Row, body_end, nonce_at, row_at, row_size_of, station_of, stretch};
+use block::same;
+use shift_format::row::{Row, body_end, nonce_block, row_at, row_size_of, station_of, stretch};
 
 // Whether all bytes are equal.
 fn same_bytes(first: &[u8], second: &[u8]) -> bool
@@ -34,7 +35,8 @@ fn same_fields(first: Row, second: Row) -> bool
     (first.suite, first.key, first.ad_len) == (second.suite, second.key, second.ad_len)
 }
 
-// Row i of the first file and row j of the second are the same entry.
+// Row i of the first file and row j of the second are the same entry. Nonces are compared as blocks: a call of the library's `==`
+// costs more than sixteen bytes are worth.
 pub fn same_entry(first: &[u8], second: &[u8], i: usize, j: usize) -> bool
     requires { EntryIn (row_size_of first.now) first.now i × EntryIn (row_size_of second.now) second.now j }
     ensures { result ≡ same_entry first.now second.now i j }
@@ -45,9 +47,9 @@ pub fn same_entry(first: &[u8], second: &[u8], i: usize, j: usize) -> bool
     let second_row = row_at(second_size, second, j);
     same_fields(first_row, second_row)
         && station_of(first, i) == station_of(second, j)
-        && same_bytes(
-            nonce_at(first_size, first, i),
-            nonce_at(second_size, second, j),
+        && same(
+            nonce_block(first_size, first, i),
+            nonce_block(second_size, second, j),
         )
         && same_bytes(body_of(first, first_row), body_of(second, second_row))
 }

@@ -8,9 +8,9 @@ use Rattle.shift_same.proofs.Chain.{asked, not-asked, asked-entry, not-asked-ent
 use Rattle.shift_same.proofs.same_entry.Goals.{then-same_fields, else-same_fields, then-station_of, else-station_of}
 use Rattle.shift_same.proofs.same_entry.Goals as goal
 
-pub returns-then-same_bytes : goal.returns-then-same_bytes
+pub returns-then-same : goal.returns-then-same
 unfolding nonce_at
-returns-then-same_bytes c =
+returns-then-same c =
     let f = c.args.first.now in
     let g = c.args.second.now in
     let i = c.args.i in
@@ -24,16 +24,16 @@ returns-then-same_bytes c =
     let nonces : c.if-station_of.value ≡ c.if-same_fields.value && nonce =
     elim c.if-station_of.branch [
       | then-station_of v ↦ asked _ _ _ v.if-station_of.true
-          (v.value-is ∙ v.same_bytes.ensures ∙ ap₂ same_bytes v.nonce_at.ensures.0.bytes v.nonce_at-then-station_of.ensures.0.bytes)
+          (v.value-is ∙ v.same.ensures ∙ ap₂ same_bytes v.nonce_block.ensures v.nonce_block-then-station_of.ensures)
       | else-station_of v ↦ not-asked _ _ _ v.if-station_of.false v.value-is
     ] in
     asked-entry f g i j _ _ _ _ _ _ _ c.row_size_of-first_size.ensures c.row_size_of-second_size.ensures c.row_at-first_row.ensures
-    c.row_at-second_row.ensures c.same_fields.ensures (nonces ∙ ap (λ (b : Bool). b && nonce) fields) c.if-same_bytes.true
-    (c.same_bytes-then-same_bytes.ensures ∙ ap₂ same_bytes c.body_of.ensures c.body_of-then-same_bytes.ensures)
+    c.row_at-second_row.ensures c.same_fields.ensures (nonces ∙ ap (λ (b : Bool). b && nonce) fields) c.if-same.true
+    (c.same_bytes.ensures ∙ ap₂ same_bytes c.body_of.ensures c.body_of-then-same.ensures)
 
-pub returns-else-same_bytes : goal.returns-else-same_bytes
+pub returns-else-same : goal.returns-else-same
 unfolding nonce_at
-returns-else-same_bytes c =
+returns-else-same c =
     let f = c.args.first.now in
     let g = c.args.second.now in
     let i = c.args.i in
@@ -47,8 +47,8 @@ returns-else-same_bytes c =
     let nonces : c.if-station_of.value ≡ c.if-same_fields.value && nonce =
     elim c.if-station_of.branch [
       | then-station_of v ↦ asked _ _ _ v.if-station_of.true
-          (v.value-is ∙ v.same_bytes.ensures ∙ ap₂ same_bytes v.nonce_at.ensures.0.bytes v.nonce_at-then-station_of.ensures.0.bytes)
+          (v.value-is ∙ v.same.ensures ∙ ap₂ same_bytes v.nonce_block.ensures v.nonce_block-then-station_of.ensures)
       | else-station_of v ↦ not-asked _ _ _ v.if-station_of.false v.value-is
     ] in
     not-asked-entry f g i j _ _ _ _ _ _ c.row_size_of-first_size.ensures c.row_size_of-second_size.ensures c.row_at-first_row.ensures
-    c.row_at-second_row.ensures c.same_fields.ensures (nonces ∙ ap (λ (b : Bool). b && nonce) fields) c.if-same_bytes.false
+    c.row_at-second_row.ensures c.same_fields.ensures (nonces ∙ ap (λ (b : Bool). b && nonce) fields) c.if-same.false
