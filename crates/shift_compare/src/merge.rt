@@ -98,7 +98,8 @@ fn place_of(same: bool) -> Option<Place>
     if same { None } else { Some(Place::Differ) }
 }
 
-// The next iteration, if both files have a row left.
+// The next iteration, if both files have a row left. Inlined, as `take_turn` is.
+#[inline(always)]
 fn both_turn(first: &[u8], second: &[u8], i: usize, j: usize) -> Turn
     requires { At first.now second.now i j × (i < count_of first.now) × (j < count_of second.now) }
     ensures { Turned first.now second.now i j result }

@@ -1,21 +1,36 @@
 // Two rows, compared as entries; each file has its own edition.
 #![tactic(auto)]
 
-ghost use Rattle.std.specs.Prelude.{◌≡◌, ◌-◌, ◌≤◌, length};
+ghost use Rattle.std.specs.Prelude.{◌≡◌, ◌-◌, ◌≤◌, length, take};
 ghost use Rattle.block.specs.Bytes.{same_bytes};
 ghost use Rattle.shift_format.specs.Part.{stretch};
 ghost use Rattle.shift_format.specs.Format.{row_size_of, body_end};
 ghost use Rattle.shift_format.specs.Inside.{EntryIn};
 ghost use Rattle.shift_same.specs.Same.{same_fields, same_entry};
 
-use block::same;
+use block::{same, whole};
 use shift_format::row::{Row, body_end, nonce_block, row_at, row_size_of, station_of, stretch};
 
-// Whether all bytes are equal.
+// Whether the first sixteen bytes are equal, compared as blocks.
+fn same_sixteen(first: &[u8], second: &[u8]) -> bool
+    requires { (16 ≤ length first.now) × (16 ≤ length second.now) }
+    ensures { result ≡ same_bytes (take 16 first.now) (take 16 second.now) }
+{
+    same(whole(&first[..16]), whole(&second[..16]))
+}
+
+// Whether all bytes are equal. The first sixteen come first, as blocks: most bodies that differ do so there, and a call of the library's
+// `==` costs more than sixteen bytes are worth.
 fn same_bytes(first: &[u8], second: &[u8]) -> bool
     ensures { result ≡ same_bytes first.now second.now }
 {
-    first == second
+    if first.len() != second.len() {
+        return false;
+    }
+    if first.len() < 16 {
+        return first == second;
+    }
+    same_sixteen(first, second) && first[16..] == second[16..]
 }
 
 // A row's body, as a part of the file.
@@ -36,7 +51,8 @@ fn same_fields(first: Row, second: Row) -> bool
 }
 
 // Row i of the first file and row j of the second are the same entry. Nonces are compared as blocks: a call of the library's `==`
-// costs more than sixteen bytes are worth.
+// costs more than sixteen bytes are worth. Inlined, since a merge asks it for each row.
+#[inline(always)]
 pub fn same_entry(first: &[u8], second: &[u8], i: usize, j: usize) -> bool
     requires { EntryIn (row_size_of first.now) first.now i × EntryIn (row_size_of second.now) second.now j }
     ensures { result ≡ same_entry first.now second.now i j }
