@@ -19,15 +19,15 @@ split (suc n) [] y hx hy = absurd (omega arith)
 split (suc n) (a ∷ x) [] hx hy = absurd (omega arith)
 split (suc n) (a ∷ x) (b ∷ y) hx hy = ap (λ (t : Bool). eqb a b && t) (split n x y (omega arith) (omega arith)) ∙ sym (and_assoc (eqb a b) _ _)
 
-tail : (n : ℕ) (l : List ℕ) → take (length l - n) (drop n l) ≡ drop n l
-tail n l = ap (λ (m : ℕ). take m (drop n l)) (sym (length-drop n l)) ∙ take-length (drop n l)
+tail : (n m : ℕ) (l : List ℕ) → m ≡ length l - n → take m (drop n l) ≡ drop n l
+tail n m l e = ap (λ (k : ℕ). take k (drop n l)) (e ∙ sym (length-drop n l)) ∙ take-length (drop n l)
 
 -- fronts that are equal leave the answer to the rest, as `==` compares it; fronts that differ give it
 module _ (n : ℕ) (x y : List ℕ) (hx : n ≤ length x) (hy : n ≤ length y) where
-  pub from-rest : (v r : Bool) → v ≡ same_bytes (take n x) (take n y) → v ≡ true
-      → r ≡ pointwise eqb (take (length x - n) (drop n x)) (take (length y - n) (drop n y)) → r ≡ same_bytes x y
-  from-rest v r p h q =
-      q ∙ ap₂ same_bytes (tail n x) (tail n y)
+  pub from-rest : (m k : ℕ) (v r : Bool) → v ≡ same_bytes (take n x) (take n y) → v ≡ true
+      → r ≡ pointwise eqb (take m (drop n x)) (take k (drop n y)) → m ≡ length x - n → k ≡ length y - n → r ≡ same_bytes x y
+  from-rest m k v r p h q hm hk =
+      q ∙ ap₂ same_bytes (tail n m x hm) (tail n k y hk)
       ∙ ap (λ (b : Bool). b && same_bytes (drop n x) (drop n y)) (sym h ∙ p)
       ∙ sym (split n x y hx hy)
 

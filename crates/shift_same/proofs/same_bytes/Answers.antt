@@ -9,8 +9,8 @@ returns-then-first-second c = sym (unequal _ _ c.if-first-second.true)
 
 pub returns-then-same_sixteen : goal.returns-then-same_sixteen
 returns-then-same_sixteen c =
-    from-rest 16 c.args.first.now c.args.second.now (omega arith) (omega arith) _ _ c.same_sixteen.ensures c.if-same_sixteen.true
-    c.eq-then-same_sixteen.ensures
+    from-rest 16 c.args.first.now c.args.second.now (omega arith) (omega arith) _ _ _ _ c.same_sixteen.ensures c.if-same_sixteen.true
+    c.eq-then-same_sixteen.ensures (omega arith) (omega arith)
 
 pub returns-else-same_sixteen : goal.returns-else-same_sixteen
 returns-else-same_sixteen c =
