@@ -93,11 +93,13 @@ where
     F: FnMut(&mut R, Call, &mut Page) -> Result<(), CallError>,
     requires { F.IsAlwaysCallable run }
 {
+    // One page for all calls: a new one for each would zero its bytes each time.
+    let mut lines = Page::new();
     for _ in 0..u64::MAX {
         let Some(call) = next(input, output)? else {
             return Ok(());
         };
-        let mut lines = Page::new();
+        lines.clear();
         let outcome = run(input, call, &mut lines);
         if !done(output, lines.as_bytes(), outcome)? {
             return Ok(());

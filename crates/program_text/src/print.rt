@@ -55,6 +55,13 @@ impl<const N: usize> Text<N> {
         room[start..end].copy_from_slice(&bytes[..count]);
         self.len = end;
     }
+
+    // Empties the text. Only the length changes, so that emptying a `Page` for each call costs nothing.
+    pub fn clear(&mut self)
+        ensures { self.new ≡ [] }
+    {
+        self.len = 0;
+    }
 }
 
 impl<const N: usize> Write for Text<N> {
