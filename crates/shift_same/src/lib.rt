@@ -19,8 +19,8 @@ fn same_sixteen(first: &[u8], second: &[u8]) -> bool
     same(whole(&first[..16]), whole(&second[..16]))
 }
 
-// Whether all bytes are equal. The first sixteen come first, as blocks: most bodies that differ do so there, and a call of the library's
-// `==` costs more than sixteen bytes are worth.
+// Whether all bytes are equal. The first sixteen come first, as blocks: bodies that differ there need no call of the library's `==`, which
+// costs more than sixteen bytes are worth.
 fn same_bytes(first: &[u8], second: &[u8]) -> bool
     ensures { result ≡ same_bytes first.now second.now }
 {
