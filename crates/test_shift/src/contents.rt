@@ -2,8 +2,8 @@
 //
 // A line of status, edition and row count; then a line for each row from the first on: status, job, station, suite, key
 // number, offset of the nonce, offset and length of the associated data, offset and length of the text.
+use crate::decimal;
 use program_text::calls::{Call, CallError};
-use program_text::print::Spaced;
 use program_text::read;
 use program_text::read::part;
 use shift_reader::contents::{header, row};
@@ -22,19 +22,19 @@ fn row_line<W: Write>(file: &[u8], index: u32, line: &mut W) -> io::Result<()> {
     match row(file, index) {
         Ok(listed) => {
             let fields = [
-                listed.job,
-                listed.station,
-                listed.suite,
-                listed.key_number,
-                listed.nonce_at,
-                listed.ad_at,
-                listed.ad_len,
-                listed.text_at,
-                listed.text_len,
+                u64::from(listed.job),
+                u64::from(listed.station),
+                u64::from(listed.suite),
+                u64::from(listed.key_number),
+                u64::from(listed.nonce_at),
+                u64::from(listed.ad_at),
+                u64::from(listed.ad_len),
+                u64::from(listed.text_at),
+                u64::from(listed.text_len),
             ];
-            writeln!(line, "0{}", Spaced(&fields))
+            decimal::line(0, &fields, line)
         }
-        Err(error) => writeln!(line, "{}{}", error.answer().number, Spaced(&[0; 9])),
+        Err(error) => decimal::line(u64::from(error.answer().number), &[0; 9], line),
     }
 }
 

@@ -8,6 +8,7 @@
 mod amended;
 mod compared;
 mod contents;
+mod decimal;
 mod opening;
 mod printing;
 mod report;

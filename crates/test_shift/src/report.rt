@@ -3,7 +3,7 @@
 //
 // Two lines: number, row and count of the report, every element of the list of jobs, and the list of numbers as bytes; and
 // "reader" and, for each call, row, job and station of the entry and the offset of its nonce, or "-" if it has ended.
-use crate::{FILE_ROOM, LIST_ROOM, RING_ROOM};
+use crate::{FILE_ROOM, LIST_ROOM, RING_ROOM, decimal};
 use program_text::calls::{Call, CallError};
 use program_text::print::{Shown, Spaced};
 use program_text::read::{front_mut, part};
@@ -13,26 +13,46 @@ use shift_report::answers::said;
 use std::io;
 use std::io::{Read, Write};
 
-fn entry<W: Write>(found: Option<Listed>, line: &mut W) -> io::Result<()> {
-    match found {
-        Some(listed) => write!(
-            line,
-            " {} {} {} {}",
-            listed.index, listed.row.job, listed.station, listed.nonce,
-        ),
-        None => write!(line, " -"),
-    }
+// The answer after the last row, as often as one call writes it.
+const ENDED: [u8; 64] = *b" - - - - - - - - - - - - - - - - - - - - - - - - - - - - - - - -";
+
+fn entry<W: Write>(listed: Listed, line: &mut W) -> io::Result<()> {
+    decimal::spaced(
+        &[
+            listed.index as u64,
+            u64::from(listed.row.job),
+            u64::from(listed.station),
+            listed.nonce as u64,
+        ],
+        line,
+    )
 }
 
-// The reader's answers to so many calls.
+// That the reader has ended, for each of so many calls.
+fn ended<W: Write>(calls: usize, line: &mut W) -> io::Result<()> {
+    for _ in 0..calls / 32 {
+        line.write_all(&ENDED)?;
+    }
+    line.write_all(&ENDED[..2 * (calls % 32)])
+}
+
+// The reader's answers to so many calls. Those after the last row are counted, and written together.
 fn answers<W: Write>(file: &[u8], calls: usize, line: &mut W) -> io::Result<()> {
-    write!(line, "reader")?;
+    line.write_all(b"reader")?;
     let mut cursor = start(file);
+    let mut after = 0usize;
     for _ in 0..calls {
         let stepped = step_at(file, cursor);
         cursor = stepped.next;
-        entry(stepped.entry, line)?;
+        if let Some(listed) = stepped.entry {
+            ended(after, line)?;
+            entry(listed, line)?;
+            after = 0;
+        } else {
+            after = after.saturating_add(1);
+        }
     }
+    ended(after, line)?;
     writeln!(line)
 }
 

@@ -1,6 +1,7 @@
 // The binary search. Job: the first one; numbers: the length of the file and how many jobs; the file follows.
 //
 // A line for each job from the first on: number, row, how many rows were looked at.
+use crate::decimal;
 use program_text::calls::{Call, CallError};
 use program_text::read;
 use program_text::read::part;
@@ -22,7 +23,11 @@ pub(crate) fn run<R: Read, W: Write>(
     for job in (call.job..=u32::MAX).take(count) {
         let search = shift_search::search(file, job);
         let found = answer_of(search.found);
-        writeln!(line, "{} {} {}", found.number, found.row, search.looked)?;
+        decimal::line(
+            found.number as u64,
+            &[found.row as u64, search.looked as u64],
+            line,
+        )?;
     }
     Ok(())
 }
