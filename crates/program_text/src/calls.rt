@@ -23,6 +23,8 @@ pub struct Call {
 pub enum CallError {
     // A buffer is too small, the input ends inside the call, or there is no such op.
     Bad,
+    // The run ends at this call, and no line says so.
+    Ended,
     // The input cannot be read, or the lines cannot be written.
     Io(io::Error),
 }
@@ -68,7 +70,7 @@ fn next<R: Read, W: Write>(input: &mut R, output: &mut W) -> io::Result<Option<C
     }
 }
 
-// Writes the lines of a call, or that it was bad; returns whether it was good.
+// Writes the lines of a call, or that it was bad; returns whether the run goes on.
 fn done<W: Write>(
     output: &mut W,
     lines: &[u8],
@@ -83,6 +85,7 @@ fn done<W: Write>(
             output.write_all(b"bad input\n")?;
             Ok(false)
         }
+        Err(CallError::Ended) => Ok(false),
         Err(CallError::Io(error)) => Err(error),
     }
 }

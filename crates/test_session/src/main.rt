@@ -122,9 +122,18 @@ fn run<R: Read>(
     }
 }
 
+// A call that is bad ends the run without a line here; `bad input` is printed only where the input ends inside a head.
+fn unsaid(error: CallError) -> CallError {
+    match error {
+        CallError::Bad => CallError::Ended,
+        CallError::Ended => CallError::Ended,
+        CallError::Io(error) => CallError::Io(error),
+    }
+}
+
 fn main(rt: HostRuntime) -> io::Result<()> {
     let mut state = Session::default();
     calls::each(&mut rt.stdin(), &mut rt.stdout(), |input, call, line| {
-        run(input, &mut state, call, line)
+        run(input, &mut state, call, line).map_err(|error| unsaid(error))
     })
 }
