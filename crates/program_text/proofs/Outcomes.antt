@@ -11,7 +11,9 @@ use Rattle.block.specs.Outcome.{Outcome, OneOutcome}
 use Rattle.program_text.proofs.print.Text.new.Kinds as text-new-kinds
 use Rattle.program_text.proofs.print.Text.new.Reads as text-new-reads
 use Rattle.program_text.proofs.print.Text.push.Kinds as text-push-kinds
+use Rattle.program_text.proofs.print.Text.clear.Kinds as text-clear-kinds
 use Rattle.program_text.proofs.print.Text.push.Reads as text-push-reads
+use Rattle.program_text.proofs.print.Text.clear.Reads as text-clear-reads
 use Rattle.program_text.proofs.print.Text.as_bytes.Kinds as text-bytes-kinds
 use Rattle.program_text.proofs.print.Text.as_bytes.Reads as text-bytes-reads
 use Rattle.program_text.proofs.print.TextWrite.write.Kinds as text-write-kinds
@@ -38,6 +40,9 @@ text_new N fits κs a h x y = (x.ensures ∙ sym y.ensures, refl)
 
 pub text_push : (N : ℕ) (fits : Fits w64 N) → OneOutcome (text-push-kinds.ps N fits) (text-push-kinds.r N fits) (text-push-reads.Pre N fits) (text-push-reads.Post N fits)
 text_push N fits κs a h x y = (refl, ap (λ (l : List ℕ). (l, (tt, tt))) (x.ensures ∙ sym y.ensures))
+
+pub text_clear : (N : ℕ) (fits : Fits w64 N) → OneOutcome (text-clear-kinds.ps N fits) (text-clear-kinds.r N fits) (text-clear-reads.Pre N fits) (text-clear-reads.Post N fits)
+text_clear N fits κs a h x y = (refl, ap (λ (l : List ℕ). (l, tt)) (x.ensures ∙ sym y.ensures))
 
 -- the same bytes; where they lie belongs to the text
 pub text_bytes : (N : ℕ) (fits : Fits w64 N) (κs : Lfts 2) (a : Dens κs (text-bytes-kinds.ps N fits))
